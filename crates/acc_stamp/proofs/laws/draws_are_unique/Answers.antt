@@ -1,0 +1,5 @@
+use Rattle.acc_stamp.proofs.History.{draws_are_unique}
+use Rattle.acc_stamp.proofs.laws.draws_are_unique.Goals as goal
+
+pub returns : goal.returns
+returns c = draws_are_unique

@@ -1,0 +1,24 @@
+//! Stamps, the logical clocks that draw them, and the actors that they name. Stamps are the timestamps of CEP-15, after the
+//! paper by Elliott Smith, Zhang, Eggleston and Andreas; the logical clock and the form of the origin are this project's own.
+#![tactic(auto)]
+
+mod actors;
+mod clock;
+pub mod laws;
+mod numbers;
+mod stamps;
+
+use acc_base::Sequence;
+pub use actors::{Actor, home};
+pub use clock::Clock;
+pub use numbers::actor;
+pub use stamps::{Ballot, Stamp, TxnId};
+
+/// A list of transactions.
+pub type Ids = Sequence<TxnId>;
+
+/// A list of attempts.
+pub type Ballots = Sequence<Ballot>;
+
+#[cfg(test)]
+mod tests;
