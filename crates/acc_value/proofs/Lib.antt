@@ -1,0 +1,5 @@
+pub mod KeyOrder
+pub mod Rising
+pub mod Clash
+pub mod Uses
+pub mod EntryFacts

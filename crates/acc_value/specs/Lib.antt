@@ -1,0 +1,5 @@
+pub mod Key
+pub mod Pairs
+pub mod Cells
+pub mod Entries
+pub mod Footprint

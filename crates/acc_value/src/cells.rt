@@ -1,0 +1,133 @@
+//! Lists of cells.
+ghost use Rattle.std.specs.Prelude.{◌≡◌, ◌==◌, ◌↔◌, [], ◌∷◌, ◌++◌, length, IfOk, OnOk, OnErr, IsTrue};
+ghost use Rattle.std.specs.Cmp.{partial_equiv_from_equiv};
+ghost use Rattle.std.specs.Cmp.Rules.{comparing};
+ghost use Rattle.std.proofs.Common.{rules};
+ghost use Rattle.acc_value.specs.Pairs.{IsRising, put};
+ghost use Rattle.acc_value.specs.Cells.{cell_of, cells_eq};
+
+use crate::key::Key;
+use crate::search::place_of;
+use acc_base::{Duplicate, OutOfMemory, Sequence};
+use std::alloc::Global;
+use std::marker::Model;
+
+/// A list of cells. A cell is a number, or null where it is `None`.
+pub type Cells = Sequence<Option<i64>>;
+
+/// Cells by their keys, in the order of the keys, each key once. Contracts see the pairs as a plain list.
+#[derive(Debug, Drop)]
+pub struct CellList {
+    cells: Vec<(Key, Option<i64>)>,
+}
+
+impl Model for CellList {
+    ghost use Rattle.std.specs.Prelude.{List, Option, ℤ};
+    ghost use Rattle.acc_value.specs.declared.key.Key.{Key};
+    ghost use Rattle.acc_value.specs.Pairs.{IsRising};
+
+    ghost Value = { List (Key × Option ℤ) };
+
+    ghost view = { λ l. l.cells.items };
+
+    ghost invariant = { λ l. IsRising l.cells.items };
+}
+
+impl CellList {
+    /// An empty list, which takes no memory yet.
+    pub fn new(alloc: Global) -> CellList
+        ensures { result ≡ [] }
+    {
+        CellList {
+            cells: Vec::new(alloc),
+        }
+    }
+
+    /// The pairs, whose keys rise.
+    pub fn pairs(&self) -> &[(Key, Option<i64>)]
+        ensures pairs { result.now ≡ self.now }
+        ensures rising { IsRising self.now }
+    {
+        self.cells.as_slice()
+    }
+
+    /// How many pairs there are.
+    pub fn len(&self) -> usize
+        ensures { result ≡ length self.now }
+    {
+        self.cells.len()
+    }
+
+    /// Whether there is no pair.
+    pub fn is_empty(&self) -> bool
+        ensures { result ≡ (length self.now == 0) }
+    {
+        self.cells.is_empty()
+    }
+
+    /// The cell of a key, which is null too where the list lacks the key.
+    pub fn get(&self, key: &Key) -> Option<i64>
+        ensures { result ≡ cell_of self.now key.now }
+    {
+        match place_of(&self.cells, key) {
+            Ok(place) => self.cells[place].1,
+            Err(_) => None,
+        }
+    }
+
+    /// Appends the pair of a key that is greater than those before. Without memory for it the list is as before.
+    pub fn push(&mut self, key: Key, cell: Option<i64>) -> Result<(), OutOfMemory>
+        requires { IsRising (self.old ++ (key, cell) ∷ []) }
+        ensures ok { OnOk result (self.new ≡ self.old ++ (key, cell) ∷ []) }
+        ensures err { OnErr result (self.new ≡ self.old) }
+    {
+        self.cells.push((key, cell))?;
+        Ok(())
+    }
+
+    /// Sets the cell of a key. Without memory for a new pair the list is as before.
+    pub fn set(&mut self, key: Key, cell: Option<i64>) -> Result<(), OutOfMemory>
+        ensures ok { OnOk result (self.new ≡ put self.old key cell) }
+        ensures err { OnErr result (self.new ≡ self.old) }
+    {
+        match place_of(&self.cells, &key) {
+            Ok(place) => {
+                self.cells[place].1 = cell;
+                Ok(())
+            }
+            Err(place) => {
+                self.cells.insert(place, (key, cell))?;
+                Ok(())
+            }
+        }
+    }
+
+    /// An equal list, in memory of its own.
+    pub fn copy(&self) -> Result<CellList, OutOfMemory>
+        ensures { IfOk result (λ copy. copy ≡ self.now) }
+    {
+        Ok(CellList {
+            cells: Duplicate::copy_all(*self.cells.allocator(), &self.cells)?,
+        })
+    }
+}
+
+impl Duplicate for CellList {
+    fn copy(&self) -> Result<CellList, OutOfMemory> {
+        CellList::copy(self)
+    }
+}
+
+impl PartialEq for CellList {
+    ghost eq = { cells_eq };
+
+    ghost laws = { partial_equiv_from_equiv (Prim.search (comparing, rules)) };
+
+    fn eq(&self, other: &CellList) -> bool {
+        self.cells == other.cells
+    }
+}
+
+impl Eq for CellList {
+    ghost laws = { Prim.search (comparing, rules) };
+}

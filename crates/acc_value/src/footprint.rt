@@ -1,0 +1,149 @@
+//! Footprints, and when two of them conflict.
+ghost use Rattle.std.specs.Prelude.{◌≡◌, ◌==◌, [], ◌∷◌, ◌++◌, length, IfOk, OnOk, OnErr};
+ghost use Rattle.std.specs.Cmp.{partial_equiv_from_equiv};
+ghost use Rattle.std.specs.Cmp.Rules.{comparing};
+ghost use Rattle.std.proofs.Common.{rules};
+ghost use Rattle.acc_value.specs.Pairs.{IsRising};
+ghost use Rattle.acc_value.specs.Footprint.{used, uses_eq, clashes};
+
+use crate::key::Key;
+use crate::search::place_of;
+use acc_base::{Duplicate, OutOfMemory};
+use std::alloc::Global;
+use std::cmp::Ordering;
+use std::marker::Model;
+
+/// The keys that a transaction reads or writes, and of each whether it is written, in the order of the keys. Contracts
+/// see the pairs as a plain list.
+#[derive(Debug, Drop)]
+pub struct Footprint {
+    uses: Vec<(Key, bool)>,
+}
+
+impl Model for Footprint {
+    ghost use Rattle.std.specs.Prelude.{List, Bool};
+    ghost use Rattle.acc_value.specs.declared.key.Key.{Key};
+    ghost use Rattle.acc_value.specs.Pairs.{IsRising};
+
+    ghost Value = { List (Key × Bool) };
+
+    ghost view = { λ f. f.uses.items };
+
+    ghost invariant = { λ f. IsRising f.uses.items };
+}
+
+impl Footprint {
+    /// The footprint of no key, which takes no memory yet.
+    pub fn new(alloc: Global) -> Footprint
+        ensures { result ≡ [] }
+    {
+        Footprint {
+            uses: Vec::new(alloc),
+        }
+    }
+
+    /// The pairs of a key and whether it is written, whose keys rise.
+    pub fn pairs(&self) -> &[(Key, bool)]
+        ensures pairs { result.now ≡ self.now }
+        ensures rising { IsRising self.now }
+    {
+        self.uses.as_slice()
+    }
+
+    /// How many keys there are.
+    pub fn len(&self) -> usize
+        ensures { result ≡ length self.now }
+    {
+        self.uses.len()
+    }
+
+    /// Whether there is no key.
+    pub fn is_empty(&self) -> bool
+        ensures { result ≡ (length self.now == 0) }
+    {
+        self.uses.is_empty()
+    }
+
+    /// Adds a use of a key: from now on the key is written where it was or this use writes it. Without memory for a
+    /// new key the footprint is as before.
+    pub fn add(&mut self, key: &Key, writes: bool) -> Result<(), OutOfMemory>
+        ensures ok { OnOk result (self.new ≡ used self.old key.now writes) }
+        ensures err { OnErr result (self.new ≡ self.old) }
+    {
+        match place_of(&self.uses, key) {
+            Ok(place) => {
+                self.uses[place].1 |= writes;
+                Ok(())
+            }
+            Err(place) => {
+                self.uses.insert(place, (key.copy()?, writes))?;
+                Ok(())
+            }
+        }
+    }
+
+    /// Appends a key that is greater than those before. Without memory for it the footprint is as before.
+    pub fn push(&mut self, key: Key, writes: bool) -> Result<(), OutOfMemory>
+        requires { IsRising (self.old ++ (key, writes) ∷ []) }
+        ensures ok { OnOk result (self.new ≡ self.old ++ (key, writes) ∷ []) }
+        ensures err { OnErr result (self.new ≡ self.old) }
+    {
+        self.uses.push((key, writes))?;
+        Ok(())
+    }
+
+    /// An equal footprint, in memory of its own.
+    pub fn copy(&self) -> Result<Footprint, OutOfMemory>
+        ensures { IfOk result (λ copy. copy ≡ self.now) }
+    {
+        Ok(Footprint {
+            uses: Duplicate::copy_all(*self.uses.allocator(), &self.uses)?,
+        })
+    }
+}
+
+impl Duplicate for Footprint {
+    fn copy(&self) -> Result<Footprint, OutOfMemory> {
+        Footprint::copy(self)
+    }
+}
+
+impl PartialEq for Footprint {
+    ghost eq = { uses_eq };
+
+    ghost laws = { partial_equiv_from_equiv (Prim.search (comparing, rules)) };
+
+    fn eq(&self, other: &Footprint) -> bool {
+        self.uses == other.uses
+    }
+}
+
+impl Eq for Footprint {
+    ghost laws = { Prim.search (comparing, rules) };
+}
+
+/// Whether two transactions conflict: some key is in both footprints, and at least one of them writes it. Takes time
+/// linear in both, and no memory.
+pub fn conflicts(a: &Footprint, b: &Footprint) -> bool
+    ensures { result ≡ clashes a.now b.now }
+{
+    let mut left = a.pairs();
+    let mut right = b.pairs();
+    while let (Some((x, left_rest)), Some((y, right_rest))) = (
+        left.split_first(),
+        right.split_first(),
+    ) {
+        match x.0.cmp(&y.0) {
+            Ordering::Less => left = left_rest,
+            Ordering::Greater => right = right_rest,
+            Ordering::Equal => {
+                if x.1 || y.1 {
+                    return true;
+                }
+                left = left_rest;
+                right = right_rest;
+            }
+        }
+    }
+    false
+}

@@ -1,0 +1,17 @@
+//! Keys, cells and footprints: the values of a store, and which of them a transaction reads and writes.
+#![tactic(auto)]
+
+mod cells;
+mod footprint;
+mod key;
+mod map;
+mod search;
+
+pub use acc_base::{Bytes, Duplicate, OutOfMemory, Sequence, Text};
+pub use cells::{CellList, Cells};
+pub use footprint::{Footprint, conflicts};
+pub use key::Key;
+pub use map::CellMap;
+
+#[cfg(test)]
+mod tests;

@@ -1,0 +1,113 @@
+//! Maps from keys to numbers.
+ghost use Rattle.std.specs.Prelude.{◌≡◌, false, ◌||◌, if◌then◌else◌, IsTrue, is_none, OnOk, OnErr};
+ghost use Rattle.acc_value.specs.declared.key.Key.{Key};
+ghost use Rattle.acc_value.specs.Key.{key_eq};
+ghost use Rattle.acc_value.specs.Pairs.{IsRising};
+ghost use Rattle.acc_value.specs.Cells.{cells_of, applied};
+ghost use Rattle.acc_value.specs.Entries.{held, has_entry, IsReserved};
+
+use crate::cells::CellList;
+use crate::key::Key;
+use acc_base::OutOfMemory;
+use std::alloc::Global;
+use std::collections::BTreeMap;
+use std::marker::Model;
+
+/// The cells of a store: a finite map from keys to numbers. A key without a number has the cell null.
+#[derive(Debug, Drop)]
+pub struct CellMap {
+    /// An entry that holds null is no cell; it is reserved for a number that is about to be written.
+    entries: BTreeMap<Key, Option<i64>>,
+}
+
+impl Model for CellMap {
+    ghost use Rattle.std.specs.Coded.{coded_ℤ};
+    ghost use Rattle.std.specs.FinMap as map;
+    ghost use Rattle.acc_value.specs.Cells.{Map, map_of};
+    ghost use Rattle.acc_value.specs.contracts.key.Key as key;
+
+    ghost Value = { Map };
+
+    ghost coded = { map.code key.the_row.coded coded_ℤ };
+
+    ghost view = { λ m. map_of m.entries.entries };
+}
+
+impl CellMap {
+    /// A map without numbers, which takes no memory yet.
+    pub fn new(alloc: Global) -> CellMap
+        ensures { (key : Key) → cells_of result key ≡ None }
+    {
+        CellMap {
+            entries: BTreeMap::new(alloc),
+        }
+    }
+
+    /// The cell of a key. Takes no memory.
+    pub fn get(&self, key: &Key) -> Option<i64>
+        ensures { result ≡ cells_of self.now key.now }
+    {
+        self.entries.get(key).copied().flatten()
+    }
+
+    /// Sets the cell of each pair; null removes the key. Without memory for the new keys the map is as before.
+    pub fn apply(&mut self, writes: &CellList) -> Result<(), OutOfMemory>
+        ensures ok { OnOk result ((key : Key) → cells_of self.new key ≡ applied (cells_of self.old) writes.now key) }
+        ensures err { OnErr result (self.new ≡ self.old) }
+    {
+        let pairs = writes.pairs();
+        reserve(&mut self.entries, pairs)?;
+        write_cells(&mut self.entries, pairs);
+        Ok(())
+    }
+}
+
+/// Makes an entry, which holds null, for each key that is to get a number and has none. The cells stay in any case.
+fn reserve(
+    entries: &mut BTreeMap<Key, Option<i64>>,
+    writes: &[(Key, Option<i64>)],
+) -> Result<(), OutOfMemory>
+    ensures same { (key : Key) → held entries.new key ≡ held entries.old key }
+    ensures reserved { OnOk result (IsReserved entries.new writes.now) }
+{
+    for (key, cell) in writes {
+        if cell.is_some() {
+            reserve_entry(entries, key)?;
+        }
+    }
+    Ok(())
+}
+
+fn reserve_entry(entries: &mut BTreeMap<Key, Option<i64>>, key: &Key) -> Result<(), OutOfMemory>
+    ensures same { (k : Key) → held entries.new k ≡ held entries.old k }
+    ensures kept { (k : Key) → IsTrue (has_entry entries.old k) → IsTrue (has_entry entries.new k) }
+    ensures made { OnOk result (IsTrue (has_entry entries.new key.now)) }
+{
+    if !entries.contains_key(key) {
+        entries.insert(key.copy()?, None)?;
+    }
+    Ok(())
+}
+
+/// Writes the cells into their entries, and removes the entries of those that are null.
+fn write_cells(entries: &mut BTreeMap<Key, Option<i64>>, writes: &[(Key, Option<i64>)])
+    requires rising { IsRising writes.now }
+    requires reserved { IsReserved entries.old writes.now }
+    ensures { (key : Key) → held entries.new key ≡ applied (held entries.old) writes.now key }
+{
+    for (key, cell) in writes {
+        set_cell(entries, key, *cell);
+    }
+}
+
+fn set_cell(entries: &mut BTreeMap<Key, Option<i64>>, key: &Key, cell: Option<i64>)
+    requires { IsTrue (is_none cell || has_entry entries.old key.now) }
+    ensures set { (k : Key) → held entries.new k ≡ (if key_eq key.now k then cell else held entries.old k) }
+    ensures kept { (k : Key) → key_eq key.now k ≡ false → has_entry entries.new k ≡ has_entry entries.old k }
+{
+    if cell.is_none() {
+        let _ = entries.remove(key);
+    } else if let Some(held) = entries.get_mut(key) {
+        *held = cell;
+    }
+}
