@@ -1,0 +1,7 @@
+pub mod Agree
+pub mod Keeps
+pub mod UsesFacts
+pub mod Writes
+mod Texts
+mod Sums
+mod Written

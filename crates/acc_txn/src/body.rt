@@ -1,0 +1,87 @@
+//! The body of a transaction.
+ghost use Rattle.std.specs.Prelude.{◌≡◌, None, IfOk, IfErr, OnOk};
+ghost use Rattle.acc_value.specs.Cells.{cell_of};
+ghost use Rattle.acc_txn.specs.Uses.{footprint_of};
+ghost use Rattle.acc_txn.specs.Rules.{refusal_of, IsBody, IsRefused};
+ghost use Rattle.acc_txn.specs.Meaning.{outcome_of};
+
+use crate::error::BodyError;
+use crate::evaluate::outcome;
+use crate::outcome::Outcome;
+use crate::parts::BodyParts;
+use crate::rules::refusal;
+use crate::uses::footprint;
+use acc_base::{Duplicate, OutOfMemory};
+use acc_value::{CellList, Footprint};
+use std::marker::Model;
+
+/// The body of a transaction: parts that keep to the rules of bodies.
+#[derive(Debug, Drop, PartialEq, Eq)]
+pub struct Body {
+    parts: BodyParts,
+}
+
+impl Model for Body {
+    ghost use Rattle.acc_txn.specs.declared.parts.BodyParts.{BodyParts};
+    ghost use Rattle.acc_txn.specs.Rules.{IsBody};
+
+    ghost Value = { BodyParts };
+
+    ghost view = { λ b. b.parts };
+
+    ghost invariant = { λ b. IsBody b.parts };
+
+    ghost inverse = { λ parts. record { parts = parts } };
+}
+
+impl Body {
+    /// The body of these parts, in their own memory. Where they break a rule, the first that they break is answered.
+    pub fn new(parts: BodyParts) -> Result<Body, BodyError>
+        ensures parts { IfOk result (λ body. body ≡ parts) }
+        ensures keeps_rules { OnOk result (refusal_of parts ≡ None) }
+        ensures refused { IfErr result (IsRefused parts) }
+    {
+        match refusal(&parts)? {
+            Some(error) => Err(error),
+            None => Ok(Body { parts }),
+        }
+    }
+
+    /// The parts, which keep to the rules.
+    pub fn parts(&self) -> &BodyParts
+        ensures parts { result.now ≡ self.now }
+        ensures keeps_rules { IsBody self.now }
+    {
+        &self.parts
+    }
+
+    /// The keys that the body reads, which are those of its LETs and of a select of a key, and those that it writes,
+    /// which are those of all its updates, whether or not they will be made.
+    pub fn footprint(&self) -> Result<Footprint, OutOfMemory>
+        ensures { IfOk result (λ uses. uses ≡ footprint_of self.now) }
+    {
+        footprint(&self.parts)
+    }
+
+    /// The outcome of the body on the cells before it. A key that `cells` lacks reads as null.
+    pub fn evaluate(&self, cells: &CellList) -> Result<Outcome, OutOfMemory>
+        ensures { IfOk result (λ outcome. outcome ≡ outcome_of self.now (cell_of cells.now)) }
+    {
+        outcome(&self.parts, cells)
+    }
+
+    /// An equal body, in memory of its own.
+    pub fn copy(&self) -> Result<Body, OutOfMemory>
+        ensures { IfOk result (λ copy. copy ≡ self.now) }
+    {
+        Ok(Body {
+            parts: self.parts.copy()?,
+        })
+    }
+}
+
+impl Duplicate for Body {
+    fn copy(&self) -> Result<Body, OutOfMemory> {
+        Body::copy(self)
+    }
+}

@@ -1,0 +1,24 @@
+//! The body of a transaction: its parts, what they mean on cells, and what they read and write.
+#![tactic(auto)]
+
+mod body;
+mod error;
+mod evaluate;
+mod outcome;
+mod parts;
+mod rules;
+mod uses;
+mod words;
+
+pub use acc_base::{Bytes, Duplicate, OutOfMemory, Sequence, Text};
+pub use acc_value::{CellList, CellMap, Cells, Footprint, Key, conflicts};
+pub use body::Body;
+pub use error::BodyError;
+pub use outcome::{Outcome, Reply, Verdict};
+pub use parts::{
+    BodyParts, Condition, Conditions, Expr, Let, Lets, Numbers, Operator, Part, Select, Term,
+    Update, Updates,
+};
+
+#[cfg(test)]
+mod tests;
