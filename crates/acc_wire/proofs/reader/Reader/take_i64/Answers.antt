@@ -1,0 +1,14 @@
+use Rattle.std.proofs.Common.{rules}
+use Rattle.acc_wire.specs.Reading.{i64_at}
+use Rattle.acc_wire.proofs.Fields.{i64_field, field_found, field_only}
+use Rattle.acc_wire.proofs.reader.Reader.take_i64.Goals as goal
+
+pub returns-clause-exact : goal.returns-clause-exact
+unfolding i64_at
+returns-clause-exact c = search rules
+
+pub returns-clause-found : goal.returns-clause-found
+returns-clause-found c = field_found i64_field _ _ _ c.take_u64.ensures.bytes (returns-clause-exact c)
+
+pub returns-clause-only : goal.returns-clause-only
+returns-clause-only c = field_only i64_field _ _ _ (returns-clause-exact c)

@@ -1,0 +1,14 @@
+use Rattle.std.proofs.Common.{rules}
+use Rattle.acc_wire.specs.Reading.{u32_at}
+use Rattle.acc_wire.proofs.Fields.{u32_field, field_found, field_only}
+use Rattle.acc_wire.proofs.reader.Reader.take_u32.Goals as goal
+
+pub returns-clause-exact : goal.returns-clause-exact
+unfolding u32_at
+returns-clause-exact c = search rules
+
+pub returns-clause-found : goal.returns-clause-found
+returns-clause-found c = field_found u32_field _ _ _ c.take_chunk.ensures.bytes (returns-clause-exact c)
+
+pub returns-clause-only : goal.returns-clause-only
+returns-clause-only c = field_only u32_field _ _ _ (returns-clause-exact c)
