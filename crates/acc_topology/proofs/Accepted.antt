@@ -1,0 +1,201 @@
+-- Nodes and shards without a fault make a layout.
+use Rattle.std.proofs.Common.{◌≡◌, ℕ, zero, suc, ◌+◌, ◌<◌, ◌≤◌, Bool, true, false, not, eqb, List, [], ◌∷◌, length, take, drop, get_or, map, Option, Some, None, is_none, refl, sym, ap, subst, ◌∙◌, arith, add-one, add-zero, zero-add, inl, inr, IsTrue, All, drop-cons}
+use Rattle.std.specs.List.{AllByRecursion}
+use Rattle.std.proofs.lemmas.Bool.{eqb-true, eq-eqb, ne_eqb, ltb-true, or_cases, or_left, not-true, false_from_ne_true, and_parts, and_from}
+use Rattle.std.proofs.lemmas.List.Elements.{recursion_from_All}
+use Rattle.std.proofs.lemmas.List.{take_all, length-drop, length-map}
+use Rattle.acc_topology.specs.declared.error.TopologyError.{TopologyError}
+use Rattle.acc_topology.specs.declared.error.TopologyKind.{TopologyKind}
+use Rattle.acc_topology.specs.declared.error.TopologyKind.TheVariants.{NoNode, NoShard}
+use Rattle.acc_topology.specs.declared.given.NodeSpec.{NodeSpec}
+use Rattle.acc_topology.specs.declared.given.ShardSpec.{ShardSpec}
+use Rattle.acc_topology.specs.Sets.{in_set, is_among, in_order, IsSetOf}
+use Rattle.acc_topology.specs.View.{shard_view, layout_view}
+use Rattle.acc_topology.specs.declared.shard.Shard.{Shard as MadeShard}
+use Rattle.acc_topology.specs.Layout.{IsLayout, IsShard, bytes_lt, is_end_before, ends_rise, is_replica_count}
+use Rattle.acc_topology.specs.Faults.{Fault, ◌then◌, must, each, ids, node_fault, nodes_fault, ends_well, end_before, replica_fault, replica_faults, shard_fault, shards_fault, fault_of, given_shard, given_layout, IsFault}
+use Rattle.acc_topology.proofs.Counts.{replica_count_odd}
+use Rattle.acc_topology.proofs.Listed.{AreSmall, in_order-part, in_order-nodes, is_among-in_order, length-in_order-take, members-in_order}
+use Rattle.acc_topology.proofs.Rules.{end_before-next}
+
+-- ---- no fault
+
+then_none : (f g : Fault) → (f then g) ≡ None → (f ≡ None) × (g ≡ None)
+then_none None g e = (refl, e)
+then_none (Some fault) g e = absurd cc
+
+must_none : (test : Bool) (kind : TopologyKind) (shard item : ℕ) → must test kind shard item ≡ None → IsTrue test
+must_none true kind shard item e = refl
+must_none false kind shard item e = absurd cc
+
+module _ {A : Type 0} where
+  -- a rule that holds of each item holds at each place
+  each_none : (rule : ℕ → A → Fault) (xs : List A) (from i : ℕ) (d : A) → each rule from xs ≡ None → i < length xs → rule (from + i) (get_or xs i d) ≡ None
+  each_none rule [] from i d e lt = absurd (omega arith)
+  each_none rule (x ∷ xs) from zero d e lt = rw add-zero (then_none (rule from x) (each rule (from + 1) xs) e).0
+  each_none rule (x ∷ xs) from (suc i) d e lt =
+      let there : from + suc i ≡ from + 1 + i = omega arith in
+      rw there (each_none rule xs (from + 1) i d (then_none (rule from x) (each rule (from + 1) xs) e).1 (omega arith))
+
+  each_none_at : (rule : ℕ → A → Fault) (xs : List A) (i : ℕ) (d : A) → each rule 0 xs ≡ None → i < length xs → rule i (get_or xs i d) ≡ None
+  each_none_at rule xs i d e lt = subst (λ (k : ℕ). rule k (get_or xs i d) ≡ None) (zero-add i) (each_none rule xs 0 i d e lt)
+
+-- ---- replicas
+
+-- what the rules say of a shard's replicas
+record AreReplicas (is_node : ℕ → Bool) (replicas : List ℕ) : Type 0 where
+  count : IsTrue (is_replica_count (length replicas))
+  nodes : (i : ℕ) → i < length replicas → IsTrue (is_node (get_or replicas i 0))
+  new : (i : ℕ) → i < length replicas → is_among (take i replicas) (get_or replicas i 0) ≡ false
+
+are_replicas : (is_node : ℕ → Bool) (place : ℕ) (s : ShardSpec) → replica_faults is_node place s ≡ None → AreReplicas is_node s.replicas
+are_replicas is_node place s e =
+    let a = then_none _ _ e in
+    let at : (i : ℕ) → i < length s.replicas → replica_fault is_node place s.replicas i (get_or s.replicas i 0) ≡ None = λ i lt. each_none_at (replica_fault is_node place s.replicas) s.replicas i 0 a.1 lt in
+    record {
+      count = must_none _ _ place 0 a.0;
+      nodes = λ i lt. must_none _ _ place i (then_none _ _ (at i lt)).0;
+      new = λ i lt. not-true _ (must_none _ _ place i (then_none _ _ (at i lt)).1);
+    }
+
+-- each number of a list stands at some place
+record Stands (ns : List ℕ) (n : ℕ) : Type 0 where
+  place : ℕ
+  within : place < length ns
+  here : get_or ns place 0 ≡ n
+
+stands : (ns : List ℕ) (n : ℕ) → IsTrue (is_among ns n) → Stands ns n
+stands [] n h = cc
+stands (m ∷ ns) n h =
+    elim (or_cases (eqb m n) (is_among ns n) h) [
+      | inl e ↦ record { place = 0; within = omega arith; here = eqb-true m n e }
+      | inr more ↦ let s = stands ns n more in record { place = suc s.place; within = omega (arith, s.within); here = s.here }
+    ]
+
+known : (is_node : ℕ → Bool) (replicas : List ℕ) → AreReplicas is_node replicas → (n : ℕ) → IsTrue (is_among replicas n) → IsTrue (is_node n)
+known is_node replicas are n h =
+    let s = stands replicas n h in
+    subst (λ (k : ℕ). IsTrue (is_node k)) s.here (are.nodes s.place s.within)
+
+is_shard : (nodes : List ℕ) (s : ShardSpec) → AreSmall nodes → AreReplicas (is_among nodes) s.replicas → IsShard (in_order nodes) (given_shard s)
+is_shard nodes s small are =
+    let within = known (is_among nodes) s.replicas are in
+    let below : AreSmall s.replicas = λ n h. small n (within n h) in
+    let whole : take (length s.replicas) s.replicas ≡ s.replicas = take_all (length s.replicas) s.replicas (omega arith) in
+    let long : length (in_order s.replicas) ≡ length s.replicas =
+    ap (λ (l : List ℕ). length (in_order l)) (sym whole) ∙ length-in_order-take s.replicas (length s.replicas) (omega arith) (λ i lt. (are.new i lt, small (get_or s.replicas i 0) (are.nodes i lt))) in
+    record {
+      count = rw long are.count;
+      replicas = in_order-part s.replicas nodes below within;
+      electorate = in_order-part s.replicas s.replicas below (λ n h. h);
+      enough = omega (arith, long, replica_count_odd (length s.replicas) are.count);
+    }
+
+-- ---- ends
+
+-- what the rules say of one end by the one before
+last_is_none : (before end : Option (List ℕ)) → IsTrue (ends_well true before end) → IsTrue (is_none end)
+last_is_none before None h = refl
+last_is_none None (Some end) h = cc
+last_is_none (Some before) (Some end) h = cc
+
+next_is_behind : (is_last : Bool) (first before end : Option (List ℕ)) → IsTrue (ends_well false first before) → IsTrue (ends_well is_last before end) → IsTrue (is_end_before before end)
+next_is_behind is_last first None end h k = cc
+next_is_behind is_last first (Some before) None h k = refl
+next_is_behind is_last first (Some before) (Some end) h k = (and_parts (not is_last) (bytes_lt before end) k).1
+
+-- a shard of which the rules hold, and where it stands
+record Standing (all : List ShardSpec) (place : ℕ) (s : ShardSpec) (rest : List ShardSpec) : Type 0 where
+  within : place < length all
+  here : s ≡ get_or all place s
+  behind : rest ≡ drop (place + 1) all
+
+standing : (all : List ShardSpec) (place : ℕ) (s : ShardSpec) (rest : List ShardSpec) → s ∷ rest ≡ drop place all → Standing all place s rest
+standing all place s rest e =
+    let within : place < length all = omega (arith, ap length e, length-drop place all) in
+    let both : s ∷ rest ≡ get_or all place s ∷ drop (suc place) all = e ∙ drop-cons all place s within in
+    record { within = within; here = cc; behind = rw add-one cc }
+
+ends_hold : (is_node : ℕ → Bool) (all : List ShardSpec) (place : ℕ) (s : ShardSpec) → shard_fault is_node all place s ≡ None → IsTrue (ends_well (eqb (place + 1) (length all)) (end_before all place) s.end)
+ends_hold is_node all place s e = must_none _ _ place 0 (then_none _ _ e).0
+
+-- the ends of the shards from a place on
+ends_from : (is_node : ℕ → Bool) (all rest : List ShardSpec) (place : ℕ) → rest ≡ drop place all → 0 < length rest → each (shard_fault is_node all) place rest ≡ None → IsTrue (ends_rise (map given_shard rest))
+ends_from is_node all [] place e some none = absurd (omega arith)
+ends_from is_node all (s ∷ []) place e some none =
+    let at = standing all place s [] e in
+    let h = ends_hold is_node all place s (then_none _ _ none).0 in
+    let last : eqb (place + 1) (length all) ≡ true = eq-eqb _ _ (omega (arith, at.within, ap length at.behind, length-drop (place + 1) all)) in
+    last_is_none _ s.end (rw last at h)
+ends_from is_node all (s ∷ t ∷ rest) place e some none =
+    let at = standing all place s (t ∷ rest) e in
+    let parts = then_none _ _ none in
+    let h = ends_hold is_node all place s parts.0 in
+    let k = ends_hold is_node all (place + 1) t (then_none _ _ parts.1).0 in
+    let not_last : eqb (place + 1) (length all) ≡ false = ne_eqb _ _ (λ same. omega (arith, ap length at.behind, length-drop (place + 1) all)) in
+    let behind : IsTrue (ends_well (eqb (place + 1 + 1) (length all)) s.end t.end) = rw (end_before-next all place s at.within at.here) at k in
+    and_from (is_end_before s.end t.end) _ (next_is_behind _ _ s.end t.end (rw not_last at h) behind)
+    (ends_from is_node all (t ∷ rest) (place + 1) at.behind (omega arith) parts.1)
+
+-- ---- the whole
+
+each_shard : (is_node : ℕ → Bool) (nodes : List ℕ) (all rest : List ShardSpec) (place : ℕ) → ((s : ShardSpec) → AreReplicas is_node s.replicas → IsShard nodes (given_shard s)) → each (shard_fault is_node all) place rest ≡ None → AllByRecursion (IsShard nodes) (map given_shard rest)
+each_shard is_node nodes all [] place make none = tt
+each_shard is_node nodes all (s ∷ rest) place make none =
+    let parts = then_none _ _ none in
+    (make s (are_replicas is_node place s (then_none _ _ parts.0).1), each_shard is_node nodes all rest (place + 1) make parts.1)
+
+abbrev IsNodeId : NodeSpec → Type 0
+IsNodeId n = (1 ≤ n.id) × (n.id ≤ 15)
+
+small_by : (nodes : List NodeSpec) → AllByRecursion IsNodeId nodes → (n : ℕ) → IsTrue (is_among (ids nodes) n) → (1 ≤ n) × (n ≤ 15)
+small_by [] all n h = cc
+small_by (m ∷ nodes) all n h =
+    elim (or_cases (eqb m.id n) (is_among (ids nodes) n) h) [
+      | inl e ↦ subst (λ (k : ℕ). (1 ≤ k) × (k ≤ 15)) (eqb-true m.id n e) all.0
+      | inr more ↦ small_by nodes all.1 n more
+    ]
+
+some_among : (ns : List ℕ) (n : ℕ) → IsTrue (is_among ns n) → 1 ≤ length ns
+some_among [] n h = cc
+some_among (m ∷ ns) n h = omega arith
+
+some_in_order : (nodes : List NodeSpec) → AreSmall (ids nodes) → 0 < length nodes → 1 ≤ length (in_order (ids nodes))
+some_in_order [] small some = absurd (omega arith)
+some_in_order (m ∷ nodes) small some =
+    let there : IsTrue (is_among (ids (m ∷ nodes)) m.id) = or_left (eqb m.id m.id) _ (eq-eqb m.id m.id refl) in
+    some_among (in_order (ids (m ∷ nodes))) m.id (is_among-in_order (ids (m ∷ nodes)) small m.id ∙ there)
+
+pub given_is_layout : (nodes : List NodeSpec) (shards : List ShardSpec) → All (λ n. (1 ≤ n.id) × (n.id ≤ 15)) nodes → length shards ≤ 15 → fault_of nodes shards ≡ None → IsLayout (given_layout nodes shards)
+given_is_layout nodes shards within few none =
+    let parts = then_none (nodes_fault nodes) _ none in
+    let some_nodes : 0 < length nodes = ltb-true _ _ (must_none _ NoNode 0 0 (then_none _ (each (node_fault nodes) 0 nodes) parts.0).0) in
+    let shard_parts = then_none _ (each (shard_fault (is_among (ids nodes)) shards) 0 shards) parts.1 in
+    let some_shards : 0 < length shards = ltb-true _ _ (must_none _ NoShard 0 0 shard_parts.0) in
+    let ids_within = small_by nodes (recursion_from_All IsNodeId nodes within) in
+    let small : AreSmall (ids nodes) = λ n h. omega (arith, (ids_within n h).1) in
+    record {
+      some_node = some_in_order nodes small some_nodes;
+      nodes = in_order-nodes (ids nodes) small (false_from_ne_true _ (λ h. omega (arith, (ids_within 0 h).0)));
+      few_shards = omega (arith, length-map shards given_shard);
+      shards = each_shard (is_among (ids nodes)) (in_order (ids nodes)) shards shards 0 (λ s are. is_shard (ids nodes) s small are) shard_parts.1;
+      ends = ends_from (is_among (ids nodes)) shards shards 0 refl some_shards shard_parts.1;
+    }
+
+-- ---- the topology that is made
+
+same_nodes : (set : ℕ) (nodes : List NodeSpec) (shards : List ShardSpec) → IsSetOf set (ids nodes) → shards_fault (in_set set) shards ≡ shards_fault (is_among (ids nodes)) shards
+same_nodes set nodes shards is = ap (λ (p : ℕ → Bool). shards_fault p shards) (λ i n. is n i)
+
+-- a fault of the shards is the first where the nodes have none
+pub made_not : (set : ℕ) (nodes : List NodeSpec) (shards : List ShardSpec) (e : TopologyError) → nodes_fault nodes ≡ None → IsSetOf set (ids nodes) → IsFault (shards_fault (in_set set) shards) e → IsFault (fault_of nodes shards) e
+made_not set nodes shards e none is h =
+    let whole : fault_of nodes shards ≡ shards_fault (in_set set) shards = ap (λ f. f then shards_fault (is_among (ids nodes)) shards) none ∙ sym (same_nodes set nodes shards is) in
+    rw whole h
+
+pub made : (set : ℕ) (nodes : List NodeSpec) (shards : List ShardSpec) (checked : List MadeShard) → nodes_fault nodes ≡ None → IsSetOf set (ids nodes) → shards_fault (in_set set) shards ≡ None → map shard_view checked ≡ map given_shard shards
+    → (fault_of nodes shards ≡ None) × (layout_view set checked ≡ given_layout nodes shards)
+made set nodes shards checked none is shards_none views = (
+  ap (λ f. f then shards_fault (is_among (ids nodes)) shards) none ∙ sym (same_nodes set nodes shards is) ∙ shards_none,
+  λ i. record { nodes = members-in_order set (ids nodes) is i; shards = views i },
+)

@@ -1,0 +1,117 @@
+//! The rules that nodes and shards must meet, each in its turn.
+ghost use Rattle.std.specs.Prelude.{◌≡◌, ◌<◌, ◌≤◌, ℕ, List, length, Some, None, MatchResult, All, map};
+ghost use Rattle.std.specs.Option.{option_copied};
+ghost use Rattle.acc_topology.specs.Sets.{in_set, IsSetOf};
+ghost use Rattle.acc_topology.specs.Faults.{ids, nodes_fault, ends_well, replicas_fault, replica_faults, shards_fault, given_shard, Finds};
+ghost use Rattle.acc_topology.specs.View.{shard_view};
+
+use crate::error::{TopologyError, TopologyKind};
+use crate::given::{NodeSpec, ShardSpec};
+use crate::sets::{NodeSet, contains, with};
+use crate::shard::Shard;
+use acc_base::{Duplicate, Text};
+use std::alloc::Global;
+
+/// The set of the nodes.
+pub(crate) fn node_set(nodes: &[NodeSpec]) -> Result<NodeSet, TopologyError>
+    requires few { length nodes.now ≤ 15 }
+    requires ids { All (λ n. n.id < 16) nodes.now }
+    ensures { MatchResult result
+        (λ set. (nodes_fault nodes.now ≡ None) × IsSetOf set (ids nodes.now))
+        (λ fault. nodes_fault nodes.now ≡ Some fault) }
+{
+    if nodes.is_empty() {
+        return Err(wrong(TopologyKind::NoNode, 0, 0));
+    }
+    let mut set = 0;
+    for (place, node) in nodes.iter().enumerate() {
+        if contains(set, node.id) {
+            return Err(wrong(TopologyKind::Twice, 0, place as u32));
+        }
+        set = with(set, node.id);
+    }
+    Ok(set)
+}
+
+/// The set of a shard's replicas.
+pub(crate) fn replica_set(
+    nodes: NodeSet,
+    shard: u32,
+    replicas: &[u32],
+) -> Result<NodeSet, TopologyError>
+    requires { length replicas.now ≤ 7 }
+    ensures { MatchResult result
+        (λ set. (replicas_fault (in_set nodes) shard replicas.now ≡ None) × IsSetOf set replicas.now)
+        (λ fault. replicas_fault (in_set nodes) shard replicas.now ≡ Some fault) }
+{
+    let mut set = 0;
+    for (item, replica) in replicas.iter().enumerate() {
+        if !contains(nodes, *replica) {
+            return Err(wrong(TopologyKind::UnknownNode, shard, item as u32));
+        }
+        if contains(set, *replica) {
+            return Err(wrong(TopologyKind::Twice, shard, item as u32));
+        }
+        set = with(set, *replica);
+    }
+    Ok(set)
+}
+
+/// Whether a shard may end here: the last has no end, and every other one ends behind the one before.
+pub(crate) fn may_end(is_last: bool, before: Option<&Text>, end: Option<&Text>) -> bool
+    ensures { result ≡ ends_well is_last (option_copied before.entry) (option_copied end.entry) }
+{
+    match (before, end) {
+        (_, None) => is_last,
+        (None, Some(_)) => !is_last,
+        (Some(before), Some(end)) => !is_last && before.cmp(end).is_lt(),
+    }
+}
+
+fn wrong(kind: TopologyKind, shard: u32, item: u32) -> TopologyError
+    ensures { result ≡ TopologyError.Wrong kind shard item }
+{
+    TopologyError::Wrong { kind, shard, item }
+}
+
+/// The shards, each with the set of its replicas.
+pub(crate) fn checked_shards(
+    alloc: Global,
+    nodes: NodeSet,
+    shards: &[ShardSpec],
+) -> Result<Vec<Shard>, TopologyError>
+    requires { length shards.now ≤ 15 }
+    ensures { Finds (shards_fault (in_set nodes) shards.now)
+        (λ checked. map shard_view checked.items ≡ map given_shard shards.now) result }
+{
+    if shards.is_empty() {
+        return Err(wrong(TopologyKind::NoShard, 0, 0));
+    }
+    let mut checked = Vec::with_capacity(alloc, shards.len())?;
+    let mut before = None;
+    for (place, shard) in shards.iter().enumerate() {
+        let is_last = place + 1 == shards.len();
+        if !may_end(is_last, before, shard.end.as_ref()) {
+            return Err(wrong(TopologyKind::Order, place as u32, 0));
+        }
+        checked.push(checked_shard(nodes, place as u32, shard)?)?;
+        before = shard.end.as_ref();
+    }
+    Ok(checked)
+}
+
+/// A shard with the set of its replicas, which are its electorate too.
+fn checked_shard(nodes: NodeSet, place: u32, shard: &ShardSpec) -> Result<Shard, TopologyError>
+    ensures { Finds (replica_faults (in_set nodes) place shard.now)
+        (λ checked. shard_view checked ≡ given_shard shard.now) result }
+{
+    if !matches!(shard.replicas.len(), 1 | 3 | 5 | 7) {
+        return Err(wrong(TopologyKind::Replicas, place, 0));
+    }
+    let replicas = replica_set(nodes, place, shard.replicas.as_slice())?;
+    Ok(Shard {
+        end: shard.end.copy()?,
+        replicas,
+        electorate: replicas,
+    })
+}
