@@ -1,0 +1,3 @@
+pub mod ByShard
+mod Merge
+mod ShardMerge
