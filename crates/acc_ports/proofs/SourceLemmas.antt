@@ -1,0 +1,25 @@
+-- Reads that follow one another.
+use Rattle.std.proofs.Common.{◌≡◌, ℕ, ◌+◌, ◌≤◌, ◌++◌, List, length, take, drop, refl, ap, subst, arith, Option, Some, None, ◌∙◌, sym}
+use Rattle.std.specs.Prelude.{IfSome}
+use Rattle.std.proofs.Math.Seq.{take-add}
+use Rattle.std.proofs.lemmas.List.{drop-drop, length-drop}
+use Rattle.acc_ports.specs.Source.{without_first}
+
+-- The first bytes, and then the first of the rest, are a longer front.
+pub without_first-add : (count filled : ℕ) (left : Option (List ℕ)) → without_first count (without_first filled left) ≡ without_first (filled + count) left
+without_first-add count filled None = refl
+without_first-add count filled (Some bytes) = ap Some (drop-drop count filled bytes)
+
+-- So many bytes of a source stand in the front of a buffer.
+abbrev pub HoldsFront : ℕ → List ℕ → Option (List ℕ) → Type 0
+HoldsFront count buffer left = IfSome left (λ bytes. (count ≤ length bytes) × (take count buffer ≡ take count bytes))
+
+-- A read into the rest of a buffer makes the front longer that it holds.
+pub HoldsFront-more : (filled count : ℕ) (old kept new : List ℕ) (before now : Option (List ℕ)) → now ≡ without_first filled before → HoldsFront filled old before → take filled kept ≡ take filled old → IfSome now (λ bytes. (count ≤ length bytes) × (take (filled + count) new ≡ take filled kept ++ take count bytes)) → HoldsFront (filled + count) new before
+HoldsFront-more filled count old kept new None now is_now held same given = tt
+HoldsFront-more filled count old kept new (Some bytes) now is_now held same given =
+    let P : Option (List ℕ) → Type 0 = λ left. IfSome left (λ rest. (count ≤ length rest) × (take (filled + count) new ≡ take filled kept ++ take count rest)) in
+    let more : P (Some (drop filled bytes)) = subst P is_now given in (
+      (let enough : count ≤ length (drop filled bytes) = more.0 in let front : filled ≤ length bytes = held.0 in omega (arith, length-drop filled bytes)),
+      more.1 ∙ ap (λ (front : List ℕ). front ++ take count (drop filled bytes)) (same ∙ held.1) ∙ sym (take-add filled count bytes),
+    )

@@ -1,0 +1,8 @@
+-- A source over a reader or a sink over a writer, as contracts see it.
+use Rattle.std.specs.Prelude.{ℕ}
+
+pub record StdPort (R : Type 0) : Type 0 where
+  -- the reader or writer
+  pub inner : R
+  -- how many of its calls failed
+  pub faults : ℕ

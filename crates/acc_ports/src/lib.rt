@@ -1,0 +1,22 @@
+//! The ports through which a program reaches the outside: a source of bytes and a sink for bytes, over memory and over
+//! standard input and output.
+#![tactic(auto)]
+
+mod calls;
+mod error;
+mod memory;
+mod sink;
+mod source;
+mod standard;
+mod whole;
+
+pub use calls::Calls;
+pub use error::{PortError, ReadError};
+pub use memory::{MemSink, MemSource};
+pub use sink::Sink;
+pub use source::Source;
+pub use standard::{StdSink, StdSource};
+pub use whole::{read_all, write_all};
+
+#[cfg(test)]
+mod tests;

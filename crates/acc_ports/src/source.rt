@@ -1,0 +1,35 @@
+//! Where bytes come from.
+ghost use Rattle.std.specs.Prelude.{◌≡◌, ◌<◌, ◌≤◌, ◌↔◌, ℕ, List, [], length, Option, IsSome, IfSome, IfOk, OnErr, IsErrOf};
+ghost use Rattle.acc_ports.specs.Faults.{Rose};
+ghost use Rattle.acc_ports.specs.Source.{without_first, FillsFront};
+
+use crate::PortError;
+
+/// A stream of bytes that a program reads.
+///
+/// A source may tell contracts which bytes it has left. Then they say exactly what each read gives. Whether it tells them
+/// never changes.
+pub trait Source {
+    /// How often the outside has failed. The count never falls. It is kept in 64 bits and stands still at their end.
+    ghost faults: { Self → ℕ };
+
+    /// The bytes left to read, or `None` where the source doesn't tell them.
+    ghost left: { Self → Option (List ℕ) };
+
+    /// Reads some bytes, at least one and at most as many as `into` has room for, into the front of `into`, and answers how
+    /// many. It answers zero at the end of input, and only there. After an error no byte was read.
+    fn read(&mut self, into: &mut [u8]) -> Result<usize, PortError>
+        requires { 0 < length into.old }
+
+        ensures room { IfOk result (λ count. count ≤ length into.old) }
+        ensures taken { IfOk result (λ count. left self.new ≡ without_first count (left self.old)) }
+        ensures given { IfOk result (λ count. IfSome (left self.old) (λ bytes. FillsFront count bytes into.old into.new)) }
+        ensures end { IfOk result (λ count. IfSome (left self.old) (λ bytes. (count ≡ 0) ↔ (bytes ≡ []))) }
+
+        ensures kept { OnErr result (left self.new ≡ left self.old) }
+        ensures untouched { OnErr result (IsSome (left self.old) → into.new ≡ into.old) }
+
+        // It doesn't give up by itself.
+        ensures counted { faults self.old ≤ faults self.new }
+        ensures cause { IsErrOf result PortError.Failed → Rose (faults self.old) (faults self.new) };
+}

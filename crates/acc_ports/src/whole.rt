@@ -1,0 +1,95 @@
+//! Reading all bytes of a source, and writing all bytes of a text.
+ghost use Rattle.std.specs.Prelude.{◌≡◌, ◌+◌, ◌-◌, ◌<◌, ◌≤◌, ◌↔◌, ◌++◌, ℕ, [], Some, length, take, drop, min, vec_len, IfSome, IfOk, OnOk, OnErr, IsErrOf};
+ghost use Rattle.acc_ports.specs.Faults.{Rose};
+ghost use Rattle.acc_ports.specs.Sink.{followed_by, WritesPart};
+ghost use Rattle.acc_ports.specs.Source.{without_first, none_left, TakesAtMost};
+
+use crate::{PortError, ReadError, Sink, Source};
+use acc_base::{Bytes, Sequence};
+use std::alloc::{AllocError, Global};
+
+/// Writes all of `text`, in as few writes as `sink` allows. After an error a part of it was written, from its front on.
+pub fn write_all<K: Sink>(sink: &mut K, text: &[u8]) -> Result<(), PortError>
+    ensures all { OnOk result (K.written sink.new ≡ followed_by text.now (K.written sink.old)) }
+    ensures part { OnErr result (WritesPart text.now (K.written sink.old) (K.written sink.new)) }
+
+    ensures counted { K.faults sink.old ≤ K.faults sink.new }
+    ensures cause { IsErrOf result PortError.Failed → Rose (K.faults sink.old) (K.faults sink.new) }
+{
+    let mut written = 0;
+    while written < text.len() {
+        written += sink.write(&text[written..])?;
+    }
+    Ok(())
+}
+
+/// How much room the first read has.
+const FIRST_ROOM: usize = 64 * 1024;
+
+/// Reads all bytes that `source` has left, where there are at most `limit`. `TooLong` comes where there are more: then
+/// one byte past the limit was read, and no further one is. After `Failed` and `OutOfMemory` at most that many bytes
+/// were read. After any error the bytes that were read are gone. They stand once in memory, in a buffer that becomes
+/// twice as long when it is full.
+pub fn read_all<S: Source>(alloc: Global, source: &mut S, limit: u64) -> Result<Bytes, ReadError>
+    ensures within { IfOk result (λ bytes. length bytes ≤ limit) }
+    ensures all { IfOk result (λ bytes. IfSome (S.left source.old) (λ left. bytes ≡ left)) }
+    ensures end { OnOk result (S.left source.new ≡ none_left (S.left source.old)) }
+
+    ensures too_long { IsErrOf result ReadError.TooLong → IfSome (S.left source.old) (λ left. limit < length left) }
+    ensures one_more { IsErrOf result ReadError.TooLong → S.left source.new ≡ without_first (limit + 1) (S.left source.old) }
+    ensures taken { OnErr result (TakesAtMost (limit + 1) (S.left source.old) (S.left source.new)) }
+
+    ensures counted { S.faults source.old ≤ S.faults source.new }
+    ensures cause { IsErrOf result ReadError.Failed → Rose (S.faults source.old) (S.faults source.new) }
+{
+    let limit = limit as usize;
+    let most = limit.saturating_add(1);
+    let mut bytes = Vec::new(alloc);
+    let mut filled = 0;
+    while filled <= limit {
+        make_room(&mut bytes, filled, most)?;
+        let count = read_behind(source, &mut bytes, filled)?;
+        if count == 0 {
+            bytes.truncate(filled);
+            return Ok(Sequence::from_vec(bytes));
+        }
+        filled += count;
+    }
+    Err(ReadError::TooLong)
+}
+
+/// Makes room behind the first `filled` bytes. A full buffer becomes twice as long, as far as `most` allows.
+fn make_room(bytes: &mut Vec<u8>, filled: usize, most: usize) -> Result<(), AllocError>
+    requires fits { vec_len bytes.old ≤ most }
+    requires not_full { filled < most }
+    requires inside { filled ≤ vec_len bytes.old }
+    ensures kept { take filled bytes.new.items ≡ take filled bytes.old.items }
+    ensures room { OnOk result (filled < vec_len bytes.new) }
+    ensures within { vec_len bytes.new ≤ most }
+{
+    if filled == bytes.len() {
+        let room = filled.saturating_mul(2).max(FIRST_ROOM).min(most);
+        bytes.resize(room, 0)?;
+    }
+    Ok(())
+}
+
+/// One read into the room behind the first `filled` bytes.
+fn read_behind<S: Source>(
+    source: &mut S,
+    bytes: &mut Vec<u8>,
+    filled: usize,
+) -> Result<usize, PortError>
+    requires { filled < vec_len bytes.old }
+    ensures room { IfOk result (λ count. filled + count ≤ vec_len bytes.new) }
+    ensures taken { IfOk result (λ count. S.left source.new ≡ without_first count (S.left source.old)) }
+    ensures given { IfOk result (λ count. IfSome (S.left source.old) (λ left. (count ≤ length left) × (take (filled + count) bytes.new.items ≡ take filled bytes.old.items ++ take count left))) }
+    ensures end { IfOk result (λ count. IfSome (S.left source.old) (λ left. (count ≡ 0) ↔ (left ≡ []))) }
+    ensures same_room { vec_len bytes.new ≡ vec_len bytes.old }
+    ensures before { take filled bytes.new.items ≡ take filled bytes.old.items }
+    ensures kept { OnErr result (S.left source.new ≡ S.left source.old) }
+    ensures counted { S.faults source.old ≤ S.faults source.new }
+    ensures cause { IsErrOf result PortError.Failed → Rose (S.faults source.old) (S.faults source.new) }
+{
+    source.read(&mut bytes[filled..])
+}
