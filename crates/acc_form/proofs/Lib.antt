@@ -1,0 +1,10 @@
+pub mod FieldLemmas
+pub mod UpdateLemmas
+pub mod NameLemmas
+pub mod DistinctLemmas
+pub mod BodyLemmas
+pub mod TransactionLemmas
+pub mod ScheduleLemmas
+pub mod DocumentLemmas
+pub mod PlanLemmas
+pub mod ReadLemmas
