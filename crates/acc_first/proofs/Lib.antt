@@ -1,0 +1,14 @@
+pub mod IdFacts
+pub mod StoreFacts
+pub mod NodeFacts
+pub mod Round
+pub mod Settled
+pub mod Next
+pub mod Bridge
+pub mod SafetyFacts
+pub mod Phases
+pub mod Remembered
+pub mod Underway
+pub mod RollFacts
+pub mod ReportFacts
+pub mod Begun

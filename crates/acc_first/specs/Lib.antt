@@ -1,0 +1,10 @@
+pub mod History
+pub mod StoreRules
+pub mod NodeRules
+pub mod RunRules
+pub mod Schedule
+pub mod Safety
+pub mod Actors
+pub mod Headline
+pub mod ReportText
+pub mod Roll
