@@ -1,0 +1,2 @@
+pub mod EndsFacts
+pub mod CommandFacts

@@ -1,0 +1,104 @@
+-- What a command writes and how it ends, from its words and the bytes of its document.
+use Rattle.std.specs.Prelude.{◌≡◌, ◌⊎◌, ℕ, ◌<◌, ◌≤◌, List, [], ◌∷◌, ◌++◌, length, reverse, codes, Option}
+use Rattle.acc_ports.specs.Sink.{followed_by, WritesPart}
+use Rattle.acc_form.specs.declared.plan.Plan.{Plan}
+use Rattle.acc_form.specs.Document.{Means, IsJson, IsUnbuilt}
+use Rattle.acc_first.specs.declared.items.Item.{Item}
+use Rattle.acc_first.specs.Headline.{IsSafeRun}
+use Rattle.acc_first.specs.ReportText.{report_text}
+use Rattle.acc_command.specs.declared.status.Status.{Status}
+use Rattle.acc_command.specs.declared.status.Status.TheVariants.{Done, No, Usage, ReadFault, WriteFault, BadInput, Limit, OutOfMemory}
+
+abbrev pub code_of : Status → ℕ
+code_of Done = 0
+code_of No = 1
+code_of Usage = 2
+code_of ReadFault = 3
+code_of WriteFault = 4
+code_of BadInput = 5
+code_of Limit = 6
+code_of OutOfMemory = 7
+
+-- the words of the one line that is built
+abbrev pub IsRunLine : List (List ℕ) → Type 0
+IsRunLine words = words ≡ codes "run" ∷ []
+
+-- a text with a line feed behind it
+abbrev pub line : List ℕ → List ℕ
+line text = text ++ 10 ∷ []
+
+abbrev pub usage_text : List ℕ
+usage_text = line (codes "usage: accord run | check | free --workers W | gen --seed N --txns M")
+
+-- the most bytes that a document may have
+abbrev pub document_limit : ℕ
+document_limit = 16777216
+
+-- the report of a plan: of items, oldest first, that are a run, obey its schedule, and are safe
+pub record Reports (plan : Plan) (text : List ℕ) : Type 0 where
+  pub items : List Item
+  pub safe : IsSafeRun plan (reverse items)
+  pub prints : text ≡ report_text plan.names items
+
+-- the report of the plan that a document says
+pub record IsReport (bytes text : List ℕ) : Type 0 where
+  pub plan : Plan
+  pub means : Means bytes plan
+  pub reports : Reports plan text
+
+-- the status and the text of `run` on a document
+abbrev pub IsDue : List ℕ → Status → List ℕ → Type 0
+IsDue bytes Done text = (length bytes ≤ document_limit) × IsReport bytes text
+IsDue bytes BadInput text = (length bytes ≤ document_limit)
+    × ((¬ (IsJson bytes) × (text ≡ line (codes "bad 1 -"))) ⊎ (IsUnbuilt bytes × (text ≡ line (codes "bad 8 -"))))
+IsDue bytes Limit text = (document_limit < length bytes) × (text ≡ line (codes "limit document 16777216"))
+IsDue bytes No text = ⊥
+IsDue bytes Usage text = ⊥
+IsDue bytes ReadFault text = ⊥
+IsDue bytes WriteFault text = ⊥
+IsDue bytes OutOfMemory text = ⊥
+
+-- what a sink holds after a text that was due with a status: the whole text, or with a write fault or want of memory a part
+abbrev pub Writes : (Status → List ℕ → Type 0) → Status → Option (List ℕ) → Option (List ℕ) → Type 0
+Writes P status old new = (text : List ℕ) × P status text × (new ≡ followed_by text old)
+
+abbrev pub WritesLess : (Status → List ℕ → Type 0) → Option (List ℕ) → Option (List ℕ) → Type 0
+WritesLess P old new = (status : Status) × (text : List ℕ) × P status text × WritesPart text old new
+
+abbrev pub Ends : (Status → List ℕ → Type 0) → Status → Option (List ℕ) → Option (List ℕ) → Type 0
+Ends P Done old new = Writes P Done old new
+Ends P No old new = Writes P No old new
+Ends P Usage old new = Writes P Usage old new
+Ends P ReadFault old new = new ≡ old
+Ends P WriteFault old new = WritesLess P old new
+Ends P BadInput old new = Writes P BadInput old new
+Ends P Limit old new = Writes P Limit old new
+Ends P OutOfMemory old new = (new ≡ old) ⊎ WritesLess P old new
+
+-- a text was written with its status, or the sink failed or had no memory before the end
+abbrev pub Says : Status → List ℕ → Status → Option (List ℕ) → Option (List ℕ) → Type 0
+Says status text result old new =
+    ((result ≡ status) × (new ≡ followed_by text old))
+    ⊎ (((result ≡ WriteFault) ⊎ (result ≡ OutOfMemory)) × WritesPart text old new)
+
+-- the usage line is due for every other list of words
+abbrev pub IsUsage : Status → List ℕ → Type 0
+IsUsage Usage text = text ≡ usage_text
+IsUsage Done text = ⊥
+IsUsage No text = ⊥
+IsUsage ReadFault text = ⊥
+IsUsage WriteFault text = ⊥
+IsUsage BadInput text = ⊥
+IsUsage Limit text = ⊥
+IsUsage OutOfMemory text = ⊥
+
+-- unless memory ran out
+abbrev pub IsDone : Status → Type 0
+IsDone Done = Unit {0}
+IsDone OutOfMemory = Unit {0}
+IsDone No = ⊥
+IsDone Usage = ⊥
+IsDone ReadFault = ⊥
+IsDone WriteFault = ⊥
+IsDone BadInput = ⊥
+IsDone Limit = ⊥

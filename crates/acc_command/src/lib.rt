@@ -1,0 +1,12 @@
+//! The commands of the program: from the words of a command line and the bytes of a document to the text that is written
+//! and the status.
+#![tactic(auto)]
+
+mod command;
+mod status;
+
+pub use command::accord;
+pub use status::Status;
+
+#[cfg(test)]
+mod tests;
