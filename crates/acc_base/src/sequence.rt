@@ -72,7 +72,8 @@ impl<T> Sequence<T> {
         self.items.is_empty()
     }
 
-    /// Makes room for so many more values, so that as many calls of `push` can't be refused. The values stay in any case.
+    /// Asks for room for so many more values, so that pushing them takes no more memory. The values stay in any case;
+    /// contracts don't see the room.
     pub fn reserve(&mut self, additional: usize) -> Result<(), OutOfMemory>
         ensures { self.new ≡ self.old }
     {

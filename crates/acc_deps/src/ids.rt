@@ -31,7 +31,7 @@ pub(crate) fn insert_id(ids: &mut Ids, id: TxnId) -> Result<(), OutOfMemory>
     }
 }
 
-/// The transactions of either list, each once, rising. It takes its memory at the begin, and looks at each of them once.
+/// The transactions of either list, each once, rising. It looks at each of them once.
 pub fn merged_ids(alloc: Global, left: &[TxnId], right: &[TxnId]) -> Result<Ids, OutOfMemory>
     requires left_rises { IsRising left.now }
     requires right_rises { IsRising right.now }

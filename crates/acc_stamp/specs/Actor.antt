@@ -1,5 +1,7 @@
 -- Nodes and stores, by their numbers.
-use Rattle.std.specs.Prelude.{ℕ, ◌+◌, ◌*◌, ◌/◌, ◌%◌, if◌then◌else◌}
+use Rattle.std.specs.Prelude.{ℕ, ◌+◌, ◌*◌, ◌/◌, ◌%◌, ◌==◌, Bool, if◌then◌else◌}
+use Rattle.std.specs.declared.cmp.Ordering.{Ordering}
+use Rattle.std.specs.Ordering.{nat_cmp}
 use Rattle.acc_stamp.specs.declared.stamps.Stamp.{Stamp}
 use Rattle.acc_stamp.specs.declared.stamps.TxnId.{TxnId}
 use Rattle.acc_stamp.specs.declared.stamps.Ballot.{Ballot}
@@ -23,3 +25,10 @@ node_of_stamp s = s.origin / 64
 -- the node that runs the attempt of a ballot at a transaction
 abbrev pub home_of : TxnId → Ballot → Actor
 home_of id ballot = actor_of (if ballot_eq ballot zero_ballot then node_of_stamp id.0 else node_of_stamp ballot.0) 0
+
+-- actors, ordered as their numbers
+abbrev pub actor_cmp : Actor → Actor → Ordering
+actor_cmp a b = nat_cmp a.0 b.0
+
+abbrev pub actor_eq : Actor → Actor → Bool
+actor_eq a b = a.0 == b.0

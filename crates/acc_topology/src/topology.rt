@@ -116,7 +116,7 @@ impl Topology {
         shards
     }
 
-    /// The part of a footprint that lies in a shard.
+    /// The part of a footprint that lies in a shard. Where there is no such shard, no key lies in it.
     pub fn share(&self, footprint: &Footprint, shard: u32) -> Result<Footprint, OutOfMemory>
         ensures { IfOk result (λ share. share ≡ share_of self.now footprint.now shard) }
     {

@@ -1,5 +1,6 @@
 -- The footprint of a body at each key.
-use Rattle.std.proofs.Common.{◌≡◌, Bool, true, false, ◌||◌, cond, List, [], ◌∷◌, Option, Some, None, unwrap_or, refl, sym, ap, ◌∙◌}
+use Rattle.std.proofs.Common.{◌≡◌, Bool, true, false, ◌||◌, cond, List, [], ◌∷◌, Option, Some, None, Result, Ok, Err, unwrap_or, refl, sym, ap, ◌∙◌}
+use Rattle.std.specs.Prelude.{IfOk}
 use Rattle.std.specs.List.{list_any}
 use Rattle.acc_value.specs.declared.key.Key.{Key}
 use Rattle.acc_value.specs.Key.{key_eq}
@@ -65,3 +66,9 @@ pub find-footprint_of : (parts : BodyParts) (q : Key) → find (footprint_of par
 find-footprint_of parts q =
     find-writes (with_keys false [] (read_keys parts)) (written_keys parts) q
     ∙ ap (cond (is_updated parts q) (Some true)) (find-reads [] (read_keys parts) q)
+
+-- what is found in the footprint of a body
+pub found_in : {E : Type 0} (r : Result (List (Key × Bool)) E) (parts whole : BodyParts) → parts ≡ whole → IfOk r (λ uses. uses ≡ footprint_of parts)
+    → IfOk r (λ uses. (q : Key) → find uses q ≡ cond (is_updated whole q) (Some true) (cond (is_read whole q) (Some false) None))
+found_in (Ok uses) parts whole same is = λ q. ap (λ u. find u q) (is ∙ ap footprint_of same) ∙ find-footprint_of whole q
+found_in (Err e) parts whole same is = is

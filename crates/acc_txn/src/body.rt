@@ -1,7 +1,9 @@
 //! The body of a transaction.
-ghost use Rattle.std.specs.Prelude.{◌≡◌, None, IfOk, IfErr, OnOk};
+ghost use Rattle.std.specs.Prelude.{◌≡◌, true, false, Some, None, if◌then◌else◌, IfOk, IfErr, OnOk};
+ghost use Rattle.acc_value.specs.declared.key.Key.{Key};
 ghost use Rattle.acc_value.specs.Cells.{cell_of};
-ghost use Rattle.acc_txn.specs.Uses.{footprint_of};
+ghost use Rattle.acc_value.specs.Pairs.{find};
+ghost use Rattle.acc_txn.specs.Uses.{footprint_of, is_read, is_updated};
 ghost use Rattle.acc_txn.specs.Rules.{refusal_of, IsBody, IsRefused};
 ghost use Rattle.acc_txn.specs.Meaning.{outcome_of};
 
@@ -58,7 +60,8 @@ impl Body {
     /// The keys that the body reads, which are those of its LETs and of a select of a key, and those that it writes,
     /// which are those of all its updates, whether or not they will be made.
     pub fn footprint(&self) -> Result<Footprint, OutOfMemory>
-        ensures { IfOk result (λ uses. uses ≡ footprint_of self.now) }
+        ensures uses { IfOk result (λ uses. uses ≡ footprint_of self.now) }
+        ensures keys { IfOk result (λ uses. (key : Key) → find uses key ≡ (if is_updated self.now key then Some true else (if is_read self.now key then Some false else None))) }
     {
         footprint(&self.parts)
     }

@@ -7,6 +7,7 @@ ghost use Rattle.std.proofs.Common.{rules};
 ghost use Rattle.acc_value.specs.Key.{key_cmp, key_eq};
 
 use acc_base::{Duplicate, OutOfMemory, Text};
+use std::alloc::AllocError;
 use std::cmp::Ordering;
 
 /// The key of a cell: a table and a text in it. Keys are ordered by their texts and then by their tables, both by
@@ -34,6 +35,18 @@ impl Key {
 impl Duplicate for Key {
     fn copy(&self) -> Result<Key, OutOfMemory> {
         Key::copy(self)
+    }
+}
+
+// For the maps of std that are copied with their keys.
+impl Clone for Key {
+    ghost is_clone = { λ key copy. copy ≡ key };
+
+    fn clone(&self) -> Result<Key, AllocError> {
+        match self.copy() {
+            Ok(copy) => Ok(copy),
+            Err(OutOfMemory) => Err(AllocError),
+        }
     }
 }
 

@@ -1,5 +1,5 @@
 //! Maps from keys to numbers.
-ghost use Rattle.std.specs.Prelude.{◌≡◌, false, ◌||◌, if◌then◌else◌, IsTrue, is_none, OnOk, OnErr};
+ghost use Rattle.std.specs.Prelude.{◌≡◌, false, ◌||◌, if◌then◌else◌, IsTrue, is_none, IfOk, OnOk, OnErr};
 ghost use Rattle.acc_value.specs.declared.key.Key.{Key};
 ghost use Rattle.acc_value.specs.Key.{key_eq};
 ghost use Rattle.acc_value.specs.Pairs.{IsRising};
@@ -8,7 +8,7 @@ ghost use Rattle.acc_value.specs.Entries.{held, has_entry, IsReserved};
 
 use crate::cells::CellList;
 use crate::key::Key;
-use acc_base::OutOfMemory;
+use acc_base::{Duplicate, OutOfMemory};
 use std::alloc::Global;
 use std::collections::BTreeMap;
 use std::marker::Model;
@@ -59,6 +59,21 @@ impl CellMap {
         reserve(&mut self.entries, pairs)?;
         write_cells(&mut self.entries, pairs);
         Ok(())
+    }
+
+    /// An equal map, in memory of its own.
+    pub fn copy(&self) -> Result<CellMap, OutOfMemory>
+        ensures { IfOk result (λ copy. copy ≡ self.now) }
+    {
+        Ok(CellMap {
+            entries: self.entries.clone()?,
+        })
+    }
+}
+
+impl Duplicate for CellMap {
+    fn copy(&self) -> Result<CellMap, OutOfMemory> {
+        CellMap::copy(self)
     }
 }
 

@@ -70,8 +70,10 @@ fn maps_take_writes(rt: HostRuntime) -> Result<(), Fail> {
     let mut map = CellMap::new(rt.alloc());
     map.apply(&cells(rt.alloc(), &[("x", Some(1)), ("y", Some(2))])?)?;
     assert_eq!(rt; map.get(&x), Some(1));
+    let copy = map.copy()?;
     map.apply(&cells(rt.alloc(), &[("x", None), ("y", Some(3))])?)?;
     assert_eq!(rt; map.get(&x), None);
+    assert_eq!(rt; copy.get(&x), Some(1));
     assert_eq!(rt; map.get(&key_in(rt.alloc(), "t", "y")?), Some(3));
     Ok(())
 }
