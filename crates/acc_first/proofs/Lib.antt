@@ -7,6 +7,9 @@ pub mod Next
 pub mod Bridge
 pub mod SafetyFacts
 pub mod Phases
+pub mod Steps
+pub mod StoreSteps
+pub mod NodeSteps
 pub mod Remembered
 pub mod Underway
 pub mod RollFacts

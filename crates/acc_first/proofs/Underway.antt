@@ -16,7 +16,10 @@ use Rattle.acc_first.specs.Headline.{IsSafeRun}
 use Rattle.acc_first.proofs.Round.{stack1, stack2, stack3, stack4, stack6, message1, message2, message3, message4, message5}
 use Rattle.acc_first.proofs.Next.{sent1, sent2, sent3, sent4, sent5, settled_start}
 use Rattle.acc_first.proofs.SafetyFacts.{agreement_settled, coverage_settled, serial_settled}
-use Rattle.acc_first.proofs.Phases.{AtRest, Phase1, Phase2, Phase3, Phase4, Phase5, phase1, phase2, phase3, phase4, phase5, begins, waiting, nothing, told}
+use Rattle.acc_first.proofs.Phases.{AtRest, Phase1, Phase2, Phase3, Phase4, Phase5, told}
+use Rattle.acc_first.proofs.Steps.{waiting, nothing}
+use Rattle.acc_first.proofs.StoreSteps.{phase1, phase3, phase5}
+use Rattle.acc_first.proofs.NodeSteps.{begins, phase2, phase4}
 
 pub data Underway (plan : Plan) (w : World) (begun : List ℕ) : Type 0 where
   resting : (h : List Item) → (done : List Heard) → AtRest plan w h done begun → Underway plan w begun

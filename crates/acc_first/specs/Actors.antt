@@ -1,5 +1,5 @@
 -- What a store and a node keep, and how a step changes it.
-use Rattle.std.specs.Prelude.{◌≡◌, ℕ, ℤ, Bool, true, false, not, slice_get, ◌+◌, ◌&&◌, ◌||◌, if◌then◌else◌, max, List, [], ◌∷◌, ◌++◌, Option, None, Some, map, filter}
+use Rattle.std.specs.Prelude.{◌≡◌, ◌≢◌, ℕ, ℤ, Bool, true, false, not, slice_get, ◌+◌, ◌&&◌, ◌||◌, if◌then◌else◌, max, List, [], ◌∷◌, ◌++◌, Option, None, Some, map, filter}
 use Rattle.std.specs.List.{list_all}
 use Rattle.acc_stamp.specs.declared.stamps.Stamp.{Stamp}
 use Rattle.acc_stamp.specs.declared.stamps.TxnId.{TxnId}
@@ -26,7 +26,7 @@ use Rattle.acc_first.specs.declared.messages.Message.TheVariants.{PreAccept, Pre
 use Rattle.acc_first.specs.declared.messages.ReadAnswer.{ReadAnswer}
 use Rattle.acc_first.specs.declared.messages.ReadAnswer.TheVariants.{Values}
 use Rattle.acc_first.specs.StoreRules.{Vote, top, voted, read_ok, read_cells}
-use Rattle.acc_first.specs.NodeRules.{begun_with, decided, finished, outcome_from}
+use Rattle.acc_first.specs.NodeRules.{begun_with, decided, finished, outcome_from, silence}
 
 -- whether each known transaction that conflicts with a footprint has timestamps below x alone
 abbrev pub all_below : List Known → TxnId → List (Key × Bool) → Bool
@@ -39,6 +39,16 @@ older_known known x uses = map (λ (k : Known). k.id) (filter (λ (k : Known). c
 -- a vote: the transaction's own timestamp, or one above all that the store saw
 abbrev pub vote_at : ℕ → ℕ → List Known → TxnId → List (Key × Bool) → Stamp
 vote_at own seen known x uses = if all_below known x uses then x.0 else record { h = 1 + seen; origin = own }
+
+-- the attempt of x awaits the store's vote, and this one, for the transaction's own timestamp, decides
+abbrev pub AwaitsVote : Option Attempt → TxnId → Stamp → Type 0
+AwaitsVote None x vote = ⊥
+AwaitsVote (Some a) x vote = (a.id ≡ x) × (a.phase ≡ Asked) × (vote ≡ x.0)
+
+-- the attempt of x is decided and awaits what the store reads
+abbrev pub AwaitsRead : Option Attempt → TxnId → Type 0
+AwaitsRead None x = ⊥
+AwaitsRead (Some a) x = (a.id ≡ x) × (a.phase ≢ Asked)
 
 -- a step at the store leaves the node, and one at the node the store
 abbrev pub NodeKept : Node → Node → Type 0
@@ -82,6 +92,7 @@ pub record Decides (old new : Node) (m : Message) (x : TxnId) (vote : Stamp) (de
   pub clock : new.clock ≡ after_seeing old.clock (top m)
   pub emits : (a : Attempt) → old.attempt ≡ Some a → a.id ≡ x → a.phase ≡ Asked → vote ≡ x.0
       → (emitted ≡ decided old.number x a.body x.0 deps) × (new.attempt ≡ Some (record a { phase = Decided x.0 deps }))
+  pub otherwise : ¬ (AwaitsVote old.attempt x vote) → (emitted ≡ silence) × (new.attempt ≡ old.attempt)
 
 -- a node comes to the outcome of the transaction whose cells it awaits
 pub record Finishes (old new : Node) (m : Message) (x : TxnId) (answer : ReadAnswer) (emitted : Emitted) : Type 0 where
@@ -89,6 +100,7 @@ pub record Finishes (old new : Node) (m : Message) (x : TxnId) (answer : ReadAns
   pub clock : new.clock ≡ after_seeing old.clock (top m)
   pub emits : (body : BodyParts) (t : Stamp) (deps : List TxnId) → old.attempt ≡ Some (record { id = x; body = body; phase = Decided t deps })
       → (emitted ≡ finished old.number x body t deps (outcome_from body answer) true) × (new.attempt ≡ None)
+  pub otherwise : ¬ (AwaitsRead old.attempt x) → (emitted ≡ silence) × (new.attempt ≡ old.attempt)
 
 -- what taking a message does to the two actors
 abbrev pub Takes : Node → Node → Store → Store → Message → Emitted → Type 0

@@ -4,6 +4,7 @@ ghost use Rattle.acc_stamp.specs.Clock.{new_clock, next_stamp, after_draw, after
 ghost use Rattle.acc_stamp.specs.declared.stamps.Stamp.{Stamp};
 ghost use Rattle.acc_stamp.specs.declared.stamps.TxnId.{TxnId};
 ghost use Rattle.acc_txn.specs.declared.parts.BodyParts.{BodyParts};
+ghost use Rattle.acc_first.specs.Actors.{AwaitsVote, AwaitsRead};
 ghost use Rattle.acc_first.specs.declared.node.Attempt.{Attempt};
 ghost use Rattle.acc_first.specs.NodeRules.{begun_with, decided, finished, outcome_from, silence};
 ghost use Rattle.acc_first.specs.declared.node.Phase.TheVariants.{Asked, Decided};
@@ -164,7 +165,8 @@ fn finish(
     answer: &ReadAnswer,
 ) -> Result<Emitted, OutOfMemory>
     requires { number ≤ 15 }
-    ensures { (t : Stamp) (deps : List TxnId) → attempt.phase ≡ Decided t deps
+    ensures asked { attempt.phase ≡ Asked → IfOk result (λ e. e ≡ silence) }
+    ensures decided { (t : Stamp) (deps : List TxnId) → attempt.phase ≡ Decided t deps
         → IfOk result (λ e. e ≡ finished number attempt.id attempt.body t deps (outcome_from attempt.body answer.now) true) }
 {
     let Attempt { id, body, phase } = attempt;
@@ -231,11 +233,16 @@ impl Node {
         })
     }
 
-    /// Takes a store's vote. A vote for the transaction's own timestamp is a fast quorum of the one store, and decides.
+    /// Takes a store's vote. A vote for the transaction's own timestamp is a fast quorum of the one store, and decides. A
+    /// vote that nothing awaits, or for another timestamp, leaves the attempt as it was and sends nothing.
     pub fn on_vote(&mut self, id: TxnId, vote: Stamp, deps: &Ids) -> Result<Emitted, OutOfMemory>
         requires { self.old.number ≤ 15 }
         ensures decides { (a : Attempt) → self.old.attempt ≡ Some a → a.id ≡ id → a.phase ≡ Asked → vote ≡ id.0
             → IfOk result (λ e. (e ≡ decided self.old.number id a.body id.0 deps.now) × (self.new.attempt ≡ Some (record a { phase = Decided id.0 deps.now }))) }
+
+        // Any other vote is passed over.
+        ensures silent { ¬ (AwaitsVote self.old.attempt id vote) → IfOk result (λ e. e ≡ silence) }
+        ensures as_before { ¬ (AwaitsVote self.old.attempt id vote) → self.new.attempt ≡ self.old.attempt }
         ensures kept { (self.new.number ≡ self.old.number) × (self.new.clock ≡ self.old.clock) }
     {
         let number = self.number;
@@ -249,13 +256,18 @@ impl Node {
     }
 
     /// Takes a store's answer to the Stable. Of a transaction that waits for it, it gives the outcome, which is told to
-    /// the store and replied to the client, and the attempt is over.
+    /// the store and replied to the client, and the attempt is over. Of any other it leaves the attempt as it was and sends
+    /// nothing.
     pub fn on_read(&mut self, id: TxnId, answer: &ReadAnswer) -> Result<Emitted, OutOfMemory>
         requires { self.old.number ≤ 15 }
         ensures finishes { (body : BodyParts) (t : Stamp) (deps : List TxnId) → self.old.attempt ≡ Some (record { id = id; body = body; phase = Decided t deps })
             → IfOk result (λ e. e ≡ finished self.old.number id body t deps (outcome_from body answer.now) true) }
         ensures ends { (body : BodyParts) (t : Stamp) (deps : List TxnId) → self.old.attempt ≡ Some (record { id = id; body = body; phase = Decided t deps })
             → self.new.attempt ≡ None }
+
+        // Any other answer is passed over.
+        ensures silent { ¬ (AwaitsRead self.old.attempt id) → IfOk result (λ e. e ≡ silence) }
+        ensures as_before { ¬ (AwaitsRead self.old.attempt id) → self.new.attempt ≡ self.old.attempt }
         ensures kept { (self.new.number ≡ self.old.number) × (self.new.clock ≡ self.old.clock) }
     {
         let Some(attempt) = self.attempt.take() else {
