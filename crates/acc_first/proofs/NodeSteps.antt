@@ -1,43 +1,29 @@
 -- The node's steps: from rest to the PreAccept, from a PreAcceptOk to the Stable, and from the cells to the Apply.
-use Rattle.std.proofs.Common.{◌≡◌, ℕ, ℤ, ◌+◌, ◌*◌, ◌<◌, ◌≤◌, Bool, true, false, max, List, [], ◌∷◌, ◌++◌, length, Option, None, Some, refl, sym, ◌∙◌, ap, subst, ◌==◌, slice_get, append-nil, length-append, arith}
+use Rattle.std.proofs.Common.{◌≡◌, ℕ, ◌*◌, true, false, List, [], ◌∷◌, ◌++◌, length, None, Some, refl, ◌∙◌, ap, ◌==◌, slice_get, length-append, arith}
 use Rattle.std.specs.List.{list_any}
-use Rattle.std.proofs.lemmas.Bool.{lt-ltb, le-ltb}
 use Rattle.acc_stamp.specs.declared.stamps.TxnId.{TxnId}
-use Rattle.acc_stamp.specs.declared.stamps.Stamp.{Stamp}
 use Rattle.acc_stamp.specs.declared.actors.Actor.{Actor}
 use Rattle.acc_stamp.specs.Actor.{actor_of}
 use Rattle.acc_stamp.specs.Clock.{next_stamp}
-use Rattle.acc_value.specs.declared.key.Key.{Key}
 use Rattle.acc_value.specs.Cells.{applied}
 use Rattle.acc_value.specs.Cells as value
 use Rattle.acc_txn.specs.declared.parts.BodyParts.{BodyParts}
-use Rattle.acc_txn.specs.Uses.{footprint_of}
 use Rattle.acc_form.specs.declared.plan.Plan.{Plan}
 use Rattle.acc_first.specs.declared.messages.Message.{Message}
 use Rattle.acc_first.specs.declared.items.Item.{Item}
 use Rattle.acc_first.specs.declared.items.Item.TheVariants.{Step}
-use Rattle.acc_first.specs.declared.items.Entry.{Entry}
 use Rattle.acc_first.specs.declared.items.Emitted.{Emitted}
-use Rattle.acc_first.specs.declared.items.Event.TheVariants.{Begin as BeginEvent, Message as MessageEvent}
-use Rattle.acc_first.specs.declared.node.Attempt.{Attempt}
-use Rattle.acc_first.specs.declared.node.Phase.TheVariants.{Asked, Decided}
-use Rattle.acc_first.specs.declared.messages.ReadAnswer.TheVariants.{Values}
-use Rattle.acc_first.specs.declared.store.Known.{Known}
+use Rattle.acc_first.specs.declared.items.Event.TheVariants.{Begin as BeginEvent}
+use Rattle.acc_first.specs.declared.node.Phase.TheVariants.{Asked}
 use Rattle.acc_first.specs.declared.store.Store.{Store}
 use Rattle.acc_first.specs.declared.world.World.{World}
-use Rattle.acc_first.specs.History.{sent_of, begun_of, begun_by, to_of}
-use Rattle.acc_first.specs.StoreRules.{Heard, Vote, voted, top, read_ok, read_cells, cells_of, older_of, coordinator_of}
-use Rattle.acc_first.specs.NodeRules.{node_actor, store_actor, highest, begun_with, decided, finished}
-use Rattle.acc_first.specs.RunRules.{IsRun, Stands}
-use Rattle.acc_first.specs.Schedule.{IsInTurn, ComesInTurn, NothingWaits, IsOldestWaiting}
-use Rattle.acc_first.specs.Actors.{older_known, vote_at, Begins, Delivers, Takes, NodeKept, StoreKept, Votes, Reads, Writes, Decides, Finishes}
-use Rattle.acc_first.proofs.Round.{node_past, store_past, drawn, deps_at, answer_at, result_at, entry2, entry3, entry4, entry5, entry6, out2, emitted3, out4, emitted5, stack1, stack2, stack3, stack4, stack5, stack6, message1, message2, message3, message4, message5, got-last}
-use Rattle.acc_first.proofs.Remembered.{all_remembered, AllBefore, vote_at-remembered, older_known-remembered}
-use Rattle.acc_first.proofs.Settled.{Settled, TakesBelow, cells_after, outcome_on, answer2, answer3, answer4, answer5, answer6}
-use Rattle.acc_first.proofs.Next.{sent1, sent2, sent3, sent4, sent5, sent6, counted1, counted2, counted3, counted4, counted5, settled_next, highest_next}
-use Rattle.acc_first.proofs.StoreFacts.{Every-map, IsDone}
-use Rattle.acc_first.proofs.Phases.{told, IsAt, Keeps, HasDrawn, AtRest, newest, Phase, asked, decided_on, Phase1, Phase2, Phase3, Phase4, Phase5}
-use Rattle.acc_first.proofs.Steps.{waiting, coordinator_is, oldest, nothing, at_next, stands2, stands3, stands4, stands5, stands6, turn2, turn3, turn4, turn5, turn6, before_next, vote_made, entry_made, message_is, takes_it, items_are, taken_next, out_only}
+use Rattle.acc_first.specs.History.{sent_of}
+use Rattle.acc_first.specs.StoreRules.{Heard}
+use Rattle.acc_first.specs.NodeRules.{node_actor, begun_with, decided, finished}
+use Rattle.acc_first.specs.Actors.{Begins, Delivers, StoreKept, Decides, Finishes}
+use Rattle.acc_first.proofs.Round.{drawn, deps_at, answer_at, result_at, entry3, entry5, emitted3, emitted5, stack1, stack2, stack3, stack4, message2, message4}
+use Rattle.acc_first.proofs.Phases.{told, AtRest, decided_on, Phase1, Phase2, Phase3, Phase4, Phase5}
+use Rattle.acc_first.proofs.Steps.{coordinator_is, nothing, at_next, stands3, stands5, turn3, turn5, entry_made, takes_it, items_are, taken_next}
 
 -- shard 0 of a node is the node itself
 node_alone : (n : ℕ) → actor_of n 0 ≡ node_actor n
@@ -96,7 +82,6 @@ module _ (plan : Plan) (w w' : World) (h : List Item) (done : List Heard) (txn :
           ap (λ (a : Actor). begin_made a w.node.number (record { 0 = next_stamp w.node.clock })) (node_alone w.node.number)
           ∙ ap (λ (n : ℕ). begin_made (node_actor n) n (record { 0 = next_stamp w.node.clock })) r.at.number
           ∙ ap (λ (x : TxnId). begin_made (node_actor plan.node) plan.node x) (drawn_is r)
-
 
 -- from a PreAcceptOk to the Stable
 module _ (plan : Plan) (w w' : World) (h : List Item) (done : List Heard) (txn : ℕ) (body : BodyParts) (begun : List ℕ) where

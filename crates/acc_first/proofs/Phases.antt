@@ -1,41 +1,24 @@
 -- A world at rest, and in the five phases of a transaction.
-use Rattle.std.proofs.Common.{◌≡◌, ℕ, ℤ, ◌+◌, ◌*◌, ◌<◌, ◌≤◌, Bool, true, false, max, List, [], ◌∷◌, ◌++◌, length, Option, None, Some, refl, sym, ◌∙◌, ap, subst, ◌==◌, slice_get, append-nil, length-append, arith}
-use Rattle.std.specs.List.{list_any}
-use Rattle.std.proofs.lemmas.Bool.{lt-ltb, le-ltb}
+use Rattle.std.proofs.Common.{◌≡◌, ℕ, ◌+◌, ◌≤◌, max, List, [], ◌∷◌, ◌++◌, length, Option, None, Some, slice_get}
 use Rattle.acc_stamp.specs.declared.stamps.TxnId.{TxnId}
-use Rattle.acc_stamp.specs.declared.stamps.Stamp.{Stamp}
-use Rattle.acc_stamp.specs.declared.actors.Actor.{Actor}
-use Rattle.acc_stamp.specs.Actor.{actor_of}
-use Rattle.acc_stamp.specs.Clock.{next_stamp}
 use Rattle.acc_value.specs.declared.key.Key.{Key}
 use Rattle.acc_value.specs.Cells.{applied}
 use Rattle.acc_value.specs.Cells as value
 use Rattle.acc_txn.specs.declared.parts.BodyParts.{BodyParts}
-use Rattle.acc_txn.specs.Uses.{footprint_of}
 use Rattle.acc_form.specs.declared.plan.Plan.{Plan}
-use Rattle.acc_first.specs.declared.messages.Message.{Message}
 use Rattle.acc_first.specs.declared.items.Item.{Item}
-use Rattle.acc_first.specs.declared.items.Item.TheVariants.{Step}
-use Rattle.acc_first.specs.declared.items.Entry.{Entry}
-use Rattle.acc_first.specs.declared.items.Emitted.{Emitted}
-use Rattle.acc_first.specs.declared.items.Event.TheVariants.{Begin as BeginEvent, Message as MessageEvent}
 use Rattle.acc_first.specs.declared.node.Attempt.{Attempt}
 use Rattle.acc_first.specs.declared.node.Phase.TheVariants.{Asked, Decided}
-use Rattle.acc_first.specs.declared.messages.ReadAnswer.TheVariants.{Values}
-use Rattle.acc_first.specs.declared.store.Known.{Known}
 use Rattle.acc_first.specs.declared.store.Store.{Store}
 use Rattle.acc_first.specs.declared.world.World.{World}
-use Rattle.acc_first.specs.History.{sent_of, begun_of, begun_by, to_of}
-use Rattle.acc_first.specs.StoreRules.{Heard, Vote, voted, top, read_ok, read_cells, cells_of, older_of, coordinator_of}
-use Rattle.acc_first.specs.NodeRules.{node_actor, store_actor, highest, begun_with, decided, finished}
-use Rattle.acc_first.specs.RunRules.{IsRun, Stands}
-use Rattle.acc_first.specs.Schedule.{IsInTurn, ComesInTurn, NothingWaits, IsOldestWaiting}
-use Rattle.acc_first.specs.Actors.{older_known, vote_at, Begins, Delivers, Takes, NodeKept, StoreKept, Votes, Reads, Writes, Decides, Finishes}
-use Rattle.acc_first.proofs.Round.{node_past, store_past, drawn, deps_at, answer_at, result_at, entry2, entry3, entry4, entry5, entry6, out2, emitted3, out4, emitted5, stack1, stack2, stack3, stack4, stack5, stack6, message1, message2, message3, message4, message5, got-last}
-use Rattle.acc_first.proofs.Remembered.{all_remembered, AllBefore, vote_at-remembered, older_known-remembered}
-use Rattle.acc_first.proofs.Settled.{Settled, TakesBelow, cells_after, outcome_on, answer2, answer3, answer4, answer5, answer6}
-use Rattle.acc_first.proofs.Next.{sent1, sent2, sent3, sent4, sent5, sent6, counted1, counted2, counted3, counted4, counted5, settled_next, highest_next}
-use Rattle.acc_first.proofs.StoreFacts.{Every-map, IsDone}
+use Rattle.acc_first.specs.History.{sent_of, begun_of}
+use Rattle.acc_first.specs.StoreRules.{Heard}
+use Rattle.acc_first.specs.NodeRules.{store_actor, highest}
+use Rattle.acc_first.specs.RunRules.{IsRun}
+use Rattle.acc_first.specs.Schedule.{IsInTurn}
+use Rattle.acc_first.proofs.Round.{node_past, drawn, deps_at, stack1, stack2, stack3, stack4, stack5}
+use Rattle.acc_first.proofs.Remembered.{all_remembered}
+use Rattle.acc_first.proofs.Settled.{Settled, cells_after}
 
 -- the items with the oldest first, as the world keeps them
 abbrev pub told : List Item → List Item
