@@ -7,14 +7,24 @@ use acc_ports::{MemSink, MemSource};
 use std::alloc::Global;
 use std::test::Fail;
 
-const ONE_UPDATE: &[u8] =
-    br#"{"version":1,"nodes":[{"id":1}],"shards":[{"end":null,"replicas":[1]}],"txns":[{"name":"a","node":1,"text":"BEGIN TRANSACTION UPDATE t SET v = 5 WHERE k = 'x'; COMMIT TRANSACTION"}],"schedule":[["begin","a"],["drain"]]}"#;
+const FRONT: &[u8] =
+    br#"{"version":1,"nodes":[{"id":1}],"shards":[{"end":null,"replicas":[1]}],"txns":["#;
+
+const A: &[u8] =
+    br#"{"name":"a","node":1,"text":"BEGIN TRANSACTION UPDATE t SET v = 5 WHERE k = 'x'; COMMIT TRANSACTION"}"#;
+
+const B: &[u8] =
+    br#"{"name":"b","node":1,"text":"BEGIN TRANSACTION UPDATE t SET v = 2 WHERE k = 'x'; COMMIT TRANSACTION"}"#;
+
+const BEGIN_A: &[u8] = br#"["begin","a"],["drain"]"#;
+
+const BEGIN_B: &[u8] = br#"["begin","b"],["drain"]"#;
 
 const ONE_UPDATE_REPORT: &[u8] =
     b"begin a 1.64\ndecide a 1.64 fast deps -\noutcome a ok\nreply a ok\nend txns=1 replied=1 open=0\n";
 
-const NO_TRANSACTIONS: &[u8] =
-    br#"{"version":1,"nodes":[{"id":1}],"shards":[{"end":null,"replicas":[1]}],"txns":[],"schedule":[]}"#;
+const TWO_UPDATES_REPORT: &[u8] =
+    b"begin a 1.64\ndecide a 1.64 fast deps -\noutcome a ok\nreply a ok\nbegin b 2.64\ndecide b 2.64 fast deps a\noutcome b ok\nreply b ok\nend txns=2 replied=2 open=0\n";
 
 const NO_TRANSACTIONS_REPORT: &[u8] = b"end txns=0 replied=0 open=0\n";
 
@@ -22,11 +32,31 @@ const NO_JSON: &[u8] = b"{\"version\":1";
 
 const USAGE: &[u8] = b"usage: accord run | check | free --workers W | gen --seed N --txns M\n";
 
-const LONE_DRAIN: &[u8] =
-    br#"{"version":1,"nodes":[{"id":1}],"shards":[{"end":null,"replicas":[1]}],"txns":[],"schedule":[["drain"]]}"#;
-
 fn bytes_of(alloc: Global, bytes: &[u8]) -> Result<Bytes, OutOfMemory> {
     Sequence::from_slice(alloc, bytes)
+}
+
+/// A document of one node with these transactions and this schedule.
+fn document(alloc: Global, txns: &[&[u8]], schedule: &[&[u8]]) -> Result<Bytes, OutOfMemory> {
+    let mut text = bytes_of(alloc, FRONT)?;
+    extend_with(&mut text, txns)?;
+    text.extend_from_slice(br#"],"schedule":["#)?;
+    extend_with(&mut text, schedule)?;
+    text.extend_from_slice(b"]}")?;
+    Ok(text)
+}
+
+/// Appends these parts with commas between them.
+fn extend_with(text: &mut Bytes, parts: &[&[u8]]) -> Result<(), OutOfMemory> {
+    let Some((first, others)) = parts.split_first() else {
+        return Ok(());
+    };
+    text.extend_from_slice(first)?;
+    for part in others {
+        text.extend_from_slice(b",")?;
+        text.extend_from_slice(part)?;
+    }
+    Ok(())
 }
 
 fn words_of(alloc: Global, word: &[u8]) -> Result<Sequence<Text>, OutOfMemory> {
@@ -39,7 +69,7 @@ fn words_of(alloc: Global, word: &[u8]) -> Result<Sequence<Text>, OutOfMemory> {
 fn answers<R: AllocGlobal>(
     rt: &R,
     word: &[u8],
-    document: &[u8],
+    document: Bytes,
     piece: usize,
     text: &[u8],
 ) -> Result<(Status, bool), OutOfMemory>
@@ -49,7 +79,7 @@ fn answers<R: AllocGlobal>(
     let words = words_of(alloc, word)?;
     let mut source = MemSource::new(
         alloc,
-        bytes_of(alloc, document)?,
+        document,
         piece,
         Sequence::new(alloc),
     );
@@ -59,31 +89,43 @@ fn answers<R: AllocGlobal>(
 }
 
 #[test]
-fn one_update(rt: HostRuntime) -> Result<(), Fail> {
+fn updates(rt: HostRuntime) -> Result<(), Fail> {
+    let alloc = rt.alloc();
+    let one = document(alloc, &[A], &[BEGIN_A])?;
     assert_eq!(rt;
-        answers(&rt, b"run", ONE_UPDATE, 50, ONE_UPDATE_REPORT)?,
+        answers(&rt, b"run", one.copy()?, 1, ONE_UPDATE_REPORT)?,
+        (Status::Done, true)
+    );
+    assert_eq!(rt;
+        answers(&rt, b"run", one.copy()?, 7, ONE_UPDATE_REPORT)?,
+        (Status::Done, true)
+    );
+    assert_eq!(rt;
+        answers(&rt, b"run", one, 50, ONE_UPDATE_REPORT)?,
+        (Status::Done, true)
+    );
+    let two = document(alloc, &[A, B], &[BEGIN_A, BEGIN_B])?;
+    assert_eq!(rt;
+        answers(&rt, b"run", two, 4096, TWO_UPDATES_REPORT)?,
         (Status::Done, true)
     );
     Ok(())
 }
 
 #[test]
-fn no_transactions(rt: HostRuntime) -> Result<(), Fail> {
+fn no_transactions_and_refusals(rt: HostRuntime) -> Result<(), Fail> {
+    let alloc = rt.alloc();
     assert_eq!(rt;
-        answers(&rt, b"run", NO_TRANSACTIONS, 1, NO_TRANSACTIONS_REPORT)?,
+        answers(&rt, b"run", document(alloc, &[], &[])?, 4096, NO_TRANSACTIONS_REPORT)?,
         (Status::Done, true)
     );
-    Ok(())
-}
-
-#[test]
-fn refusals(rt: HostRuntime) -> Result<(), Fail> {
+    let lone_drain = document(alloc, &[A], &[br#"["drain"]"#])?;
     assert_eq!(rt;
-        answers(&rt, b"run", LONE_DRAIN, 4096, b"bad 8 -\n")?,
+        answers(&rt, b"run", lone_drain, 4096, b"bad 8 -\n")?,
         (Status::BadInput, true)
     );
     assert_eq!(rt;
-        answers(&rt, b"run", NO_JSON, 4096, b"bad 1 -\n")?,
+        answers(&rt, b"run", bytes_of(alloc, NO_JSON)?, 4096, b"bad 1 -\n")?,
         (Status::BadInput, true)
     );
     Ok(())
@@ -92,7 +134,7 @@ fn refusals(rt: HostRuntime) -> Result<(), Fail> {
 #[test]
 fn other_words(rt: HostRuntime) -> Result<(), Fail> {
     assert_eq!(rt;
-        answers(&rt, b"walk", NO_JSON, 4096, USAGE)?,
+        answers(&rt, b"walk", bytes_of(rt.alloc(), NO_JSON)?, 4096, USAGE)?,
         (Status::Usage, true)
     );
     assert_eq!(rt; Status::Limit.code(), 6);
@@ -121,11 +163,12 @@ fn failing_source(rt: HostRuntime) -> Result<(), Fail> {
 fn failing_sink(rt: HostRuntime) -> Result<(), Fail> {
     let alloc = rt.alloc();
     let words = words_of(alloc, b"run")?;
-    let mut source = MemSource::new(alloc, bytes_of(alloc, NO_JSON)?, 5, Sequence::new(alloc));
+    let one = document(alloc, &[A], &[BEGIN_A])?;
+    let mut source = MemSource::new(alloc, one, 4096, Sequence::new(alloc));
     let mut sink = MemSink::new(alloc, 4, only(alloc, 1)?);
     let status = accord(&rt, words.as_slice(), &mut source, &mut sink);
     assert_eq!(rt; status, Status::WriteFault);
-    assert_eq!(rt; sink.written(), b"bad ".as_slice());
+    assert_eq!(rt; sink.written(), b"begi".as_slice());
     Ok(())
 }
 
