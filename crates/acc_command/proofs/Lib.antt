@@ -1,2 +1,3 @@
 pub mod EndsFacts
 pub mod CommandFacts
+pub mod LeavesFacts

@@ -1,6 +1,7 @@
 -- What a command writes and how it ends, from its words and the bytes of its document.
-use Rattle.std.specs.Prelude.{◌≡◌, ◌⊎◌, ℕ, ◌<◌, ◌≤◌, List, [], ◌∷◌, ◌++◌, length, reverse, codes, Option}
+use Rattle.std.specs.Prelude.{◌≡◌, ◌⊎◌, ℕ, ◌+◌, ◌<◌, ◌≤◌, List, [], ◌∷◌, ◌++◌, length, reverse, codes, Option}
 use Rattle.acc_ports.specs.Sink.{followed_by, WritesPart}
+use Rattle.acc_ports.specs.Source.{without_first, none_left, TakesAtMost}
 use Rattle.acc_form.specs.declared.plan.Plan.{Plan}
 use Rattle.acc_form.specs.Document.{Means, IsJson, IsUnbuilt}
 use Rattle.acc_first.specs.declared.items.Item.{Item}
@@ -74,6 +75,18 @@ Ends P WriteFault old new = WritesLess P old new
 Ends P BadInput old new = Writes P BadInput old new
 Ends P Limit old new = Writes P Limit old new
 Ends P OutOfMemory old new = (new ≡ old) ⊎ WritesLess P old new
+
+-- what is left of the source: nothing of a document that was read whole, all behind the byte past the limit, and with a
+-- fault or want of memory no less than that
+abbrev pub Leaves : Status → Option (List ℕ) → Option (List ℕ) → Type 0
+Leaves Done old new = new ≡ none_left old
+Leaves No old new = ⊥
+Leaves Usage old new = ⊥
+Leaves ReadFault old new = TakesAtMost (document_limit + 1) old new
+Leaves WriteFault old new = TakesAtMost (document_limit + 1) old new
+Leaves BadInput old new = new ≡ none_left old
+Leaves Limit old new = new ≡ without_first (document_limit + 1) old
+Leaves OutOfMemory old new = TakesAtMost (document_limit + 1) old new
 
 -- a text was written with its status, or the sink failed or had no memory before the end
 abbrev pub Says : Status → List ℕ → Status → Option (List ℕ) → Option (List ℕ) → Type 0

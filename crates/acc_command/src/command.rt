@@ -4,7 +4,7 @@ ghost use Rattle.acc_ports.specs.Faults.{Rose};
 ghost use Rattle.acc_form.specs.declared.plan.Plan.{Plan};
 ghost use Rattle.acc_form.specs.Document.{Means, IsCause};
 ghost use Rattle.acc_form.specs.Plan.{IsPlan};
-ghost use Rattle.acc_command.specs.Command.{IsRunLine, IsUsage, IsDue, Ends, Says, Reports, IsDone, document_limit};
+ghost use Rattle.acc_command.specs.Command.{IsRunLine, IsUsage, IsDue, Ends, Says, Reports, Leaves, IsDone, document_limit};
 
 use crate::status::Status;
 use acc_base::{Bytes, OutOfMemory, Text};
@@ -35,13 +35,14 @@ pub fn accord<R: AllocGlobal, S: Source, K: Sink>(
     source: &mut S,
     sink: &mut K,
 ) -> Status
-    // What is written, and the status, for every list of words and every document.
+    // What is written, what is left of the source, and the status, for every list of words and every document.
     ensures usage { ¬ (IsRunLine words.now) → Ends IsUsage result (K.written sink.old) (K.written sink.new) }
     ensures run { IsRunLine words.now → IfSome (S.left source.old) (λ bytes. Ends (IsDue bytes) result (K.written sink.old) (K.written sink.new)) }
 
     // When each of the answers comes that tell of a port, and which comes where no port fails.
     ensures usage_only { result ≡ Status.Usage → ¬ (IsRunLine words.now) }
-    ensures unread { ¬ (IsRunLine words.now) → S.left source.new ≡ S.left source.old }
+    ensures unread { ¬ (IsRunLine words.now) → (source.new ≡ source.old) × (result ≢ Status.ReadFault) }
+    ensures leaves { IsRunLine words.now → Leaves result (S.left source.old) (S.left source.new) }
     ensures read_fault { result ≡ Status.ReadFault → Rose (S.faults source.old) (S.faults source.new) }
     ensures unwritten { result ≡ Status.ReadFault → K.written sink.new ≡ K.written sink.old }
     ensures write_fault { result ≡ Status.WriteFault → Rose (K.faults sink.old) (K.faults sink.new) }

@@ -1,0 +1,38 @@
+-- What a command leaves of its source.
+use Rattle.std.proofs.Common.{◌≡◌, ◌<◌, ◌≤◌, ℕ, ◌+◌, List, [], ◌∷◌, length, drop, Option, None, Some, refl, sym, ◌∙◌, ap, subst, inl, inr, arith}
+use Rattle.std.specs.Prelude.{IfSome}
+use Rattle.std.proofs.lemmas.List.{drop_all}
+use Rattle.acc_ports.specs.Source.{without_first, none_left, TakesAtMost}
+use Rattle.acc_command.specs.declared.status.Status.{Status}
+use Rattle.acc_command.specs.declared.status.Status.TheVariants.{Done, No, Usage, ReadFault, WriteFault, BadInput, Limit, OutOfMemory}
+use Rattle.acc_command.specs.Command.{Ends, Says, IsDue, Leaves, document_limit}
+
+-- a source with no more bytes than these is read whole
+takes_all : (n : ℕ) (left : Option (List ℕ)) (bytes : List ℕ) → length bytes ≤ n → IfSome left (λ l. bytes ≡ l)
+    → none_left left ≡ without_first n left
+takes_all n None bytes short all = refl
+takes_all n (Some l) bytes short all = ap (λ (x : List ℕ). Some x) (sym (drop_all n l (subst (λ (x : List ℕ). length x ≤ n) all short)))
+
+module _ (bytes : List ℕ) (left now old new : Option (List ℕ)) (short : length bytes ≤ document_limit)
+    (all : IfSome left (λ l. bytes ≡ l)) (end : now ≡ none_left left) where
+  taken : TakesAtMost (document_limit + 1) left now
+  taken = (document_limit + 1, omega arith, end ∙ takes_all (document_limit + 1) left bytes (omega (arith, short)) all)
+
+  -- a document that was read whole
+  pub leaves_none : (result : Status) → Ends (IsDue bytes) result old new → Leaves result left now
+  leaves_none Done ends = end
+  leaves_none No ends = ends.1.0
+  leaves_none Usage ends = ends.1.0
+  leaves_none ReadFault ends = taken
+  leaves_none WriteFault ends = taken
+  leaves_none BadInput ends = end
+  leaves_none Limit ends = absurd (omega (arith, short, ends.1.0))
+  leaves_none OutOfMemory ends = taken
+
+-- a document that is too long
+pub leaves_rest : (text : List ℕ) (result : Status) (left now old new : Option (List ℕ))
+    → now ≡ without_first (document_limit + 1) left → TakesAtMost (document_limit + 1) left now
+    → Says Limit text result old new → Leaves result left now
+leaves_rest text result left now old new one_more taken (inl said) = subst (λ r. Leaves r left now) (sym said.0) one_more
+leaves_rest text result left now old new one_more taken (inr (inl failed, part)) = subst (λ r. Leaves r left now) (sym failed) taken
+leaves_rest text result left now old new one_more taken (inr (inr no_memory, part)) = subst (λ r. Leaves r left now) (sym no_memory) taken
