@@ -21,8 +21,8 @@ module _ (bytes : List ℕ) (left now old new : Option (List ℕ)) (short : leng
   -- a document that was read whole
   pub leaves_none : (result : Status) → Ends (IsDue bytes) result old new → Leaves result left now
   leaves_none Done ends = end
-  leaves_none No ends = ends.1.0
-  leaves_none Usage ends = ends.1.0
+  leaves_none No ends = ends.1
+  leaves_none Usage ends = ends.1
   leaves_none ReadFault ends = taken
   leaves_none WriteFault ends = taken
   leaves_none BadInput ends = end
@@ -33,6 +33,6 @@ module _ (bytes : List ℕ) (left now old new : Option (List ℕ)) (short : leng
 pub leaves_rest : (text : List ℕ) (result : Status) (left now old new : Option (List ℕ))
     → now ≡ without_first (document_limit + 1) left → TakesAtMost (document_limit + 1) left now
     → Says Limit text result old new → Leaves result left now
-leaves_rest text result left now old new one_more taken (inl said) = subst (λ r. Leaves r left now) (sym said.0) one_more
-leaves_rest text result left now old new one_more taken (inr (inl failed, part)) = subst (λ r. Leaves r left now) (sym failed) taken
-leaves_rest text result left now old new one_more taken (inr (inr no_memory, part)) = subst (λ r. Leaves r left now) (sym no_memory) taken
+leaves_rest text result left now old new one_more at_most (inl said) = subst (λ r. Leaves r left now) (sym said.0) one_more
+leaves_rest text result left now old new one_more at_most (inr (inl failed, part)) = subst (λ r. Leaves r left now) (sym failed) at_most
+leaves_rest text result left now old new one_more at_most (inr (inr no_memory, part)) = subst (λ r. Leaves r left now) (sym no_memory) at_most

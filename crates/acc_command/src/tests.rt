@@ -77,12 +77,7 @@ fn answers<R: AllocGlobal>(
 {
     let alloc = rt.alloc();
     let words = words_of(alloc, word)?;
-    let mut source = MemSource::new(
-        alloc,
-        document,
-        piece,
-        Sequence::new(alloc),
-    );
+    let mut source = MemSource::new(alloc, document, piece, Sequence::new(alloc));
     let mut sink = MemSink::new(alloc, 4096, Sequence::new(alloc));
     let status = accord(rt, words.as_slice(), &mut source, &mut sink);
     Ok((status, sink.written() == text))
@@ -116,7 +111,13 @@ fn updates(rt: HostRuntime) -> Result<(), Fail> {
 fn no_transactions_and_refusals(rt: HostRuntime) -> Result<(), Fail> {
     let alloc = rt.alloc();
     assert_eq!(rt;
-        answers(&rt, b"run", document(alloc, &[], &[])?, 4096, NO_TRANSACTIONS_REPORT)?,
+        answers(
+            &rt,
+            b"run",
+            document(alloc, &[], &[])?,
+            4096,
+            NO_TRANSACTIONS_REPORT
+        )?,
         (Status::Done, true)
     );
     let lone_drain = document(alloc, &[A], &[br#"["drain"]"#])?;
