@@ -2,7 +2,7 @@
 use Rattle.std.proofs.Common.{◌≡◌, ◌≢◌, ◌⊎◌, ◌<◌, ◌≤◌, ℕ, List, [], ◌∷◌, length, get_or, reverse, Option, None, Some, Result, Ok, Err, refl, sym, ◌∙◌, ap, subst, inl, inr, arith}
 use Rattle.std.specs.Prelude.{IfOk, IfSome, IsSome, codes}
 use Rattle.std.proofs.lemmas.Bool.{true≢false}
-use Rattle.acc_form.specs.declared.plan.Plan.{Plan}
+use Rattle.acc_plan.specs.declared.plan.Plan.{Plan}
 use Rattle.acc_form.specs.Document.{Means, IsJson, IsUnbuilt, is_first_form}
 use Rattle.serde_json.specs.Data.{Data}
 use Rattle.acc_first.specs.declared.items.Item.{Item}

@@ -2,7 +2,7 @@
 use Rattle.std.specs.Prelude.{◌≡◌, ◌⊎◌, ℕ, ◌+◌, ◌<◌, ◌≤◌, List, [], ◌∷◌, ◌++◌, length, reverse, codes, Option}
 use Rattle.acc_ports.specs.Sink.{followed_by, WritesPart}
 use Rattle.acc_ports.specs.Source.{without_first, none_left, TakesAtMost}
-use Rattle.acc_form.specs.declared.plan.Plan.{Plan}
+use Rattle.acc_plan.specs.declared.plan.Plan.{Plan}
 use Rattle.acc_form.specs.Document.{Means, IsJson, IsUnbuilt}
 use Rattle.acc_first.specs.declared.items.Item.{Item}
 use Rattle.acc_first.specs.Headline.{IsSafeRun}

@@ -1,15 +1,16 @@
 //! The top call.
 ghost use Rattle.std.specs.Prelude.{◌≡◌, ◌≢◌, ◌≤◌, ◌↔◌, ◌⊎◌, codes, length, IfOk, IfSome, IsTrue};
 ghost use Rattle.acc_ports.specs.Faults.{Rose};
-ghost use Rattle.acc_form.specs.declared.plan.Plan.{Plan};
+ghost use Rattle.acc_plan.specs.declared.plan.Plan.{Plan};
 ghost use Rattle.acc_form.specs.Document.{Means, IsCause};
-ghost use Rattle.acc_form.specs.Plan.{IsPlan};
+ghost use Rattle.acc_plan.specs.Plan.{IsPlan};
 ghost use Rattle.acc_command.specs.Command.{IsRunLine, IsUsage, IsDue, Ends, Says, Reports, Leaves, IsDone, document_limit};
 
 use crate::status::Status;
 use acc_base::{Bytes, OutOfMemory, Text};
 use acc_first::{run, text};
-use acc_form::{Plan, PlanError, PlanKind, read};
+use acc_form::{PlanError, PlanKind, read};
+use acc_plan::Plan;
 use acc_ports::{PortError, ReadError, Sink, Source, read_all, write_all};
 use std::alloc::Global;
 

@@ -2,7 +2,7 @@
 use Rattle.std.proofs.Common.{◌≡◌, ℕ, zero, suc, ◌+◌, ◌<◌, ◌≤◌, Bool, true, false, not, ◌==◌, cond, List, [], ◌∷◌, length, get_or, take, filter, refl, sym, ap, nat_eq, subst, arith}
 use Rattle.std.specs.List.{list_any, AllByRecursion}
 use Rattle.std.proofs.lemmas.Bool.{and_parts, and_from, or_parts, or_from, not-true, eqb-true, eqb-false, ne_eqb}
-use Rattle.acc_form.specs.Distinct.{are_distinct}
+use Rattle.acc_plan.specs.Distinct.{are_distinct}
 
 eq_symm_false : (x y : ℕ) → nat_eq x y ≡ false → (y == x) ≡ false
 eq_symm_false x y e = ne_eqb y x (λ (f : y ≡ x). eqb-false x y e (sym f))

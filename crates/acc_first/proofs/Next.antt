@@ -6,7 +6,7 @@ use Rattle.std.proofs.lemmas.Bool.Decides.{nat_tests}
 use Rattle.acc_stamp.specs.declared.stamps.TxnId.{TxnId}
 use Rattle.acc_stamp.specs.Stamp.{id_eq}
 use Rattle.acc_txn.specs.declared.parts.BodyParts.{BodyParts}
-use Rattle.acc_form.specs.declared.plan.Plan.{Plan}
+use Rattle.acc_plan.specs.declared.plan.Plan.{Plan}
 use Rattle.acc_first.specs.declared.messages.Message.{Message}
 use Rattle.acc_txn.specs.declared.outcome.Reply.{Reply}
 use Rattle.acc_first.specs.declared.items.Note.{Note}

@@ -5,7 +5,7 @@ use Rattle.acc_value.specs.declared.key.Key.{Key}
 use Rattle.acc_value.specs.Cells.{applied}
 use Rattle.acc_value.specs.Cells as value
 use Rattle.acc_txn.specs.declared.parts.BodyParts.{BodyParts}
-use Rattle.acc_form.specs.declared.plan.Plan.{Plan}
+use Rattle.acc_plan.specs.declared.plan.Plan.{Plan}
 use Rattle.acc_first.specs.declared.items.Item.{Item}
 use Rattle.acc_first.specs.declared.node.Attempt.{Attempt}
 use Rattle.acc_first.specs.declared.node.Phase.TheVariants.{Asked, Decided}

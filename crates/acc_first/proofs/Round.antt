@@ -6,7 +6,7 @@ use Rattle.acc_stamp.specs.declared.stamps.TxnId.{TxnId}
 use Rattle.acc_stamp.specs.Stamp.{zero_ballot}
 use Rattle.acc_txn.specs.declared.parts.BodyParts.{BodyParts}
 use Rattle.acc_txn.specs.declared.outcome.Outcome.{Outcome}
-use Rattle.acc_form.specs.declared.plan.Plan.{Plan}
+use Rattle.acc_plan.specs.declared.plan.Plan.{Plan}
 use Rattle.acc_first.specs.declared.messages.Message.{Message}
 use Rattle.acc_first.specs.declared.messages.Message.TheVariants.{PreAccept, PreAcceptOk, Stable, ReadOk, Apply}
 use Rattle.acc_first.specs.declared.messages.ReadAnswer.{ReadAnswer}

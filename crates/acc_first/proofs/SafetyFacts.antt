@@ -17,7 +17,7 @@ use Rattle.acc_txn.specs.declared.parts.BodyParts.{BodyParts}
 use Rattle.acc_txn.specs.declared.outcome.Outcome.{Outcome}
 use Rattle.acc_txn.specs.Uses.{footprint_of}
 use Rattle.acc_txn.specs.Meaning.{outcome_of}
-use Rattle.acc_form.specs.declared.plan.Plan.{Plan}
+use Rattle.acc_plan.specs.declared.plan.Plan.{Plan}
 use Rattle.acc_first.specs.declared.items.Note.{Note}
 use Rattle.acc_first.specs.declared.items.Note.TheVariants.{Begin, Decide, Outcome as OutcomeNote, Reply as ReplyNote}
 use Rattle.acc_first.specs.declared.items.Path.TheVariants.{Fast}

@@ -10,7 +10,7 @@ use Rattle.acc_value.specs.Cells.{applied, cell_of}
 use Rattle.acc_txn.specs.declared.parts.BodyParts.{BodyParts}
 use Rattle.acc_txn.specs.declared.outcome.Outcome.{Outcome}
 use Rattle.acc_txn.specs.Meaning.{outcome_of}
-use Rattle.acc_form.specs.declared.plan.Plan.{Plan}
+use Rattle.acc_plan.specs.declared.plan.Plan.{Plan}
 use Rattle.acc_first.specs.declared.messages.Message.TheVariants.{PreAccept}
 use Rattle.acc_first.specs.declared.items.Note.{Note}
 use Rattle.acc_first.specs.declared.items.Note.TheVariants.{Begin, Decide, Outcome as OutcomeNote, Reply as ReplyNote}

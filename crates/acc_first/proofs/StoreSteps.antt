@@ -8,7 +8,7 @@ use Rattle.acc_value.specs.Cells.{applied}
 use Rattle.acc_value.specs.Cells as value
 use Rattle.acc_txn.specs.declared.parts.BodyParts.{BodyParts}
 use Rattle.acc_txn.specs.Uses.{footprint_of}
-use Rattle.acc_form.specs.declared.plan.Plan.{Plan}
+use Rattle.acc_plan.specs.declared.plan.Plan.{Plan}
 use Rattle.acc_first.specs.declared.items.Item.{Item}
 use Rattle.acc_first.specs.declared.items.Emitted.{Emitted}
 use Rattle.acc_first.specs.declared.messages.ReadAnswer.TheVariants.{Values}

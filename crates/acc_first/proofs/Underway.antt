@@ -4,7 +4,7 @@ use Rattle.std.proofs.lemmas.List.{reverse-append}
 use Rattle.std.proofs.Math.Seq.{drop-append_seam}
 use Rattle.std.specs.List.{list_any}
 use Rattle.acc_txn.specs.declared.parts.BodyParts.{BodyParts}
-use Rattle.acc_form.specs.declared.plan.Plan.{Plan}
+use Rattle.acc_plan.specs.declared.plan.Plan.{Plan}
 use Rattle.acc_first.specs.declared.messages.Message.{Message}
 use Rattle.acc_first.specs.declared.messages.Message.TheVariants.{PreAccept, PreAcceptOk, Stable, ReadOk, Apply}
 use Rattle.acc_first.specs.declared.items.Item.{Item}

@@ -1,6 +1,6 @@
 -- What is promised of the items of a plan.
 use Rattle.std.specs.Prelude.{List}
-use Rattle.acc_form.specs.declared.plan.Plan.{Plan}
+use Rattle.acc_plan.specs.declared.plan.Plan.{Plan}
 use Rattle.acc_first.specs.declared.items.Item.{Item}
 use Rattle.acc_first.specs.History.{notes_of}
 use Rattle.acc_first.specs.RunRules.{IsRun}

@@ -2,7 +2,7 @@
 use Rattle.std.specs.Prelude.{◌≡◌, false, cond, ◌==◌, List, [], ◌∷◌, Option, None, Some}
 use Rattle.std.specs.List.{slice_get, list_any}
 use Rattle.acc_stamp.specs.declared.actors.Actor.{Actor}
-use Rattle.acc_form.specs.declared.plan.Plan.{Plan}
+use Rattle.acc_plan.specs.declared.plan.Plan.{Plan}
 use Rattle.acc_txn.specs.declared.parts.BodyParts.{BodyParts}
 use Rattle.acc_first.specs.declared.messages.Message.{Message}
 use Rattle.acc_first.specs.declared.items.Event.TheVariants.{Begin, Message as TakesMessage}

@@ -6,7 +6,7 @@ use Rattle.acc_stamp.specs.declared.stamps.TxnId.{TxnId}
 use Rattle.acc_stamp.specs.Stamp.{id_eq, stamp_lt}
 use Rattle.acc_stamp.specs.Rising.{id_among}
 use Rattle.acc_value.specs.Footprint.{clashes}
-use Rattle.acc_form.specs.declared.plan.Plan.{Plan}
+use Rattle.acc_plan.specs.declared.plan.Plan.{Plan}
 use Rattle.acc_txn.specs.declared.parts.BodyParts.{BodyParts}
 use Rattle.acc_txn.specs.declared.outcome.Reply.{Reply}
 use Rattle.acc_txn.specs.Uses.{footprint_of}

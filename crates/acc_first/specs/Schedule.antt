@@ -2,7 +2,7 @@
 -- and in between the oldest waiting message is taken.
 use Rattle.std.specs.List.{list_any}
 use Rattle.std.specs.Prelude.{◌≡◌, ℕ, Bool, true, false, ◌==◌, ◌<◌, List, [], ◌∷◌, length}
-use Rattle.acc_form.specs.declared.plan.Plan.{Plan}
+use Rattle.acc_plan.specs.declared.plan.Plan.{Plan}
 use Rattle.acc_first.specs.declared.items.Event.TheVariants.{Begin, Message}
 use Rattle.acc_first.specs.declared.items.Event.{Event}
 use Rattle.acc_first.specs.declared.items.Item.{Item}

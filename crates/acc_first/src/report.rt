@@ -6,7 +6,7 @@ ghost use Rattle.acc_first.specs.Roll.{name_in};
 use crate::items::{Item, Items, Note, Path};
 use crate::roll::{Roll, begun_in};
 use acc_base::{Bytes, OutOfMemory};
-use acc_form::Names;
+use acc_plan::Names;
 use acc_stamp::{Ids, Stamp, TxnId};
 use acc_txn::{Cells, Reply, Verdict};
 use std::alloc::Global;

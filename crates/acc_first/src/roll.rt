@@ -11,7 +11,7 @@ ghost use Rattle.acc_first.specs.Roll.{txn_in, name_in};
 
 use crate::items::{Event, Item, Items, Note};
 use acc_base::OutOfMemory;
-use acc_form::Names;
+use acc_plan::Names;
 use acc_stamp::TxnId;
 use std::alloc::Global;
 use std::collections::BTreeMap;

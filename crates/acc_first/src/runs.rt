@@ -1,13 +1,13 @@
 //! The run of a plan.
 ghost use Rattle.std.specs.Prelude.{reverse, IfOk, OnOk};
-ghost use Rattle.acc_form.specs.Plan.{IsPlan};
+ghost use Rattle.acc_plan.specs.Plan.{IsPlan};
 ghost use Rattle.acc_first.specs.Actors.{IsFresh};
 ghost use Rattle.acc_first.specs.Headline.{IsSafeRun};
 
 use crate::items::Items;
 use crate::world::World;
 use acc_base::OutOfMemory;
-use acc_form::Plan;
+use acc_plan::Plan;
 use std::alloc::Global;
 
 /// Begins each transaction in the plan's order, and delivers the oldest message as long as one waits.

@@ -4,10 +4,10 @@ use Rattle.std.proofs.lemmas.Bool.{and_from, and_left, and_right}
 use Rattle.std.proofs.lemmas.Option.{none-some, same_Some}
 use Rattle.serde_json.specs.Data.{Data}
 use Rattle.acc_txn.specs.declared.parts.BodyParts.{BodyParts}
-use Rattle.acc_form.specs.declared.plan.Plan.{Plan}
-use Rattle.acc_form.specs.declared.plan.PlanKind.TheVariants.{Json, Unbuilt}
-use Rattle.acc_form.specs.declared.plan.PlanError.{PlanError}
-use Rattle.acc_form.specs.declared.plan.PlanError.TheVariants.{Bad, OutOfMemory}
+use Rattle.acc_plan.specs.declared.plan.Plan.{Plan}
+use Rattle.acc_form.specs.declared.error.PlanKind.TheVariants.{Json, Unbuilt}
+use Rattle.acc_form.specs.declared.error.PlanError.{PlanError}
+use Rattle.acc_form.specs.declared.error.PlanError.TheVariants.{Bad, OutOfMemory}
 use Rattle.acc_form.specs.Answer.{Refuses}
 use Rattle.acc_form.specs.Cluster.{node_of, nodes}
 use Rattle.acc_form.specs.Document.{is_cluster, is_first_form, plan_of}

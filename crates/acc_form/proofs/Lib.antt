@@ -1,7 +1,6 @@
 pub mod FieldLemmas
 pub mod UpdateLemmas
 pub mod NameLemmas
-pub mod DistinctLemmas
 pub mod BodyLemmas
 pub mod TransactionLemmas
 pub mod ScheduleLemmas

@@ -8,12 +8,12 @@ use Rattle.std.proofs.lemmas.List.Quantifiers.{position-Some}
 use Rattle.std.proofs.lemmas.Option.{none-some, option_and_then_some, same_Some}
 use Rattle.serde_json.specs.Data.{Data}
 use Rattle.serde_json.specs.Find.{as_str}
-use Rattle.acc_form.specs.declared.plan.Plan.{Plan}
+use Rattle.acc_plan.specs.declared.plan.Plan.{Plan}
 use Rattle.acc_form.specs.Cluster.{are_nodes, are_shards, is_node, is_number, node_of, nodes, shards}
-use Rattle.acc_form.specs.Distinct.{are_distinct}
+use Rattle.acc_plan.specs.Distinct.{are_distinct}
 use Rattle.acc_form.specs.Document.{is_cluster, is_first_form, plan_of, Means}
 use Rattle.acc_form.specs.Fields.{elements, field, has_fields, items, only, text, whole}
-use Rattle.acc_form.specs.Plan.{IsPlan}
+use Rattle.acc_plan.specs.Plan.{IsPlan}
 use Rattle.acc_form.specs.Schedule.{are_pairs, begins_of, begun, begun_by, is_schedule, is_text, number_of, schedule}
 use Rattle.acc_form.specs.Transactions.{are_transactions, bodies_of, body_of, is_name, is_named_at, is_transaction, name_of, names_of, transactions}
 use Rattle.acc_form.specs.Update.{is_update}
@@ -75,11 +75,20 @@ IsPlan-plan_of d h =
       node_most = range.1;
       as_many = as_many;
       few = omega arith;
-      named = names_have_form node (items ts) each.1;
       names_differ = listed.1;
       begun_once = once;
       known = subst (λ k. AllByRecursion (λ n. n < k) (begins_of (names_of ts) (schedule d))) as_many (begins-known (names_of ts) (items (schedule d)));
     }
+
+-- its names have the form
+pub named-plan_of : (d : Data) → is_first_form d ≡ true → list_all is_name (names_of (transactions d)) ≡ true
+named-plan_of d h =
+    let ts = transactions d in
+    let node = node_of (nodes d) in
+    let whole = and_parts (is_cluster d && are_transactions node ts) (is_schedule (names_of ts) (schedule d)) h in
+    let front = and_parts (is_cluster d) (are_transactions node ts) whole.0 in
+    let listed = and_parts (is_some (elements ts) && nat_le (length (items ts)) 64 && list_all (is_transaction node) (items ts)) (are_distinct bytes_eq (names_of ts)) front.1 in
+    names_have_form node (items ts) (and_parts (is_some (elements ts) && nat_le (length (items ts)) 64) (list_all (is_transaction node) (items ts)) listed.0).1
 
 -- the plan that a document says
 pub IsPlan-Means : (bytes : List ℕ) (plan : Plan) → Means bytes plan → IsPlan plan

@@ -6,10 +6,10 @@ use Rattle.std.proofs.lemmas.Option.{none-some}
 use Rattle.serde_json.specs.Data.{Data}
 use Rattle.serde_json.specs.View.{view}
 use Rattle.serde_json.specs.declared.value.Value.{Value}
-use Rattle.acc_form.specs.Distinct.{are_distinct}
+use Rattle.acc_plan.specs.Distinct.{are_distinct}
 use Rattle.acc_form.specs.Fields.{elements, items}
 use Rattle.acc_form.specs.Schedule.{are_pairs, begun, begun_by, drains, is_drain, is_schedule}
-use Rattle.acc_form.proofs.DistinctLemmas.{distinct_push, distinct_twice}
+use Rattle.acc_plan.proofs.DistinctLemmas.{distinct_push, distinct_twice}
 
 -- what the steps are tested for
 abbrev tested : List (List ℕ) → List Data → Bool

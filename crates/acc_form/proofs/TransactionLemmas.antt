@@ -9,11 +9,11 @@ use Rattle.serde_json.specs.Data.{Data}
 use Rattle.serde_json.specs.View.{view}
 use Rattle.serde_json.specs.declared.value.Value.{Value}
 use Rattle.acc_txn.specs.declared.parts.BodyParts.{BodyParts}
-use Rattle.acc_form.specs.Distinct.{are_distinct}
+use Rattle.acc_plan.specs.Distinct.{are_distinct}
 use Rattle.acc_form.specs.Fields.{elements, field, text}
 use Rattle.acc_form.specs.Transactions.{is_transaction, is_named_at, are_transactions, name_of, body_of}
 use Rattle.acc_form.specs.Update.{is_update}
-use Rattle.acc_form.proofs.DistinctLemmas.{distinct_push, distinct_twice}
+use Rattle.acc_plan.proofs.DistinctLemmas.{distinct_push, distinct_twice}
 
 -- where the text sets no cell, it is no transaction
 pub no_update_text : (node : ℕ) (d : Data) (bytes : List ℕ) → is_update bytes ≡ false → bytes ≡ text (field (codes "text") d) → is_transaction node d ≡ false

@@ -1,8 +1,8 @@
 -- What a reader of a part of the document answers.
 use Rattle.std.specs.Prelude.{◌≡◌, Bool, true, false, Result, Ok, Err, ⊤}
-use Rattle.acc_form.specs.declared.plan.PlanKind.TheVariants.{Json, Unbuilt}
-use Rattle.acc_form.specs.declared.plan.PlanError.{PlanError}
-use Rattle.acc_form.specs.declared.plan.PlanError.TheVariants.{Bad, OutOfMemory}
+use Rattle.acc_form.specs.declared.error.PlanKind.TheVariants.{Json, Unbuilt}
+use Rattle.acc_form.specs.declared.error.PlanError.{PlanError}
+use Rattle.acc_form.specs.declared.error.PlanError.TheVariants.{Bad, OutOfMemory}
 
 -- this refusal, where the part isn't of the form; want of memory may come in any case
 abbrev pub Refuses : Bool → PlanError → Type 0

@@ -2,11 +2,11 @@
 use Rattle.std.specs.Prelude.{◌≡◌, ℕ, ◌&&◌, List, [], ◌∷◌, Bool, true, false, Some, IsSome, IsUtf8, codes, Result, Ok, Err, ⊤}
 use Rattle.serde_json.specs.Data.{Data}
 use Rattle.serde_json.specs.Read.{read}
-use Rattle.acc_form.specs.declared.plan.Plan.{Plan}
-use Rattle.acc_form.specs.declared.plan.PlanKind.{PlanKind}
-use Rattle.acc_form.specs.declared.plan.PlanKind.TheVariants.{Json, Unbuilt}
-use Rattle.acc_form.specs.declared.plan.PlanError.{PlanError}
-use Rattle.acc_form.specs.declared.plan.PlanError.TheVariants.{Bad, OutOfMemory}
+use Rattle.acc_plan.specs.declared.plan.Plan.{Plan}
+use Rattle.acc_form.specs.declared.error.PlanKind.{PlanKind}
+use Rattle.acc_form.specs.declared.error.PlanKind.TheVariants.{Json, Unbuilt}
+use Rattle.acc_form.specs.declared.error.PlanError.{PlanError}
+use Rattle.acc_form.specs.declared.error.PlanError.TheVariants.{Bad, OutOfMemory}
 use Rattle.acc_form.specs.Cluster.{are_nodes, are_shards, is_number, node_of, nodes, shards}
 use Rattle.acc_form.specs.Fields.{field, has_fields}
 use Rattle.acc_form.specs.Schedule.{begins_of, is_schedule, schedule}

@@ -1,9 +1,7 @@
 pub mod Fields
-pub mod Distinct
 pub mod Cluster
 pub mod Update
 pub mod Transactions
 pub mod Schedule
 pub mod Answer
-pub mod Plan
 pub mod Document

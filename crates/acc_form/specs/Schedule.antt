@@ -3,7 +3,7 @@ use Rattle.std.specs.Prelude.{ℕ, ◌&&◌, List, [], ◌∷◌, filter_map, po
 use Rattle.std.specs.Str.{bytes_eq}
 use Rattle.serde_json.specs.Data.{Data}
 use Rattle.serde_json.specs.Find.{as_str}
-use Rattle.acc_form.specs.Distinct.{are_distinct}
+use Rattle.acc_plan.specs.Distinct.{are_distinct}
 use Rattle.acc_form.specs.Fields.{elements, field, items}
 
 -- this text

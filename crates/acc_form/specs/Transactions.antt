@@ -10,7 +10,7 @@ use Rattle.acc_txn.specs.declared.parts.Select.TheVariants.{Nothing}
 use Rattle.acc_txn.specs.declared.parts.Term.TheVariants.{Number}
 use Rattle.acc_txn.specs.declared.parts.Update.TheVariants.{Set}
 use Rattle.acc_form.specs.Cluster.{is_number}
-use Rattle.acc_form.specs.Distinct.{are_distinct}
+use Rattle.acc_plan.specs.Distinct.{are_distinct}
 use Rattle.acc_form.specs.Fields.{elements, field, has_fields, items, text}
 use Rattle.acc_form.specs.Update.{digits_in, is_update, is_word_byte, key_in}
 

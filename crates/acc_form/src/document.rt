@@ -1,16 +1,19 @@
 //! Reads a whole document.
-ghost use Rattle.std.specs.Prelude.{◌≡◌, Some, None, IfOk, IfErr, if◌then◌else◌};
+ghost use Rattle.std.specs.Prelude.{◌≡◌, Some, None, true, IfOk, IfErr, if◌then◌else◌};
+ghost use Rattle.std.specs.List.{list_all};
 ghost use Rattle.serde_json.specs.View.{view};
 ghost use Rattle.acc_form.specs.Answer.{Gives};
 ghost use Rattle.acc_form.specs.Cluster.{node_of, nodes};
 ghost use Rattle.acc_form.specs.Document.{is_cluster, is_first_form, plan_of, IsCause, IsJson, IsRead, IsRefused, IsUnbuilt, Means};
-ghost use Rattle.acc_form.specs.Plan.{IsPlan};
+ghost use Rattle.acc_plan.specs.Plan.{IsPlan};
+ghost use Rattle.acc_form.specs.Transactions.{is_name};
 
 use crate::cluster::{is_one_shard, node};
+use crate::error::{PlanError, PlanKind, UNBUILT};
 use crate::fields::{has_fields, is_number};
-use crate::plan::{Plan, PlanError, PlanKind, UNBUILT};
 use crate::schedule::begins;
 use crate::transactions::transactions;
+use acc_plan::Plan;
 use serde_json::Value;
 use std::alloc::Global;
 
@@ -21,6 +24,7 @@ use std::alloc::Global;
 pub fn read(alloc: Global, bytes: &[u8]) -> Result<Plan, PlanError>
     ensures plan { IfOk result (Means bytes.now) }
     ensures sound { IfOk result IsPlan }
+    ensures named { IfOk result (λ plan. list_all is_name plan.names ≡ true) }
     ensures cause { IfErr result (IsCause bytes.now) }
 
     // What each document gives, unless memory runs out.

@@ -20,15 +20,15 @@
 
 mod cluster;
 mod document;
+mod error;
 mod fields;
 mod names;
-mod plan;
 mod schedule;
 mod transactions;
 mod update;
 
 pub use document::read;
-pub use plan::{Begins, Bodies, Names, Plan, PlanError, PlanKind};
+pub use error::{PlanError, PlanKind};
 
 #[cfg(test)]
 mod tests;

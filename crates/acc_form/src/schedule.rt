@@ -5,10 +5,11 @@ ghost use Rattle.serde_json.specs.View.{view};
 ghost use Rattle.acc_form.specs.Answer.{Gives};
 ghost use Rattle.acc_form.specs.Schedule.{begins_of, begun as begun_of, is_drain as is_drain_of, is_schedule, is_text as is_text_of, schedule};
 
+use crate::error::{PlanError, UNBUILT};
 use crate::fields::{elements, field_elements};
 use crate::names::NameTable;
-use crate::plan::{Begins, PlanError, UNBUILT};
 use acc_base::Sequence;
+use acc_plan::Begins;
 use serde_json::Value;
 use std::alloc::Global;
 

@@ -1,5 +1,6 @@
 //! Whole documents: some that give a plan, and one for each rule that a document can break.
-use crate::{Plan, PlanError, PlanKind, read};
+use crate::{PlanError, PlanKind, read};
+use acc_plan::Plan;
 use acc_txn::{BodyParts, Key, Part, Select, Term, Update};
 use std::alloc::{AllocError, Global};
 use std::test::Fail;

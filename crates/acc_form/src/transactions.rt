@@ -8,11 +8,12 @@ ghost use Rattle.acc_form.specs.Fields.{field, text as text_of};
 ghost use Rattle.acc_form.specs.Transactions.{is_name as is_name_of, is_named_at as is_named_at_of, is_transaction, are_transactions, name_of, names_of, bodies_of, body_of, setting, transactions as transactions_of};
 ghost use Rattle.acc_form.specs.Update.{is_word_byte as is_word_byte_of};
 
+use crate::error::{PlanError, UNBUILT};
 use crate::fields::{field_elements, has_fields, is_number, text};
 use crate::names::NameTable;
-use crate::plan::{Bodies, PlanError, UNBUILT};
 use crate::update::{digits_and_key, is_word_byte, number_of};
 use acc_base::{OutOfMemory, Sequence};
+use acc_plan::Bodies;
 use acc_txn::{Body, BodyError, BodyParts, Key, Part, Select, Term, Update};
 use serde_json::Value;
 use std::alloc::Global;

@@ -1,7 +1,7 @@
 -- Each way to end is one of a text that was due.
 use Rattle.std.proofs.Common.{◌≤◌, List, ℕ, length, Err, refl, ap, subst}
 use Rattle.acc_ports.specs.declared.error.ReadError.{ReadError}
-use Rattle.acc_form.specs.declared.plan.Plan.{Plan}
+use Rattle.acc_plan.specs.declared.plan.Plan.{Plan}
 use Rattle.acc_form.specs.Document.{Means}
 use Rattle.acc_command.specs.Command.{IsUsage, IsDue, IsDone, Ends, document_limit}
 use Rattle.acc_command.proofs.EndsFacts.{ends_usage}

@@ -1,7 +1,7 @@
 -- The line of the refusal is due.
 use Rattle.std.proofs.Common.{◌∙◌, ap, subst, refl, inl, inr}
-use Rattle.acc_form.specs.declared.plan.PlanKind.{PlanKind}
-use Rattle.acc_form.specs.declared.plan.PlanError.TheVariants.{Bad}
+use Rattle.acc_form.specs.declared.error.PlanKind.{PlanKind}
+use Rattle.acc_form.specs.declared.error.PlanError.TheVariants.{Bad}
 use Rattle.acc_form.specs.Document.{IsCause}
 use Rattle.acc_command.specs.Command.{IsDue}
 use Rattle.acc_command.proofs.EndsFacts.{ends_bad}

@@ -3,7 +3,7 @@ use Rattle.std.proofs.Common.{◌≡◌, ℕ, zero, suc, ◌<◌, ◌||◌, List
 use Rattle.std.specs.List.{list_any}
 use Rattle.std.proofs.lemmas.Bool.{false≢true, false_from_ne_true, and_parts, and_from, and_left, and_right, or_parts, or_cases, or_from, or_left, or_right, not-true, not_from_true, not_from_false}
 use Rattle.std.proofs.lemmas.List.Folds.{list_any-append, list_any_at}
-use Rattle.acc_form.specs.Distinct.{are_distinct}
+use Rattle.acc_plan.specs.Distinct.{are_distinct}
 
 module _ {X : Type 0} (eq : X → X → Bool) where
   -- it stays so with an element that is equal to none
