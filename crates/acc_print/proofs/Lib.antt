@@ -1,0 +1,5 @@
+pub mod Joined
+pub mod RuleFacts
+pub mod QuotedUtf8
+pub mod WordUtf8
+pub mod CanonicalUtf8
