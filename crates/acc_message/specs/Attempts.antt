@@ -1,0 +1,177 @@
+-- Attempts at a transaction: their phases, the answers that count, and the counts of them.
+use Rattle.std.specs.Prelude.{ℕ, ℤ, Bool, true, false, not, cond, ◌==◌, ◌&&◌, ◌||◌, List, [], ◌∷◌, Option, None, Some, if◌then◌else◌}
+use Rattle.std.specs.List.{list_any, list_all}
+use Rattle.acc_stamp.specs.declared.stamps.Stamp.{Stamp}
+use Rattle.acc_stamp.specs.declared.stamps.TxnId.{TxnId}
+use Rattle.acc_stamp.specs.declared.stamps.Ballot.{Ballot}
+use Rattle.acc_stamp.specs.declared.actors.Actor.{Actor}
+use Rattle.acc_stamp.specs.Actor.{actor_of, shard_of}
+use Rattle.acc_stamp.specs.Stamp.{stamp_lt, stamp_eq, zero_stamp}
+use Rattle.acc_topology.specs.Layout.{Layout, shard_at}
+use Rattle.acc_topology.specs.Quorums.{is_majority, is_fast, fast_lost, may_be_fast}
+use Rattle.acc_topology.specs.Keys.{shard_of_key}
+use Rattle.acc_deps.specs.declared.shards.ShardDeps.{ShardDeps}
+use Rattle.acc_deps.specs.declared.records.Settled.{Settled}
+use Rattle.acc_deps.specs.Deps.{deps_union}
+use Rattle.acc_value.specs.declared.key.Key.{Key}
+use Rattle.acc_value.specs.Cells.{cell_of}
+use Rattle.acc_txn.specs.declared.parts.BodyParts.{BodyParts}
+use Rattle.acc_txn.specs.declared.outcome.Outcome.{Outcome}
+use Rattle.acc_txn.specs.Meaning.{outcome_of}
+use Rattle.acc_message.specs.declared.answer.ReadAnswer.{ReadAnswer}
+use Rattle.acc_message.specs.declared.answer.ReadAnswer.TheVariants.{Values, Known}
+use Rattle.acc_message.specs.declared.message.Message.{Message}
+use Rattle.acc_message.specs.declared.message.Message.TheVariants.{PreAccept, PreAcceptOk, Accept, AcceptOk, Commit, CommitOk, Stable, ReadOk, Apply, Recover, RecoverOk, Nack, Decided, Inform}
+use Rattle.acc_message.specs.Fields.{from_of, is_about}
+use Rattle.acc_message.specs.Items.{or_else, same_actor}
+use Rattle.acc_message.specs.Shares.{shards_used, is_store_of}
+use Rattle.acc_message.specs.BallotRules.{is_accept_ok, is_commit_ok, is_recover_ok}
+
+-- The kind of messages that an attempt sent last: PreAccept, Recover, Accept, Commit or Stable, with what the last three
+-- propose, commit or have decided.
+pub data Phase : Type 0 where
+  Voting : Phase
+  Recovering : Phase
+  Accepting : Settled → Phase
+  Committing : Settled → Phase
+  Executing : Settled → Phase
+
+-- an attempt, with the answers of its phase that count, the newest first
+pub record Attempt : Type 0 where
+  pub ballot : Ballot
+  pub body : BodyParts
+  pub phase : Phase
+  pub answers : List Message
+
+-- ---- the answers that count
+
+abbrev pub is_preaccept_ok : Message → Bool
+is_preaccept_ok (PreAcceptOk from to id ballot vote deps) = true
+is_preaccept_ok _ = false
+
+-- an answer that votes for x
+abbrev pub votes_for : TxnId → Message → Bool
+votes_for x m = is_preaccept_ok m && is_about x m
+
+abbrev pub is_read_ok : Message → Bool
+is_read_ok (ReadOk from to id ballot answer) = true
+is_read_ok _ = false
+
+abbrev pub fits : Phase → Message → Bool
+fits Voting m = is_preaccept_ok m
+fits Recovering m = is_recover_ok m
+fits (Accepting s) m = is_accept_ok m
+fits (Committing s) m = is_commit_ok m
+fits (Executing s) m = is_read_ok m
+
+-- of the answers of one store the first counts, and of the ReadOks of one shard
+abbrev pub same_seat : Phase → Actor → Actor → Bool
+same_seat Voting a b = same_actor a b
+same_seat Recovering a b = same_actor a b
+same_seat (Accepting s) a b = same_actor a b
+same_seat (Committing s) a b = same_actor a b
+same_seat (Executing s) a b = shard_of a == shard_of b
+
+abbrev pub counts : Layout → Attempt → Message → Bool
+counts layout a m =
+    fits a.phase m && is_store_of layout a.body (from_of m)
+    && not (list_any (λ earlier. same_seat a.phase (from_of earlier) (from_of m)) a.answers)
+
+-- ---- what the answers say
+
+abbrev pub vote_in_answer : Message → Stamp
+vote_in_answer (PreAcceptOk from to id ballot vote deps) = vote
+vote_in_answer (RecoverOk from to id ballot view) = view.vote
+vote_in_answer _ = zero_stamp
+
+abbrev pub deps_in_answer : Message → List ShardDeps
+deps_in_answer (PreAcceptOk from to id ballot vote deps) = deps
+deps_in_answer (AcceptOk from to id ballot deps) = deps
+deps_in_answer (RecoverOk from to id ballot view) = view.vote_deps
+deps_in_answer _ = []
+
+abbrev pub later_stamp : Stamp → Stamp → Stamp
+later_stamp a b = if stamp_lt a b then b else a
+
+abbrev pub greatest_vote : List Message → Stamp
+greatest_vote [] = zero_stamp
+greatest_vote (m ∷ answers) = later_stamp (greatest_vote answers) (vote_in_answer m)
+
+abbrev pub union_of : List Message → List ShardDeps
+union_of [] = []
+union_of (m ∷ answers) = deps_union (union_of answers) (deps_in_answer m)
+
+-- ---- quorums. A store of a shard is named by its node
+
+abbrev pub is_from : ℕ → ℕ → Message → Bool
+is_from shard node m = same_actor (from_of m) (actor_of node shard)
+
+abbrev pub has_answered : List Message → ℕ → ℕ → Bool
+has_answered answers shard node = list_any (is_from shard node) answers
+
+-- it voted for the transaction's own timestamp, or for another
+abbrev pub kept_stamp : TxnId → List Message → ℕ → ℕ → Bool
+kept_stamp x answers shard node = list_any (λ m. is_from shard node m && stamp_eq (vote_in_answer m) x.0) answers
+
+abbrev pub changed_stamp : TxnId → List Message → ℕ → ℕ → Bool
+changed_stamp x answers shard node = list_any (λ m. is_from shard node m && not (stamp_eq (vote_in_answer m) x.0)) answers
+
+abbrev pub majority_everywhere : Layout → BodyParts → List Message → Bool
+majority_everywhere layout body answers =
+    list_all (λ s. is_majority (shard_at layout s) (has_answered answers s)) (shards_used layout body)
+
+abbrev pub fast_everywhere : Layout → TxnId → BodyParts → List Message → Bool
+fast_everywhere layout x body answers =
+    list_all (λ s. is_fast (shard_at layout s) (kept_stamp x answers s)) (shards_used layout body)
+
+abbrev pub fast_lost_somewhere : Layout → TxnId → BodyParts → List Message → Bool
+fast_lost_somewhere layout x body answers =
+    list_any (λ s. fast_lost (shard_at layout s) (changed_stamp x answers s)) (shards_used layout body)
+
+abbrev pub may_be_fast_everywhere : Layout → TxnId → BodyParts → List Message → Bool
+may_be_fast_everywhere layout x body answers =
+    list_all (λ s. may_be_fast (shard_at layout s) (has_answered answers s) (kept_stamp x answers s)) (shards_used layout body)
+
+-- ---- reads
+
+abbrev pub known_in_read : ReadAnswer → Option Outcome
+known_in_read (Values cells) = None
+known_in_read (Known outcome) = Some outcome
+
+abbrev pub known_in : Message → Option Outcome
+known_in (ReadOk from to id ballot answer) = known_in_read answer
+known_in _ = None
+
+abbrev pub known_among : List Message → Option Outcome
+known_among [] = None
+known_among (m ∷ answers) = or_else (known_in m) (known_among answers)
+
+abbrev pub cell_in_read : Key → ReadAnswer → Option ℤ
+cell_in_read key (Values cells) = cell_of cells key
+cell_in_read key (Known outcome) = None
+
+abbrev pub cell_in : Key → Message → Option ℤ
+cell_in key (ReadOk from to id ballot answer) = cell_in_read key answer
+cell_in key _ = None
+
+-- a key's cell is the one in the answer of its own shard, and null where that has none
+abbrev pub cell_read : Layout → List Message → Key → Option ℤ
+cell_read layout [] key = None
+cell_read layout (m ∷ answers) key =
+    let others : Option ℤ = cell_read layout answers key in
+    cond (shard_of (from_of m) == shard_of_key layout key) (cell_in key m) others
+
+abbrev pub has_read : List Message → ℕ → Bool
+has_read answers shard = list_any (λ m. shard_of (from_of m) == shard) answers
+
+abbrev pub read_everywhere : Layout → BodyParts → List Message → Bool
+read_everywhere layout body answers = list_all (has_read answers) (shards_used layout body)
+
+abbrev pub outcome_if : Bool → Layout → BodyParts → List Message → Option Outcome
+outcome_if true layout body answers = Some (outcome_of body (cell_read layout answers))
+outcome_if false layout body answers = None
+
+-- the outcome: one that is known already, or the body's meaning on the cells once each shard has answered
+abbrev pub outcome_from : Layout → BodyParts → List Message → Option Outcome
+outcome_from layout body answers =
+    or_else (known_among answers) (outcome_if (read_everywhere layout body answers) layout body answers)

@@ -1,0 +1,14 @@
+pub mod Fields
+pub mod Items
+pub mod Shares
+pub mod Taken
+pub mod VoteRule
+pub mod BallotRules
+pub mod Evidence
+pub mod Opening
+pub mod StoreRules
+pub mod Attempts
+pub mod RecoveryDecision
+pub mod Coordinator
+pub mod NodeRules
+pub mod Run

@@ -1,0 +1,28 @@
+//! The messages of the protocol, the notes, entries and items of a run, and the rules by which stores and nodes step. The
+//! terms are those of CEP-15, after the paper by Elliott Smith, Zhang, Eggleston and Andreas.
+#![tactic(auto)]
+
+mod answer;
+mod entry;
+mod envelope;
+mod error;
+mod heights;
+mod item;
+mod items;
+mod message;
+mod note;
+mod roll;
+
+pub use answer::ReadAnswer;
+pub use entry::{Emitted, Entry, Event};
+pub use envelope::Envelope;
+pub use error::{RunError, Which};
+pub use item::{Item, Skip};
+pub use items::Items;
+pub use message::{Message, Messages};
+pub use note::{Note, Notes, Path};
+pub use roll::Roll;
+pub use heights::top;
+
+#[cfg(test)]
+mod tests;

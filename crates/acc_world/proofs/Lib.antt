@@ -1,0 +1,9 @@
+pub mod Computed
+pub mod Standing
+pub mod OpeningFacts
+pub mod StoreFacts
+pub mod SentFacts
+pub mod QuorumFacts
+pub mod DrawFacts
+pub mod TransferStates
+pub mod QuietFacts

@@ -1,0 +1,5 @@
+use Rattle.acc_world.proofs.Computed.{conflict_heard_first-notes, conflict_heard_first-serial}
+use Rattle.acc_world.proofs.rows.conflict_heard_first.Goals as goal
+
+pub returns : goal.returns
+returns c = record { notes = conflict_heard_first-notes; serial = conflict_heard_first-serial }

@@ -1,0 +1,5 @@
+use Rattle.acc_world.proofs.Computed.{lost_vote-notes, lost_vote-serial}
+use Rattle.acc_world.proofs.rows.lost_vote.Goals as goal
+
+pub returns : goal.returns
+returns c = record { notes = lost_vote-notes; serial = lost_vote-serial }

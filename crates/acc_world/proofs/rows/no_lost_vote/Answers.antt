@@ -1,0 +1,5 @@
+use Rattle.acc_world.proofs.Computed.{no_lost_vote-notes, no_lost_vote-serial}
+use Rattle.acc_world.proofs.rows.no_lost_vote.Goals as goal
+
+pub returns : goal.returns
+returns c = record { notes = no_lost_vote-notes; serial = no_lost_vote-serial }

@@ -1,0 +1,5 @@
+use Rattle.acc_world.proofs.Computed.{recovery_after_restart-notes, recovery_after_restart-serial}
+use Rattle.acc_world.proofs.rows.recovery_after_restart.Goals as goal
+
+pub returns : goal.returns
+returns c = record { notes = recovery_after_restart-notes; serial = recovery_after_restart-serial }

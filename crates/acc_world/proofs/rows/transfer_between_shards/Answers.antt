@@ -1,0 +1,5 @@
+use Rattle.acc_world.proofs.Computed.{transfer_between_shards-notes, transfer_between_shards-serial}
+use Rattle.acc_world.proofs.rows.transfer_between_shards.Goals as goal
+
+pub returns : goal.returns
+returns c = record { notes = transfer_between_shards-notes; serial = transfer_between_shards-serial }

@@ -1,0 +1,31 @@
+-- Serial outcomes: the first outcomes, in their order, are those of the bodies run one by one on one map that is empty at
+-- first; every outcome and every reply of a transaction equals its first outcome.
+use Rattle.std.specs.Prelude.{◌≡◌, false, IsTrue, List, ◌∷◌, ◌++◌, Option, Some, Contains, map}
+use Rattle.std.specs.List.{list_any}
+use Rattle.acc_stamp.specs.declared.stamps.TxnId.{TxnId}
+use Rattle.acc_txn.specs.declared.parts.BodyParts.{BodyParts}
+use Rattle.acc_txn.specs.declared.outcome.Reply.{Reply}
+use Rattle.acc_txn.specs.Serial.{serial}
+use Rattle.acc_message.specs.declared.note.Note.{Note}
+use Rattle.acc_message.specs.declared.note.Note.TheVariants.{Outcome as OutcomeNote}
+use Rattle.acc_message.specs.declared.item.Item.{Item}
+use Rattle.acc_message.specs.Items.{notes_of, begins, replies}
+use Rattle.acc_message.specs.Run.{Cluster}
+use Rattle.acc_world.specs.Decisions.{Answered, outcomes_of, replies_of, is_answered, first_outcomes, body_of}
+
+-- a first outcome stands behind its transaction's begin and not behind its reply
+abbrev pub IsInPlace : List Note → Type 0
+IsInPlace notes =
+    (before after : List Note) (x : TxnId) (reply : Reply)
+    → notes ≡ before ++ OutcomeNote x reply ∷ after
+    → is_answered x (outcomes_of before) ≡ false
+    → IsTrue (list_any (begins x) before) × (list_any (replies x) before ≡ false)
+
+pub record SerialOutcomes (cluster : Cluster) (items : List Item) : Type 0 where
+  pub bodies : List BodyParts
+  pub bodies_are :
+    map (λ (a : Answered). body_of cluster items a.id) (first_outcomes (notes_of items)) ≡ map (λ b. Some b) bodies
+  pub serial_run : map (λ (a : Answered). a.reply) (first_outcomes (notes_of items)) ≡ serial bodies
+  pub outcomes_agree : (a : Answered) → Contains (outcomes_of (notes_of items)) a → Contains (first_outcomes (notes_of items)) a
+  pub replies_agree : (a : Answered) → Contains (replies_of (notes_of items)) a → Contains (first_outcomes (notes_of items)) a
+  pub in_place : IsInPlace (notes_of items)

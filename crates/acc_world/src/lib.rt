@@ -1,0 +1,8 @@
+//! The cluster as one pure list of items: what may be asked of it, and what holds of every run.
+#![tactic(auto)]
+
+mod ask;
+pub mod laws;
+pub mod rows;
+
+pub use ask::Ask;

@@ -1,0 +1,112 @@
+//! Worked examples of runs: for each one its cluster, its schedule, the notes that it must print, and the replies of the
+//! serial run of its bodies in the order of their outcomes. Each is the contract of a function that does nothing.
+ghost use Rattle.std.specs.Prelude.{◌≡◌};
+ghost use Rattle.acc_message.specs.Items.{notes_of};
+ghost use Rattle.acc_txn.specs.Serial.{serial};
+ghost use Rattle.acc_world.specs.Schedules.{skipped_of};
+ghost use Rattle.acc_world.specs.OneUpdate as one_update_row;
+ghost use Rattle.acc_world.specs.LostVote as lost_vote_row;
+ghost use Rattle.acc_world.specs.NoLostVote as no_lost_vote_row;
+ghost use Rattle.acc_world.specs.ConflictHeardFirst as conflict_heard_first_row;
+ghost use Rattle.acc_world.specs.ReadsDoNotConflict as reads_do_not_conflict_row;
+ghost use Rattle.acc_world.specs.FourOfFive as four_of_five_row;
+ghost use Rattle.acc_world.specs.SlowNeedsMajority as slow_needs_majority_row;
+ghost use Rattle.acc_world.specs.PrintedOrder as printed_order_row;
+ghost use Rattle.acc_world.specs.SilentUntilApplied as silent_until_applied_row;
+ghost use Rattle.acc_world.specs.RecoveryAfterRestart as recovery_after_restart_row;
+ghost use Rattle.acc_world.specs.OneUnchangedOfTwo as one_unchanged_of_two_row;
+ghost use Rattle.acc_world.specs.SupersededByAccept as superseded_by_accept_row;
+ghost use Rattle.acc_world.specs.BlockedRecovery as blocked_recovery_row;
+ghost use Rattle.acc_world.specs.NackWithOwnBallot as nack_with_own_ballot_row;
+ghost use Rattle.acc_world.specs.TransferBetweenShards as transfer_between_shards_row;
+
+/// One update at the one node, begun and drained.
+pub fn one_update()
+    ensures notes { notes_of one_update_row.items ≡ one_update_row.notes }
+    ensures serial { serial one_update_row.serially ≡ one_update_row.replies }
+{}
+
+/// An update of two shards whose last vote in the second shard is lost: no fast quorum forms there, and none is lost.
+pub fn lost_vote()
+    ensures notes { notes_of lost_vote_row.items ≡ lost_vote_row.notes }
+    ensures serial { serial lost_vote_row.serially ≡ lost_vote_row.replies }
+{}
+
+/// The same update without the loss.
+pub fn no_lost_vote()
+    ensures notes { notes_of no_lost_vote_row.items ≡ no_lost_vote_row.notes }
+    ensures serial { serial no_lost_vote_row.serially ≡ no_lost_vote_row.replies }
+{}
+
+/// Two updates of one key: the store hears b first and draws a greater timestamp for a.
+pub fn conflict_heard_first()
+    ensures notes { notes_of conflict_heard_first_row.items ≡ conflict_heard_first_row.notes }
+    ensures serial { serial conflict_heard_first_row.serially ≡ conflict_heard_first_row.replies }
+{}
+
+/// Two reads of one key do not conflict, so both are decided fast.
+pub fn reads_do_not_conflict()
+    ensures notes { notes_of reads_do_not_conflict_row.items ≡ reads_do_not_conflict_row.notes }
+    ensures serial { serial reads_do_not_conflict_row.serially ≡ reads_do_not_conflict_row.replies }
+{}
+
+/// Of five replicas four unchanged votes are a fast quorum.
+pub fn four_of_five()
+    ensures notes { notes_of four_of_five_row.items ≡ four_of_five_row.notes }
+    ensures serial { serial four_of_five_row.serially ≡ four_of_five_row.replies }
+{}
+
+/// Two votes of five are no majority, so the first slow is passed over.
+pub fn slow_needs_majority()
+    ensures notes { notes_of slow_needs_majority_row.items ≡ slow_needs_majority_row.notes }
+    ensures skips { skipped_of slow_needs_majority_row.items ≡ slow_needs_majority_row.skips }
+    ensures serial { serial slow_needs_majority_row.serially ≡ slow_needs_majority_row.replies }
+{}
+
+/// By timestamp b stands before a; the printed order is the serial order.
+pub fn printed_order()
+    ensures notes { notes_of printed_order_row.items ≡ printed_order_row.notes }
+    ensures serial { serial printed_order_row.serially ≡ printed_order_row.replies }
+{}
+
+/// The Stable of b meets an unapplied a, so the store is silent; the Apply of a answers b.
+pub fn silent_until_applied()
+    ensures notes { notes_of silent_until_applied_row.items ≡ silent_until_applied_row.notes }
+    ensures serial { serial silent_until_applied_row.serially ≡ silent_until_applied_row.replies }
+{}
+
+/// The home of a restarts, and another node recovers a. The restart closed the client.
+pub fn recovery_after_restart()
+    ensures notes { notes_of recovery_after_restart_row.items ≡ recovery_after_restart_row.notes }
+    ensures serial { serial recovery_after_restart_row.serially ≡ recovery_after_restart_row.replies }
+{}
+
+/// One unchanged vote of two answers is too few for a fast decision.
+pub fn one_unchanged_of_two()
+    ensures notes { notes_of one_unchanged_of_two_row.items ≡ one_unchanged_of_two_row.notes }
+    ensures serial { serial one_unchanged_of_two_row.serially ≡ one_unchanged_of_two_row.replies }
+{}
+
+/// Two unchanged votes of three answers would allow a fast decision, but a store has accepted b without a.
+pub fn superseded_by_accept()
+    ensures notes { notes_of superseded_by_accept_row.items ≡ superseded_by_accept_row.notes }
+    ensures serial { serial superseded_by_accept_row.serially ≡ superseded_by_accept_row.replies }
+{}
+
+/// A recovery of b is blocked by a; once a is decided a later one decides b.
+pub fn blocked_recovery()
+    ensures notes { notes_of blocked_recovery_row.items ≡ blocked_recovery_row.notes }
+    ensures serial { serial blocked_recovery_row.serially ≡ blocked_recovery_row.replies }
+{}
+
+/// The repeated message gets a Nack with its own ballot, which the recovery ignores.
+pub fn nack_with_own_ballot()
+    ensures notes { notes_of nack_with_own_ballot_row.items ≡ nack_with_own_ballot_row.notes }
+    ensures serial { serial nack_with_own_ballot_row.serially ≡ nack_with_own_ballot_row.replies }
+{}
+
+/// A transfer between two shards, and a read of both cells.
+pub fn transfer_between_shards()
+    ensures notes { notes_of transfer_between_shards_row.items ≡ transfer_between_shards_row.notes }
+    ensures serial { serial transfer_between_shards_row.serially ≡ transfer_between_shards_row.replies }
+{}
