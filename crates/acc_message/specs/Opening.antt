@@ -32,13 +32,13 @@ comes_first t earlier = stamp_lt earlier.t t
 pub data IsOpened (shard : ℕ) (history : List Taken) (before : List TxnId) : TxnId → Type 0 where
   Stays : (x : TxnId) → IsTrue (id_among x before) → IsOpened shard history before x
   Opens :
-    (x : TxnId) (mine : Settled) → stable_of history x ≡ Some mine
-    → ((y : TxnId) → IsTrue (id_among y (of_shard mine.deps shard)) → IsTrue (is_some (stable_of history y)))
-    → ((y : TxnId) (theirs : Settled) → IsTrue (id_among y (of_shard mine.deps shard)) → stable_of history y ≡ Some theirs
-        → IsTrue (comes_first mine.t theirs) → IsTrue (is_some (kept_outcome history y)))
-    → ((y : TxnId) (theirs : Settled) → IsTrue (id_among y (of_shard mine.deps shard)) → stable_of history y ≡ Some theirs
-        → IsTrue (comes_first mine.t theirs) → IsOpened shard history before y)
-    → IsOpened shard history before x
+      (x : TxnId) (mine : Settled) → stable_of history x ≡ Some mine
+      → ((y : TxnId) → IsTrue (id_among y (of_shard mine.deps shard)) → IsTrue (is_some (stable_of history y)))
+      → ((y : TxnId) (theirs : Settled) → IsTrue (id_among y (of_shard mine.deps shard)) → stable_of history y ≡ Some theirs
+      → IsTrue (comes_first mine.t theirs) → IsTrue (is_some (kept_outcome history y)))
+      → ((y : TxnId) (theirs : Settled) → IsTrue (id_among y (of_shard mine.deps shard)) → stable_of history y ≡ Some theirs
+      → IsTrue (comes_first mine.t theirs) → IsOpened shard history before y)
+      → IsOpened shard history before x
 
 -- ---- the same in one pass
 
@@ -99,7 +99,7 @@ abbrev pub pass : ℕ → List Taken → List TxnId → List TxnId → List TxnI
 pass shard history opened_before applied_before applied_ones [] = []
 pass shard history opened_before applied_before applied_ones (s ∷ rest) =
     let turn : Turn = turn_of s.id (id_among s.id opened_before) (id_among s.id applied_before)
-          (is_ready shard history applied_ones s.settled) (is_some (kept_outcome history s.id)) in
+    (is_ready shard history applied_ones s.settled) (is_some (kept_outcome history s.id)) in
     turn.change ∷ pass shard history opened_before applied_before (with_applied turn.is_applied s.id applied_ones) rest
 
 abbrev pub is_change : Change → Bool

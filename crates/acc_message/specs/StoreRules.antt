@@ -128,8 +128,8 @@ abbrev pub at_once : Layout → Actor → List Taken → TxnId → Ballot → Li
 at_once layout own past x b =
     cond (is_opened (shard_of own) past x)
     (read_ok own x b
-      (kept_or (kept_outcome past x)
-        (read_by layout (shard_of own) (heard_body x (known past)) (cells_at layout (shard_of own) past))) ∷ [])
+    (kept_or (kept_outcome past x)
+    (read_by layout (shard_of own) (heard_body x (known past)) (cells_at layout (shard_of own) past))) ∷ [])
     []
 
 -- ---- every message

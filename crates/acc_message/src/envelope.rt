@@ -128,7 +128,12 @@ impl Envelope {
     pub fn pre_accept(self, body: Body) -> Message
         ensures { result ≡ Message.PreAccept self.from self.to self.id self.ballot body }
     {
-        let Envelope { from, to, id, ballot } = self;
+        let Envelope {
+            from,
+            to,
+            id,
+            ballot,
+        } = self;
         Message::PreAccept {
             from,
             to,
@@ -142,7 +147,12 @@ impl Envelope {
     pub fn pre_accept_ok(self, vote: Stamp, deps: Deps) -> Message
         ensures { result ≡ Message.PreAcceptOk self.from self.to self.id self.ballot vote deps }
     {
-        let Envelope { from, to, id, ballot } = self;
+        let Envelope {
+            from,
+            to,
+            id,
+            ballot,
+        } = self;
         Message::PreAcceptOk {
             from,
             to,
@@ -157,7 +167,12 @@ impl Envelope {
     pub fn accept(self, body: Body, t: Stamp, deps: Deps) -> Message
         ensures { result ≡ Message.Accept self.from self.to self.id self.ballot body t deps }
     {
-        let Envelope { from, to, id, ballot } = self;
+        let Envelope {
+            from,
+            to,
+            id,
+            ballot,
+        } = self;
         Message::Accept {
             from,
             to,
@@ -173,7 +188,12 @@ impl Envelope {
     pub fn accept_ok(self, deps: Deps) -> Message
         ensures { result ≡ Message.AcceptOk self.from self.to self.id self.ballot deps }
     {
-        let Envelope { from, to, id, ballot } = self;
+        let Envelope {
+            from,
+            to,
+            id,
+            ballot,
+        } = self;
         Message::AcceptOk {
             from,
             to,
@@ -187,7 +207,12 @@ impl Envelope {
     pub fn commit(self, body: Body, t: Stamp, deps: Deps) -> Message
         ensures { result ≡ Message.Commit self.from self.to self.id self.ballot body t deps }
     {
-        let Envelope { from, to, id, ballot } = self;
+        let Envelope {
+            from,
+            to,
+            id,
+            ballot,
+        } = self;
         Message::Commit {
             from,
             to,
@@ -203,7 +228,12 @@ impl Envelope {
     pub fn commit_ok(self) -> Message
         ensures { result ≡ Message.CommitOk self.from self.to self.id self.ballot }
     {
-        let Envelope { from, to, id, ballot } = self;
+        let Envelope {
+            from,
+            to,
+            id,
+            ballot,
+        } = self;
         Message::CommitOk {
             from,
             to,
@@ -216,7 +246,12 @@ impl Envelope {
     pub fn stable(self, body: Body, t: Stamp, deps: Deps) -> Message
         ensures { result ≡ Message.Stable self.from self.to self.id self.ballot body t deps }
     {
-        let Envelope { from, to, id, ballot } = self;
+        let Envelope {
+            from,
+            to,
+            id,
+            ballot,
+        } = self;
         Message::Stable {
             from,
             to,
@@ -232,7 +267,12 @@ impl Envelope {
     pub fn read_ok(self, answer: ReadAnswer) -> Message
         ensures { result ≡ Message.ReadOk self.from self.to self.id self.ballot answer }
     {
-        let Envelope { from, to, id, ballot } = self;
+        let Envelope {
+            from,
+            to,
+            id,
+            ballot,
+        } = self;
         Message::ReadOk {
             from,
             to,
@@ -246,7 +286,12 @@ impl Envelope {
     pub fn apply(self, body: Body, t: Stamp, deps: Deps, outcome: Outcome) -> Message
         ensures { result ≡ Message.Apply self.from self.to self.id self.ballot body t deps outcome }
     {
-        let Envelope { from, to, id, ballot } = self;
+        let Envelope {
+            from,
+            to,
+            id,
+            ballot,
+        } = self;
         Message::Apply {
             from,
             to,
@@ -263,7 +308,12 @@ impl Envelope {
     pub fn recover(self, body: Body) -> Message
         ensures { result ≡ Message.Recover self.from self.to self.id self.ballot body }
     {
-        let Envelope { from, to, id, ballot } = self;
+        let Envelope {
+            from,
+            to,
+            id,
+            ballot,
+        } = self;
         Message::Recover {
             from,
             to,
@@ -277,7 +327,12 @@ impl Envelope {
     pub fn recover_ok(self, view: View) -> Message
         ensures { result ≡ Message.RecoverOk self.from self.to self.id self.ballot view }
     {
-        let Envelope { from, to, id, ballot } = self;
+        let Envelope {
+            from,
+            to,
+            id,
+            ballot,
+        } = self;
         Message::RecoverOk {
             from,
             to,
@@ -291,7 +346,12 @@ impl Envelope {
     pub fn nack(self, promised: Ballot) -> Message
         ensures { result ≡ Message.Nack self.from self.to self.id self.ballot promised }
     {
-        let Envelope { from, to, id, ballot } = self;
+        let Envelope {
+            from,
+            to,
+            id,
+            ballot,
+        } = self;
         Message::Nack {
             from,
             to,
@@ -305,7 +365,12 @@ impl Envelope {
     pub fn decided(self, t: Stamp, deps: Deps) -> Message
         ensures { result ≡ Message.Decided self.from self.to self.id self.ballot t deps }
     {
-        let Envelope { from, to, id, ballot } = self;
+        let Envelope {
+            from,
+            to,
+            id,
+            ballot,
+        } = self;
         Message::Decided {
             from,
             to,
@@ -320,7 +385,12 @@ impl Envelope {
     pub fn inform(self, outcome: Outcome) -> Message
         ensures { result ≡ Message.Inform self.from self.to self.id self.ballot outcome }
     {
-        let Envelope { from, to, id, ballot } = self;
+        let Envelope {
+            from,
+            to,
+            id,
+            ballot,
+        } = self;
         Message::Inform {
             from,
             to,

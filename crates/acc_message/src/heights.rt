@@ -11,7 +11,12 @@ pub fn top(m: &Message) -> u64
     ensures { result ≡ top_of m.now }
 {
     let envelope = m.envelope();
-    envelope.id.0.h.max(envelope.ballot.0.h).max(top_of_fields(m))
+    envelope
+        .id
+        .0
+        .h
+        .max(envelope.ballot.0.h)
+        .max(top_of_fields(m))
 }
 
 fn top_of_fields(m: &Message) -> u64

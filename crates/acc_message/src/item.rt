@@ -27,15 +27,10 @@ pub enum Item {
     Step(Entry),
 
     /// A step of the schedule, which is named by its number, was passed over.
-    Skipped {
-        step: u32,
-        cause: Skip,
-    },
+    Skipped { step: u32, cause: Skip },
 
     /// An actor went down.
-    Down {
-        actor: Actor,
-    },
+    Down { actor: Actor },
 }
 
 impl Item {

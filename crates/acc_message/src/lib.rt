@@ -17,12 +17,12 @@ pub use answer::ReadAnswer;
 pub use entry::{Emitted, Entry, Event};
 pub use envelope::Envelope;
 pub use error::{RunError, Which};
+pub use heights::top;
 pub use item::{Item, Skip};
 pub use items::Items;
 pub use message::{Message, Messages};
 pub use note::{Note, Notes, Path};
 pub use roll::Roll;
-pub use heights::top;
 
 #[cfg(test)]
 mod tests;

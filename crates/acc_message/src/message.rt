@@ -159,14 +159,35 @@ impl Message {
         let envelope = self.envelope();
         match self {
             Message::PreAccept { body, .. } => Ok(envelope.pre_accept(body.copy()?)),
-            Message::PreAcceptOk { vote, deps, .. } => Ok(envelope.pre_accept_ok(*vote, deps.copy()?)),
-            Message::Accept { body, t, deps, .. } => Ok(envelope.accept(body.copy()?, *t, deps.copy()?)),
+            Message::PreAcceptOk { vote, deps, .. } => Ok(envelope.pre_accept_ok(
+                *vote,
+                deps.copy()?,
+            )),
+            Message::Accept { body, t, deps, .. } => Ok(envelope.accept(
+                body.copy()?,
+                *t,
+                deps.copy()?,
+            )),
             Message::AcceptOk { deps, .. } => Ok(envelope.accept_ok(deps.copy()?)),
-            Message::Commit { body, t, deps, .. } => Ok(envelope.commit(body.copy()?, *t, deps.copy()?)),
+            Message::Commit { body, t, deps, .. } => Ok(envelope.commit(
+                body.copy()?,
+                *t,
+                deps.copy()?,
+            )),
             Message::CommitOk { .. } => Ok(envelope.commit_ok()),
-            Message::Stable { body, t, deps, .. } => Ok(envelope.stable(body.copy()?, *t, deps.copy()?)),
+            Message::Stable { body, t, deps, .. } => Ok(envelope.stable(
+                body.copy()?,
+                *t,
+                deps.copy()?,
+            )),
             Message::ReadOk { answer, .. } => Ok(envelope.read_ok(answer.copy()?)),
-            Message::Apply { body, t, deps, outcome, .. } => Ok(envelope.apply(body.copy()?, *t, deps.copy()?, outcome.copy()?)),
+            Message::Apply {
+                body,
+                t,
+                deps,
+                outcome,
+                ..
+            } => Ok(envelope.apply(body.copy()?, *t, deps.copy()?, outcome.copy()?)),
             Message::Recover { body, .. } => Ok(envelope.recover(body.copy()?)),
             Message::RecoverOk { view, .. } => Ok(envelope.recover_ok(view.copy()?)),
             Message::Nack { promised, .. } => Ok(envelope.nack(*promised)),

@@ -155,9 +155,6 @@ fn notes_and_errors(rt: HostRuntime) -> Result<(), Fail> {
         which: Which::Items,
         number: 2,
     };
-    assert_eq!(rt;
-        format!(in alloc; "{limit}")?.as_str(),
-        "more items than 2"
-    );
+    assert_eq!(rt; format!(in alloc; "{limit}")?.as_str(), "more items than 2");
     Ok(())
 }

@@ -136,11 +136,11 @@ with_reply-drawn is_open (note ∷ notes) =
 
 attempt_nothing : (layout : Layout) (node start : ℕ) (past : List Deed) (m : Message)
     → drawn (with_reply (is_open (id_of m) past)
-        (emitted_by (λ a. reaction layout (actor_of node 0) (id_of m) a m) (attempt_of layout node start (id_of m) past))) ≡ []
+    (emitted_by (λ a. reaction layout (actor_of node 0) (id_of m) a m) (attempt_of layout node start (id_of m) past))) ≡ []
 attempt_nothing layout node start past m =
     with_reply-drawn (is_open (id_of m) past) (emitted_by (λ a. reaction layout (actor_of node 0) (id_of m) a m) (attempt_of layout node start (id_of m) past)).notes
     ∙ emitted_nothing (λ a. reaction layout (actor_of node 0) (id_of m) a m) (attempt_of layout node start (id_of m) past)
-      (λ a. reaction_nothing layout (actor_of node 0) (id_of m) a m)
+    (λ a. reaction_nothing layout (actor_of node 0) (id_of m) a m)
 
 taking_nothing : (layout : Layout) (node start : ℕ) (past : List Deed) (m : Message) → drawn (on_taking layout node start past m) ≡ []
 taking_nothing layout node start past (Inform from to id ballot outcome) =
@@ -177,7 +177,7 @@ node-drawn layout node start past Restarts = refl
 
 clock-drawn : (node start : ℕ) (past : List Deed) (act : Act) (emitted : Emitted)
     → stamps_drawn node start (clock_events (record { act = act; emitted = emitted } ∷ past))
-      ≡ draws_by node start past act ++ stamps_drawn node start (clock_events past)
+    ≡ draws_by node start past act ++ stamps_drawn node start (clock_events past)
 clock-drawn node start past (Begins txn body) emitted = refl
 clock-drawn node start past (Recovers x body) emitted = refl
 clock-drawn node start past (Slows x) emitted = refl
@@ -249,20 +249,23 @@ differs : (cluster : Cluster) (node : ℕ) (earlier : List Item) (t : Stamp) →
 differs cluster node earlier t owned =
     ⊎_elim
     (λ same. apart stamp_order t next
-      (each_at stamp_order (λ u. stamp_lt u next ≡ true) t (stamps_drawn node start events) (draws_rise node start (Draw ∷ events)).0
-        (subst (λ n. is_among stamp_eq t (node_stamps cluster n earlier) ≡ true) (eqb-true owned.0 node same) owned.1)))
+    (each_at stamp_order (λ u. stamp_lt u next ≡ true) t (stamps_drawn node start events) (draws_rise node start (Draw ∷ events)).0
+    (subst (λ n. is_among stamp_eq t (node_stamps cluster n earlier) ≡ true) (eqb-true owned.0 node same) owned.1)))
     (λ apart. false_from_ne_true (stamp_eq t next) (other_origin owned.0 node t next (ne_from owned.0 node apart)
-      (each_at stamp_order (λ (u : Stamp). u.origin ≡ owned.0 * 64) t (node_stamps cluster owned.0 earlier)
-        (draws_are_of_node owned.0 (clock_start cluster.starts owned.0) (clock_events (deeds_of cluster (actor_of owned.0 0) earlier))) owned.1)
-      (draws_are_of_node node start (Draw ∷ events)).0))
+    (each_at stamp_order (λ (u : Stamp). u.origin ≡ owned.0 * 64) t (node_stamps cluster owned.0 earlier)
+    (draws_are_of_node owned.0 (clock_start cluster.starts owned.0) (clock_events (deeds_of cluster (actor_of owned.0 0) earlier))) owned.1)
+    (draws_are_of_node node start (Draw ∷ events)).0))
     (cases_Bool (owned.0 == node))
   where
     start : ℕ
     start = clock_start cluster.starts node
+
     events : List ClockEvent
     events = clock_events (deeds_of cluster (actor_of node 0) earlier)
+
     next : Stamp
     next = next_stamp (clock_after node start events)
+
     ne_from : (m n : ℕ) → (m == n) ≡ false → m ≢ n
     ne_from m n h e = true≢false (sym (eq-eqb m n e) ∙ h)
 
@@ -276,7 +279,7 @@ is_node-node node = eq-eqb ((node * 64 + 0) % 64) 0 (omega arith)
 
 emits-drawn : (cluster : Cluster) (earlier : List Item) (node : ℕ) (act : Act)
     → drawn (emits cluster earlier (actor_of node 0) act)
-      ≡ draws_by node (clock_start cluster.starts node) (deeds_of cluster (actor_of node 0) earlier) act
+    ≡ draws_by node (clock_start cluster.starts node) (deeds_of cluster (actor_of node 0) earlier) act
 emits-drawn cluster earlier node act =
     let a : Actor = actor_of node 0 in
     let past : List Deed = deeds_of cluster a earlier in
@@ -290,7 +293,7 @@ DrawsNext cluster earlier e =
     (node : ℕ) × (e.actor ≡ actor_of node 0)
     × (drawn e.emitted ≡ next_draw node (clock_start cluster.starts node) (deeds_of cluster (actor_of node 0) earlier) ∷ [])
     × (is_among stamp_eq (next_draw node (clock_start cluster.starts node) (deeds_of cluster (actor_of node 0) earlier))
-        (node_stamps cluster node (Step e ∷ earlier)) ≡ true)
+    (node_stamps cluster node (Step e ∷ earlier)) ≡ true)
 
 quiet : (b : Bool) (cluster : Cluster) (a : Actor) (past : List Deed) (act : Act)
     → ((node start : ℕ) → draws_by node start past act ≡ []) → drawn (emits_by b cluster a past act) ≡ []
@@ -307,7 +310,7 @@ stamps_then cluster earlier e node act s here is draws =
     let start : ℕ = clock_start cluster.starts node in
     let past : List Deed = deeds_of cluster (actor_of node 0) earlier in
     ap (λ b. is_among stamp_eq s (stamps_drawn node start (clock_events (deed_if b cluster earlier e ++ past))))
-      (eq-eqb (e.actor.0) ((actor_of node 0).0) (ap (λ (a : Actor). a.0) here))
+    (eq-eqb (e.actor.0) ((actor_of node 0).0) (ap (λ (a : Actor). a.0) here))
     ∙ ap (λ o. is_among stamp_eq s (stamps_drawn node start (clock_events (deed_with o e.emitted ++ past)))) is
     ∙ ap (is_among stamp_eq s) (clock-drawn node start past act e.emitted ∙ ap (λ new. new ++ stamps_drawn node start (clock_events past)) draws)
     ∙ or_left (stamp_eq s s) _ ((stamp_order.decides s s).1 refl)
@@ -317,10 +320,12 @@ at_node : (cluster : Cluster) (earlier : List Item) (e : Entry) (act : Act) (nod
     → ((start : ℕ) (past : List Deed) → draws_by node start past act ≡ next_draw node start past ∷ []) → DrawsNext cluster earlier e
 at_node cluster earlier e act node here is emitted draws =
     let start : ℕ = clock_start cluster.starts node in
-    let past : List Deed = deeds_of cluster (actor_of node 0) earlier in
-    (node, here,
+    let past : List Deed = deeds_of cluster (actor_of node 0) earlier in (
+      node,
+      here,
       ap drawn emitted ∙ ap (λ a. drawn (emits cluster earlier a act)) here ∙ emits-drawn cluster earlier node act ∙ draws start past,
-      stamps_then cluster earlier e node act (next_draw node start past) here is (draws start past))
+      stamps_then cluster earlier e node act (next_draw node start past) here is (draws start past),
+    )
 
 abbrev Draws : Cluster → List Item → Entry → Type 0
 Draws cluster earlier e = (drawn e.emitted ≡ []) ⊎ DrawsNext cluster earlier e
@@ -381,9 +386,10 @@ step_draws cluster e earlier draws h =
         → Distinctly cluster (Step e ∷ earlier) (next_draw node (clock_start cluster.starts node) (deeds_of cluster (actor_of node 0) earlier) ∷ drawn_of earlier)
     with_next node among =
         let next : Stamp = next_draw node (clock_start cluster.starts node) (deeds_of cluster (actor_of node 0) earlier) in
-        let behind = skip_draws cluster (Step e) earlier (drawn_of earlier) h in
-        ((none_among next (drawn_of earlier) (each_weaker (Owned cluster earlier) (λ t. stamp_eq t next ≡ false) (drawn_of earlier) (differs cluster node earlier) h.1), h.0),
-          ((node, among), behind.1))
+        let behind = skip_draws cluster (Step e) earlier (drawn_of earlier) h in (
+          (none_among next (drawn_of earlier) (each_weaker (Owned cluster earlier) (λ t. stamp_eq t next ≡ false) (drawn_of earlier) (differs cluster node earlier) h.1), h.0),
+          ((node, among), behind.1),
+        )
 
 distinctly : (cluster : Cluster) (items : List Item) → EachStands cluster items → Distinctly cluster items (drawn_of items)
 distinctly cluster [] h = (tt, tt)

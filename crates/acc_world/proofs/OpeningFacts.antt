@@ -74,6 +74,7 @@ module _ (shard : ℕ) (history : List Taken) (before : List TxnId) where
     where
       at : (y : TxnId) → id_among y (of_shard mine.deps shard) ≡ true → is_past mine.t (id_among y applied) (stable_of history y) ≡ true
       at y k = all_at (λ y. is_past mine.t (id_among y applied) (stable_of history y)) (of_shard mine.deps shard) y ready k
+
       is : (y : TxnId) (theirs : Settled) → id_among y (of_shard mine.deps shard) ≡ true → stable_of history y ≡ Some theirs
           → comes_first mine.t theirs ≡ true → id_among y applied ≡ true
       is y theirs k e first = past_is_applied mine.t (id_among y applied) theirs (stable_of history y) e first (at y k)
@@ -100,11 +101,12 @@ module _ (shard : ℕ) (history : List Taken) (before : List TxnId) where
   pass-sound : (applied_before applied : List TxnId) (list : List Standing) → AreApplied applied → Truly history list
       → OpensTruly (pass shard history before applied_before applied list)
   pass-sound applied_before applied [] are truly = tt
-  pass-sound applied_before applied (s ∷ rest) are truly =
-      ((λ opens. opens-Opened applied s.id s.settled are truly.0
+  pass-sound applied_before applied (s ∷ rest) are truly = (
+    (λ opens. opens-Opened applied s.id s.settled are truly.0
         (or_right (id_among s.id before) _ (and_parts (not (id_among s.id before)) (is_ready shard history applied s.settled) opens).1)),
-      pass-sound applied_before (with_applied _ s.id applied) rest
-        (more_applied _ s.id applied (applied_now applied s are truly.0) are) truly.1)
+    pass-sound applied_before (with_applied _ s.id applied) rest
+        (more_applied _ s.id applied (applied_now applied s are truly.0) are) truly.1,
+  )
 
   opened_one : (x : TxnId) (c : Change) (rest : List TxnId) → (c.opens ≡ true → Opened c.id) → (id_among x rest ≡ true → Opened x)
       → id_among x (cond c.opens (c.id ∷ rest) rest) ≡ true → Opened x
@@ -129,8 +131,8 @@ module _ (shard : ℕ) (history : List Taken) (before : List TxnId) where
   not_earlier s rest sorted truly y theirs h e =
       ⊎_elim
       (λ same. ap (λ (u : Settled). stamp_lt u.t s.settled.t)
-        (sym (some_is s.settled theirs (sym truly.0 ∙ ap (stable_of history) ((id_order.decides s.id y).0 same) ∙ e)))
-        ∙ stamp_order.irrefl s.settled.t)
+      (sym (some_is s.settled theirs (sym truly.0 ∙ ap (stable_of history) ((id_order.decides s.id y).0 same) ∙ e)))
+      ∙ stamp_order.irrefl s.settled.t)
       (among rest sorted.0 truly.1)
       (or_cases (id_eq s.id y) (stands y rest) h)
     where
@@ -140,8 +142,8 @@ module _ (shard : ℕ) (history : List Taken) (before : List TxnId) where
       among (r ∷ list) late true_ones k =
           ⊎_elim
           (λ same. ap (λ (u : Settled). stamp_lt u.t s.settled.t)
-            (sym (some_is r.settled theirs (sym true_ones.0 ∙ ap (stable_of history) ((id_order.decides r.id y).0 same) ∙ e)))
-            ∙ late.0)
+          (sym (some_is r.settled theirs (sym true_ones.0 ∙ ap (stable_of history) ((id_order.decides r.id y).0 same) ∙ e)))
+          ∙ late.0)
           (among list late.1 true_ones.1)
           (or_cases (id_eq r.id y) (stands y list) k)
 
@@ -158,16 +160,17 @@ module _ (shard : ℕ) (history : List Taken) (before : List TxnId) where
       ready_with : (mine : Settled) → mine ≡ s.settled
           → ((y : TxnId) → id_among y (of_shard mine.deps shard) ≡ true → is_some (stable_of history y) ≡ true)
           → ((y : TxnId) (theirs : Settled) → id_among y (of_shard mine.deps shard) ≡ true → stable_of history y ≡ Some theirs
-              → comes_first mine.t theirs ≡ true → HasOutcome y)
+          → comes_first mine.t theirs ≡ true → HasOutcome y)
           → ((y : TxnId) (theirs : Settled) → id_among y (of_shard mine.deps shard) ≡ true → stable_of history y ≡ Some theirs
-              → comes_first mine.t theirs ≡ true → Opened y)
+          → comes_first mine.t theirs ≡ true → Opened y)
           → is_ready shard history applied mine ≡ true
       ready_with mine e stable outcome opens =
           all_from (λ y. is_past mine.t (id_among y applied) (stable_of history y)) (of_shard mine.deps shard)
           (λ y k. past_from mine.t (id_among y applied) (stable_of history y) (stable y k)
-            (λ theirs is first. ⊎_elim (λ done. done)
-              (λ later. absurd (true≢false (sym first ∙ ap (λ (u : Settled). stamp_lt theirs.t u.t) e ∙ not_earlier s rest sorted truly y theirs later is)))
-              (covers y theirs is (opens y theirs k is first) (outcome y theirs k is first))))
+          (λ theirs is first. ⊎_elim (λ done. done)
+          (λ later. absurd (true≢false (sym first ∙ ap (λ (u : Settled). stamp_lt theirs.t u.t) e ∙ not_earlier s rest sorted truly y theirs later is)))
+          (covers y theirs is (opens y theirs k is first) (outcome y theirs k is first))))
+
       by : {x : TxnId} → Opened x → x ≡ s.id → (id_among s.id before ≡ true) ⊎ (is_ready shard history applied s.settled ≡ true)
       by (Stays x h) e = inl (subst (λ z. id_among z before ≡ true) e h)
       by (Opens x mine is stable outcome opens) e =
@@ -186,7 +189,7 @@ module _ (shard : ℕ) (history : List Taken) (before : List TxnId) where
   covers_next false applied s rest covers turn y theirs e opened outcome =
       ⊎_elim inl
       (λ h. ⊎_elim (λ same. absurd (true≢false (sym (turn (subst Opened (sym ((id_order.decides s.id y).0 same)) opened) (subst HasOutcome (sym ((id_order.decides s.id y).0 same)) outcome)))))
-        inr (or_cases (id_eq s.id y) (stands y rest) h))
+      inr (or_cases (id_eq s.id y) (stands y rest) h))
       (covers y theirs e opened outcome)
 
   -- what a change opens is among the opened ones, whatever stands behind it
@@ -195,15 +198,15 @@ module _ (shard : ℕ) (history : List Taken) (before : List TxnId) where
       subst (λ list. id_among c.id (opened_by list) ≡ true)
       (ap (λ b. cond b (c ∷ filter is_change changes) (filter is_change changes)) (sym (or_left c.opens c.applies opens)))
       (subst (λ list. id_among c.id list ≡ true)
-        (ap (λ b. cond b (c.id ∷ opened_by (filter is_change changes)) (opened_by (filter is_change changes))) (sym opens))
-        (or_left (id_eq c.id c.id) _ ((id_order.decides c.id c.id).1 refl)))
+      (ap (λ b. cond b (c.id ∷ opened_by (filter is_change changes)) (opened_by (filter is_change changes))) (sym opens))
+      (or_left (id_eq c.id c.id) _ ((id_order.decides c.id c.id).1 refl)))
 
   opened_later : (x : TxnId) (c : Change) (changes : List Change) → id_among x (opened_by (filter is_change changes)) ≡ true
       → id_among x (opened_by (filter is_change (c ∷ changes))) ≡ true
   opened_later x c changes h =
       cond_both (is_change c) (c ∷ filter is_change changes) (filter is_change changes) (λ list. id_among x (opened_by list) ≡ true)
       (λ _. cond_both c.opens (c.id ∷ opened_by (filter is_change changes)) (opened_by (filter is_change changes)) (λ list. id_among x list ≡ true)
-        (λ _. or_right (id_eq c.id x) _ h) (λ _. h))
+      (λ _. or_right (id_eq c.id x) _ h) (λ _. h))
       (λ _. h)
 
   pass-complete : (applied_before applied : List TxnId) (list : List Standing) → Sorted list → Truly history list → Covers applied list
@@ -214,26 +217,31 @@ module _ (shard : ℕ) (history : List Taken) (before : List TxnId) where
       ⊎_elim
       (λ same. subst Found ((id_order.decides s.id x).0 same) (found (subst Opened (sym ((id_order.decides s.id x).0 same)) opened)))
       (λ later. ⊎_elim inl (λ k. inr (opened_later x (turn.change) behind k))
-        (pass-complete applied_before (with_applied turn.is_applied s.id applied) rest sorted.1 truly.1
-          (covers_next turn.is_applied applied s rest covers applies) x later opened))
+      (pass-complete applied_before (with_applied turn.is_applied s.id applied) rest sorted.1 truly.1
+      (covers_next turn.is_applied applied s rest covers applies) x later opened))
       (or_cases (id_eq s.id x) (stands x rest) h)
     where
       turn : Turn
       turn = turn_of s.id (id_among s.id before) (id_among s.id applied_before) (is_ready shard history applied s.settled) (is_some (kept_outcome history s.id))
+
       behind : List Change
       behind = pass shard history before applied_before (with_applied turn.is_applied s.id applied) rest
+
       Found : TxnId → Type 0
       Found y = (id_among y before ≡ true) ⊎ (id_among y (opened_by (filter is_change (turn.change ∷ behind))) ≡ true)
+
       by_then : Opened s.id → (id_among s.id before || is_ready shard history applied s.settled) ≡ true
       by_then is = or_of _ _ (ready_by applied s rest sorted truly covers is)
+
       applies : Opened s.id → HasOutcome s.id → turn.is_applied ≡ true
       applies is outcome = and_from _ _ (by_then is) outcome
+
       found : Opened s.id → Found s.id
       found is =
           ⊎_elim inl
           (λ new. ⊎_elim (λ ready. inr (opened_first turn.change behind (and_from _ _ (not_from_false (id_among s.id before) new) ready)))
-            (λ unready. absurd (true≢false (sym (by_then is) ∙ ap (λ b. b || is_ready shard history applied s.settled) new ∙ unready)))
-            (cases_Bool (is_ready shard history applied s.settled)))
+          (λ unready. absurd (true≢false (sym (by_then is) ∙ ap (λ b. b || is_ready shard history applied s.settled) new ∙ unready)))
+          (cases_Bool (is_ready shard history applied s.settled)))
           (cases_Bool (id_among s.id before))
 
 -- ---- the least set
@@ -245,14 +253,14 @@ opened_of-sound shard step past x h =
     let before : List TxnId = opened_of shard past in
     ⊎_elim
     (opened_by-sound shard history before x (pass shard history before (with_outcome past before) [] (in_turn (stable_ones history (known history))))
-      (pass-sound shard history before (with_outcome past before) [] (in_turn (stable_ones history (known history))) tt (turns-Truly history)))
+    (pass-sound shard history before (with_outcome past before) [] (in_turn (stable_ones history (known history))) tt (turns-Truly history)))
     (Stays x)
     (or_cases (id_among x (opened_by (changes_from shard history before (with_outcome past before)))) (id_among x before)
-      (sym (is_among-append id_eq x (opened_by (changes_from shard history before (with_outcome past before))) before) ∙ h))
+    (sym (is_among-append id_eq x (opened_by (changes_from shard history before (with_outcome past before))) before) ∙ h))
 
 opened_is_among : (shard : ℕ) (step : Taken) (past : List Taken) (x : TxnId)
     → (id_among x (opened_of shard past) ≡ true)
-      ⊎ (id_among x (opened_by (changes_from shard (step ∷ past) (opened_of shard past) (with_outcome past (opened_of shard past)))) ≡ true)
+    ⊎ (id_among x (opened_by (changes_from shard (step ∷ past) (opened_of shard past) (with_outcome past (opened_of shard past)))) ≡ true)
     → id_among x (opened_of shard (step ∷ past)) ≡ true
 opened_is_among shard step past x h =
     is_among-append id_eq x (opened_by (changes_from shard (step ∷ past) (opened_of shard past) (with_outcome past (opened_of shard past)))) (opened_of shard past)
@@ -270,7 +278,7 @@ opened_of-complete shard step past x opened =
     let before : List TxnId = opened_of shard past in
     opened_is_among shard step past x
     (⊎_elim inl
-      (λ stands. pass-complete shard history before (with_outcome past before) [] (in_turn (stable_ones history (known history)))
-        (in_turn-Sorted (stable_ones history (known history))) (turns-Truly history)
-        (λ y theirs e is outcome. inr (turns-stands history y theirs e)) x stands opened)
-      (is_standing shard history before x opened))
+    (λ stands. pass-complete shard history before (with_outcome past before) [] (in_turn (stable_ones history (known history)))
+    (in_turn-Sorted (stable_ones history (known history))) (turns-Truly history)
+    (λ y theirs e is outcome. inr (turns-stands history y theirs e)) x stands opened)
+    (is_standing shard history before x opened))

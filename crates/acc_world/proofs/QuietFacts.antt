@@ -69,7 +69,6 @@ closed shard [] x (Opens y mine is stable outcome opens) = absurd (not_none mine
 closed shard (step ∷ past) x h = opened_of-complete shard step past x (inward shard step past x h)
 
 module _ (shard : ℕ) (step : Taken) (past : List Taken) (quiet : may_open step.message ≡ false) where
-
   same_stable : (x : TxnId) → stable_of (step ∷ past) x ≡ stable_of past x
   same_stable x = ap (or_else (stable_of past x)) (nothing_settled x step.message quiet) ∙ or_else-none (stable_of past x)
 
@@ -116,12 +115,12 @@ module _ (shard : ℕ) (step : Taken) (past : List Taken) (quiet : may_open step
       let turn : Turn = turn_of s.id (id_among s.id before) (id_among s.id (applied_of shard past)) ready outcome in
       no_change (pass shard (step ∷ past) before (applied_of shard past) (with_applied turn.is_applied s.id applied) rest) turn.change
       (or_from turn.change.opens turn.change.applies
-        (quiet_opens (id_among s.id before) ready
-          (λ is. was_opened s.id (ready-Opened shard (step ∷ past) before applied s.id s.settled are truly.0 is)))
-        (quiet_applies (id_among s.id before || ready) outcome (id_among s.id (applied_of shard past))
-          (λ now has. was_applied s.id (was_opened s.id (opens-Opened shard (step ∷ past) before applied s.id s.settled are truly.0 now)) has)))
+      (quiet_opens (id_among s.id before) ready
+      (λ is. was_opened s.id (ready-Opened shard (step ∷ past) before applied s.id s.settled are truly.0 is)))
+      (quiet_applies (id_among s.id before || ready) outcome (id_among s.id (applied_of shard past))
+      (λ now has. was_applied s.id (was_opened s.id (opens-Opened shard (step ∷ past) before applied s.id s.settled are truly.0 now)) has)))
       (quiet_pass (with_applied turn.is_applied s.id applied) rest
-        (more_applied shard (step ∷ past) before turn.is_applied s.id applied (applied_now shard (step ∷ past) before applied s are truly.0) are) truly.1)
+      (more_applied shard (step ∷ past) before turn.is_applied s.id applied (applied_now shard (step ∷ past) before applied s are truly.0) are) truly.1)
 
   pub nothing_changes : changes_of shard step past ≡ []
   nothing_changes = quiet_pass [] (in_turn (stable_ones (step ∷ past) (known (step ∷ past)))) tt (turns-Truly (step ∷ past))

@@ -49,9 +49,9 @@ pub fast_and_majority : (layout : Layout) (x : TxnId) (body : BodyParts) (answer
     → majority_everywhere layout body others ≡ true → KeptAndAnswered layout shard x answers others
 fast_and_majority layout x body answers others shard is among fast major =
     let meets = fast_meets_majority layout.nodes (shard_at layout shard) (shard_of_layout layout shard is (used-HasShard layout body shard is among))
-      (kept_stamp x answers shard) (has_answered others shard)
-      (number_at (λ s. is_fast (shard_at layout s) (kept_stamp x answers s)) (shards_used layout body) shard fast among)
-      (number_at (λ s. is_majority (shard_at layout s) (has_answered others s)) (shards_used layout body) shard major among) in
+    (kept_stamp x answers shard) (has_answered others shard)
+    (number_at (λ s. is_fast (shard_at layout s) (kept_stamp x answers s)) (shards_used layout body) shard fast among)
+    (number_at (λ s. is_majority (shard_at layout s) (has_answered others s)) (shards_used layout body) shard major among) in
     record { node = meets.0; replica = meets.1; kept = meets.2; answered = meets.3 }
 
 pub fast_and_fast : (layout : Layout) (x y : TxnId) (body other : BodyParts) (answers others : List Message) (shard : ℕ) → IsLayout layout
@@ -59,7 +59,7 @@ pub fast_and_fast : (layout : Layout) (x y : TxnId) (body other : BodyParts) (an
     → fast_everywhere layout x body answers ≡ true → fast_everywhere layout y other others ≡ true → KeptBoth layout shard x y answers others
 fast_and_fast layout x y body other answers others shard is among among_other fast fast_other =
     let meets = fast_meets_fast layout.nodes (shard_at layout shard) (shard_of_layout layout shard is (used-HasShard layout body shard is among))
-      (kept_stamp x answers shard) (kept_stamp y others shard)
-      (number_at (λ s. is_fast (shard_at layout s) (kept_stamp x answers s)) (shards_used layout body) shard fast among)
-      (number_at (λ s. is_fast (shard_at layout s) (kept_stamp y others s)) (shards_used layout other) shard fast_other among_other) in
+    (kept_stamp x answers shard) (kept_stamp y others shard)
+    (number_at (λ s. is_fast (shard_at layout s) (kept_stamp x answers s)) (shards_used layout body) shard fast among)
+    (number_at (λ s. is_fast (shard_at layout s) (kept_stamp y others s)) (shards_used layout other) shard fast_other among_other) in
     record { node = meets.0; replica = meets.1; kept = meets.2; kept_other = meets.3 }

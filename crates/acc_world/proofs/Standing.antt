@@ -61,10 +61,10 @@ stable_ones-stands history [] x s known stable = known
 stable_ones-stands history (k ∷ heard) x s known stable =
     list_any-append (λ (s : Standing). id_eq s.id x) (standing_with k.id (stable_of history k.id)) (stable_ones history heard)
     ∙ ⊎_elim
-      (λ same. or_left _ _ (subst (λ y. stands y (standing_with k.id (stable_of history k.id)) ≡ true) ((id_order.decides k.id x).0 same)
-        (one_stands k.id s (stable_of history k.id) (ap (stable_of history) ((id_order.decides k.id x).0 same) ∙ stable))))
-      (λ later. or_right _ _ (stable_ones-stands history heard x s later stable))
-      (or_cases (id_eq k.id x) (is_heard x heard) known)
+    (λ same. or_left _ _ (subst (λ y. stands y (standing_with k.id (stable_of history k.id)) ≡ true) ((id_order.decides k.id x).0 same)
+    (one_stands k.id s (stable_of history k.id) (ap (stable_of history) ((id_order.decides k.id x).0 same) ∙ stable))))
+    (λ later. or_right _ _ (stable_ones-stands history heard x s later stable))
+    (or_cases (id_eq k.id x) (is_heard x heard) known)
 
 -- ---- in turn
 
@@ -75,7 +75,7 @@ with_each P s (z ∷ zs) p h =
     cond_both (standing_lt s z) (s ∷ z ∷ zs) (cond (standing_lt z s) (z ∷ rising_with standing_lt s zs) (z ∷ zs)) (AllByRecursion P)
     (λ _. (p, h))
     (λ _. cond_both (standing_lt z s) (z ∷ rising_with standing_lt s zs) (z ∷ zs) (AllByRecursion P)
-      (λ _. (h.0, with_each P s zs p h.1)) (λ _. h))
+    (λ _. (h.0, with_each P s zs p h.1)) (λ _. h))
 
 pub in_turn-each : (P : Standing → Type 0) (list : List Standing) → AllByRecursion P list → AllByRecursion P (in_turn list)
 in_turn-each P [] h = tt
@@ -99,8 +99,8 @@ with_Sorted s (z ∷ zs) h =
     cond_both (standing_lt s z) (s ∷ z ∷ zs) (cond (standing_lt z s) (z ∷ rising_with standing_lt s zs) (z ∷ zs)) Sorted
     (λ before. let first = standing_lt-t s z before in ((first, behind_too s z zs first h.0), h))
     (λ _. cond_both (standing_lt z s) (z ∷ rising_with standing_lt s zs) (z ∷ zs) Sorted
-      (λ before. (with_each (λ (r : Standing). stamp_lt r.settled.t z.settled.t ≡ false) s zs (standing_lt-t z s before) h.0, with_Sorted s zs h.1))
-      (λ _. h))
+    (λ before. (with_each (λ (r : Standing). stamp_lt r.settled.t z.settled.t ≡ false) s zs (standing_lt-t z s before) h.0, with_Sorted s zs h.1))
+    (λ _. h))
 
 pub in_turn-Sorted : (list : List Standing) → Sorted (in_turn list)
 in_turn-Sorted [] = tt
@@ -113,8 +113,8 @@ with_stands x s (z ∷ zs) h =
     cond_both (standing_lt s z) (s ∷ z ∷ zs) (cond (standing_lt z s) (z ∷ rising_with standing_lt s zs) (z ∷ zs)) (λ list. stands x list ≡ true)
     (λ _. or_right (id_eq s.id x) _ h)
     (λ _. cond_both (standing_lt z s) (z ∷ rising_with standing_lt s zs) (z ∷ zs) (λ list. stands x list ≡ true)
-      (λ _. ⊎_elim (λ same. or_left (id_eq z.id x) _ same) (λ later. or_right (id_eq z.id x) _ (with_stands x s zs later)) (or_cases (id_eq z.id x) (stands x zs) h))
-      (λ _. h))
+    (λ _. ⊎_elim (λ same. or_left (id_eq z.id x) _ same) (λ later. or_right (id_eq z.id x) _ (with_stands x s zs later)) (or_cases (id_eq z.id x) (stands x zs) h))
+    (λ _. h))
 
 with_itself : (x : TxnId) (s : Standing) (list : List Standing) → id_eq s.id x ≡ true
     → stands x (rising_with standing_lt s list) ≡ true
@@ -123,8 +123,8 @@ with_itself x s (z ∷ zs) same =
     cond_both (standing_lt s z) (s ∷ z ∷ zs) (cond (standing_lt z s) (z ∷ rising_with standing_lt s zs) (z ∷ zs)) (λ list. stands x list ≡ true)
     (λ _. or_left (id_eq s.id x) _ same)
     (λ above. cond_both (standing_lt z s) (z ∷ rising_with standing_lt s zs) (z ∷ zs) (λ list. stands x list ≡ true)
-      (λ _. or_right (id_eq z.id x) _ (with_itself x s zs same))
-      (λ below. or_left (id_eq z.id x) _ (subst (λ y. id_eq z.id y ≡ true) ((id_order.decides s.id x).0 same) (standing_apart z s below above))))
+    (λ _. or_right (id_eq z.id x) _ (with_itself x s zs same))
+    (λ below. or_left (id_eq z.id x) _ (subst (λ y. id_eq z.id y ≡ true) ((id_order.decides s.id x).0 same) (standing_apart z s below above))))
 
 pub in_turn-stands : (x : TxnId) (list : List Standing) → stands x list ≡ true → stands x (in_turn list) ≡ true
 in_turn-stands x [] h = h

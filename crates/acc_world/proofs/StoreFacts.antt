@@ -100,24 +100,24 @@ granted_above layout own past (Accept from to id ballot body t deps) x h =
     let parts = and_parts (id_eq id x) (list_any is_accept_ok (store_answer layout own past m)) h in
     promised_before m past id x ballot parts.0
     (promise_passes is_accept_ok own now id ballot ballot _ refl
-      (stable_passes is_accept_ok own id ballot (stable_of now id) _ (λ t. refl) parts.1))
+    (stable_passes is_accept_ok own id ballot (stable_of now id) _ (λ t. refl) parts.1))
 granted_above layout own past (Commit from to id ballot body t deps) x h =
     let m : Message = Commit from to id ballot body t deps in
     let now : List Taken = taking m past in
     let parts = and_parts (id_eq id x) (list_any is_commit_ok (store_answer layout own past m)) h in
     promised_before m past id x ballot parts.0
     (promise_passes is_commit_ok own now id ballot ballot _ refl
-      (stable_passes is_commit_ok own id ballot (stable_of now id) _ (λ t. refl) parts.1))
+    (stable_passes is_commit_ok own id ballot (stable_of now id) _ (λ t. refl) parts.1))
 granted_above layout own past (Recover from to id ballot body) x h =
     let m : Message = Recover from to id ballot body in
     let now : List Taken = taking m past in
     let parts = and_parts (id_eq id x) (list_any is_recover_ok (store_answer layout own past m)) h in
     promised_before m past id x ballot parts.0
     (cond_both (ballot_lt (promise_of now id) ballot) _ (nack own id ballot (promise_of now id))
-      (λ list. list_any is_recover_ok list ≡ true → ballot_lt ballot (promise_of now id) ≡ false)
-      (λ above _. asym ballot_order (promise_of now id) ballot above)
-      (λ _ k. absurd (true≢false (sym k)))
-      parts.1)
+    (λ list. list_any is_recover_ok list ≡ true → ballot_lt ballot (promise_of now id) ≡ false)
+    (λ above _. asym ballot_order (promise_of now id) ballot above)
+    (λ _ k. absurd (true≢false (sym k)))
+    parts.1)
 granted_above layout own past (PreAccept from to id ballot body) x h = absurd (true≢false (sym h))
 granted_above layout own past (PreAcceptOk from to id ballot vote deps) x h = absurd (true≢false (sym h))
 granted_above layout own past (AcceptOk from to id ballot deps) x h = absurd (true≢false (sym h))
@@ -150,7 +150,7 @@ no_votes_released x layout own now [] cells = refl
 no_votes_released x layout own now (c ∷ changes) cells =
     list_any-append (votes_for x) (opening_of layout own now c cells) (release layout own now changes (written_by layout (shard_of own) now c cells))
     ∙ or_from _ _ (no_votes_opening x layout own now c cells)
-      (no_votes_released x layout own now changes (written_by layout (shard_of own) now c cells))
+    (no_votes_released x layout own now changes (written_by layout (shard_of own) now c cells))
 
 no_votes_at_once : (x : TxnId) (layout : Layout) (own : Actor) (past : List Taken) (id : TxnId) (b : Ballot)
     → list_any (votes_for x) (at_once layout own past id b) ≡ false
@@ -184,10 +184,10 @@ vote_before_promise layout own past (PreAccept from to id ballot body) x h =
     let unpromised = stable_passes (votes_for x) own id ballot (stable_of now id) (unless_promised own now id ballot zero_ballot (voted own id ballot given)) (λ t. refl) h in
     zero_promise (promise_of past x)
     (cond_both (ballot_lt zero_ballot (promise_of now id)) (nack own id ballot (promise_of now id)) (voted own id ballot given)
-      (λ list. list_any (votes_for x) list ≡ true → ballot_lt zero_ballot (promise_of past x) ≡ false)
-      (λ _ k. absurd (true≢false (sym k)))
-      (λ is k. promised_before m past id x zero_ballot (voted_for x id ballot own given k) is)
-      unpromised)
+    (λ list. list_any (votes_for x) list ≡ true → ballot_lt zero_ballot (promise_of past x) ≡ false)
+    (λ _ k. absurd (true≢false (sym k)))
+    (λ is k. promised_before m past id x zero_ballot (voted_for x id ballot own given k) is)
+    unpromised)
 vote_before_promise layout own past (Accept from to id ballot body t deps) x h =
     let now : List Taken = taking (Accept from to id ballot body t deps) past in
     absurd (true≢false (sym h ∙ no_votes_unless x own now id ballot ballot (stable_of now id) _ refl))
@@ -197,15 +197,15 @@ vote_before_promise layout own past (Commit from to id ballot body t deps) x h =
 vote_before_promise layout own past (Stable from to id ballot body t deps) x h =
     let m : Message = Stable from to id ballot body t deps in
     absurd (true≢false (sym h ∙ list_any-append (votes_for x) (at_once layout own past id ballot) (released layout own past m)
-      ∙ or_from _ _ (no_votes_at_once x layout own past id ballot)
-        (no_votes_released x layout own (taking m past) (changes_of (shard_of own) (record { message = m; sent = [] }) past) (cells_at layout (shard_of own) past))))
+    ∙ or_from _ _ (no_votes_at_once x layout own past id ballot)
+    (no_votes_released x layout own (taking m past) (changes_of (shard_of own) (record { message = m; sent = [] }) past) (cells_at layout (shard_of own) past))))
 vote_before_promise layout own past (Apply from to id ballot body t deps outcome) x h =
     let m : Message = Apply from to id ballot body t deps outcome in
     absurd (true≢false (sym h ∙ no_votes_released x layout own (taking m past) (changes_of (shard_of own) (record { message = m; sent = [] }) past) (cells_at layout (shard_of own) past)))
 vote_before_promise layout own past (Recover from to id ballot body) x h =
     let now : List Taken = taking (Recover from to id ballot body) past in
     absurd (true≢false (sym h ∙ cond_both (ballot_lt (promise_of now id) ballot) _ (nack own id ballot (promise_of now id))
-      (λ list. list_any (votes_for x) list ≡ false) (λ _. refl) (λ _. refl)))
+    (λ list. list_any (votes_for x) list ≡ false) (λ _. refl) (λ _. refl)))
 vote_before_promise layout own past (PreAcceptOk from to id ballot vote deps) x h = absurd (true≢false (sym h))
 vote_before_promise layout own past (AcceptOk from to id ballot deps) x h = absurd (true≢false (sym h))
 vote_before_promise layout own past (CommitOk from to id ballot) x h = absurd (true≢false (sym h))

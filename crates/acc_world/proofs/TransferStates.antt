@@ -119,7 +119,6 @@ after_two =
 
 -- the newest first
 unfoldable pub after_three : List Item
-
 after_three =
     took (actor_of 3 2) 59 []
     ∷ took (actor_of 2 2) 58 []

@@ -24,7 +24,7 @@ IsInPlace notes =
 pub record SerialOutcomes (cluster : Cluster) (items : List Item) : Type 0 where
   pub bodies : List BodyParts
   pub bodies_are :
-    map (λ (a : Answered). body_of cluster items a.id) (first_outcomes (notes_of items)) ≡ map (λ b. Some b) bodies
+      map (λ (a : Answered). body_of cluster items a.id) (first_outcomes (notes_of items)) ≡ map (λ b. Some b) bodies
   pub serial_run : map (λ (a : Answered). a.reply) (first_outcomes (notes_of items)) ≡ serial bodies
   pub outcomes_agree : (a : Answered) → Contains (outcomes_of (notes_of items)) a → Contains (first_outcomes (notes_of items)) a
   pub replies_agree : (a : Answered) → Contains (replies_of (notes_of items)) a → Contains (first_outcomes (notes_of items)) a
