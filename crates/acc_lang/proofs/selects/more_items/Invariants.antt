@@ -1,0 +1,15 @@
+-- What is left goes on from what was read so far.
+use Rattle.std.proofs.Common.{◌≡◌, ◌<◌, ◌≤◌, ◌-◌, length, [], ◌∷◌, codes}
+use Rattle.acc_lang.specs.Reading.{is_mark, each, one_item}
+use Rattle.acc_lang.proofs.selects.more_items.Given as goal
+
+abbrev pub invariant-items : goal.invariant-items
+invariant-items l = record {
+  goes_on :
+      each (is_mark (codes ",")) (one_item l.lets) (16 - length l.names) l.names l.cursor.rest.now
+      ≡ each (is_mark (codes ",")) (one_item l.lets) 15 (l.first ∷ []) l.initial.cursor.rest.now;
+  few : length l.names ≤ 16;
+}
+
+abbrev pub decreases-items : goal.decreases-items
+decreases-items l = 16 - length l.names

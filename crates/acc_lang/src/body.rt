@@ -1,0 +1,64 @@
+//! The parser.
+ghost use Rattle.std.specs.Prelude.{◌≡◌, Ok, IfOk, IfErr, MatchResult};
+ghost use Rattle.acc_txn.specs.declared.parts.BodyParts.{BodyParts};
+ghost use Rattle.acc_txn.specs.Rules.{IsBody};
+ghost use Rattle.acc_lang.specs.declared.error.LangError.{LangError};
+ghost use Rattle.acc_lang.specs.Answer.{IsFaultIn, IsPlaced};
+ghost use Rattle.acc_lang.specs.Grammar.{IsTextOf};
+ghost use Rattle.acc_lang.specs.Reading.{reading};
+
+use crate::error::LangError;
+use crate::fault::ReadError;
+use crate::parser::read;
+use acc_txn::{Body, BodyError, BodyParts};
+use std::alloc::Global;
+
+/// The body that the text of a transaction says, or the first fault of a text that is none.
+pub fn parse(alloc: Global, text: &str) -> Result<Body, LangError>
+    // What is answered is said by the text.
+    ensures found { IfOk result (λ body. IsTextOf text.now body) }
+    // What the text says is answered, unless memory runs out.
+    ensures only { (parts : BodyParts) → IsTextOf text.now parts
+        → MatchResult result (λ body. body ≡ parts) (λ error. error ≡ LangError.OutOfMemory) }
+    // Which fault it is, and where, and what reading from the left gives.
+    ensures fault { IfErr result (IsFaultIn text.now) }
+    ensures read { IfOk result (λ body. reading text.now ≡ Ok body) }
+{
+    read_body(alloc, text)
+}
+
+#[tactic(auto, unfolding(crate::specs::Reading::reading_fault))]
+fn read_body(alloc: Global, text: &str) -> Result<Body, LangError>
+    ensures read { IfOk result (λ body. reading text.now ≡ Ok body) }
+    ensures sound { IfOk result (λ body. IsTextOf text.now body) }
+    ensures fault { IfErr result (IsFaultIn text.now) }
+{
+    match read(alloc, text.as_bytes()) {
+        Ok(parts) => body_of(parts),
+        Err(error) => Err(placed(text.len(), error)),
+    }
+}
+
+fn body_of(parts: BodyParts) -> Result<Body, LangError>
+    requires { IsBody parts }
+    ensures body { IfOk result (λ body. body ≡ parts) }
+    ensures memory { IfErr result (λ error. error ≡ LangError.OutOfMemory) }
+{
+    match Body::new(parts) {
+        Ok(body) => Ok(body),
+        Err(BodyError::OutOfMemory) => Err(LangError::OutOfMemory),
+        Err(_) => unreachable!(),
+    }
+}
+
+fn placed(len: usize, error: ReadError) -> LangError
+    ensures { IsPlaced len error result }
+{
+    match error {
+        ReadError::At(fault) => LangError::At {
+            at: len.saturating_sub(fault.left) as u64,
+            kind: fault.kind,
+        },
+        ReadError::OutOfMemory => LangError::OutOfMemory,
+    }
+}

@@ -1,0 +1,156 @@
+//! What is wrong with a token, by how it suits the place where it stands.
+ghost use Rattle.std.specs.Prelude.{◌≡◌};
+ghost use Rattle.acc_token.specs.Lexemes.{token_shown};
+ghost use Rattle.acc_lang.specs.Answer.{Judges};
+ghost use Rattle.acc_lang.specs.Faults.{fault_of as fault_of_token, fault_behind_minus, fault_behind_end, greatest_fault, is_long as is_long_token, is_broken as is_broken_token, is_large as is_large_token, exceeds as exceeds_limit};
+ghost use Rattle.acc_lang.specs.Reading.{standing_of as standing};
+
+use crate::error::LangKind;
+use crate::fault::{Fault, ReadError, Standing};
+use acc_token::{Lexeme, Shown};
+
+/// The greatest length of a word in bytes.
+const LONGEST_WORD: usize = 32;
+
+/// The greatest length of a key's text in bytes.
+const LONGEST_TEXT: usize = 64;
+
+/// The greatest number without a sign.
+const LARGEST: u64 = 9223372036854775807;
+
+/// The greatest number behind a minus sign.
+const LARGEST_NEGATIVE: u64 = 9223372036854775808;
+
+/// How a token stands that is allowed or not, that is one too many or not, and that suits or not.
+#[tactic(auto, unfolding(crate::specs::Reading::standing_of))]
+pub fn standing_of(allowed: bool, extra: bool, suits: bool) -> Standing
+    ensures { result ≡ standing allowed extra suits }
+{
+    if !allowed {
+        Standing::Misplaced
+    } else if extra {
+        Standing::Extra
+    } else if suits {
+        Standing::Fits
+    } else {
+        Standing::Unfit
+    }
+}
+
+/// Whether a token that is needed may stand there.
+pub fn check(shown: &Shown<'_>, standing: Standing) -> Result<(), ReadError>
+    ensures { Judges result (fault_of_token standing (token_shown shown.now.lexeme)) shown.now.left }
+{
+    judged(fault_of(standing, &shown.lexeme), shown.left)
+}
+
+/// Whether a token is a number that may stand behind a minus sign.
+pub fn check_behind_minus(shown: &Shown<'_>) -> Result<(), ReadError>
+    ensures { Judges result (fault_behind_minus (token_shown shown.now.lexeme)) shown.now.left }
+{
+    judged(negative_fault(&shown.lexeme), shown.left)
+}
+
+/// Whether nothing follows.
+pub fn check_behind_end(shown: &Shown<'_>) -> Result<(), ReadError>
+    ensures { Judges result (fault_behind_end (token_shown shown.now.lexeme)) shown.now.left }
+{
+    judged(trailing_fault(&shown.lexeme), shown.left)
+}
+
+fn judged(found: Option<LangKind>, left: usize) -> Result<(), ReadError>
+    ensures { Judges result found left }
+{
+    match found {
+        None => Ok(()),
+        Some(kind) => Err(ReadError::At(Fault { kind, left })),
+    }
+}
+
+#[tactic(auto, unfolding(crate::specs::Faults::fault_of))]
+fn fault_of(standing: Standing, lexeme: &Lexeme<'_>) -> Option<LangKind>
+    ensures { result ≡ fault_of_token standing (token_shown lexeme.now) }
+{
+    match lexeme {
+        Lexeme::Strange => Some(LangKind::Char),
+        Lexeme::End => Some(LangKind::Missing),
+        _ => greatest(standing, lexeme),
+    }
+}
+
+#[tactic(auto, unfolding(crate::specs::Faults::fault_behind_minus))]
+fn negative_fault(lexeme: &Lexeme<'_>) -> Option<LangKind>
+    ensures { result ≡ fault_behind_minus (token_shown lexeme.now) }
+{
+    match lexeme {
+        Lexeme::Number(number) => exceeds(LARGEST_NEGATIVE, *number).then_some(LangKind::Number),
+        Lexeme::Strange => Some(LangKind::Char),
+        Lexeme::End => Some(LangKind::Missing),
+        _ => greatest(Standing::Misplaced, lexeme),
+    }
+}
+
+#[tactic(auto, unfolding(crate::specs::Faults::fault_behind_end))]
+fn trailing_fault(lexeme: &Lexeme<'_>) -> Option<LangKind>
+    ensures { result ≡ fault_behind_end (token_shown lexeme.now) }
+{
+    match lexeme {
+        Lexeme::Strange => Some(LangKind::Char),
+        Lexeme::End => None,
+        _ => Some(LangKind::Trailing),
+    }
+}
+
+fn greatest(standing: Standing, lexeme: &Lexeme<'_>) -> Option<LangKind>
+    ensures { result ≡ greatest_fault standing (token_shown lexeme.now) }
+{
+    if matches!(standing, Standing::Extra) {
+        Some(LangKind::Size)
+    } else if matches!(standing, Standing::Unfit) || is_long(lexeme) {
+        Some(LangKind::Name)
+    } else if is_broken(lexeme) {
+        Some(LangKind::Text)
+    } else if is_large(lexeme) {
+        Some(LangKind::Number)
+    } else if matches!(standing, Standing::Misplaced) {
+        Some(LangKind::Word)
+    } else {
+        None
+    }
+}
+
+fn is_long(lexeme: &Lexeme<'_>) -> bool
+    ensures { result ≡ is_long_token (token_shown lexeme.now) }
+{
+    match lexeme {
+        Lexeme::Word(word) => word.len() > LONGEST_WORD,
+        _ => false,
+    }
+}
+
+fn is_broken(lexeme: &Lexeme<'_>) -> bool
+    ensures { result ≡ is_broken_token (token_shown lexeme.now) }
+{
+    match lexeme {
+        Lexeme::Quoted(text) => !(text.closed && text.len >= 1 && text.len <= LONGEST_TEXT),
+        _ => false,
+    }
+}
+
+fn is_large(lexeme: &Lexeme<'_>) -> bool
+    ensures { result ≡ is_large_token (token_shown lexeme.now) }
+{
+    match lexeme {
+        Lexeme::Number(number) => exceeds(LARGEST, *number),
+        _ => false,
+    }
+}
+
+fn exceeds(limit: u64, number: Option<u64>) -> bool
+    ensures { result ≡ exceeds_limit limit number }
+{
+    match number {
+        Some(number) => number > limit,
+        None => true,
+    }
+}

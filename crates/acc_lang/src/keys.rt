@@ -1,0 +1,84 @@
+//! Tables and keys.
+ghost use Rattle.std.specs.Prelude.{◌≡◌, IfOk, length, false};
+ghost use Rattle.acc_value.specs.Footprint.{used};
+ghost use Rattle.acc_lang.specs.Answer.{Gives};
+ghost use Rattle.acc_lang.specs.Reading.{table as table_from, key_text as key_text_from, where_key as where_key_from, from_key as from_key_from};
+
+use crate::fault::ReadError;
+use crate::judge::{check, standing_of};
+use crate::lexemes::{folded, is_free, is_quoted, letters_of, text_of};
+use crate::take::{take_mark, take_word};
+use acc_base::Text;
+use acc_token::Cursor;
+use acc_value::{Footprint, Key};
+use std::alloc::Global;
+
+/// The greatest number of different keys.
+const MOST_KEYS: usize = 16;
+
+/// The name of a table.
+#[tactic(auto, using(crate::proofs::Taking::fails_at_once), unfolding(crate::specs::Reading::table, crate::specs::Reading::step))]
+pub fn table(alloc: Global, cursor: &mut Cursor<'_>) -> Result<Text, ReadError>
+    ensures { Gives (λ name. name) result cursor.new.rest.now (table_from cursor.old.rest.now) }
+{
+    let shown = cursor.next();
+    check(&shown, standing_of(is_free(&shown.lexeme), false, true))?;
+    Ok(folded(alloc, letters_of(&shown.lexeme))?)
+}
+
+/// The text of a key of a table, which is read or written.
+#[tactic(auto, using(crate::proofs::Taking::fails_at_once), unfolding(crate::specs::Reading::key_text, crate::specs::Reading::step))]
+fn key_text(
+    alloc: Global,
+    cursor: &mut Cursor<'_>,
+    uses: &mut Footprint,
+    writes: bool,
+    table: Text,
+) -> Result<Key, ReadError>
+    ensures key { Gives (λ key. key) result cursor.new.rest.now (key_text_from writes uses.old table cursor.old.rest.now) }
+    ensures uses { IfOk result (λ key. uses.new ≡ used uses.old key writes) }
+{
+    let shown = cursor.next();
+    let key = Key {
+        table,
+        key: text_of(alloc, &shown.lexeme)?,
+    };
+    uses.add(&key, writes)?;
+    let extra = uses.len() > MOST_KEYS;
+    check(&shown, standing_of(is_quoted(&shown.lexeme), extra, true))?;
+    Ok(key)
+}
+
+/// `WHERE k = 'key'`
+#[tactic(auto, using(crate::proofs::Taking::fails_on), unfolding(crate::specs::Reading::where_key))]
+pub fn where_key(
+    alloc: Global,
+    cursor: &mut Cursor<'_>,
+    uses: &mut Footprint,
+    writes: bool,
+    table: Text,
+) -> Result<Key, ReadError>
+    ensures key { Gives (λ key. key) result cursor.new.rest.now (where_key_from writes uses.old table cursor.old.rest.now) }
+    ensures uses { IfOk result (λ key. uses.new ≡ used uses.old key writes) }
+{
+    take_word(cursor, "where")?;
+    take_word(cursor, "k")?;
+    take_mark(cursor, "=")?;
+    key_text(alloc, cursor, uses, writes, table)
+}
+
+/// `FROM table WHERE k = 'key'`
+#[tactic(auto, using(crate::proofs::Taking::fails_on), unfolding(crate::specs::Reading::from_key))]
+pub fn from_key(
+    alloc: Global,
+    cursor: &mut Cursor<'_>,
+    uses: &mut Footprint,
+    writes: bool,
+) -> Result<Key, ReadError>
+    ensures key { Gives (λ key. key) result cursor.new.rest.now (from_key_from writes uses.old cursor.old.rest.now) }
+    ensures uses { IfOk result (λ key. uses.new ≡ used uses.old key writes) }
+{
+    take_word(cursor, "from")?;
+    let name = table(alloc, cursor)?;
+    where_key(alloc, cursor, uses, writes, name)
+}

@@ -1,0 +1,145 @@
+//! The whole text.
+ghost use Rattle.std.specs.Prelude.{◌≡◌, ◌≤◌, length};
+ghost use Rattle.acc_lang.specs.Answer.{Gives, Passes, Answers};
+ghost use Rattle.acc_lang.specs.Reading.{guarded as guarded_from, unguarded as unguarded_from, action as action_from, commit as commit_from, finish as finish_from, opening, closing, behind_lets as behind_lets_from, reading};
+
+use crate::changes::{more_updates, update};
+use crate::conditions::conditions;
+use crate::fault::ReadError;
+use crate::judge::{check, check_behind_end, standing_of};
+use crate::lets::lets;
+use crate::lexemes::is_word;
+use crate::selects::select;
+use crate::take::{skip_mark, take_word};
+use acc_base::Sequence;
+use acc_token::Cursor;
+use acc_txn::{BodyParts, Conditions, Let, Lets, Updates};
+use acc_value::Footprint;
+use std::alloc::Global;
+
+/// `BEGIN TRANSACTION { let } [ select ] action COMMIT TRANSACTION [ ; ]`, and nothing behind it.
+#[tactic(auto, using(crate::proofs::Taking::fails_on), unfolding(crate::specs::Reading::reading))]
+pub fn read(alloc: Global, text: &[u8]) -> Result<BodyParts, ReadError>
+    ensures { Answers result (reading text.now) }
+{
+    let mut cursor = Cursor::new(text);
+    let mut uses = Footprint::new(alloc);
+    open(&mut cursor)?;
+    let lets = lets(alloc, &mut cursor, &mut uses)?;
+    behind_lets(alloc, &mut cursor, &mut uses, lets)
+}
+
+/// `BEGIN TRANSACTION`
+#[tactic(auto, using(crate::proofs::Taking::fails_on), unfolding(crate::specs::Reading::opening))]
+fn open(cursor: &mut Cursor<'_>) -> Result<(), ReadError>
+    ensures { Passes result cursor.new.rest.now (opening cursor.old.rest.now) }
+{
+    take_word(cursor, "begin")?;
+    take_word(cursor, "transaction")
+}
+
+#[tactic(auto, using(crate::proofs::Taking::fails_on), unfolding(crate::specs::Reading::behind_lets))]
+fn behind_lets(
+    alloc: Global,
+    cursor: &mut Cursor<'_>,
+    uses: &mut Footprint,
+    lets: Lets,
+) -> Result<BodyParts, ReadError>
+    requires { length lets ≤ 16 }
+    ensures { Answers result (behind_lets_from uses.old lets cursor.old.rest.now) }
+{
+    let select = select(alloc, cursor, uses, lets.as_slice())?;
+    let (guards, updates) = action(alloc, cursor, uses, lets.as_slice())?;
+    close(cursor, uses)?;
+    Ok(BodyParts {
+        lets,
+        select,
+        guards,
+        updates,
+    })
+}
+
+/// `COMMIT TRANSACTION [ ; ]`, and nothing behind it.
+#[tactic(auto, using(crate::proofs::Taking::fails_on), unfolding(crate::specs::Reading::closing))]
+fn close(cursor: &mut Cursor<'_>, uses: &Footprint) -> Result<(), ReadError>
+    ensures { Passes result cursor.new.rest.now (closing uses.now cursor.old.rest.now) }
+{
+    commit(cursor, uses)?;
+    finish(cursor)
+}
+
+#[tactic(auto, unfolding(crate::specs::Reading::action))]
+fn action(
+    alloc: Global,
+    cursor: &mut Cursor<'_>,
+    uses: &mut Footprint,
+    lets: &[Let],
+) -> Result<(Conditions, Updates), ReadError>
+    requires { length lets.now ≤ 16 }
+    ensures { Gives (λ both. (both, uses.new)) result cursor.new.rest.now (action_from uses.old lets.now cursor.old.rest.now) }
+{
+    if is_word(&cursor.peek().lexeme, "if") {
+        cursor.next();
+        guarded(alloc, cursor, uses, lets)
+    } else {
+        unguarded(alloc, cursor, uses, lets)
+    }
+}
+
+/// `conditions THEN update { update } END IF [ ; ]`
+#[tactic(auto, using(crate::proofs::Taking::fails_on), unfolding(crate::specs::Reading::guarded, crate::specs::Reading::one_update))]
+fn guarded(
+    alloc: Global,
+    cursor: &mut Cursor<'_>,
+    uses: &mut Footprint,
+    lets: &[Let],
+) -> Result<(Conditions, Updates), ReadError>
+    requires { length lets.now ≤ 16 }
+    ensures { Gives (λ both. (both, uses.new)) result cursor.new.rest.now (guarded_from uses.old lets.now cursor.old.rest.now) }
+{
+    let guards = conditions(alloc, cursor, lets)?;
+    let mut first = Sequence::new(alloc);
+    first.push(update(alloc, cursor, uses, lets, false)?)?;
+    let updates = more_updates(alloc, cursor, uses, lets, first)?;
+    take_word(cursor, "end")?;
+    take_word(cursor, "if")?;
+    skip_mark(cursor, ";");
+    Ok((guards, updates))
+}
+
+#[tactic(auto, using(crate::proofs::Taking::fails_on), unfolding(crate::specs::Reading::unguarded))]
+fn unguarded(
+    alloc: Global,
+    cursor: &mut Cursor<'_>,
+    uses: &mut Footprint,
+    lets: &[Let],
+) -> Result<(Conditions, Updates), ReadError>
+    requires { length lets.now ≤ 16 }
+    ensures { Gives (λ both. (both, uses.new)) result cursor.new.rest.now (unguarded_from uses.old lets.now cursor.old.rest.now) }
+{
+    let updates = more_updates(alloc, cursor, uses, lets, Sequence::new(alloc))?;
+    Ok((Sequence::new(alloc), updates))
+}
+
+/// `COMMIT`, where there is a key, `TRANSACTION [ ; ]`
+#[tactic(auto, using(crate::proofs::Taking::fails_at_once, crate::proofs::Taking::fails_on), unfolding(crate::specs::Reading::commit, crate::specs::Reading::step))]
+fn commit(cursor: &mut Cursor<'_>, uses: &Footprint) -> Result<(), ReadError>
+    ensures { Passes result cursor.new.rest.now (commit_from uses.now cursor.old.rest.now) }
+{
+    let shown = cursor.next();
+    let extra = uses.is_empty();
+    check(
+        &shown,
+        standing_of(is_word(&shown.lexeme, "commit"), extra, true),
+    )?;
+    take_word(cursor, "transaction")?;
+    skip_mark(cursor, ";");
+    Ok(())
+}
+
+#[tactic(auto, using(crate::proofs::Taking::passes), unfolding(crate::specs::Reading::finish))]
+fn finish(cursor: &mut Cursor<'_>) -> Result<(), ReadError>
+    ensures { Passes result cursor.new.rest.now (finish_from cursor.old.rest.now) }
+{
+    check_behind_end(&cursor.next())
+}

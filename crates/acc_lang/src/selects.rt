@@ -1,0 +1,116 @@
+//! The select.
+ghost use Rattle.std.specs.Prelude.{◌≡◌, ◌≤◌, [], ◌∷◌, ◌++◌, ℕ, List, length, false, OnOk};
+ghost use Rattle.acc_lang.specs.Answer.{Gives};
+ghost use Rattle.acc_lang.specs.Reading.{one_item as one_item_from, more_items as more_items_from, items as items_from, get as get_from, selected as selected_from, select as select_from, begins_get as begins_get_of};
+
+use crate::fault::ReadError;
+use crate::keys::from_key;
+use crate::lexemes::{is_mark, is_word};
+use crate::names::named;
+use crate::take::{take_mark, take_word};
+use acc_base::Sequence;
+use acc_token::Cursor;
+use acc_txn::{Let, Numbers, Select};
+use acc_value::Footprint;
+use std::alloc::Global;
+
+/// The greatest number of items.
+const MOST_ITEMS: usize = 16;
+
+/// The select, if there is one.
+#[tactic(auto, unfolding(crate::specs::Reading::select))]
+pub fn select(
+    alloc: Global,
+    cursor: &mut Cursor<'_>,
+    uses: &mut Footprint,
+    lets: &[Let],
+) -> Result<Select, ReadError>
+    requires { length lets.now ≤ 16 }
+    ensures { Gives (λ select. (select, uses.new)) result cursor.new.rest.now (select_from uses.old lets.now cursor.old.rest.now) }
+{
+    if is_word(&cursor.peek().lexeme, "select") {
+        cursor.next();
+        selected(alloc, cursor, uses, lets)
+    } else {
+        Ok(Select::Nothing)
+    }
+}
+
+// Behind SELECT.
+#[tactic(auto, using(crate::proofs::Taking::fails_on), unfolding(crate::specs::Reading::selected))]
+fn selected(
+    alloc: Global,
+    cursor: &mut Cursor<'_>,
+    uses: &mut Footprint,
+    lets: &[Let],
+) -> Result<Select, ReadError>
+    requires { length lets.now ≤ 16 }
+    ensures { Gives (λ select. (select, uses.new)) result cursor.new.rest.now (selected_from uses.old lets.now cursor.old.rest.now) }
+{
+    if begins_get(cursor) {
+        get(alloc, cursor, uses)
+    } else {
+        let names = items(alloc, cursor, lets)?;
+        Ok(Select::Names(names))
+    }
+}
+
+fn begins_get(cursor: &Cursor<'_>) -> bool
+    ensures { result ≡ begins_get_of cursor.now.rest.now }
+{
+    let mut ahead = *cursor;
+    is_word(&ahead.next().lexeme, "v") && is_word(&ahead.next().lexeme, "from")
+}
+
+/// `v FROM table WHERE k = 'key' ;`
+#[tactic(auto, using(crate::proofs::Taking::fails_on), unfolding(crate::specs::Reading::get))]
+fn get(alloc: Global, cursor: &mut Cursor<'_>, uses: &mut Footprint) -> Result<Select, ReadError>
+    ensures { Gives (λ select. (select, uses.new)) result cursor.new.rest.now (get_from uses.old cursor.old.rest.now) }
+{
+    take_word(cursor, "v")?;
+    let key = from_key(alloc, cursor, uses, false)?;
+    take_mark(cursor, ";")?;
+    Ok(Select::Get(key))
+}
+
+/// `name . v { , name . v } ;`
+#[tactic(auto, using(crate::proofs::Taking::fails_on), unfolding(crate::specs::Reading::items))]
+fn items(alloc: Global, cursor: &mut Cursor<'_>, lets: &[Let]) -> Result<Numbers, ReadError>
+    requires { length lets.now ≤ 16 }
+    ensures { Gives (λ names. names) result cursor.new.rest.now (items_from lets.now cursor.old.rest.now) }
+{
+    let first = named(cursor, lets, false)?;
+    let names = more_items(alloc, cursor, lets, first)?;
+    take_mark(cursor, ";")?;
+    Ok(names)
+}
+
+fn more_items(
+    alloc: Global,
+    cursor: &mut Cursor<'_>,
+    lets: &[Let],
+    first: u8,
+) -> Result<Numbers, ReadError>
+    requires { length lets.now ≤ 16 }
+    ensures { Gives (λ names. names) result cursor.new.rest.now (more_items_from lets.now 15 (first ∷ []) cursor.old.rest.now) }
+{
+    let mut names = Sequence::new(alloc);
+    names.push(first)?;
+    'items: while is_mark(&cursor.peek().lexeme, ",") {
+        let extra = names.len() == MOST_ITEMS;
+        let next = one_item(cursor, lets, extra)?;
+        names.push(next)?;
+    }
+    Ok(names)
+}
+
+/// `, name . v`
+#[tactic(auto, using(crate::proofs::Taking::fails_on), unfolding(crate::specs::Reading::one_item))]
+fn one_item(cursor: &mut Cursor<'_>, lets: &[Let], extra: bool) -> Result<u8, ReadError>
+    requires { length lets.now ≤ 16 }
+    ensures next { (names : List ℕ) → Gives (λ name. names ++ name ∷ []) result cursor.new.rest.now (one_item_from lets.now extra names cursor.old.rest.now) }
+    ensures room { OnOk result (extra ≡ false) }
+{
+    take_mark(cursor, ",")?;
+    named(cursor, lets, extra)
+}

@@ -1,0 +1,25 @@
+//! A body that is printed and read again.
+ghost use Rattle.std.specs.Prelude.{◌≡◌, IfOk};
+
+use crate::laws::canonical_text_is_read;
+use acc_base::OutOfMemory;
+use acc_lang::{LangError, parse};
+use acc_print::print;
+use acc_txn::Body;
+use std::alloc::Global;
+
+/// Prints a body and reads its text, which gives the body again.
+pub fn print_and_parse(alloc: Global, body: &Body) -> Result<Body, OutOfMemory>
+    ensures { IfOk result (λ again. again ≡ body.now) }
+{
+    canonical_text_is_read(body);
+    let text = print(alloc, body)?;
+    let Ok(text) = std::str::from_utf8(text.as_slice()) else {
+        unreachable!()
+    };
+    match parse(alloc, text) {
+        Ok(again) => Ok(again),
+        Err(LangError::OutOfMemory) => Err(OutOfMemory),
+        Err(LangError::At { .. }) => unreachable!(),
+    }
+}

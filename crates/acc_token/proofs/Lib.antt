@@ -1,0 +1,2 @@
+pub mod QuotedFacts
+pub mod DigitFacts

@@ -1,0 +1,56 @@
+//! A token as it stands in the text.
+ghost use Rattle.std.specs.Prelude.{◌≡◌, false, length, IfOk};
+ghost use Rattle.acc_token.specs.Tokens.{content};
+
+use acc_base::{OutOfMemory, Text};
+use std::alloc::Global;
+
+/// A token as it stands in the text, which it borrows.
+#[derive(Clone, Copy, Debug)]
+pub enum Lexeme<'a> {
+    /// A word, in letters of either case.
+    Word(&'a [u8]),
+    /// A mark of one or two bytes.
+    Mark(&'a [u8]),
+    /// A number without a sign. There is none where it is 2^64 or more.
+    Number(Option<u64>),
+    /// A text in quotes.
+    Quoted(QuotedText<'a>),
+    /// A byte that begins no token.
+    Strange,
+    /// The end of the text.
+    End,
+}
+
+/// A text in quotes.
+#[derive(Clone, Copy, Debug)]
+pub struct QuotedText<'a> {
+    /// All that stands behind the opening quote, up to the end of the whole text.
+    pub behind_quote: &'a [u8],
+    /// How many bytes the quoted text says, with one for two quotes.
+    pub len: usize,
+    /// Whether the closing quote is there.
+    pub closed: bool,
+    ghost counts: { len ≡ length (content false behind_quote.now) },
+}
+
+impl QuotedText<'_> {
+    /// What the quoted text says.
+    pub fn says(&self, alloc: Global) -> Result<Text, OutOfMemory>
+        ensures { IfOk result (λ text. text ≡ content false self.now.behind_quote.now) }
+    {
+        let mut text = Text::from_vec(Vec::with_capacity(alloc, self.len)?);
+        let mut waits = false;
+        for byte in self.behind_quote {
+            let quote = *byte == b'\'';
+            if waits && !quote {
+                return Ok(text);
+            }
+            if waits || !quote {
+                text.push(*byte)?;
+            }
+            waits = quote && !waits;
+        }
+        Ok(text)
+    }
+}

@@ -1,0 +1,120 @@
+//! How far a token reaches.
+ghost use Rattle.std.specs.Prelude.{◌≡◌, ◌≤◌, ◌+◌, ℕ, true, false, length, drop};
+ghost use Rattle.std.specs.Char.{is_ascii_digit};
+ghost use Rattle.std.specs.List.{prefix_len, list_all};
+ghost use Rattle.acc_token.specs.Tokens.{is_blank as is_blank_of, begins_word as begins_word_of, continues_word as continues_word_of, mark_len as mark_len_of, number_of as number_of_digits, content, is_closed, quoted_len};
+
+/// How many blanks the text begins with.
+pub fn blanks(text: &[u8]) -> usize
+    ensures count { result ≡ prefix_len is_blank_of text.now }
+    ensures within { result ≤ length text.now }
+{
+    text.iter().take_while(|byte| is_blank(**byte)).count()
+}
+
+fn is_blank(byte: u8) -> bool
+    ensures { result ≡ is_blank_of byte }
+{
+    byte == b' ' || byte == b'\t' || byte == b'\n' || byte == b'\r'
+}
+
+/// Whether a word may begin with the byte.
+pub fn begins_word(byte: u8) -> bool
+    ensures { result ≡ begins_word_of byte }
+{
+    byte.is_ascii_alphabetic() || byte == b'_'
+}
+
+fn continues_word(byte: u8) -> bool
+    ensures { result ≡ continues_word_of byte }
+{
+    begins_word(byte) || byte.is_ascii_digit()
+}
+
+/// How many bytes of a word the text begins with.
+pub fn word_len(text: &[u8]) -> usize
+    ensures count { result ≡ prefix_len continues_word_of text.now }
+    ensures within { result ≤ length text.now }
+{
+    text.iter()
+        .take_while(|byte| continues_word(**byte))
+        .count()
+}
+
+/// How many digits the text begins with.
+pub fn digits_len(text: &[u8]) -> usize
+    ensures count { result ≡ prefix_len is_ascii_digit text.now }
+    ensures within { result ≤ length text.now }
+{
+    text.iter().take_while(|byte| byte.is_ascii_digit()).count()
+}
+
+/// How many bytes the mark has that the text begins with, and 0 where it begins with none.
+pub fn mark_len(text: &[u8]) -> usize
+    ensures count { result ≡ mark_len_of text.now }
+    ensures within { result ≤ length text.now }
+{
+    match text {
+        [b'!' | b'<' | b'>', b'=', ..] => 2,
+        [
+            b'=' | b'+' | b'-' | b'(' | b')' | b',' | b';' | b'.' | b'<' | b'>',
+            ..
+        ] => 1,
+        _ => 0,
+    }
+}
+
+/// The number that the digits write, where it fits 64 bits.
+pub fn number_of(digits: &[u8]) -> Option<u64>
+    requires { list_all is_ascii_digit digits.now ≡ true }
+    ensures { result ≡ number_of_digits digits.now }
+{
+    let mut number = 0u64;
+    for digit in digits {
+        number = number
+            .checked_mul(10)?
+            .checked_add(u64::from(*digit - b'0'))?;
+    }
+    Some(number)
+}
+
+/// How far a text in quotes reaches, from behind its opening quote on.
+#[derive(Clone, Copy)]
+pub struct Extent {
+    /// How many bytes it has, with its closing quote.
+    pub reach: usize,
+    /// How many bytes it says, with one for two quotes.
+    pub len: usize,
+    /// Whether the closing quote is there.
+    pub closed: bool,
+}
+
+/// Where the text in quotes ends that begins in front of these bytes.
+pub fn quoted_extent(text: &[u8]) -> Extent
+    ensures reach { result.reach ≡ quoted_len false text.now }
+    ensures within { result.reach ≤ length text.now }
+    ensures len { result.len ≡ length (content false text.now) }
+    ensures closed { result.closed ≡ is_closed false text.now }
+{
+    let mut len = 0;
+    let mut waits = false;
+    for (reach, byte) in text.iter().enumerate() {
+        let quote = *byte == b'\'';
+        if waits && !quote {
+            return Extent {
+                reach,
+                len,
+                closed: true,
+            };
+        }
+        if waits || !quote {
+            len += 1;
+        }
+        waits = quote && !waits;
+    }
+    Extent {
+        reach: text.len(),
+        len,
+        closed: waits,
+    }
+}
