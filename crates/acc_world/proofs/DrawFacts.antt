@@ -1,27 +1,23 @@
 -- Each stamp is drawn once: the ids of transactions and the ballots of recoveries all differ.
-use Rattle.std.proofs.Common.{◌≡◌, ◌≢◌, ℕ, ◌*◌, ◌+◌, ◌/◌, ◌%◌, Bool, true, false, not, ◌||◌, ◌&&◌, ◌==◌, cond, List, [], ◌∷◌, ◌++◌, Option, None, Some, refl, sym, ◌∙◌, ap, subst, ◌⊎◌, inl, inr, ⊎_elim, IsTrue, append-nil, arith}
-use Rattle.std.specs.List.{AllByRecursion, flat_map, slice_get}
+use Rattle.std.proofs.Common.{◌≡◌, ◌≢◌, ℕ, ◌*◌, ◌+◌, ◌%◌, Bool, true, false, not, ◌||◌, ◌&&◌, ◌==◌, List, [], ◌∷◌, ◌++◌, Option, None, Some, refl, sym, ◌∙◌, ap, subst, ◌⊎◌, inl, inr, ⊎_elim, arith}
+use Rattle.std.specs.List.{AllByRecursion, flat_map}
 use Rattle.std.specs.Option.{option_map}
 use Rattle.std.proofs.lemmas.Bool.{true≢false, or_left, or_right, or_from, false_from_ne_true, eqb-true, eq-eqb, cases_Bool, cond_both}
 use Rattle.std.proofs.lemmas.List.Concat.{flat_map-append}
 use Rattle.acc_stamp.specs.declared.stamps.Stamp.{Stamp}
 use Rattle.acc_stamp.specs.declared.stamps.TxnId.{TxnId}
-use Rattle.acc_stamp.specs.declared.stamps.Ballot.{Ballot}
 use Rattle.acc_stamp.specs.declared.actors.Actor.{Actor}
-use Rattle.acc_stamp.specs.Stamp.{stamp_eq, stamp_lt, id_eq, ballot_eq, ballot_lt, zero_ballot}
-use Rattle.acc_stamp.specs.Actor.{actor_of, node_of, shard_of}
+use Rattle.acc_stamp.specs.Stamp.{stamp_eq, stamp_lt, ballot_eq, ballot_lt, zero_ballot}
+use Rattle.acc_stamp.specs.Actor.{actor_of, node_of}
 use Rattle.acc_stamp.specs.Clock.{next_stamp}
-use Rattle.acc_stamp.specs.History.{ClockEvent, Draw, See, Restart as ClockRestart, clock_after, stamps_drawn}
+use Rattle.acc_stamp.specs.History.{ClockEvent, Draw, clock_after, stamps_drawn, DrawsRise, DrawsAreOfNode}
 use Rattle.acc_stamp.specs.Rising.{is_among}
 use Rattle.acc_stamp.proofs.Order.{stamp_order, apart}
 use Rattle.acc_stamp.proofs.Rising.{each_at, each_weaker, is_among-append}
-use Rattle.acc_stamp.proofs.History.{draws_rise, draws_are_of_node}
 use Rattle.acc_topology.specs.Layout.{Layout}
-use Rattle.acc_topology.specs.declared.given.NodeSpec.{NodeSpec}
 use Rattle.acc_deps.specs.declared.records.Settled.{Settled}
 use Rattle.acc_deps.specs.declared.records.Choice.{Choice}
 use Rattle.acc_deps.specs.declared.records.Choice.TheVariants.{Accept as GoAccept, Commit as GoCommit, Stable as GoStable}
-use Rattle.acc_txn.specs.declared.parts.BodyParts.{BodyParts}
 use Rattle.acc_txn.specs.declared.outcome.Outcome.{Outcome}
 use Rattle.acc_message.specs.declared.message.Message.{Message}
 use Rattle.acc_message.specs.declared.message.Message.TheVariants.{PreAccept, PreAcceptOk, Accept, AcceptOk, Commit, CommitOk, Stable, ReadOk, Apply, Recover, RecoverOk, Nack, Decided, Inform}
@@ -34,13 +30,13 @@ use Rattle.acc_message.specs.declared.entry.Event.{Event}
 use Rattle.acc_message.specs.declared.entry.Event.TheVariants.{Begin as BeginEvent, Recover as RecoverEvent, Slow as SlowEvent, Message as MessageEvent, Restart as RestartEvent}
 use Rattle.acc_message.specs.declared.item.Item.{Item}
 use Rattle.acc_message.specs.declared.item.Item.TheVariants.{Step, Skipped, Down}
-use Rattle.acc_message.specs.Fields.{id_of, top_of, ballot_of}
+use Rattle.acc_message.specs.Fields.{id_of, ballot_of}
 use Rattle.acc_message.specs.Items.{same_actor, id_of_txn, message_at}
 use Rattle.acc_message.specs.Attempts.{Attempt, Phase, Voting, Recovering, Accepting, Committing, Executing, counts, majority_everywhere, fast_everywhere, fast_lost_somewhere, outcome_from}
 use Rattle.acc_message.specs.RecoveryDecision.{Ruling, Go, Blocks, recovery_decision}
-use Rattle.acc_message.specs.Coordinator.{silence, Reaction, when, either, slow_down, own_stamp, decide, go, follow_ruling, finish_with, after_answer, with_answer, on_message, on_decided, on_nack, reaction, may_slow_down, slow_reaction, agreed, commit, path_of, is_decided, is_past_recover, end}
-use Rattle.acc_message.specs.NodeRules.{Act, Begins, Recovers, Slows, Takes, Restarts, Deed, clock_events_of, clock_events, next_draw, is_open, attempt_of, emitted_by, replied, with_reply, on_taking, node_emits}
-use Rattle.acc_message.specs.Run.{Cluster, clock_start, recovers, act_of, deed_with, deed_if, deeds_in, deeds_of, taken_from, store_emits, is_node, emits_by, emits, IsHomeOf, IsNodeOf, MayStand, StandsOn, EachStands}
+use Rattle.acc_message.specs.Coordinator.{Reaction, when, either, slow_down, decide, go, follow_ruling, finish_with, after_answer, with_answer, on_message, reaction, may_slow_down, slow_reaction, is_decided, is_past_recover, end}
+use Rattle.acc_message.specs.NodeRules.{Act, Begins, Recovers, Slows, Takes, Restarts, Deed, clock_events, next_draw, is_open, attempt_of, emitted_by, replied, with_reply, on_taking, node_emits}
+use Rattle.acc_message.specs.Run.{Cluster, clock_start, act_of, deed_with, deed_if, deeds_of, taken_from, store_emits, is_node, emits_by, emits, MayStand, StandsOn, EachStands}
 use Rattle.acc_world.specs.RunLaws.{drawn_in, drawn_of, AreDistinct}
 use Rattle.acc_world.proofs.Standing.{not_none}
 use Rattle.acc_world.proofs.OpeningFacts.{some_is}
@@ -244,17 +240,22 @@ other_origin m n s t apart mine theirs e =
     let one : m ≡ n = omega arith in
     apart one
 
-differs : (cluster : Cluster) (node : ℕ) (earlier : List Item) (t : Stamp) → Owned cluster earlier t
+-- what is known of clocks
+pub record Clocks : Type 0 where
+  pub rise : (node start : ℕ) (past : List ClockEvent) → DrawsRise node start past
+  pub of_node : (node start : ℕ) (past : List ClockEvent) → DrawsAreOfNode node start past
+
+differs : Clocks → (cluster : Cluster) (node : ℕ) (earlier : List Item) (t : Stamp) → Owned cluster earlier t
     → stamp_eq t (next_draw node (clock_start cluster.starts node) (deeds_of cluster (actor_of node 0) earlier)) ≡ false
-differs cluster node earlier t owned =
+differs clocks cluster node earlier t owned =
     ⊎_elim
     (λ same. apart stamp_order t next
-    (each_at stamp_order (λ u. stamp_lt u next ≡ true) t (stamps_drawn node start events) (draws_rise node start (Draw ∷ events)).0
+    (each_at stamp_order (λ u. stamp_lt u next ≡ true) t (stamps_drawn node start events) (clocks.rise node start (Draw ∷ events)).0
     (subst (λ n. is_among stamp_eq t (node_stamps cluster n earlier) ≡ true) (eqb-true owned.0 node same) owned.1)))
     (λ apart. false_from_ne_true (stamp_eq t next) (other_origin owned.0 node t next (ne_from owned.0 node apart)
     (each_at stamp_order (λ (u : Stamp). u.origin ≡ owned.0 * 64) t (node_stamps cluster owned.0 earlier)
-    (draws_are_of_node owned.0 (clock_start cluster.starts owned.0) (clock_events (deeds_of cluster (actor_of owned.0 0) earlier))) owned.1)
-    (draws_are_of_node node start (Draw ∷ events)).0))
+    (clocks.of_node owned.0 (clock_start cluster.starts owned.0) (clock_events (deeds_of cluster (actor_of owned.0 0) earlier))) owned.1)
+    (clocks.of_node node start (Draw ∷ events)).0))
     (cases_Bool (owned.0 == node))
   where
     start : ℕ
@@ -373,9 +374,9 @@ skip_draws : (cluster : Cluster) (item : Item) (earlier : List Item) (stamps : L
 skip_draws cluster item earlier stamps h =
     (h.0, each_weaker (Owned cluster earlier) (Owned cluster (item ∷ earlier)) stamps (Owned-kept cluster item earlier) h.1)
 
-step_draws : (cluster : Cluster) (e : Entry) (earlier : List Item) → Draws cluster earlier e → Distinctly cluster earlier (drawn_of earlier)
+step_draws : Clocks → (cluster : Cluster) (e : Entry) (earlier : List Item) → Draws cluster earlier e → Distinctly cluster earlier (drawn_of earlier)
     → Distinctly cluster (Step e ∷ earlier) (drawn e.emitted ++ drawn_of earlier)
-step_draws cluster e earlier draws h =
+step_draws clocks cluster e earlier draws h =
     ⊎_elim
     (λ none. subst (λ new. Distinctly cluster (Step e ∷ earlier) (new ++ drawn_of earlier)) (sym none) (skip_draws cluster (Step e) earlier (drawn_of earlier) h))
     (λ one. subst (λ new. Distinctly cluster (Step e ∷ earlier) (new ++ drawn_of earlier)) (sym one.2) (with_next one.0 one.3))
@@ -387,16 +388,16 @@ step_draws cluster e earlier draws h =
     with_next node among =
         let next : Stamp = next_draw node (clock_start cluster.starts node) (deeds_of cluster (actor_of node 0) earlier) in
         let behind = skip_draws cluster (Step e) earlier (drawn_of earlier) h in (
-          (none_among next (drawn_of earlier) (each_weaker (Owned cluster earlier) (λ t. stamp_eq t next ≡ false) (drawn_of earlier) (differs cluster node earlier) h.1), h.0),
+          (none_among next (drawn_of earlier) (each_weaker (Owned cluster earlier) (λ t. stamp_eq t next ≡ false) (drawn_of earlier) (differs clocks cluster node earlier) h.1), h.0),
           ((node, among), behind.1),
         )
 
-distinctly : (cluster : Cluster) (items : List Item) → EachStands cluster items → Distinctly cluster items (drawn_of items)
-distinctly cluster [] h = (tt, tt)
-distinctly cluster (Step e ∷ earlier) h =
-    step_draws cluster e earlier (entry_draws cluster earlier e h.0) (distinctly cluster earlier h.1)
-distinctly cluster (Skipped step cause ∷ earlier) h = skip_draws cluster (Skipped step cause) earlier (drawn_of earlier) (distinctly cluster earlier h.1)
-distinctly cluster (Down actor ∷ earlier) h = skip_draws cluster (Down actor) earlier (drawn_of earlier) (distinctly cluster earlier h.1)
+distinctly : Clocks → (cluster : Cluster) (items : List Item) → EachStands cluster items → Distinctly cluster items (drawn_of items)
+distinctly clocks cluster [] h = (tt, tt)
+distinctly clocks cluster (Step e ∷ earlier) h =
+    step_draws clocks cluster e earlier (entry_draws cluster earlier e h.0) (distinctly clocks cluster earlier h.1)
+distinctly clocks cluster (Skipped step cause ∷ earlier) h = skip_draws cluster (Skipped step cause) earlier (drawn_of earlier) (distinctly clocks cluster earlier h.1)
+distinctly clocks cluster (Down actor ∷ earlier) h = skip_draws cluster (Down actor) earlier (drawn_of earlier) (distinctly clocks cluster earlier h.1)
 
-pub stamps_are_drawn_once : (cluster : Cluster) (items : List Item) → EachStands cluster items → AreDistinct (drawn_of items)
-stamps_are_drawn_once cluster items h = (distinctly cluster items h).0
+pub stamps_are_drawn_once : Clocks → (cluster : Cluster) (items : List Item) → EachStands cluster items → AreDistinct (drawn_of items)
+stamps_are_drawn_once clocks cluster items h = (distinctly clocks cluster items h).0

@@ -7,3 +7,5 @@ pub mod QuorumFacts
 pub mod DrawFacts
 pub mod TransferStates
 pub mod QuietFacts
+pub mod Stepped
+pub mod PlaceFacts

@@ -1,20 +1,16 @@
 -- A step that takes neither a Stable nor an Apply opens and applies nothing.
-use Rattle.std.proofs.Common.{◌≡◌, ℕ, Bool, true, false, not, ◌&&◌, ◌||◌, cond, List, [], ◌∷◌, ◌++◌, Option, None, Some, is_some, filter, refl, sym, ◌∙◌, ap, subst, ⊎_elim}
-use Rattle.std.proofs.lemmas.Bool.{true≢false, or_left, or_from, and_parts, and_from, and_left, and_right, not_from_true, false_from_ne_true, cases_Bool}
+use Rattle.std.proofs.Common.{◌≡◌, ℕ, Bool, true, false, not, ◌&&◌, ◌||◌, cond, List, [], ◌∷◌, Option, None, Some, is_some, filter, refl, sym, ◌∙◌, ap}
+use Rattle.std.proofs.lemmas.Bool.{true≢false, or_from, and_from, not_from_true}
 use Rattle.acc_stamp.specs.declared.stamps.TxnId.{TxnId}
-use Rattle.acc_stamp.specs.Stamp.{id_eq}
 use Rattle.acc_stamp.specs.Rising.{id_among}
 use Rattle.acc_stamp.proofs.Order.{id_order}
 use Rattle.acc_stamp.proofs.Rising.{is_among-filter}
-use Rattle.acc_deps.specs.Deps.{of_shard}
-use Rattle.acc_deps.specs.declared.records.Settled.{Settled}
-use Rattle.acc_txn.specs.declared.outcome.Outcome.{Outcome}
 use Rattle.acc_message.specs.declared.message.Message.{Message}
 use Rattle.acc_message.specs.declared.message.Message.TheVariants.{PreAccept, PreAcceptOk, Accept, AcceptOk, Commit, CommitOk, Stable, ReadOk, Apply, Recover, RecoverOk, Nack, Decided, Inform}
 use Rattle.acc_message.specs.Items.{or_else}
 use Rattle.acc_message.specs.Taken.{Taken, known}
 use Rattle.acc_message.specs.BallotRules.{stable_of, settled_in, kept_outcome, outcome_in}
-use Rattle.acc_message.specs.Opening.{IsOpened, Stays, Opens, comes_first, may_open, Standing, stable_ones, in_turn, is_ready, Change, Turn, turn_of, with_applied, pass, is_change, changes_of, with_outcome, opened_of, applied_of}
+use Rattle.acc_message.specs.Opening.{IsOpened, Stays, Opens, may_open, Standing, stable_ones, in_turn, is_ready, Change, Turn, turn_of, with_applied, pass, is_change, changes_of, with_outcome, opened_of, applied_of}
 use Rattle.acc_world.proofs.Standing.{not_none, Truly, turns-Truly}
 use Rattle.acc_world.proofs.OpeningFacts.{AreApplied, opens-Opened, ready-Opened, more_applied, applied_now, opened_of-sound, opened_of-complete}
 

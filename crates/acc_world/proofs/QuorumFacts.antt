@@ -1,12 +1,12 @@
 -- Quorums of answers meet in a replica, in each shard of the transaction.
-use Rattle.std.proofs.Common.{◌≡◌, ℕ, Bool, true, ◌&&◌, ◌==◌, List, [], ◌∷◌, IsTrue, filter, map, sym, ◌∙◌, ap, subst, ⊎_elim}
-use Rattle.std.specs.List.{list_any, list_all}
+use Rattle.std.proofs.Common.{◌≡◌, ℕ, Bool, true, ◌==◌, List, [], ◌∷◌, filter, sym, subst, ⊎_elim}
+use Rattle.std.specs.List.{list_all}
 use Rattle.std.proofs.lemmas.Bool.{true≢false, or_cases, and_parts, eqb-true, cond_both}
 use Rattle.acc_stamp.specs.declared.stamps.TxnId.{TxnId}
 use Rattle.acc_topology.specs.Layout.{Layout, IsLayout, HasShard, shard_at}
 use Rattle.acc_topology.specs.Keys.{shard_of_key, shards_of}
-use Rattle.acc_topology.specs.Quorums.{is_fast, is_majority, Meet}
-use Rattle.acc_topology.specs.Sets.{is_among, in_order, numbers}
+use Rattle.acc_topology.specs.Quorums.{is_fast, is_majority}
+use Rattle.acc_topology.specs.Sets.{is_among, numbers}
 use Rattle.acc_topology.proofs.Counts.{shard_of_layout, fast_meets_majority, fast_meets_fast}
 use Rattle.acc_topology.proofs.Ends.{shard_of-holds}
 use Rattle.acc_value.specs.declared.key.Key.{Key}

@@ -1,5 +1,5 @@
 -- What a store promises, and when it votes.
-use Rattle.std.proofs.Common.{◌≡◌, ℕ, ℤ, Bool, true, false, not, ◌&&◌, ◌||◌, cond, List, [], ◌∷◌, ◌++◌, Option, None, Some, map, refl, sym, ◌∙◌, ap, subst, arith}
+use Rattle.std.proofs.Common.{◌≡◌, ℤ, Bool, true, false, ◌||◌, cond, List, [], ◌∷◌, Option, None, Some, map, refl, sym, ◌∙◌, ap, arith}
 use Rattle.std.specs.List.{list_any}
 use Rattle.std.proofs.lemmas.Bool.{true≢false, and_parts, and_right, or_from, cond_both}
 use Rattle.std.proofs.lemmas.Bool.Decides.{nat_tests}
@@ -13,15 +13,12 @@ use Rattle.acc_stamp.proofs.Order.{id_order, ballot_order, asym}
 use Rattle.acc_topology.specs.Layout.{Layout}
 use Rattle.acc_deps.specs.declared.records.Settled.{Settled}
 use Rattle.acc_value.specs.declared.key.Key.{Key}
-use Rattle.acc_txn.specs.declared.parts.BodyParts.{BodyParts}
-use Rattle.acc_message.specs.declared.answer.ReadAnswer.{ReadAnswer}
 use Rattle.acc_message.specs.declared.message.Message.{Message}
 use Rattle.acc_message.specs.declared.message.Message.TheVariants.{PreAccept, PreAcceptOk, Accept, AcceptOk, Commit, CommitOk, Stable, ReadOk, Apply, Recover, RecoverOk, Nack, Decided, Inform}
 use Rattle.acc_message.specs.Fields.{ballot_of}
 use Rattle.acc_message.specs.Taken.{Taken, taking, known, heard_body}
 use Rattle.acc_message.specs.VoteRule.{Vote, vote_for}
 use Rattle.acc_message.specs.BallotRules.{greater_ballot, is_accept_ok, is_commit_ok, is_recover_ok, grants, granted_by, promise_of, stable_of}
-use Rattle.acc_message.specs.Evidence.{view_of}
 use Rattle.acc_message.specs.Opening.{Change, changes_of, is_opened, cells_at, written_by}
 use Rattle.acc_message.specs.Attempts.{votes_for}
 use Rattle.acc_message.specs.StoreRules.{body_counting, nack, unless_stable, unless_promised, voted, read_ok, read_by, stable_ballots, opening_of, release, released, at_once, store_answer}

@@ -1,6 +1,6 @@
 -- What a cluster that stands at some items, newest first, enters when it is asked for a step.
-use Rattle.std.specs.Prelude.{ℕ, Bool, true, false, not, cond, nat_lt, ◌+◌, List, [], ◌∷◌, ◌++◌, length, Option, None, Some, unwrap_or}
-use Rattle.std.specs.List.{list_any, slice_get}
+use Rattle.std.specs.Prelude.{ℕ, Bool, true, false, not, cond, nat_lt, ◌+◌, List, [], ◌∷◌, length, Option, None, Some, unwrap_or}
+use Rattle.std.specs.List.{slice_get}
 use Rattle.acc_stamp.specs.declared.stamps.TxnId.{TxnId}
 use Rattle.acc_stamp.specs.declared.actors.Actor.{Actor}
 use Rattle.acc_stamp.specs.Actor.{actor_of}
@@ -12,12 +12,12 @@ use Rattle.acc_message.specs.declared.entry.Entry.{Entry}
 use Rattle.acc_message.specs.declared.entry.Event.{Event}
 use Rattle.acc_message.specs.declared.entry.Event.TheVariants.{Begin as BeginEvent, Recover as RecoverEvent, Slow as SlowEvent, Message as MessageEvent, Restart as RestartEvent}
 use Rattle.acc_message.specs.declared.item.Skip.{Skip}
-use Rattle.acc_message.specs.declared.item.Skip.TheVariants.{NoMessage, Down as IsDown, Begun, Unknown, NoQuorum}
+use Rattle.acc_message.specs.declared.item.Skip.TheVariants.{NoMessage, Begun, Unknown, NoQuorum}
 use Rattle.acc_message.specs.declared.item.Item.{Item}
-use Rattle.acc_message.specs.declared.item.Item.TheVariants.{Step, Skipped, Down}
+use Rattle.acc_message.specs.declared.item.Item.TheVariants.{Step, Skipped}
 use Rattle.acc_message.specs.Fields.{to_of}
 use Rattle.acc_message.specs.Items.{sent_of, message_at, id_of_txn, is_begun}
-use Rattle.acc_message.specs.Attempts.{Attempt, Phase, Voting, Recovering, Accepting, Committing, Executing, majority_everywhere}
+use Rattle.acc_message.specs.Attempts.{Attempt, Phase, Voting, majority_everywhere}
 use Rattle.acc_message.specs.NodeRules.{Act}
 use Rattle.acc_message.specs.Coordinator.{silence}
 use Rattle.acc_message.specs.Run.{Cluster, act_of, attempt_at, emits}

@@ -1,6 +1,6 @@
 -- Coverage: where two decided transactions conflict in a shard, the one with the smaller timestamp is among the
 -- dependencies in that shard of every decision of the other.
-use Rattle.std.specs.Prelude.{◌≡◌, ◌≢◌, ℕ, IsTrue, List, Option, Some, Contains}
+use Rattle.std.specs.Prelude.{◌≡◌, ◌≢◌, ℕ, IsTrue, List, Some, Contains}
 use Rattle.acc_stamp.specs.declared.stamps.TxnId.{TxnId}
 use Rattle.acc_stamp.specs.Stamp.{stamp_lt}
 use Rattle.acc_deps.specs.Deps.{deps_has}

@@ -22,3 +22,15 @@ pub mod SerialOutcomes
 pub mod Calm
 pub mod TransferBetweenShards
 pub mod RunLaws
+pub mod Actors
+pub mod AwaitedWhileCommitted
+pub mod AcceptedOnceStable
+pub mod OpenedInTurn
+pub mod LastRecordCounts
+pub mod FirstAnswerCounts
+pub mod CommitRound
+pub mod DrawsOverRestarts
+pub mod RecordAdopted
+pub mod LostAndDown
+pub mod VotesAtAStore
+pub mod ConflictByShard

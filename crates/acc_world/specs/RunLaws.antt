@@ -1,5 +1,5 @@
 -- What laws of every run speak of: the stamps that were drawn, and who sent a message.
-use Rattle.std.specs.Prelude.{◌≡◌, ℕ, Bool, false, ◌⊎◌, IsTrue, List, [], ◌∷◌, ◌++◌, Option, Some, Contains}
+use Rattle.std.specs.Prelude.{◌≡◌, ℕ, false, ◌⊎◌, IsTrue, List, [], ◌∷◌, ◌++◌, Some, Contains}
 use Rattle.std.specs.List.{flat_map}
 use Rattle.acc_stamp.specs.declared.stamps.Stamp.{Stamp}
 use Rattle.acc_stamp.specs.declared.actors.Actor.{Actor}
@@ -9,7 +9,7 @@ use Rattle.acc_topology.specs.Layout.{Layout, shard_at}
 use Rattle.acc_topology.specs.Sets.{is_among as number_among}
 use Rattle.acc_message.specs.declared.message.Message.{Message}
 use Rattle.acc_message.specs.declared.note.Note.{Note}
-use Rattle.acc_message.specs.declared.note.Note.TheVariants.{Begin as BeginNote, Recover as RecoverNote, Blocked, Ended, Decide, Outcome as OutcomeNote, Reply as ReplyNote}
+use Rattle.acc_message.specs.declared.note.Note.TheVariants.{Begin as BeginNote, Recover as RecoverNote}
 use Rattle.acc_message.specs.declared.item.Item.{Item}
 use Rattle.acc_message.specs.Fields.{to_of}
 use Rattle.acc_message.specs.Items.{sent_in, noted_in, message_at, same_actor}

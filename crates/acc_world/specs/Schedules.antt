@@ -3,9 +3,9 @@ use Rattle.std.specs.Prelude.{ℕ, zero, suc, Bool, true, false, not, ◌==◌, 
 use Rattle.std.specs.List.{list_any, range_with_len}
 use Rattle.acc_topology.specs.Sets.{is_among}
 use Rattle.acc_message.specs.declared.entry.Event.{Event}
-use Rattle.acc_message.specs.declared.entry.Event.TheVariants.{Begin as BeginEvent, Recover as RecoverEvent, Slow as SlowEvent, Message as MessageEvent, Restart as RestartEvent}
+use Rattle.acc_message.specs.declared.entry.Event.TheVariants.{Message as MessageEvent}
 use Rattle.acc_message.specs.declared.item.Item.{Item}
-use Rattle.acc_message.specs.declared.item.Item.TheVariants.{Step, Skipped, Down}
+use Rattle.acc_message.specs.declared.item.Item.TheVariants.{Step, Skipped}
 use Rattle.acc_message.specs.Items.{sent_of, sent_in}
 use Rattle.acc_message.specs.Run.{Cluster}
 use Rattle.acc_world.specs.declared.ask.Ask.TheVariants.{Deliver}

@@ -1,6 +1,6 @@
 -- Serial outcomes: the first outcomes, in their order, are those of the bodies run one by one on one map that is empty at
 -- first; every outcome and every reply of a transaction equals its first outcome.
-use Rattle.std.specs.Prelude.{◌≡◌, false, IsTrue, List, ◌∷◌, ◌++◌, Option, Some, Contains, map}
+use Rattle.std.specs.Prelude.{◌≡◌, false, IsTrue, List, ◌∷◌, ◌++◌, Some, Contains, map}
 use Rattle.std.specs.List.{list_any}
 use Rattle.acc_stamp.specs.declared.stamps.TxnId.{TxnId}
 use Rattle.acc_txn.specs.declared.parts.BodyParts.{BodyParts}

@@ -9,7 +9,6 @@ use Rattle.acc_message.specs.declared.item.Item.{Item}
 use Rattle.acc_message.specs.Run.{Cluster}
 use Rattle.acc_world.specs.declared.ask.Ask.TheVariants.{Begin, Deliver}
 use Rattle.acc_world.specs.Asks.{after_asks}
-use Rattle.acc_world.specs.Schedules.{drained}
 use Rattle.acc_world.specs.Clusters.{stamp, id, deps_in, node, last_shard, layout, writing, reading, x, ok}
 
 abbrev pub cluster : Cluster

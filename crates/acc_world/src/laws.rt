@@ -1,5 +1,5 @@
 //! What holds of every run. Each law is the contract of a function that does nothing.
-ghost use Rattle.std.specs.Prelude.{◌≡◌, ℕ, false, List, [], ◌∷◌, ◌++◌, IsTrue};
+ghost use Rattle.std.specs.Prelude.{◌≡◌, ℕ, false, not, List, [], ◌∷◌, ◌++◌, IsTrue};
 ghost use Rattle.std.specs.List.{list_any};
 ghost use Rattle.acc_stamp.specs.declared.stamps.TxnId.{TxnId};
 ghost use Rattle.acc_stamp.specs.declared.actors.Actor.{Actor};
@@ -13,13 +13,16 @@ ghost use Rattle.acc_message.specs.declared.entry.Event.{Event};
 ghost use Rattle.acc_message.specs.declared.item.Item.{Item};
 ghost use Rattle.acc_message.specs.Fields.{ballot_of};
 ghost use Rattle.acc_message.specs.Shares.{shards_used};
-ghost use Rattle.acc_message.specs.Run.{Cluster, EachStands};
+ghost use Rattle.acc_message.specs.Items.{is_begun};
+ghost use Rattle.acc_message.specs.Run.{Cluster, EachStands, IsHomeOf};
 ghost use Rattle.acc_message.specs.Taken.{Taken};
 ghost use Rattle.acc_message.specs.BallotRules.{promise_of, grants};
 ghost use Rattle.acc_message.specs.Attempts.{votes_for, fast_everywhere, majority_everywhere};
 ghost use Rattle.acc_message.specs.StoreRules.{store_answer};
 ghost use Rattle.acc_message.specs.Opening.{IsOpened, opened_of, is_opened, may_open, changes_of};
 ghost use Rattle.acc_world.specs.RunLaws.{drawn_of, AreDistinct, WasSent, KeptAndAnswered, KeptBoth};
+
+use acc_stamp::laws::{draws_are_of_node, draws_rise};
 
 /// What a store has opened after a step is the least set that has what it had opened before, and each stable transaction
 /// of which every dependency in the shard is stable and, where its timestamp is smaller, applied.
@@ -69,4 +72,17 @@ pub fn quorums_meet()
 /// Each stamp is drawn once: the ids of the transactions that are begun and the ballots of the recoveries all differ.
 pub fn stamps_are_drawn_once()
     ensures { (cluster : Cluster) (items : List Item) → EachStands cluster items → AreDistinct (drawn_of items) }
+{
+    draws_rise();
+    draws_are_of_node();
+}
+
+/// A begin stands at the home of its transaction and is its first, and a recover stands behind one.
+pub fn begins_stand_first()
+    ensures home { (cluster : Cluster) (items after earlier : List Item) (e : Entry) (txn : ℕ) → EachStands cluster items →
+        items ≡ after ++ Item.Step e ∷ earlier → e.event ≡ Event.Begin txn → IsHomeOf cluster txn e.actor }
+    ensures first { (cluster : Cluster) (items after earlier : List Item) (e : Entry) (txn : ℕ) → EachStands cluster items →
+        items ≡ after ++ Item.Step e ∷ earlier → e.event ≡ Event.Begin txn → IsTrue (not (is_begun earlier txn)) }
+    ensures recover { (cluster : Cluster) (items after earlier : List Item) (e : Entry) (txn : ℕ) → EachStands cluster items →
+        items ≡ after ++ Item.Step e ∷ earlier → e.event ≡ Event.Recover txn → IsTrue (is_begun earlier txn) }
 {}

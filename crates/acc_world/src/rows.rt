@@ -1,8 +1,9 @@
 //! Worked examples of runs: for each one its cluster, its schedule, the notes that it must print, and the replies of the
 //! serial run of its bodies in the order of their outcomes. Each is the contract of a function that does nothing.
-ghost use Rattle.std.specs.Prelude.{◌≡◌};
+ghost use Rattle.std.specs.Prelude.{◌≡◌, Some, map};
 ghost use Rattle.acc_message.specs.Items.{notes_of};
 ghost use Rattle.acc_txn.specs.Serial.{serial};
+ghost use Rattle.acc_world.specs.Decisions.{Answered, first_outcomes, body_of};
 ghost use Rattle.acc_world.specs.Schedules.{skipped_of};
 ghost use Rattle.acc_world.specs.OneUpdate as one_update_row;
 ghost use Rattle.acc_world.specs.LostVote as lost_vote_row;
@@ -24,36 +25,48 @@ ghost use Rattle.acc_world.specs.TransferBetweenShards as transfer_between_shard
 pub fn one_update()
     ensures notes { notes_of one_update_row.items ≡ one_update_row.notes }
     ensures serial { serial one_update_row.serially ≡ one_update_row.replies }
+    ensures outcomes { map (λ (a : Answered). a.reply) (first_outcomes one_update_row.notes) ≡ one_update_row.replies }
+    ensures bodies { map (λ (a : Answered). body_of one_update_row.cluster one_update_row.items a.id) (first_outcomes one_update_row.notes) ≡ map (λ b. Some b) one_update_row.serially }
 {}
 
 /// An update of two shards whose last vote in the second shard is lost: no fast quorum forms there, and none is lost.
 pub fn lost_vote()
     ensures notes { notes_of lost_vote_row.items ≡ lost_vote_row.notes }
     ensures serial { serial lost_vote_row.serially ≡ lost_vote_row.replies }
+    ensures outcomes { map (λ (a : Answered). a.reply) (first_outcomes lost_vote_row.notes) ≡ lost_vote_row.replies }
+    ensures bodies { map (λ (a : Answered). body_of lost_vote_row.cluster lost_vote_row.items a.id) (first_outcomes lost_vote_row.notes) ≡ map (λ b. Some b) lost_vote_row.serially }
 {}
 
 /// The same update without the loss.
 pub fn no_lost_vote()
     ensures notes { notes_of no_lost_vote_row.items ≡ no_lost_vote_row.notes }
     ensures serial { serial no_lost_vote_row.serially ≡ no_lost_vote_row.replies }
+    ensures outcomes { map (λ (a : Answered). a.reply) (first_outcomes no_lost_vote_row.notes) ≡ no_lost_vote_row.replies }
+    ensures bodies { map (λ (a : Answered). body_of no_lost_vote_row.cluster no_lost_vote_row.items a.id) (first_outcomes no_lost_vote_row.notes) ≡ map (λ b. Some b) no_lost_vote_row.serially }
 {}
 
 /// Two updates of one key: the store hears b first and draws a greater timestamp for a.
 pub fn conflict_heard_first()
     ensures notes { notes_of conflict_heard_first_row.items ≡ conflict_heard_first_row.notes }
     ensures serial { serial conflict_heard_first_row.serially ≡ conflict_heard_first_row.replies }
+    ensures outcomes { map (λ (a : Answered). a.reply) (first_outcomes conflict_heard_first_row.notes) ≡ conflict_heard_first_row.replies }
+    ensures bodies { map (λ (a : Answered). body_of conflict_heard_first_row.cluster conflict_heard_first_row.items a.id) (first_outcomes conflict_heard_first_row.notes) ≡ map (λ b. Some b) conflict_heard_first_row.serially }
 {}
 
 /// Two reads of one key do not conflict, so both are decided fast.
 pub fn reads_do_not_conflict()
     ensures notes { notes_of reads_do_not_conflict_row.items ≡ reads_do_not_conflict_row.notes }
     ensures serial { serial reads_do_not_conflict_row.serially ≡ reads_do_not_conflict_row.replies }
+    ensures outcomes { map (λ (a : Answered). a.reply) (first_outcomes reads_do_not_conflict_row.notes) ≡ reads_do_not_conflict_row.replies }
+    ensures bodies { map (λ (a : Answered). body_of reads_do_not_conflict_row.cluster reads_do_not_conflict_row.items a.id) (first_outcomes reads_do_not_conflict_row.notes) ≡ map (λ b. Some b) reads_do_not_conflict_row.serially }
 {}
 
 /// Of five replicas four unchanged votes are a fast quorum.
 pub fn four_of_five()
     ensures notes { notes_of four_of_five_row.items ≡ four_of_five_row.notes }
     ensures serial { serial four_of_five_row.serially ≡ four_of_five_row.replies }
+    ensures outcomes { map (λ (a : Answered). a.reply) (first_outcomes four_of_five_row.notes) ≡ four_of_five_row.replies }
+    ensures bodies { map (λ (a : Answered). body_of four_of_five_row.cluster four_of_five_row.items a.id) (first_outcomes four_of_five_row.notes) ≡ map (λ b. Some b) four_of_five_row.serially }
 {}
 
 /// Two votes of five are no majority, so the first slow is passed over.
@@ -61,48 +74,64 @@ pub fn slow_needs_majority()
     ensures notes { notes_of slow_needs_majority_row.items ≡ slow_needs_majority_row.notes }
     ensures skips { skipped_of slow_needs_majority_row.items ≡ slow_needs_majority_row.skips }
     ensures serial { serial slow_needs_majority_row.serially ≡ slow_needs_majority_row.replies }
+    ensures outcomes { map (λ (a : Answered). a.reply) (first_outcomes slow_needs_majority_row.notes) ≡ slow_needs_majority_row.replies }
+    ensures bodies { map (λ (a : Answered). body_of slow_needs_majority_row.cluster slow_needs_majority_row.items a.id) (first_outcomes slow_needs_majority_row.notes) ≡ map (λ b. Some b) slow_needs_majority_row.serially }
 {}
 
 /// By timestamp b stands before a; the printed order is the serial order.
 pub fn printed_order()
     ensures notes { notes_of printed_order_row.items ≡ printed_order_row.notes }
     ensures serial { serial printed_order_row.serially ≡ printed_order_row.replies }
+    ensures outcomes { map (λ (a : Answered). a.reply) (first_outcomes printed_order_row.notes) ≡ printed_order_row.replies }
+    ensures bodies { map (λ (a : Answered). body_of printed_order_row.cluster printed_order_row.items a.id) (first_outcomes printed_order_row.notes) ≡ map (λ b. Some b) printed_order_row.serially }
 {}
 
 /// The Stable of b meets an unapplied a, so the store is silent; the Apply of a answers b.
 pub fn silent_until_applied()
     ensures notes { notes_of silent_until_applied_row.items ≡ silent_until_applied_row.notes }
     ensures serial { serial silent_until_applied_row.serially ≡ silent_until_applied_row.replies }
+    ensures outcomes { map (λ (a : Answered). a.reply) (first_outcomes silent_until_applied_row.notes) ≡ silent_until_applied_row.replies }
+    ensures bodies { map (λ (a : Answered). body_of silent_until_applied_row.cluster silent_until_applied_row.items a.id) (first_outcomes silent_until_applied_row.notes) ≡ map (λ b. Some b) silent_until_applied_row.serially }
 {}
 
 /// The home of a restarts, and another node recovers a. The restart closed the client.
 pub fn recovery_after_restart()
     ensures notes { notes_of recovery_after_restart_row.items ≡ recovery_after_restart_row.notes }
     ensures serial { serial recovery_after_restart_row.serially ≡ recovery_after_restart_row.replies }
+    ensures outcomes { map (λ (a : Answered). a.reply) (first_outcomes recovery_after_restart_row.notes) ≡ recovery_after_restart_row.replies }
+    ensures bodies { map (λ (a : Answered). body_of recovery_after_restart_row.cluster recovery_after_restart_row.items a.id) (first_outcomes recovery_after_restart_row.notes) ≡ map (λ b. Some b) recovery_after_restart_row.serially }
 {}
 
 /// One unchanged vote of two answers is too few for a fast decision.
 pub fn one_unchanged_of_two()
     ensures notes { notes_of one_unchanged_of_two_row.items ≡ one_unchanged_of_two_row.notes }
     ensures serial { serial one_unchanged_of_two_row.serially ≡ one_unchanged_of_two_row.replies }
+    ensures outcomes { map (λ (a : Answered). a.reply) (first_outcomes one_unchanged_of_two_row.notes) ≡ one_unchanged_of_two_row.replies }
+    ensures bodies { map (λ (a : Answered). body_of one_unchanged_of_two_row.cluster one_unchanged_of_two_row.items a.id) (first_outcomes one_unchanged_of_two_row.notes) ≡ map (λ b. Some b) one_unchanged_of_two_row.serially }
 {}
 
 /// Two unchanged votes of three answers would allow a fast decision, but a store has accepted b without a.
 pub fn superseded_by_accept()
     ensures notes { notes_of superseded_by_accept_row.items ≡ superseded_by_accept_row.notes }
     ensures serial { serial superseded_by_accept_row.serially ≡ superseded_by_accept_row.replies }
+    ensures outcomes { map (λ (a : Answered). a.reply) (first_outcomes superseded_by_accept_row.notes) ≡ superseded_by_accept_row.replies }
+    ensures bodies { map (λ (a : Answered). body_of superseded_by_accept_row.cluster superseded_by_accept_row.items a.id) (first_outcomes superseded_by_accept_row.notes) ≡ map (λ b. Some b) superseded_by_accept_row.serially }
 {}
 
 /// A recovery of b is blocked by a; once a is decided a later one decides b.
 pub fn blocked_recovery()
     ensures notes { notes_of blocked_recovery_row.items ≡ blocked_recovery_row.notes }
     ensures serial { serial blocked_recovery_row.serially ≡ blocked_recovery_row.replies }
+    ensures outcomes { map (λ (a : Answered). a.reply) (first_outcomes blocked_recovery_row.notes) ≡ blocked_recovery_row.replies }
+    ensures bodies { map (λ (a : Answered). body_of blocked_recovery_row.cluster blocked_recovery_row.items a.id) (first_outcomes blocked_recovery_row.notes) ≡ map (λ b. Some b) blocked_recovery_row.serially }
 {}
 
 /// The repeated message gets a Nack with its own ballot, which the recovery ignores.
 pub fn nack_with_own_ballot()
     ensures notes { notes_of nack_with_own_ballot_row.items ≡ nack_with_own_ballot_row.notes }
     ensures serial { serial nack_with_own_ballot_row.serially ≡ nack_with_own_ballot_row.replies }
+    ensures outcomes { map (λ (a : Answered). a.reply) (first_outcomes nack_with_own_ballot_row.notes) ≡ nack_with_own_ballot_row.replies }
+    ensures bodies { map (λ (a : Answered). body_of nack_with_own_ballot_row.cluster nack_with_own_ballot_row.items a.id) (first_outcomes nack_with_own_ballot_row.notes) ≡ map (λ b. Some b) nack_with_own_ballot_row.serially }
 {}
 
 /// A transfer between two shards, and a read of both cells.

@@ -1,0 +1,71 @@
+-- Worked examples of one store and of one node, by computation.
+use Rattle.std.proofs.Common.{◌≡◌, refl}
+use Rattle.std.specs.Prelude.{true, false, [], ◌∷◌, None, Some}
+use Rattle.acc_topology.specs.Sets.{numbers}
+use Rattle.acc_world.specs.Actors.{three, store_at, sent_by, emitted_by_node}
+use Rattle.acc_world.specs.AwaitedWhileCommitted as awaited_while_committed
+use Rattle.acc_world.specs.AcceptedOnceStable as accepted_once_stable
+use Rattle.acc_world.specs.VotesAtAStore as votes_at_a_store
+use Rattle.acc_world.specs.ConflictByShard as conflict_by_shard
+use Rattle.acc_world.specs.OpenedInTurn as opened_in_turn
+use Rattle.acc_world.specs.LastRecordCounts as last_record_counts
+use Rattle.acc_world.specs.FirstAnswerCounts as first_answer_counts
+use Rattle.acc_world.specs.CommitRound as commit_round
+use Rattle.acc_world.specs.DrawsOverRestarts as draws_over_restarts
+use Rattle.acc_world.specs.RecordAdopted as record_adopted
+use Rattle.acc_world.specs.LostAndDown.{marked_well, marked_badly, fits, down_well, down_badly, end_well, numbered, message_of}
+
+pub awaited_while_committed-holds : sent_by three (store_at 1) awaited_while_committed.messages ≡ awaited_while_committed.answers
+unfolding numbers
+awaited_while_committed-holds = refl
+
+pub accepted_once_stable-holds : sent_by three (store_at 1) accepted_once_stable.messages ≡ accepted_once_stable.answers
+unfolding numbers
+accepted_once_stable-holds = refl
+
+pub opened_in_turn-holds : sent_by three (store_at 1) opened_in_turn.messages ≡ opened_in_turn.answers
+unfolding numbers
+opened_in_turn-holds = refl
+
+pub last_record_counts-holds : sent_by three (store_at 1) last_record_counts.messages ≡ last_record_counts.answers
+unfolding numbers
+last_record_counts-holds = refl
+
+pub first_answer_counts-holds : emitted_by_node three 1 first_answer_counts.acts ≡ first_answer_counts.emitted
+unfolding numbers
+first_answer_counts-holds = refl
+
+pub commit_round-holds : emitted_by_node three 1 commit_round.acts ≡ commit_round.emitted
+unfolding numbers
+commit_round-holds = refl
+
+pub draws_over_restarts-holds : emitted_by_node three 1 draws_over_restarts.acts ≡ draws_over_restarts.emitted
+unfolding numbers
+draws_over_restarts-holds = refl
+
+pub record_adopted-holds : emitted_by_node three 3 record_adopted.acts ≡ record_adopted.emitted
+unfolding numbers
+record_adopted-holds = refl
+
+pub lost_and_down-marked : fits marked_well ≡ true ∷ true ∷ true ∷ true ∷ true ∷ true ∷ []
+lost_and_down-marked = refl
+
+pub lost_and_down-marks_refused : fits marked_badly ≡ false ∷ false ∷ false ∷ false ∷ false ∷ false ∷ false ∷ false ∷ []
+lost_and_down-marks_refused = refl
+
+pub lost_and_down-down : end_well down_well ≡ true ∷ true ∷ true ∷ true ∷ []
+lost_and_down-down = refl
+
+pub lost_and_down-downs_refused : end_well down_badly ≡ false ∷ false ∷ false ∷ false ∷ []
+lost_and_down-downs_refused = refl
+
+pub lost_and_down-numbers : numbered ≡ Some (message_of 1) ∷ Some (message_of 2) ∷ Some (message_of 3) ∷ None ∷ []
+lost_and_down-numbers = refl
+
+pub votes_at_a_store-holds : sent_by three (store_at 1) votes_at_a_store.messages ≡ votes_at_a_store.answers
+unfolding numbers
+votes_at_a_store-holds = refl
+
+pub conflict_by_shard-holds : sent_by conflict_by_shard.two_shards conflict_by_shard.own conflict_by_shard.messages ≡ conflict_by_shard.answers
+unfolding numbers
+conflict_by_shard-holds = refl

@@ -1,0 +1,12 @@
+use Rattle.acc_world.proofs.Stepped.{lost_and_down-marked, lost_and_down-marks_refused, lost_and_down-down, lost_and_down-downs_refused, lost_and_down-numbers}
+use Rattle.acc_world.proofs.actors.lost_and_down.Goals as goal
+
+pub returns : goal.returns
+returns c =
+    record {
+      marked = lost_and_down-marked;
+      marks_refused = lost_and_down-marks_refused;
+      down = lost_and_down-down;
+      downs_refused = lost_and_down-downs_refused;
+      numbers = lost_and_down-numbers;
+    }
