@@ -1,0 +1,12 @@
+mod ActorFacts
+mod ClusterFacts
+mod DocumentFacts
+mod EachFacts
+mod FieldFacts
+mod KeptFacts
+mod NameFacts
+mod PathFacts
+mod PlanFacts
+mod ReadFacts
+mod ShardFacts
+mod TransactionFacts

@@ -1,0 +1,8 @@
+-- The transactions before this one are read.
+use Rattle.std.proofs.Common.{◌≤◌, length}
+use Rattle.acc_topology.specs.Sets.{in_set}
+use Rattle.acc_schedule.proofs.TransactionFacts.{AllRead}
+use Rattle.acc_schedule.proofs.transactions.transactions.Given as goal
+
+abbrev pub invariant-loop-place : goal.invariant-loop-place
+invariant-loop-place l = AllRead (in_set l.nodes) l.items l.place l.all.names l.all.homes l.all.bodies × (length l.items ≤ 10000)

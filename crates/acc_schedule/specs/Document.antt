@@ -1,0 +1,134 @@
+-- A cluster document: the first rule that it breaks, and the plan that it says.
+use Rattle.std.specs.Prelude.{◌≡◌, ◌⊎◌, ℕ, ◌||◌, List, [], ◌∷◌, Bool, Option, Some, None, IsSome, IsUtf8, codes, unwrap_or, if◌then◌else◌, Result, Ok, Err}
+use Rattle.std.specs.Str.{bytes_eq}
+use Rattle.serde_json.specs.Data.{Data, string}
+use Rattle.serde_json.specs.Find.{get}
+use Rattle.serde_json.specs.Read.{read}
+use Rattle.acc_topology.specs.Layout.{Layout}
+use Rattle.acc_topology.specs.Faults.{given_layout}
+use Rattle.acc_topology.specs.Sets.{is_among}
+use Rattle.acc_schedule.specs.declared.error.PlanKind.{PlanKind}
+use Rattle.acc_schedule.specs.declared.error.PlanKind.TheVariants.{Json, Shape}
+use Rattle.acc_schedule.specs.declared.error.PlanError.{PlanError}
+use Rattle.acc_schedule.specs.declared.error.PlanError.TheVariants.{Bad, OutOfMemory}
+use Rattle.acc_schedule.specs.declared.plan.Plan.{Plan}
+use Rattle.acc_schedule.specs.declared.plan.Print.{Print}
+use Rattle.acc_schedule.specs.declared.plan.Print.TheVariants.{Lines, Summary}
+use Rattle.acc_schedule.specs.Paths.{field_path}
+use Rattle.acc_schedule.specs.Faults.{Fault, ◌then◌, fault, must}
+use Rattle.acc_schedule.specs.Fields.{field, is_number_from_to, object_fault, text}
+use Rattle.acc_schedule.specs.Nodes.{nodes_fault, nodes_of}
+use Rattle.acc_schedule.specs.Shards.{shards_fault, shards_of}
+use Rattle.acc_schedule.specs.Cluster.{cluster_fault}
+use Rattle.acc_schedule.specs.Transactions.{bodies_of, homes_of, names_of, transactions_fault}
+use Rattle.acc_schedule.specs.Steps.{Cast, cast_in, schedule_fault, steps_of}
+
+-- ---- parts of a document
+
+abbrev pub nodes : Data → Data
+nodes = field (codes "nodes")
+
+abbrev pub shards : Data → Data
+shards = field (codes "shards")
+
+abbrev pub txns : Data → Data
+txns = field (codes "txns")
+
+abbrev pub schedule : Data → Data
+schedule = field (codes "schedule")
+
+-- what is printed; lines where nothing is said
+abbrev pub print : Data → Data
+print d = unwrap_or (get (codes "print") d) (string (codes "lines"))
+
+-- the cluster that its nodes and shards make
+abbrev pub layout_of : Data → Layout
+layout_of d = given_layout (nodes_of (nodes d)) (shards_of (shards d))
+
+abbrev pub is_node_of : Data → ℕ → Bool
+is_node_of d = is_among (layout_of d).nodes
+
+-- what its steps may speak of
+abbrev pub cast_of : Data → Cast
+cast_of d = cast_in (names_of (txns d)) (layout_of d)
+
+-- ---- the rules
+
+abbrev pub root_fault : Data → Fault
+root_fault d =
+    object_fault (codes "version" ∷ codes "nodes" ∷ codes "shards" ∷ codes "txns" ∷ codes "schedule" ∷ []) (codes "print" ∷ []) [] d
+
+abbrev pub version_fault : Data → Fault
+version_fault d = must (is_number_from_to 1 1 (field (codes "version") d)) Shape (field_path (codes "version"))
+
+abbrev pub is_lines : Data → Bool
+is_lines d = bytes_eq (text d) (codes "lines")
+
+abbrev pub is_summary : Data → Bool
+is_summary d = bytes_eq (text d) (codes "summary")
+
+abbrev pub print_fault : Data → Fault
+print_fault d = must (is_lines d || is_summary d) Shape (field_path (codes "print"))
+
+-- the rules of a document, from top to bottom: those up to its cluster, and all of them
+abbrev pub base_fault : Data → Fault
+base_fault d =
+    root_fault d
+    then version_fault d
+    then nodes_fault (nodes d)
+    then shards_fault (shards d)
+    then cluster_fault (nodes_of (nodes d)) (shards_of (shards d))
+
+abbrev pub document_fault : Data → Fault
+document_fault d =
+    base_fault d
+    then transactions_fault (is_node_of d) (txns d)
+    then schedule_fault (cast_of d) (schedule d)
+    then print_fault (print d)
+
+-- ---- what it says
+
+abbrev pub print_of : Data → Print
+print_of d = if is_summary d then Summary else Lines
+
+abbrev pub plan_of : Data → Plan
+plan_of d = record {
+  topology = layout_of d;
+  starts = nodes_of (nodes d);
+  names = names_of (txns d);
+  homes = homes_of (txns d);
+  bodies = bodies_of (txns d);
+  steps = steps_of (cast_of d) (schedule d);
+  print = print_of (print d);
+}
+
+-- ---- bytes
+
+-- the bytes are JSON, in UTF-8 and at most 127 levels deep
+abbrev pub IsJson : List ℕ → Type 0
+IsJson bytes = IsUtf8 bytes × IsSome (read bytes)
+
+-- the bytes are a document that breaks no rule, and this is the plan that they say
+pub record Means (bytes : List ℕ) (plan : Plan) : Type 0 where
+  pub utf8 : IsUtf8 bytes
+  pub json : Data
+  pub reads : read bytes ≡ Some json
+  pub keeps_rules : document_fault json ≡ None
+  pub says : plan ≡ plan_of json
+
+-- the bytes are JSON, and this is the first rule that they break
+pub record Breaks (bytes : List ℕ) (error : PlanError) : Type 0 where
+  pub utf8 : IsUtf8 bytes
+  pub json : Data
+  pub reads : read bytes ≡ Some json
+  pub first : document_fault json ≡ Some error
+
+-- the bytes aren't JSON, and this says so
+pub record IsNoJson (bytes : List ℕ) (error : PlanError) : Type 0 where
+  pub broken : ¬ (IsJson bytes)
+  pub says : fault Json [] ≡ Some error
+
+-- why a document is refused so. Want of memory has no cause in the document
+abbrev pub IsCause : List ℕ → PlanError → Type 0
+IsCause bytes OutOfMemory = Unit {0}
+IsCause bytes (Bad kind path detail at) = IsNoJson bytes (Bad kind path detail at) ⊎ Breaks bytes (Bad kind path detail at)

@@ -1,0 +1,15 @@
+pub mod Paths
+pub mod Parts
+pub mod Faults
+pub mod Fields
+pub mod Nodes
+pub mod Shards
+pub mod Cluster
+pub mod Actors
+pub mod Texts
+pub mod Transactions
+pub mod Words
+pub mod Steps
+pub mod Document
+pub mod Seen
+pub mod Plan

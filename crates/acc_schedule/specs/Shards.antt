@@ -1,0 +1,46 @@
+-- The shards of a document.
+use Rattle.std.specs.Prelude.{ℕ, ◌||◌, List, [], ◌∷◌, length, map, Bool, true, codes, is_some, nat_le, option_map, unwrap_or, if◌then◌else◌}
+use Rattle.std.specs.List.{list_all}
+use Rattle.serde_json.specs.Data.{Data}
+use Rattle.serde_json.specs.Find.{as_null, as_str}
+use Rattle.acc_topology.specs.declared.given.ShardSpec.{ShardSpec}
+use Rattle.acc_schedule.specs.declared.error.PlanKind.TheVariants.{Shape, Limit}
+use Rattle.acc_schedule.specs.Paths.{Path, field_path, item_path, part_path}
+use Rattle.acc_schedule.specs.Faults.{Fault, ◌then◌, must, each}
+use Rattle.acc_schedule.specs.Fields.{field, is_array, is_from_to, is_number_from_to, is_text, is_whole, items, list_fault, number, object_fault}
+
+-- a text of 1 to 64 bytes, or null
+abbrev pub is_end_size : Data → Bool
+is_end_size d = unwrap_or (option_map (λ text. is_from_to 1 64 (length text)) (as_str d)) true
+
+abbrev pub end_fault : Path → Data → Fault
+end_fault path d =
+    must (is_some (as_null d) || is_text d) Shape path then must (is_end_size d) Limit path
+
+-- whole numbers, few of them; the topology tells which of them are nodes
+abbrev pub replicas_fault : Path → Data → Fault
+replicas_fault path d =
+    must (is_array d) Shape path
+    then must (list_all is_whole (items d)) Shape path
+    then must (nat_le (length (items d)) 15) Limit path
+
+abbrev pub shard_fault : ℕ → Data → Fault
+shard_fault place d =
+    object_fault (codes "end" ∷ codes "replicas" ∷ []) [] (item_path (codes "shards") place) d
+    then end_fault (part_path (codes "shards") place (codes "end")) (field (codes "end") d)
+    then replicas_fault (part_path (codes "shards") place (codes "replicas")) (field (codes "replicas") d)
+
+abbrev pub shards_fault : Data → Fault
+shards_fault d = list_fault 15 (field_path (codes "shards")) d then each shard_fault 0 (items d)
+
+-- ---- what they say
+
+-- a replica. No node has the number 0, so it stands for every number that no node can have
+abbrev pub replica_of : Data → ℕ
+replica_of d = if is_number_from_to 1 15 d then number d else 0
+
+abbrev pub shard_of : Data → ShardSpec
+shard_of d = record { end = as_str (field (codes "end") d); replicas = map replica_of (items (field (codes "replicas") d)) }
+
+abbrev pub shards_of : Data → List ShardSpec
+shards_of d = map shard_of (items d)

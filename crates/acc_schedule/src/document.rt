@@ -1,0 +1,95 @@
+//! Reads a whole document.
+ghost use Rattle.std.specs.Prelude.{◌≡◌, IfOk, IfErr};
+ghost use Rattle.serde_json.specs.View.{view};
+ghost use Rattle.acc_schedule.specs.Document.{base_fault, document_fault, layout_of, nodes as nodes_data, plan_of, print as print_data, print_fault, print_of, version_fault, IsCause, Means};
+ghost use Rattle.acc_schedule.specs.Faults.{Gives};
+ghost use Rattle.acc_schedule.specs.Nodes.{nodes_of};
+ghost use Rattle.acc_schedule.specs.Plan.{IsPlan};
+
+use crate::cluster::cluster;
+use crate::error::{PlanError, PlanKind};
+use crate::fields::{field_text, object};
+use crate::nodes::nodes;
+use crate::path::{Part, wrong};
+use crate::plan::{Plan, Print, Starts};
+use crate::schedule::schedule;
+use crate::shards::shards;
+use crate::transactions::{TransactionLists, transactions};
+use acc_topology::Topology;
+use serde_json::Value;
+use std::alloc::Global;
+
+/// The plan that a document says.
+///
+/// A document that breaks a rule is refused with the first that it breaks, in the order of `docs/FORMATS.md`.
+pub fn read(alloc: Global, bytes: &[u8]) -> Result<Plan, PlanError>
+    ensures accepted { IfOk result (Means bytes.now) }
+    ensures sound { IfOk result IsPlan }
+    ensures refused { IfErr result (IsCause bytes.now) }
+{
+    let root = match Value::from_slice(alloc, bytes) {
+        Ok(root) => root,
+        Err(error) if error.is_memory() => return Err(PlanError::OutOfMemory),
+        Err(_) => return Err(wrong(alloc, PlanKind::Json, &[])),
+    };
+    plan(alloc, &root)
+}
+
+// The plan that the value says.
+fn plan(alloc: Global, root: &Value) -> Result<Plan, PlanError>
+    ensures { Gives (document_fault (view root.now)) (λ plan. plan ≡ plan_of (view root.now)) result }
+{
+    let (starts, topology) = base(alloc, root)?;
+    let TransactionLists {
+        names,
+        homes,
+        bodies,
+    } = transactions(alloc, root, topology.nodes())?;
+    let steps = schedule(alloc, root, &names, &topology)?;
+    let print = print(alloc, root)?;
+    Ok(Plan {
+        topology,
+        starts,
+        names: names.into_names(alloc)?,
+        homes,
+        bodies,
+        steps,
+        print,
+    })
+}
+
+// The nodes, and the cluster that they make with the shards.
+fn base(alloc: Global, root: &Value) -> Result<(Starts, Topology), PlanError>
+    ensures { Gives (base_fault (view root.now))
+        (λ base. (base.0 ≡ nodes_of (nodes_data (view root.now))) × (base.1 ≡ layout_of (view root.now))) result }
+{
+    let needed = ["version", "nodes", "shards", "txns", "schedule"];
+    object(alloc, root, &needed, &["print"], &[])?;
+    version(alloc, root)?;
+    let starts = nodes(alloc, root)?;
+    let shards = shards(alloc, root)?;
+    let topology = cluster(alloc, starts.as_slice(), shards.as_slice())?;
+    Ok((starts, topology))
+}
+
+fn version(alloc: Global, root: &Value) -> Result<(), PlanError>
+    ensures { Gives (version_fault (view root.now)) (λ _. Unit {0}) result }
+{
+    match root.get("version") {
+        Some(version) if version.as_u64() == Some(1) => Ok(()),
+        _ => Err(wrong(alloc, PlanKind::Shape, &[Part::Field("version")])),
+    }
+}
+
+fn print(alloc: Global, root: &Value) -> Result<Print, PlanError>
+    ensures { Gives (print_fault (print_data (view root.now))) (λ print. print ≡ print_of (print_data (view root.now))) result }
+{
+    let Some(print) = root.get("print") else {
+        return Ok(Print::Lines);
+    };
+    match print.as_str() {
+        Some("lines") => Ok(Print::Lines),
+        Some("summary") => Ok(Print::Summary),
+        _ => Err(wrong(alloc, PlanKind::Shape, &[Part::Field("print")])),
+    }
+}
