@@ -245,3 +245,6 @@ nack_with_own_ballot-outcomes = refl
 pub nack_with_own_ballot-bodies : map (λ (a : Answered). body_of nack_with_own_ballot.cluster nack_with_own_ballot.items a.id) (first_outcomes nack_with_own_ballot.notes) ≡ map (λ b. Some b) nack_with_own_ballot.serially
 unfolding numbers
 nack_with_own_ballot-bodies = refl
+
+pub transfer_between_shards-outcomes : map (λ (a : Answered). a.reply) (first_outcomes transfer_between_shards.notes) ≡ transfer_between_shards.replies
+transfer_between_shards-outcomes = refl

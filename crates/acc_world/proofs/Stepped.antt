@@ -7,11 +7,14 @@ use Rattle.acc_world.specs.AwaitedWhileCommitted as awaited_while_committed
 use Rattle.acc_world.specs.AcceptedOnceStable as accepted_once_stable
 use Rattle.acc_world.specs.VotesAtAStore as votes_at_a_store
 use Rattle.acc_world.specs.ConflictByShard as conflict_by_shard
+use Rattle.acc_world.specs.EvidenceBounds as evidence_bounds
+use Rattle.acc_world.specs.ClosedClients as closed_clients
 use Rattle.acc_world.specs.OpenedInTurn as opened_in_turn
 use Rattle.acc_world.specs.LastRecordCounts as last_record_counts
 use Rattle.acc_world.specs.FirstAnswerCounts as first_answer_counts
 use Rattle.acc_world.specs.CommitRound as commit_round
 use Rattle.acc_world.specs.DrawsOverRestarts as draws_over_restarts
+use Rattle.acc_world.specs.ChangedVoteMayBeFast as changed_vote_may_be_fast
 use Rattle.acc_world.specs.RecordAdopted as record_adopted
 use Rattle.acc_world.specs.LostAndDown.{marked_well, marked_badly, fits, down_well, down_badly, end_well, numbered, message_of}
 
@@ -69,3 +72,15 @@ votes_at_a_store-holds = refl
 pub conflict_by_shard-holds : sent_by conflict_by_shard.two_shards conflict_by_shard.own conflict_by_shard.messages ≡ conflict_by_shard.answers
 unfolding numbers
 conflict_by_shard-holds = refl
+
+pub changed_vote_may_be_fast-holds : emitted_by_node changed_vote_may_be_fast.five 3 changed_vote_may_be_fast.acts ≡ changed_vote_may_be_fast.emitted
+unfolding numbers
+changed_vote_may_be_fast-holds = refl
+
+pub evidence_bounds-holds : sent_by three (store_at 1) evidence_bounds.messages ≡ evidence_bounds.answers
+unfolding numbers
+evidence_bounds-holds = refl
+
+pub closed_clients-holds : emitted_by_node conflict_by_shard.two_shards 1 closed_clients.acts ≡ closed_clients.emitted
+unfolding numbers
+closed_clients-holds = refl

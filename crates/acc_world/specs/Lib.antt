@@ -34,3 +34,6 @@ pub mod RecordAdopted
 pub mod LostAndDown
 pub mod VotesAtAStore
 pub mod ConflictByShard
+pub mod ChangedVoteMayBeFast
+pub mod EvidenceBounds
+pub mod ClosedClients

@@ -6,11 +6,14 @@ ghost use Rattle.acc_world.specs.AwaitedWhileCommitted as awaited_while_committe
 ghost use Rattle.acc_world.specs.AcceptedOnceStable as accepted_once_stable_row;
 ghost use Rattle.acc_world.specs.VotesAtAStore as votes_at_a_store_row;
 ghost use Rattle.acc_world.specs.ConflictByShard as conflict_by_shard_row;
+ghost use Rattle.acc_world.specs.EvidenceBounds as evidence_bounds_row;
+ghost use Rattle.acc_world.specs.ClosedClients as closed_clients_row;
 ghost use Rattle.acc_world.specs.OpenedInTurn as opened_in_turn_row;
 ghost use Rattle.acc_world.specs.LastRecordCounts as last_record_counts_row;
 ghost use Rattle.acc_world.specs.FirstAnswerCounts as first_answer_counts_row;
 ghost use Rattle.acc_world.specs.CommitRound as commit_round_row;
 ghost use Rattle.acc_world.specs.DrawsOverRestarts as draws_over_restarts_row;
+ghost use Rattle.acc_world.specs.ChangedVoteMayBeFast as changed_vote_may_be_fast_row;
 ghost use Rattle.acc_world.specs.RecordAdopted as record_adopted_row;
 ghost use Rattle.acc_world.specs.LostAndDown.{marked_well, marked_badly, fits, down_well, down_badly, end_well, numbered, message_of};
 
@@ -34,6 +37,11 @@ pub fn accepted_once_stable()
     ensures { sent_by three (store_at 1) accepted_once_stable_row.messages ≡ accepted_once_stable_row.answers }
 {}
 
+/// What is neither a reason that a transaction is superseded nor one to wait.
+pub fn evidence_bounds()
+    ensures { sent_by three (store_at 1) evidence_bounds_row.messages ≡ evidence_bounds_row.answers }
+{}
+
 /// One step opens several transactions in the order of their timestamps.
 pub fn opened_in_turn()
     ensures { sent_by three (store_at 1) opened_in_turn_row.messages ≡ opened_in_turn_row.answers }
@@ -49,6 +57,11 @@ pub fn first_answer_counts()
     ensures { emitted_by_node three 1 first_answer_counts_row.acts ≡ first_answer_counts_row.emitted }
 {}
 
+/// A client has one reply.
+pub fn closed_clients()
+    ensures { emitted_by_node conflict_by_shard_row.two_shards 1 closed_clients_row.acts ≡ closed_clients_row.emitted }
+{}
+
 /// The slow path has a Commit round.
 pub fn commit_round()
     ensures { emitted_by_node three 1 commit_round_row.acts ≡ commit_round_row.emitted }
@@ -57,6 +70,11 @@ pub fn commit_round()
 /// Draws rise over restarts.
 pub fn draws_over_restarts()
     ensures { emitted_by_node three 1 draws_over_restarts_row.acts ≡ draws_over_restarts_row.emitted }
+{}
+
+/// A recovery proposes the transaction's own timestamp where it may have been decided fast, also where a vote is greater.
+pub fn changed_vote_may_be_fast()
+    ensures { emitted_by_node changed_vote_may_be_fast_row.five 3 changed_vote_may_be_fast_row.acts ≡ changed_vote_may_be_fast_row.emitted }
 {}
 
 /// Which of several records a recovery adopts.

@@ -138,4 +138,5 @@ pub fn nack_with_own_ballot()
 pub fn transfer_between_shards()
     ensures notes { notes_of transfer_between_shards_row.items ≡ transfer_between_shards_row.notes }
     ensures serial { serial transfer_between_shards_row.serially ≡ transfer_between_shards_row.replies }
+    ensures outcomes { map (λ (a : Answered). a.reply) (first_outcomes transfer_between_shards_row.notes) ≡ transfer_between_shards_row.replies }
 {}
