@@ -20,3 +20,7 @@ pub mod Saying
 pub mod Sound
 pub mod Bodies
 pub mod Answering
+pub mod Following
+pub mod FollowText
+pub mod FollowBody
+pub mod FirstFault

@@ -1,9 +1,12 @@
 //! That reading a text is the grammar.
-ghost use Rattle.std.specs.Prelude.{◌≡◌, ℕ, List, Ok};
+ghost use Rattle.std.specs.Prelude.{◌≡◌, ◌-◌, ℕ, List, length, Ok, Some};
+ghost use Rattle.acc_token.specs.Tokens.{left_at};
+ghost use Rattle.acc_lang.specs.declared.error.LangKind.{LangKind};
+ghost use Rattle.acc_lang.specs.First.{behind_all, Seen};
 ghost use Rattle.std.specs.Str.{IsUtf8};
 ghost use Rattle.acc_txn.specs.declared.parts.BodyParts.{BodyParts};
 ghost use Rattle.acc_lang.specs.Grammar.{Spelled, IsTextOf};
-ghost use Rattle.acc_lang.specs.Reading.{reading};
+ghost use Rattle.acc_lang.specs.Reading.{reading, reading_fault};
 
 /// What is read from a text is spelled there.
 pub fn what_is_read_is_spelled()
@@ -18,4 +21,12 @@ pub fn what_is_spelled_is_read()
 /// The parts that are read from a text keep the rules of bodies.
 pub fn what_is_read_is_a_body()
     ensures { (text : List ℕ) (parts : BodyParts) → IsUtf8 text → reading text ≡ Ok parts → IsTextOf text parts }
+{}
+
+/// The first fault is found as soon as its token is seen: no text that shows the same tokens up to it and with it, and
+/// behind a word v also the next, is of the grammar. Its place is the byte where that token begins.
+pub fn faults_are_found_at_once()
+    ensures { (text : List ℕ) (kind : LangKind) (at : ℕ) → reading_fault text ≡ Some (kind, at)
+        → (count : ℕ) × (at ≡ length text - left_at (behind_all count text))
+        × ((other : List ℕ) (parts : BodyParts) → Seen count text other → IsTextOf other parts → ⊥) }
 {}
