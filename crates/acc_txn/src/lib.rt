@@ -19,6 +19,7 @@ pub use parts::{
     BodyParts, Condition, Conditions, Expr, Let, Lets, Numbers, Operator, Part, Select, Term,
     Update, Updates,
 };
+pub use words::{is_free_key_text, is_free_word};
 
 #[cfg(test)]
 mod tests;
