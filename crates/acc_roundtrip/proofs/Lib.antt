@@ -6,4 +6,3 @@ pub mod SumFacts
 pub mod ConditionFacts
 pub mod UpdateFacts
 pub mod BodyFacts
-pub mod ReadBack
