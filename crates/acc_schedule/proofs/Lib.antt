@@ -1,12 +1,12 @@
 mod ActorFacts
+mod BuiltFacts
 mod ClusterFacts
 mod DocumentFacts
 mod EachFacts
-mod FieldFacts
+pub mod FieldFacts
 mod KeptFacts
 mod NameFacts
 mod PathFacts
 mod PlanFacts
-mod ReadFacts
 mod ShardFacts
 mod TransactionFacts

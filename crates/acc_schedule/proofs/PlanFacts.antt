@@ -9,19 +9,19 @@ use Rattle.acc_topology.specs.declared.error.TopologyError.TheVariants.{Wrong, O
 use Rattle.acc_topology.specs.declared.error.TopologyKind.{TopologyKind}
 use Rattle.acc_topology.specs.declared.given.NodeSpec.{NodeSpec}
 use Rattle.acc_topology.specs.declared.given.ShardSpec.{ShardSpec}
-use Rattle.acc_topology.specs.Faults.{Fault as TopologyFault, ids, is_new as is_new_number, node_fault as topology_node_fault, nodes_fault as topology_nodes_fault, shards_fault as topology_shards_fault, fault_of, given_layout}
+use Rattle.acc_topology.specs.Faults.{Fault as TopologyFault, ids, is_new as is_new_number, node_fault as topology_node_fault, nodes_fault as topology_nodes_fault, shards_fault as topology_shards_fault, fault_of, given_layout, given_shard}
 use Rattle.acc_topology.specs.Layout.{Layout, IsLayout}
 use Rattle.acc_topology.specs.Sets.{in_order, is_among}
 use Rattle.acc_topology.proofs.Accepted.{given_is_layout}
 use Rattle.acc_topology.proofs.Listed.{length-in_order-take}
 use Rattle.acc_schedule.specs.declared.error.PlanError.{PlanError}
 use Rattle.acc_schedule.specs.declared.error.PlanKind.TheVariants.{Limit, Name}
-use Rattle.acc_schedule.specs.declared.plan.Plan.{Plan}
+use Rattle.acc_schedule.specs.Content.{Content}
 use Rattle.acc_schedule.specs.Faults.{Fault, ◌then◌, each, Gives, must}
 use Rattle.acc_schedule.specs.Fields.{field, is_number_from_to, items, list_fault, number, object_fault}
 use Rattle.acc_schedule.specs.Paths.{field_path, part_path}
 use Rattle.acc_schedule.specs.Nodes.{clock, clock_fault, node_fault, node_of, nodes_fault, nodes_of}
-use Rattle.acc_schedule.specs.Shards.{shard_fault, shards_fault, shards_of, shard_of}
+use Rattle.acc_schedule.specs.Shards.{is_end, replicas_fault, shard_fault, shards_fault, shards_of, shard_of}
 use Rattle.acc_schedule.specs.Cluster.{cluster_fault, node_path, placed, shard_path}
 use Rattle.acc_schedule.specs.Transactions.{bodies_of, body_fault, home_fault, home_of, homes_of, is_name, is_new, name_fault, name_of, names_of, transaction_fault, transactions_fault}
 use Rattle.acc_schedule.specs.Steps.{cast_in, schedule_fault, step_fault, step_of, steps_of}
@@ -79,6 +79,17 @@ once ns h none =
         let kept = numbered ns h i none_at lt in
         (ap (is_among (take i (ids ns))) at ∙ fine_node ns i none lt, omega (arith, at, kept.1))
 
+-- ---- shards
+
+end_kept : (place : ℕ) (d : Data) → shard_fault place d ≡ None → is_end (shard_of d).end ≡ true
+end_kept place d h =
+    let front = then_none _ (replicas_fault (part_path (codes "shards") place (codes "replicas")) (field (codes "replicas") d)) h in
+    must_none _ Limit (part_path (codes "shards") place (codes "end")) (then_none _ _ (then_none _ _ front.0).1).1
+
+ends_given : (ss : List ShardSpec) → AllByRecursion (λ s. IsTrue (is_end s.end)) ss → AllByRecursion (λ s. IsTrue (is_end s.end)) (map given_shard ss)
+ends_given [] h = tt
+ends_given (s ∷ ss) h = (h.0, ends_given ss h.1)
+
 -- ---- transactions
 
 transaction_kept : (is_node : ℕ → Bool) (before : List (List ℕ)) (place : ℕ) (d : Data) → transaction_fault is_node before place d ≡ None
@@ -113,6 +124,7 @@ IsPlan-plan_of d h =
       layout = given_is_layout ns ss (numbered ns is_start) few_shards none;
       nodes = refl;
       nodes_once = once ns is_start (nodes_fine ns ss none);
+      ends = ends_given ss (each_all shard_fault shard_of (λ s. IsTrue (is_end s.end)) end_kept (items (shards d)) 0 (then_none _ _ sharded.1).1);
       clocks = clocks ns is_start;
       few = omega (arith, length-map ts name_of, few_items 10000 (txns d) (field_path (codes "txns")) (then_none _ _ told.1).0);
       homes_as_many = length-map ts home_of ∙ sym (length-map ts name_of);
@@ -130,6 +142,10 @@ IsPlan-plan_of d h =
           (step_known (names_of (txns d)) (layout_of d)) (items (schedule d)) 0 (then_none _ _ scheduled.1).1;
     }
 
-pub given_sound : (d : Data) (r : Result Plan PlanError) → Gives (document_fault d) (λ plan. plan ≡ plan_of d) r → IfOk r IsPlan
-given_sound d (Ok plan) h = subst IsPlan (sym h.1) (IsPlan-plan_of d h.0)
+-- what stands for the plan of a document that breaks no rule
+pub sound_as : (d : Data) (plan : Content) → document_fault d ≡ None → plan ≡ plan_of d → IsPlan plan
+sound_as d plan none says = subst IsPlan (sym says) (IsPlan-plan_of d none)
+
+pub given_sound : (d : Data) (r : Result Content PlanError) → Gives (document_fault d) (λ plan. plan ≡ plan_of d) r → IfOk r IsPlan
+given_sound d (Ok plan) h = sound_as d plan h.0 h.1
 given_sound d (Err error) h = tt

@@ -1,5 +1,5 @@
 -- A cluster document: the first rule that it breaks, and the plan that it says.
-use Rattle.std.specs.Prelude.{◌≡◌, ◌⊎◌, ℕ, ◌||◌, List, [], ◌∷◌, Bool, Option, Some, None, IsSome, IsUtf8, codes, unwrap_or, if◌then◌else◌, Result, Ok, Err}
+use Rattle.std.specs.Prelude.{◌≡◌, ◌⊎◌, ℕ, ◌||◌, List, [], ◌∷◌, Bool, Some, None, IsSome, IsUtf8, codes, unwrap_or, if◌then◌else◌}
 use Rattle.std.specs.Str.{bytes_eq}
 use Rattle.serde_json.specs.Data.{Data, string}
 use Rattle.serde_json.specs.Find.{get}
@@ -7,11 +7,10 @@ use Rattle.serde_json.specs.Read.{read}
 use Rattle.acc_topology.specs.Layout.{Layout}
 use Rattle.acc_topology.specs.Faults.{given_layout}
 use Rattle.acc_topology.specs.Sets.{is_among}
-use Rattle.acc_schedule.specs.declared.error.PlanKind.{PlanKind}
 use Rattle.acc_schedule.specs.declared.error.PlanKind.TheVariants.{Json, Shape}
 use Rattle.acc_schedule.specs.declared.error.PlanError.{PlanError}
 use Rattle.acc_schedule.specs.declared.error.PlanError.TheVariants.{Bad, OutOfMemory}
-use Rattle.acc_schedule.specs.declared.plan.Plan.{Plan}
+use Rattle.acc_schedule.specs.Content.{Content}
 use Rattle.acc_schedule.specs.declared.plan.Print.{Print}
 use Rattle.acc_schedule.specs.declared.plan.Print.TheVariants.{Lines, Summary}
 use Rattle.acc_schedule.specs.Paths.{field_path}
@@ -91,7 +90,7 @@ document_fault d =
 abbrev pub print_of : Data → Print
 print_of d = if is_summary d then Summary else Lines
 
-abbrev pub plan_of : Data → Plan
+abbrev pub plan_of : Data → Content
 plan_of d = record {
   topology = layout_of d;
   starts = nodes_of (nodes d);
@@ -108,8 +107,13 @@ plan_of d = record {
 abbrev pub IsJson : List ℕ → Type 0
 IsJson bytes = IsUtf8 bytes × IsSome (read bytes)
 
+-- the bytes are JSON with this data
+pub record Reads (bytes : List ℕ) (json : Data) : Type 0 where
+  pub utf8 : IsUtf8 bytes
+  pub reads : read bytes ≡ Some json
+
 -- the bytes are a document that breaks no rule, and this is the plan that they say
-pub record Means (bytes : List ℕ) (plan : Plan) : Type 0 where
+pub record Means (bytes : List ℕ) (plan : Content) : Type 0 where
   pub utf8 : IsUtf8 bytes
   pub json : Data
   pub reads : read bytes ≡ Some json
@@ -127,6 +131,11 @@ pub record Breaks (bytes : List ℕ) (error : PlanError) : Type 0 where
 pub record IsNoJson (bytes : List ℕ) (error : PlanError) : Type 0 where
   pub broken : ¬ (IsJson bytes)
   pub says : fault Json [] ≡ Some error
+
+-- why bytes give no data. Want of memory has no cause in them
+abbrev pub IsUnread : List ℕ → PlanError → Type 0
+IsUnread bytes OutOfMemory = Unit {0}
+IsUnread bytes (Bad kind path detail at) = IsNoJson bytes (Bad kind path detail at)
 
 -- why a document is refused so. Want of memory has no cause in the document
 abbrev pub IsCause : List ℕ → PlanError → Type 0

@@ -1,7 +1,7 @@
 -- What is wrong with a document: the first rule that it breaks.
-use Rattle.std.specs.Prelude.{◌≡◌, ℕ, ◌+◌, Bool, true, false, List, [], ◌∷◌, ◌++◌, Option, Some, None, Result, Ok, Err}
+use Rattle.std.specs.Prelude.{◌≡◌, ◌≢◌, ℕ, ◌+◌, Bool, true, false, List, [], ◌∷◌, ◌++◌, Option, Some, None, Result, Ok, Err}
 use Rattle.acc_schedule.specs.declared.error.PlanKind.{PlanKind}
-use Rattle.acc_schedule.specs.declared.error.PlanKind.TheVariants.{Shape}
+use Rattle.acc_schedule.specs.declared.error.PlanKind.TheVariants.{Shape, Unbuilt}
 use Rattle.acc_schedule.specs.declared.error.PlanError.{PlanError}
 use Rattle.acc_schedule.specs.declared.error.PlanError.TheVariants.{Bad, OutOfMemory}
 use Rattle.acc_schedule.specs.Paths.{Path, path_text, escaped}
@@ -42,3 +42,8 @@ IsFault f (Bad kind path detail at) = f ≡ Some (Bad kind path detail at)
 abbrev pub Gives : {X : Type 0} → Fault → (X → Type 0) → Result X PlanError → Type 0
 Gives f P (Ok x) = (f ≡ None) × P x
 Gives f P (Err error) = IsFault f error
+
+-- no rule of a document is that it can be run
+abbrev pub IsOfRule : PlanError → Type 0
+IsOfRule OutOfMemory = Unit {0}
+IsOfRule (Bad kind path detail at) = kind ≢ Unbuilt

@@ -1,5 +1,5 @@
 -- Looking into JSON data, and the rules on one value. A field that isn't there reads as null.
-use Rattle.std.specs.Prelude.{ℕ, ◌&&◌, ◌||◌, List, [], ◌∷◌, ◌++◌, find, length, Bool, true, false, not, Option, Some, None, is_some, nat_le, unwrap_or, option_map, option_and_then}
+use Rattle.std.specs.Prelude.{ℕ, ◌&&◌, ◌||◌, List, [], ◌∷◌, ◌++◌, find, length, Bool, false, not, Option, Some, None, is_some, nat_le, unwrap_or, option_map, option_and_then}
 use Rattle.std.specs.List.{list_any, list_all}
 use Rattle.std.specs.Str.{bytes_eq}
 use Rattle.serde_json.specs.Data.{Data, null, Items, no_items, item, Members, no_members, member}

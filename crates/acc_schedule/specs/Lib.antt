@@ -12,4 +12,6 @@ pub mod Words
 pub mod Steps
 pub mod Document
 pub mod Seen
+pub mod Content
+pub mod View
 pub mod Plan

@@ -1,13 +1,14 @@
 -- What holds of the plan of every document that breaks no rule.
-use Rattle.std.specs.Prelude.{◌≡◌, ℕ, ◌<◌, ◌≤◌, List, [], length, take, slice_index_or, Contains, IsTrue}
+use Rattle.std.specs.Prelude.{◌≡◌, ℕ, ◌<◌, ◌≤◌, [], length, take, slice_index_or, Contains, IsTrue}
 use Rattle.std.specs.List.{AllByRecursion}
 use Rattle.acc_topology.specs.Faults.{ids}
 use Rattle.acc_topology.specs.Layout.{Layout, IsLayout}
 use Rattle.acc_topology.specs.Sets.{in_order, is_among}
-use Rattle.acc_schedule.specs.declared.plan.Plan.{Plan}
+use Rattle.acc_schedule.specs.Content.{Content}
 use Rattle.acc_schedule.specs.declared.plan.Step.{Step}
 use Rattle.acc_schedule.specs.declared.plan.Step.TheVariants.{Begin, Deliver, Drop, Recover, Slow, Restart, Fail, Drain}
 use Rattle.acc_schedule.specs.Actors.{actors}
+use Rattle.acc_schedule.specs.Shards.{is_end}
 use Rattle.acc_schedule.specs.Transactions.{is_name, is_new}
 
 -- a step speaks of transactions below the count, and of nodes and actors of the cluster
@@ -22,10 +23,11 @@ IsStep count layout (Fail actor calls) = Contains (actors layout) actor × (call
 IsStep count layout Drain = Unit {0}
 
 -- a cluster of nodes with their clocks, transactions with names of their own at its nodes, and steps of these
-pub record IsPlan (plan : Plan) : Type 0 where
+pub record IsPlan (plan : Content) : Type 0 where
   pub layout : IsLayout plan.topology
   pub nodes : plan.topology.nodes ≡ in_order (ids plan.starts)
   pub nodes_once : length plan.starts ≡ length plan.topology.nodes
+  pub ends : AllByRecursion (λ shard. IsTrue (is_end shard.end)) plan.topology.shards
   pub clocks : AllByRecursion (λ start. start.clock ≤ 1000000000000) plan.starts
   pub few : length plan.names ≤ 10000
   pub homes_as_many : length plan.homes ≡ length plan.names

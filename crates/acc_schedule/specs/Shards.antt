@@ -1,5 +1,5 @@
 -- The shards of a document.
-use Rattle.std.specs.Prelude.{ℕ, ◌||◌, List, [], ◌∷◌, length, map, Bool, true, codes, is_some, nat_le, option_map, unwrap_or, if◌then◌else◌}
+use Rattle.std.specs.Prelude.{ℕ, ◌||◌, List, [], ◌∷◌, length, map, Bool, true, codes, Option, is_some, nat_le, option_map, unwrap_or, if◌then◌else◌}
 use Rattle.std.specs.List.{list_all}
 use Rattle.serde_json.specs.Data.{Data}
 use Rattle.serde_json.specs.Find.{as_null, as_str}
@@ -9,13 +9,13 @@ use Rattle.acc_schedule.specs.Paths.{Path, field_path, item_path, part_path}
 use Rattle.acc_schedule.specs.Faults.{Fault, ◌then◌, must, each}
 use Rattle.acc_schedule.specs.Fields.{field, is_array, is_from_to, is_number_from_to, is_text, is_whole, items, list_fault, number, object_fault}
 
--- a text of 1 to 64 bytes, or null
-abbrev pub is_end_size : Data → Bool
-is_end_size d = unwrap_or (option_map (λ text. is_from_to 1 64 (length text)) (as_str d)) true
+-- no end, or one of 1 to 64 bytes
+abbrev pub is_end : Option (List ℕ) → Bool
+is_end end = unwrap_or (option_map (λ bytes. is_from_to 1 64 (length bytes)) end) true
 
 abbrev pub end_fault : Path → Data → Fault
 end_fault path d =
-    must (is_some (as_null d) || is_text d) Shape path then must (is_end_size d) Limit path
+    must (is_some (as_null d) || is_text d) Shape path then must (is_end (as_str d)) Limit path
 
 -- whole numbers, few of them; the topology tells which of them are nodes
 abbrev pub replicas_fault : Path → Data → Fault

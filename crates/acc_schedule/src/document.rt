@@ -1,8 +1,8 @@
 //! Reads a whole document.
 ghost use Rattle.std.specs.Prelude.{◌≡◌, IfOk, IfErr};
 ghost use Rattle.serde_json.specs.View.{view};
-ghost use Rattle.acc_schedule.specs.Document.{base_fault, document_fault, layout_of, nodes as nodes_data, plan_of, print as print_data, print_fault, print_of, version_fault, IsCause, Means};
-ghost use Rattle.acc_schedule.specs.Faults.{Gives};
+ghost use Rattle.acc_schedule.specs.Document.{base_fault, document_fault, layout_of, nodes as nodes_data, plan_of, print as print_data, print_fault, print_of, version_fault, IsCause, IsUnread, Means, Reads};
+ghost use Rattle.acc_schedule.specs.Faults.{Gives, IsOfRule};
 ghost use Rattle.acc_schedule.specs.Nodes.{nodes_of};
 ghost use Rattle.acc_schedule.specs.Plan.{IsPlan};
 
@@ -21,23 +21,41 @@ use std::alloc::Global;
 
 /// The plan that a document says.
 ///
-/// A document that breaks a rule is refused with the first that it breaks, in the order of `docs/FORMATS.md`.
+/// A document that breaks a rule is refused with the first that it breaks, in the order of `docs/FORMATS.md`. This is
+/// `read_json` and then `read_plan`.
 pub fn read(alloc: Global, bytes: &[u8]) -> Result<Plan, PlanError>
     ensures accepted { IfOk result (Means bytes.now) }
     ensures sound { IfOk result IsPlan }
     ensures refused { IfErr result (IsCause bytes.now) }
+    ensures built { IfErr result IsOfRule }
 {
-    let root = match Value::from_slice(alloc, bytes) {
-        Ok(root) => root,
-        Err(error) if error.is_memory() => return Err(PlanError::OutOfMemory),
-        Err(_) => return Err(wrong(alloc, PlanKind::Json, &[])),
-    };
-    plan(alloc, &root)
+    let root = read_json(alloc, bytes)?;
+    read_plan(alloc, &root)
 }
 
-// The plan that the value says.
-fn plan(alloc: Global, root: &Value) -> Result<Plan, PlanError>
-    ensures { Gives (document_fault (view root.now)) (λ plan. plan ≡ plan_of (view root.now)) result }
+/// The JSON of a document.
+///
+/// Bytes that aren't JSON, which are those that aren't UTF-8, that JSON's grammar doesn't allow, or that nest more than 127
+/// levels deep, are refused as `Json`, with the path `-`.
+pub fn read_json(alloc: Global, bytes: &[u8]) -> Result<Value, PlanError>
+    ensures accepted { IfOk result (λ root. Reads bytes.now (view root)) }
+    ensures refused { IfErr result (IsUnread bytes.now) }
+    ensures built { IfErr result IsOfRule }
+{
+    match Value::from_slice(alloc, bytes) {
+        Ok(root) => Ok(root),
+        Err(error) if error.is_memory() => Err(PlanError::OutOfMemory),
+        Err(_) => Err(wrong(alloc, PlanKind::Json, &[])),
+    }
+}
+
+/// The plan that the JSON of a document says.
+///
+/// A document that breaks a rule is refused with the first that it breaks, in the order of `docs/FORMATS.md`.
+pub fn read_plan(alloc: Global, root: &Value) -> Result<Plan, PlanError>
+    ensures plan { Gives (document_fault (view root.now)) (λ plan. plan ≡ plan_of (view root.now)) result }
+    ensures sound { IfOk result IsPlan }
+    ensures built { IfErr result IsOfRule }
 {
     let (starts, topology) = base(alloc, root)?;
     let TransactionLists {

@@ -18,7 +18,7 @@ mod texts;
 mod transactions;
 mod words;
 
-pub use document::read;
+pub use document::{read, read_json, read_plan};
 pub use error::{PlanError, PlanKind};
 pub use plan::{Bodies, Names, Plan, Print, Starts, Step, Steps};
 

@@ -5,6 +5,7 @@ use acc_base::{Duplicate, OutOfMemory, Sequence, Text};
 use acc_stamp::Actor;
 use acc_topology::{NodeList, NodeSpec, Topology};
 use acc_txn::Body;
+use std::marker::Model;
 
 /// The nodes and where their clocks start, in the order of the document.
 pub type Starts = Sequence<NodeSpec>;
@@ -19,7 +20,9 @@ pub type Bodies = Sequence<Body>;
 pub type Steps = Sequence<Step>;
 
 /// What a document says: a cluster, transactions, and the steps that it takes. Transactions are numbered from 0, in the
-/// order of the document.
+/// order of the document. Each plan keeps what a document has to keep: its nodes have clocks within the limit, its
+/// transactions have names of their own and homes among the nodes, its steps are of these transactions, nodes and actors,
+/// and there are no more of each than a document may have.
 #[derive(Debug, Drop)]
 pub struct Plan {
     pub topology: Topology,
@@ -31,6 +34,19 @@ pub struct Plan {
     pub bodies: Bodies,
     pub steps: Steps,
     pub print: Print,
+}
+
+impl Model for Plan {
+    ghost use Rattle.acc_schedule.specs.Content.{Content};
+
+    ghost Value = { Content };
+
+    ghost use Rattle.acc_schedule.specs.Plan.{IsPlan};
+    ghost use Rattle.acc_schedule.specs.View.{content};
+
+    ghost view = { content };
+
+    ghost invariant = { λ p. IsPlan (content p) };
 }
 
 impl Plan {

@@ -18,6 +18,13 @@ const ENDS: &str =
 const UNKNOWN: &str =
     r#"{"version":1,"nodes":[{"id":1}],"shards":[{"end":null,"replicas":[1]}],"txns":[],"schedule":[["begin","z"]]}"#;
 
+// The parts of the document of one update.
+const ONE_UPDATE: [&str; 3] = [
+    r#"{"version":1,"nodes":[{"id":1}],"shards":[{"end":null,"replicas":[1]}],"txns":["#,
+    r#"{"name":"a","node":1,"text":"BEGIN TRANSACTION UPDATE t SET v = 5 WHERE k = 'x'; COMMIT TRANSACTION"}"#,
+    r#"],"schedule":[["begin","a"],["drain"]]}"#,
+];
+
 // A refusal without a detail.
 fn bad(alloc: Global, kind: PlanKind, path: &str, detail: u32) -> Result<PlanError, Fail> {
     Ok(PlanError::Bad {
@@ -63,5 +70,20 @@ fn refused(rt: HostRuntime) -> Result<(), Fail> {
         read(alloc, UNKNOWN.as_bytes()).err()
             == Some(bad(alloc, PlanKind::Name, "/schedule/0/1", 0)?)
     );
+    Ok(())
+}
+
+#[test]
+fn prefixes(rt: HostRuntime) -> Result<(), Fail> {
+    let alloc = rt.alloc();
+    let mut document = Vec::new(alloc);
+    for part in ONE_UPDATE {
+        document.extend_from_slice(part.as_bytes())?;
+    }
+    let no_json = Some(bad(alloc, PlanKind::Json, "-", 0)?);
+    for length in 0..document.len() {
+        assert!(rt; read(alloc, &document[..length]).err() == no_json);
+    }
+    assert_eq!(rt; read(alloc, document.as_slice())?.steps.len(), 2);
     Ok(())
 }
