@@ -1,10 +1,11 @@
 -- What a command leaves of its source.
-use Rattle.std.proofs.Common.{◌≡◌, ◌<◌, ◌≤◌, ℕ, ◌+◌, List, [], ◌∷◌, length, drop, Option, None, Some, refl, sym, ◌∙◌, ap, subst, inl, inr, arith}
+use Rattle.std.proofs.Common.{◌≡◌, ◌≤◌, ℕ, ◌+◌, List, length, Option, None, Some, refl, sym, ◌∙◌, ap, subst, inl, inr, arith}
 use Rattle.std.specs.Prelude.{IfSome}
 use Rattle.std.proofs.lemmas.List.{drop_all}
 use Rattle.acc_ports.specs.Source.{without_first, none_left, TakesAtMost}
 use Rattle.acc_command.specs.declared.status.Status.{Status}
 use Rattle.acc_command.specs.declared.status.Status.TheVariants.{Done, No, Usage, ReadFault, WriteFault, BadInput, Limit, OutOfMemory}
+use Rattle.acc_command.specs.declared.words.Command.{Command}
 use Rattle.acc_command.specs.Command.{Ends, Says, IsDue, Leaves, document_limit}
 
 -- a source with no more bytes than these is read whole
@@ -19,15 +20,15 @@ module _ (bytes : List ℕ) (left now old new : Option (List ℕ)) (short : leng
   taken = (document_limit + 1, omega arith, end ∙ takes_all (document_limit + 1) left bytes (omega (arith, short)) all)
 
   -- a document that was read whole
-  pub leaves_none : (result : Status) → Ends (IsDue bytes) result old new → Leaves result left now
-  leaves_none Done ends = end
-  leaves_none No ends = ends.1
-  leaves_none Usage ends = ends.1
-  leaves_none ReadFault ends = taken
-  leaves_none WriteFault ends = taken
-  leaves_none BadInput ends = end
-  leaves_none Limit ends = absurd (omega (arith, short, ends.1.0))
-  leaves_none OutOfMemory ends = taken
+  pub leaves_none : (command : Command) (result : Status) → Ends (IsDue command bytes) result old new → Leaves result left now
+  leaves_none command Done ends = end
+  leaves_none command No ends = ends.1
+  leaves_none command Usage ends = ends.1
+  leaves_none command ReadFault ends = taken
+  leaves_none command WriteFault ends = taken
+  leaves_none command BadInput ends = end
+  leaves_none command Limit ends = absurd (omega (arith, short, ends.1.0))
+  leaves_none command OutOfMemory ends = taken
 
 -- a document that is too long
 pub leaves_rest : (text : List ℕ) (result : Status) (left now old new : Option (List ℕ))

@@ -1,12 +1,20 @@
 -- What a command writes and how it ends, from its words and the bytes of its document.
-use Rattle.std.specs.Prelude.{◌≡◌, ◌⊎◌, ℕ, ◌+◌, ◌<◌, ◌≤◌, List, [], ◌∷◌, ◌++◌, length, reverse, codes, Option}
+use Rattle.std.specs.Prelude.{◌≡◌, ◌⊎◌, ℕ, ◌+◌, ◌<◌, ◌≤◌, List, length, reverse, Option}
 use Rattle.acc_ports.specs.Sink.{followed_by, WritesPart}
 use Rattle.acc_ports.specs.Source.{without_first, none_left, TakesAtMost}
 use Rattle.acc_plan.specs.declared.plan.Plan.{Plan}
-use Rattle.acc_form.specs.Document.{Means, IsJson, IsUnbuilt}
+use Rattle.acc_schedule.specs.declared.error.PlanKind.{PlanKind}
+use Rattle.acc_schedule.specs.declared.error.PlanError.{PlanError}
+use Rattle.acc_schedule.specs.declared.error.PlanError.TheVariants.{Bad}
+use Rattle.acc_schedule.specs.Content.{Content as Whole}
+use Rattle.acc_schedule.specs.Document.{IsCause as IsNoDocument, Means as IsDocument}
+use Rattle.acc_form.specs.Document.{IsCause as IsNotRun, Means}
 use Rattle.acc_first.specs.declared.items.Item.{Item}
 use Rattle.acc_first.specs.Headline.{IsSafeRun}
 use Rattle.acc_first.specs.ReportText.{report_text}
+use Rattle.acc_command.specs.Lines.{line, limit_text, ok_text, refusal_text, usage_text}
+use Rattle.acc_command.specs.declared.words.Command.{Command}
+use Rattle.acc_command.specs.declared.words.Command.TheVariants.{Run, Check}
 use Rattle.acc_command.specs.declared.status.Status.{Status}
 use Rattle.acc_command.specs.declared.status.Status.TheVariants.{Done, No, Usage, ReadFault, WriteFault, BadInput, Limit, OutOfMemory}
 
@@ -20,17 +28,6 @@ code_of BadInput = 5
 code_of Limit = 6
 code_of OutOfMemory = 7
 
--- the words of the one line that is built
-abbrev pub IsRunLine : List (List ℕ) → Type 0
-IsRunLine words = words ≡ codes "run" ∷ []
-
--- a text with a line feed behind it
-abbrev pub line : List ℕ → List ℕ
-line text = text ++ 10 ∷ []
-
-abbrev pub usage_text : List ℕ
-usage_text = line (codes "usage: accord run | check | free --workers W | gen --seed N --txns M")
-
 -- the most bytes that a document may have
 abbrev pub document_limit : ℕ
 document_limit = 16777216
@@ -41,23 +38,50 @@ pub record Reports (plan : Plan) (text : List ℕ) : Type 0 where
   pub safe : IsSafeRun plan (reverse items)
   pub prints : text ≡ report_text plan.names items
 
--- the report of the plan that a document says
+-- the report of the plan that is run of a document of the first form
 pub record IsReport (bytes text : List ℕ) : Type 0 where
   pub plan : Plan
   pub means : Means bytes plan
   pub reports : Reports plan text
 
--- the status and the text of `run` on a document
-abbrev pub IsDue : List ℕ → Status → List ℕ → Type 0
-IsDue bytes Done text = (length bytes ≤ document_limit) × IsReport bytes text
-IsDue bytes BadInput text = (length bytes ≤ document_limit)
-    × ((¬ (IsJson bytes) × (text ≡ line (codes "bad 1 -"))) ⊎ (IsUnbuilt bytes × (text ≡ line (codes "bad 8 -"))))
-IsDue bytes Limit text = (document_limit < length bytes) × (text ≡ line (codes "limit document 16777216"))
-IsDue bytes No text = ⊥
-IsDue bytes Usage text = ⊥
-IsDue bytes ReadFault text = ⊥
-IsDue bytes WriteFault text = ⊥
-IsDue bytes OutOfMemory text = ⊥
+-- the line of the plan that a document says
+pub record IsOk (bytes text : List ℕ) : Type 0 where
+  pub plan : Whole
+  pub says : IsDocument bytes plan
+  pub prints : text ≡ line (ok_text plan)
+
+-- the line of a refusal with this cause
+pub record IsRefusal (IsCauseOf : PlanError → Type 0) (text : List ℕ) : Type 0 where
+  pub kind : PlanKind
+  pub path : List ℕ
+  pub detail : ℕ
+  pub at : ℕ
+  pub cause : IsCauseOf (Bad kind path detail at)
+  pub prints : text ≡ line (refusal_text kind path detail at)
+
+-- the text of a command on a document that it accepts, why it refuses one, and which it accepts
+abbrev pub IsText : Command → List ℕ → List ℕ → Type 0
+IsText Run bytes text = IsReport bytes text
+IsText Check bytes text = IsOk bytes text
+
+abbrev pub IsCause : Command → List ℕ → PlanError → Type 0
+IsCause Run bytes error = IsNotRun bytes error
+IsCause Check bytes error = IsNoDocument bytes error
+
+abbrev pub IsAccepted : Command → List ℕ → Type 0
+IsAccepted Run bytes = (plan : Plan) × Means bytes plan
+IsAccepted Check bytes = (plan : Whole) × IsDocument bytes plan
+
+-- the status and the text of a command on a document
+abbrev pub IsDue : Command → List ℕ → Status → List ℕ → Type 0
+IsDue command bytes Done text = (length bytes ≤ document_limit) × IsText command bytes text
+IsDue command bytes BadInput text = (length bytes ≤ document_limit) × IsRefusal (IsCause command bytes) text
+IsDue command bytes Limit text = (document_limit < length bytes) × (text ≡ line limit_text)
+IsDue command bytes No text = ⊥
+IsDue command bytes Usage text = ⊥
+IsDue command bytes ReadFault text = ⊥
+IsDue command bytes WriteFault text = ⊥
+IsDue command bytes OutOfMemory text = ⊥
 
 -- what a sink holds after a text that was due with a status: the whole text, or with a write fault or want of memory a part
 abbrev pub Writes : (Status → List ℕ → Type 0) → Status → Option (List ℕ) → Option (List ℕ) → Type 0
@@ -96,7 +120,7 @@ Says status text result old new =
 
 -- the usage line is due for every other list of words
 abbrev pub IsUsage : Status → List ℕ → Type 0
-IsUsage Usage text = text ≡ usage_text
+IsUsage Usage text = text ≡ line usage_text
 IsUsage Done text = ⊥
 IsUsage No text = ⊥
 IsUsage ReadFault text = ⊥

@@ -2,8 +2,13 @@
 //! and the status.
 #![tactic(auto)]
 
+mod check;
 mod command;
+mod lines;
+mod reply;
+mod run;
 mod status;
+mod words;
 
 pub use command::accord;
 pub use status::Status;

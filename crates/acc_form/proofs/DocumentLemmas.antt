@@ -1,50 +1,98 @@
--- The parts of a document, put together.
-use Rattle.std.proofs.Common.{◌≡◌, ℕ, List, Bool, true, false, cond, Some, None, refl, sym, ap, ◌∙◌}
-use Rattle.std.proofs.lemmas.Bool.{and_from, and_left, and_right}
+-- What a document means, and what the reader answers of it.
+use Rattle.std.proofs.Common.{◌≡◌, ◌⊎◌, ℕ, List, Option, Some, None, Result, Ok, Err, IfOk, IfErr, codes, refl, sym, ap, subst, ◌∙◌, inl, inr}
+use Rattle.std.specs.Prelude.{IsSome}
 use Rattle.std.proofs.lemmas.Option.{none-some, same_Some}
 use Rattle.serde_json.specs.Data.{Data}
-use Rattle.acc_txn.specs.declared.parts.BodyParts.{BodyParts}
+use Rattle.serde_json.specs.Read.{read}
 use Rattle.acc_plan.specs.declared.plan.Plan.{Plan}
-use Rattle.acc_form.specs.declared.error.PlanKind.TheVariants.{Json, Unbuilt}
-use Rattle.acc_form.specs.declared.error.PlanError.{PlanError}
-use Rattle.acc_form.specs.declared.error.PlanError.TheVariants.{Bad, OutOfMemory}
-use Rattle.acc_form.specs.Answer.{Refuses}
-use Rattle.acc_form.specs.Cluster.{node_of, nodes}
-use Rattle.acc_form.specs.Document.{is_cluster, is_first_form, plan_of}
-use Rattle.acc_form.specs.Schedule.{begins_of, is_schedule, schedule}
-use Rattle.acc_form.specs.Transactions.{are_transactions, bodies_of, names_of, transactions}
+use Rattle.acc_schedule.specs.declared.error.PlanKind.{PlanKind}
+use Rattle.acc_schedule.specs.declared.error.PlanKind.TheVariants.{Unbuilt}
+use Rattle.acc_schedule.specs.declared.error.PlanError.{PlanError}
+use Rattle.acc_schedule.specs.declared.error.PlanError.TheVariants.{Bad, OutOfMemory}
+use Rattle.acc_schedule.specs.Content.{Content as Whole}
+use Rattle.acc_schedule.specs.Faults.{IsFault}
+use Rattle.acc_schedule.specs.Document.{document_fault, plan_of, Breaks, IsCause as BreaksRules, IsNoJson, Means as Says, Reads}
+use Rattle.acc_form.specs.Form.{IsFirstForm, Narrows}
+use Rattle.acc_form.specs.Document.{IsCause, IsRead, IsRefused, Means}
+use Rattle.acc_form.proofs.FormLemmas.{same_plan}
 
-not_chosen : (b : Bool) (n : ℕ) → None ≡ cond b (Some n) None → b ≡ false
-not_chosen true n e = absurd (none-some n e)
-not_chosen false n e = refl
+-- ---- one meaning
 
-chosen : (b : Bool) (m n : ℕ) → Some m ≡ cond b (Some n) None → (b ≡ true) × (m ≡ n)
-chosen true m n e = (refl, same_Some m n e)
-chosen false m n e = absurd (none-some m (sym e))
+-- a document has one data
+same_json : (bytes : List ℕ) (d e : Data) → read bytes ≡ Some d → read bytes ≡ Some e → d ≡ e
+same_json bytes d e a b = same_Some d e (sym a ∙ b)
 
-pub other_cluster : (d : Data) → None ≡ cond (is_cluster d) (Some (node_of (nodes d))) None → is_first_form d ≡ false
-other_cluster d e = and_left _ _ (and_left _ _ (not_chosen (is_cluster d) _ e))
+same_form : (bytes : List ℕ) (whole other : Whole) (a : Says bytes whole) (b : Says bytes other) (plan : Plan) → IsFirstForm a.json whole plan → IsFirstForm b.json other plan
+same_form bytes whole other a b plan form =
+    let json : a.json ≡ b.json = same_json bytes a.json b.json a.reads b.reads in
+    let wholes : whole ≡ other = a.says ∙ ap plan_of json ∙ sym b.says in
+    subst (λ (w : Whole). IsFirstForm b.json w plan) wholes (subst (λ (d : Data). IsFirstForm d whole plan) json form)
 
--- a refusal of a part is one of the whole
-pub refused_part : (part whole : Bool) (error : PlanError) → (part ≡ false → whole ≡ false) → Refuses part error → Refuses whole error
-refused_part part whole (Bad Json) follows h = h
-refused_part part whole (Bad Unbuilt) follows h = follows h
-refused_part part whole OutOfMemory follows h = tt
+-- a document that says a plan isn't refused
+pub says_no_fault : (bytes : List ℕ) (whole : Whole) (kind : PlanKind) (path : List ℕ) (detail at : ℕ) → Says bytes whole → BreaksRules bytes (Bad kind path detail at) → ⊥
+says_no_fault bytes whole kind path detail at says (inl no_json) = no_json.broken (says.utf8, subst (λ (o : Option Data). IsSome o) (sym says.reads) refl)
+says_no_fault bytes whole kind path detail at says (inr breaks) =
+    let json : says.json ≡ breaks.json = same_json bytes says.json breaks.json says.reads breaks.reads in
+    none-some _ (sym says.keeps_rules ∙ ap document_fault json ∙ breaks.first)
 
-pub other_transactions : (d : Data) (node : ℕ) → Some node ≡ cond (is_cluster d) (Some (node_of (nodes d))) None → are_transactions node (transactions d) ≡ false → is_first_form d ≡ false
-other_transactions d node e h =
-    let parts = chosen (is_cluster d) node _ e in
-    and_left _ _ (and_right (is_cluster d) _ (ap (λ n. are_transactions n (transactions d)) (sym parts.1) ∙ h))
+-- nor is one of the first form
+pub means_no_cause : (bytes : List ℕ) (plan : Plan) (kind : PlanKind) (path : List ℕ) (detail at : ℕ) → Means bytes plan → IsCause bytes (Bad kind path detail at) → ⊥
+means_no_cause bytes plan kind path detail at means (inl breaks) = says_no_fault bytes means.whole kind path detail at means.says breaks
+means_no_cause bytes plan kind path detail at means (inr unbuilt) = unbuilt.form plan (same_form bytes means.whole unbuilt.whole means.says unbuilt.says plan means.form)
 
-pub other_schedule : (d : Data) (names : List (List ℕ)) → names ≡ names_of (transactions d) → is_schedule names (schedule d) ≡ false → is_first_form d ≡ false
-other_schedule d names e h = and_right _ _ (ap (λ ns. is_schedule ns (schedule d)) (sym e) ∙ h)
+pub same_meaning : (bytes : List ℕ) (plan other : Plan) → Means bytes plan → Means bytes other → plan ≡ other
+same_meaning bytes plan other a b = same_plan a.says.json a.whole plan other a.form (same_form bytes b.whole a.whole b.says a.says other b.form)
 
-pub whole_document : (d : Data) (node : ℕ) (names texts : List (List ℕ)) (bodies : List BodyParts) (begins : List ℕ) → Some node ≡ cond (is_cluster d) (Some (node_of (nodes d))) None
-    → are_transactions node (transactions d) ≡ true → names ≡ names_of (transactions d) → bodies ≡ bodies_of (transactions d) → is_schedule names (schedule d) ≡ true
-    → begins ≡ begins_of names (schedule d) → texts ≡ names
-    → (is_first_form d ≡ true) × ◌≡◌ {A = Plan} (record { node = node; names = texts; bodies = bodies; begins = begins }) (plan_of d)
-whole_document d node names texts bodies begins e listed named meant scheduled begun same =
-    let parts = chosen (is_cluster d) node _ e in (
-      and_from _ _ (and_from _ _ parts.0 (ap (λ n. are_transactions n (transactions d)) (sym parts.1) ∙ listed)) (ap (λ ns. is_schedule ns (schedule d)) (sym named) ∙ scheduled),
-      λ i. record { node = parts.1 i; names = (same ∙ named) i; bodies = meant i; begins = (begun ∙ ap (λ ns. begins_of ns (schedule d)) named) i },
-    )
+-- ---- one refusal
+
+no_json_breaks : (bytes : List ℕ) (a b : PlanError) → IsNoJson bytes a → Breaks bytes b → ⊥
+no_json_breaks bytes a b no_json breaks = no_json.broken (breaks.utf8, subst (λ (o : Option Data). IsSome o) (sym breaks.reads) refl)
+
+one_fault : (bytes : List ℕ) (a b : PlanError) → IsNoJson bytes a ⊎ Breaks bytes a → IsNoJson bytes b ⊎ Breaks bytes b → a ≡ b
+one_fault bytes a b (inl x) (inl y) = same_Some a b (sym x.says ∙ y.says)
+one_fault bytes a b (inl x) (inr y) = absurd (no_json_breaks bytes a b x y)
+one_fault bytes a b (inr x) (inl y) = absurd (no_json_breaks bytes b a y x)
+one_fault bytes a b (inr x) (inr y) = same_Some a b (sym x.first ∙ ap document_fault (same_json bytes x.json y.json x.reads y.reads) ∙ y.first)
+
+one_cause : (bytes : List ℕ) (kind kind' : PlanKind) (path path' : List ℕ) (detail detail' at at' : ℕ) → IsCause bytes (Bad kind path detail at) → IsCause bytes (Bad kind' path' detail' at')
+    → Bad kind path detail at ≡ Bad kind' path' detail' at'
+one_cause bytes kind kind' path path' detail detail' at at' (inl x) (inl y) = one_fault bytes (Bad kind path detail at) (Bad kind' path' detail' at') x y
+one_cause bytes kind kind' path path' detail detail' at at' (inl x) (inr y) = absurd (says_no_fault bytes y.whole kind path detail at y.says x)
+one_cause bytes kind kind' path path' detail detail' at at' (inr x) (inl y) = absurd (says_no_fault bytes x.whole kind' path' detail' at' x.says y)
+one_cause bytes kind kind' path path' detail detail' at at' (inr x) (inr y) = x.refusal ∙ sym y.refusal
+
+-- ---- what the reader found
+
+pub breaks_rules : (bytes : List ℕ) (d : Data) (error : PlanError) → Reads bytes d → IsFault (document_fault d) error → IsCause bytes error
+breaks_rules bytes d OutOfMemory reads h = tt
+breaks_rules bytes d (Bad kind path detail at) reads h = inl (inr (record { utf8 = reads.utf8; json = d; reads = reads.reads; first = h }))
+
+pub means_plan : (bytes : List ℕ) (d : Data) (whole : Whole) (plan : Plan) → Reads bytes d → (document_fault d ≡ None) × (whole ≡ plan_of d) → IsFirstForm d whole plan → Means bytes plan
+means_plan bytes d whole plan reads says form = record {
+  whole = whole;
+  says = record { utf8 = reads.utf8; json = d; reads = reads.reads; keeps_rules = says.0; says = says.1 };
+  form = form;
+}
+
+pub unbuilt_cause : (bytes : List ℕ) (d : Data) (whole : Whole) (error : PlanError) → Reads bytes d → (document_fault d ≡ None) × (whole ≡ plan_of d) → Narrows d whole None
+    → IsFault (Some (Bad Unbuilt (codes "-") 0 0)) error → IsCause bytes error
+unbuilt_cause bytes d whole OutOfMemory reads says none h = tt
+unbuilt_cause bytes d whole (Bad kind path detail at) reads says none h = inr (record {
+  whole = whole;
+  says = record { utf8 = reads.utf8; json = d; reads = reads.reads; keeps_rules = says.0; says = says.1 };
+  form = none;
+  refusal = sym (same_Some (Bad Unbuilt (codes "-") 0 0) (Bad kind path detail at) h);
+})
+
+-- ---- what is answered
+
+pub given_read : (bytes : List ℕ) (r : Result Plan PlanError) → IfOk r (Means bytes) → IfErr r (IsCause bytes) → (plan : Plan) → Means bytes plan → IsRead plan r
+given_read bytes (Ok other) means cause plan m = same_meaning bytes other plan means m
+given_read bytes (Err (Bad kind path detail at)) means cause plan m = means_no_cause bytes plan kind path detail at m cause
+given_read bytes (Err OutOfMemory) means cause plan m = tt
+
+pub given_refuses : (bytes : List ℕ) (r : Result Plan PlanError) → IfOk r (Means bytes) → IfErr r (IsCause bytes) → (error : PlanError) → IsCause bytes error → IsRefused error r
+given_refuses bytes r means cause OutOfMemory x = tt
+given_refuses bytes (Ok plan) means cause (Bad kind path detail at) x = means_no_cause bytes plan kind path detail at means x
+given_refuses bytes (Err OutOfMemory) means cause (Bad kind path detail at) x = tt
+given_refuses bytes (Err (Bad kind' path' detail' at')) means cause (Bad kind path detail at) x = one_cause bytes kind' kind path' path detail' detail at' at cause x

@@ -1,9 +1,5 @@
-pub mod FieldLemmas
-pub mod UpdateLemmas
-pub mod NameLemmas
-pub mod BodyLemmas
-pub mod TransactionLemmas
-pub mod ScheduleLemmas
+mod PairLemmas
+mod FieldLemmas
+mod FormLemmas
+mod PlanLemmas
 pub mod DocumentLemmas
-pub mod PlanLemmas
-pub mod ReadLemmas

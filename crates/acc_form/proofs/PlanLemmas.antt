@@ -1,99 +1,78 @@
--- What holds of the plan of every document of the first form.
-use Rattle.std.proofs.Common.{◌≡◌, ℕ, ◌<◌, ◌≤◌, ◌&&◌, List, [], ◌∷◌, length, map, filter_map, position, Bool, true, false, cond, Option, Some, None, is_some, unwrap_or, option_map, nat_eq, nat_le, codes, refl, sym, ap, ◌∙◌, subst, arith}
-use Rattle.std.specs.List.{AllByRecursion, cons_option, list_all}
+-- The plan that is run of a document that breaks no rule.
+use Rattle.std.proofs.Common.{◌≡◌, ℕ, zero, suc, ◌+◌, ◌<◌, ◌≤◌, ◌||◌, eqb, List, [], ◌∷◌, ◌++◌, length, take, get_or, filter, true, false, All, refl, sym, ap, subst, ◌∙◌, arith, add-one}
+use Rattle.std.specs.List.{AllByRecursion, list_any}
 use Rattle.std.specs.Str.{bytes_eq}
-use Rattle.std.proofs.lemmas.Bool.{false≢true, and_parts, and_from, leb-true}
-use Rattle.std.proofs.lemmas.List.{length-map}
-use Rattle.std.proofs.lemmas.List.Quantifiers.{position-Some}
-use Rattle.std.proofs.lemmas.Option.{none-some, option_and_then_some, same_Some}
-use Rattle.serde_json.specs.Data.{Data}
-use Rattle.serde_json.specs.Find.{as_str}
+use Rattle.std.proofs.lemmas.Bool.{not-true}
+use Rattle.std.proofs.lemmas.List.{take_all, take_more}
+use Rattle.std.proofs.lemmas.List.Elements.{All-filter, filter_passes}
+use Rattle.std.proofs.lemmas.List.FromFn.{length-range_with_len, get_or-range_with_len}
+use Rattle.acc_topology.specs.Layout.{node_numbers}
+use Rattle.acc_topology.specs.Sets.{in_order, is_among, numbers}
 use Rattle.acc_plan.specs.declared.plan.Plan.{Plan}
-use Rattle.acc_form.specs.Cluster.{are_nodes, are_shards, is_node, is_number, node_of, nodes, shards}
 use Rattle.acc_plan.specs.Distinct.{are_distinct}
-use Rattle.acc_form.specs.Document.{is_cluster, is_first_form, plan_of, Means}
-use Rattle.acc_form.specs.Fields.{elements, field, has_fields, items, only, text, whole}
 use Rattle.acc_plan.specs.Plan.{IsPlan}
-use Rattle.acc_form.specs.Schedule.{are_pairs, begins_of, begun, begun_by, is_schedule, is_text, number_of, schedule}
-use Rattle.acc_form.specs.Transactions.{are_transactions, bodies_of, body_of, is_name, is_named_at, is_transaction, name_of, names_of, transactions}
-use Rattle.acc_form.specs.Update.{is_update}
+use Rattle.acc_plan.proofs.DistinctLemmas.{distinct_push}
+use Rattle.serde_json.specs.Data.{Data}
+use Rattle.acc_schedule.specs.Content.{Content as Whole}
+use Rattle.acc_schedule.specs.Plan.{IsStep, IsPlan as IsWhole}
+use Rattle.acc_schedule.specs.Transactions.{is_new}
+use Rattle.acc_topology.specs.Layout.{Layout}
+use Rattle.acc_form.specs.Pairs.{pairs_of}
+use Rattle.acc_form.specs.Form.{IsFirstForm}
+use Rattle.acc_form.proofs.FormLemmas.{more_starts}
 
-node_in_range : (o : Option ℕ) → unwrap_or (option_map (λ n. nat_le 1 n && nat_le n 15) o) false ≡ true → (1 ≤ unwrap_or o 0) × (unwrap_or o 0 ≤ 15)
-node_in_range None h = absurd (false≢true h)
-node_in_range (Some n) h = let parts = and_parts (nat_le 1 n) (nat_le n 15) h in (leb-true 1 n parts.0, leb-true n 15 parts.1)
+-- ---- the node
 
-pub node_of-range : (d : Data) → are_nodes d ≡ true → (1 ≤ node_of d) × (node_of d ≤ 15)
-node_of-range d h =
-    node_in_range (whole (field (codes "id") (only d))) (and_parts (has_fields (codes "id" ∷ []) (only d)) (is_node (field (codes "id") (only d))) h).1
+in_numbers : All (λ n. (1 ≤ n) × (n ≤ 15)) node_numbers
+in_numbers k d lt =
+    let short : k < 15 = omega (arith, lt, length-range_with_len 1 15) in
+    let at : get_or node_numbers k d ≡ 1 + k = get_or-range_with_len 1 15 k d short in
+    (omega (arith, at), omega (arith, at))
 
-names_have_form : (node : ℕ) (ds : List Data) → list_all (is_transaction node) ds ≡ true → list_all is_name (map name_of ds) ≡ true
-names_have_form node [] h = refl
-names_have_form node (d ∷ ds) h =
-    let parts = and_parts (is_transaction node d) (list_all (is_transaction node) ds) h in
-    let named = (and_parts (is_named_at node d) (is_update (text (field (codes "text") d))) parts.0).0 in
-    let front = (and_parts (has_fields (codes "name" ∷ codes "node" ∷ codes "text" ∷ []) d && is_name (name_of d)) (is_number node (field (codes "node") d)) named).0 in
-    and_from _ _ (and_parts (has_fields (codes "name" ∷ codes "node" ∷ codes "text" ∷ []) d) (is_name (name_of d)) front).1 (names_have_form node ds parts.1)
+eqb_true : (a b : ℕ) → (eqb a b || false) ≡ true → a ≡ b
+eqb_true a b h = grind arith
 
-taken : (b : Bool) (o : Option ℕ) (n : ℕ) → cond b o None ≡ Some n → o ≡ Some n
-taken true o n e = e
-taken false o n e = absurd (none-some n e)
+-- the one node of a cluster
+node_in_range : (nodes : List ℕ) (node : ℕ) → nodes ≡ filter (is_among nodes) node_numbers → nodes ≡ in_order (node ∷ []) → length nodes ≡ 1 → (1 ≤ node) × (node ≤ 15)
+node_in_range nodes node part ordered one =
+    let kept : All (λ n. (1 ≤ n) × (n ≤ 15)) nodes = subst (All (λ n. (1 ≤ n) × (n ≤ 15))) (sym part) (All-filter (is_among nodes) (λ n. (1 ≤ n) × (n ≤ 15)) node_numbers in_numbers) in
+    let passes : All (λ n. is_among (node ∷ []) n ≡ true) nodes = subst (All (λ n. is_among (node ∷ []) n ≡ true)) (sym ordered) (filter_passes (is_among (node ∷ [])) numbers) in
+    let same : node ≡ get_or nodes 0 0 = eqb_true node (get_or nodes 0 0) (passes 0 0 (omega (arith, one))) in
+    subst (λ (n : ℕ). (1 ≤ n) × (n ≤ 15)) (sym same) (kept 0 0 (omega (arith, one)))
 
-begun-lt : (names : List (List ℕ)) (words : List Data) (n : ℕ) → begun_by names words ≡ Some n → n < length names
-begun-lt names [] n e = absurd (none-some n e)
-begun-lt names (word ∷ []) n e = absurd (none-some n e)
-begun-lt names (word ∷ name ∷ []) n e =
-    option_and_then_some (λ bytes. position (bytes_eq bytes) names) (as_str name) n (taken (is_text (codes "begin") word) (number_of names name) n e)
-    (λ bytes is at. (position-Some (bytes_eq bytes) names n [] at).0)
-begun-lt names (word ∷ name ∷ more ∷ words) n e = absurd (none-some n e)
+-- ---- names
 
-known_begun : (names : List (List ℕ)) (o : Option ℕ) (others : List ℕ) → ((n : ℕ) → o ≡ Some n → n < length names) → AllByRecursion (λ n. n < length names) others
-    → AllByRecursion (λ n. n < length names) (cons_option o others)
-known_begun names None others h rest = rest
-known_begun names (Some n) others h rest = (h n refl, rest)
+distinct_take : (names : List (List ℕ)) → ((i : ℕ) → i < length names → is_new (take i names) (get_or names i []) ≡ true) → (k : ℕ) → k ≤ length names → are_distinct bytes_eq (take k names) ≡ true
+distinct_take names each zero le = refl
+distinct_take names each (suc k) le =
+    let new : list_any (bytes_eq (get_or names k [])) (take k names) ≡ false = not-true _ (each k (omega (arith, le))) in
+    let more : take (k + 1) names ≡ take k names ++ get_or names k [] ∷ [] = take_more names k [] (omega (arith, le)) in
+    rw (← add-one) (ap (are_distinct bytes_eq) more ∙ distinct_push bytes_eq (take k names) (get_or names k []) (distinct_take names each k (omega (arith, le))) new)
 
-begins-known : (names : List (List ℕ)) (steps : List Data) → AllByRecursion (λ n. n < length names) (filter_map (begun names) steps)
-begins-known names [] = tt
-begins-known names (step ∷ steps) = known_begun names (begun names step) _ (λ n e. begun-lt names (items step) n e) (begins-known names steps)
+names_distinct : (names : List (List ℕ)) → ((i : ℕ) → i < length names → is_new (take i names) (get_or names i []) ≡ true) → are_distinct bytes_eq names ≡ true
+names_distinct names each = ap (are_distinct bytes_eq) (sym (take_all (length names) names (omega arith))) ∙ distinct_take names each (length names) (omega arith)
 
-pub IsPlan-plan_of : (d : Data) → is_first_form d ≡ true → IsPlan (plan_of d)
-IsPlan-plan_of d h =
-    let ts = transactions d in
-    let node = node_of (nodes d) in
-    let whole = and_parts (is_cluster d && are_transactions node ts) (is_schedule (names_of ts) (schedule d)) h in
-    let front = and_parts (is_cluster d) (are_transactions node ts) whole.0 in
-    let heads = and_parts (has_fields (codes "version" ∷ codes "nodes" ∷ codes "shards" ∷ codes "txns" ∷ codes "schedule" ∷ []) d && is_number 1 (field (codes "version") d) && are_nodes (nodes d)) (are_shards node (shards d)) front.0 in
-    let range = node_of-range (nodes d) (and_parts (has_fields (codes "version" ∷ codes "nodes" ∷ codes "shards" ∷ codes "txns" ∷ codes "schedule" ∷ []) d && is_number 1 (field (codes "version") d)) (are_nodes (nodes d)) heads.0).1 in
-    let listed = and_parts (is_some (elements ts) && nat_le (length (items ts)) 64 && list_all (is_transaction node) (items ts)) (are_distinct bytes_eq (names_of ts)) front.1 in
-    let each = and_parts (is_some (elements ts) && nat_le (length (items ts)) 64) (list_all (is_transaction node) (items ts)) listed.0 in
-    let count = leb-true (length (items ts)) 64 (and_parts (is_some (elements ts)) (nat_le (length (items ts)) 64) each.0).1 in
-    let bodies = length-map (items ts) body_of in
-    let names = length-map (items ts) name_of in
-    let once = (and_parts (is_some (elements (schedule d)) && are_pairs (names_of ts) (items (schedule d))) (are_distinct nat_eq (begins_of (names_of ts) (schedule d))) whole.1).1 in
-    let as_many : length (names_of ts) ≡ length (bodies_of ts) = names ∙ sym bodies in
+-- ---- steps
+
+known_begins : (count : ℕ) (layout : Layout) (begins : List ℕ) → AllByRecursion (IsStep count layout) (pairs_of begins) → AllByRecursion (λ number. number < count) begins
+known_begins count layout [] h = tt
+known_begins count layout (txn ∷ txns) h = (h.0, known_begins count layout txns h.1.1)
+
+-- ---- the whole
+
+pub IsPlan-IsFirstForm : (d : Data) (whole : Whole) (plan : Plan) → IsWhole whole → IsFirstForm d whole plan → IsPlan plan
+IsPlan-IsFirstForm d whole plan sound form =
+    let one : length whole.starts ≡ 1 = more_starts whole.starts plan.node form.cluster.one_node in
+    let node = node_in_range whole.topology.nodes plan.node sound.layout.nodes (sound.nodes ∙ ap in_order form.cluster.one_node) (sym sound.nodes_once ∙ one) in
+    let names : length plan.names ≡ length whole.names = ap length form.names in
+    let bodies : length plan.bodies ≡ length whole.bodies = ap length form.bodies in
+    let steps : AllByRecursion (IsStep (length whole.names) whole.topology) (pairs_of plan.begins) = subst (AllByRecursion (IsStep (length whole.names) whole.topology)) form.schedule.pairs sound.steps_known in
     record {
-      node_least = range.0;
-      node_most = range.1;
-      as_many = as_many;
-      few = omega arith;
-      names_differ = listed.1;
-      begun_once = once;
-      known = subst (λ k. AllByRecursion (λ n. n < k) (begins_of (names_of ts) (schedule d))) as_many (begins-known (names_of ts) (items (schedule d)));
+      node_least = node.0;
+      node_most = node.1;
+      as_many = omega (arith, names, bodies, sound.bodies_as_many);
+      few = omega (arith, bodies, form.few);
+      names_differ = ap (are_distinct bytes_eq) form.names ∙ names_distinct whole.names sound.names_once;
+      begun_once = form.schedule.once;
+      known = subst (λ (count : ℕ). AllByRecursion (λ number. number < count) plan.begins) (sym sound.bodies_as_many ∙ sym bodies) (known_begins (length whole.names) whole.topology plan.begins steps);
     }
-
--- its names have the form
-pub named-plan_of : (d : Data) → is_first_form d ≡ true → list_all is_name (names_of (transactions d)) ≡ true
-named-plan_of d h =
-    let ts = transactions d in
-    let node = node_of (nodes d) in
-    let whole = and_parts (is_cluster d && are_transactions node ts) (is_schedule (names_of ts) (schedule d)) h in
-    let front = and_parts (is_cluster d) (are_transactions node ts) whole.0 in
-    let listed = and_parts (is_some (elements ts) && nat_le (length (items ts)) 64 && list_all (is_transaction node) (items ts)) (are_distinct bytes_eq (names_of ts)) front.1 in
-    names_have_form node (items ts) (and_parts (is_some (elements ts) && nat_le (length (items ts)) 64) (list_all (is_transaction node) (items ts)) listed.0).1
-
--- the plan that a document says
-pub IsPlan-Means : (bytes : List ℕ) (plan : Plan) → Means bytes plan → IsPlan plan
-IsPlan-Means bytes plan means = subst IsPlan (sym means.says) (IsPlan-plan_of means.json means.form)
-
--- a document says one plan
-pub same_plan : (bytes : List ℕ) (plan other : Plan) → Means bytes plan → Means bytes other → plan ≡ other
-same_plan bytes plan other a b = a.says ∙ ap plan_of (same_Some a.json b.json (sym a.reads ∙ b.reads)) ∙ sym b.says

@@ -1,7 +1,3 @@
-pub mod Fields
-pub mod Cluster
-pub mod Update
-pub mod Transactions
-pub mod Schedule
-pub mod Answer
+pub mod Pairs
+pub mod Form
 pub mod Document

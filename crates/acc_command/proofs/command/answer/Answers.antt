@@ -1,0 +1,28 @@
+-- Each way to end is one of a text that was due.
+use Rattle.std.proofs.Common.{◌≤◌, List, ℕ, length, Err, refl, ap, subst}
+use Rattle.acc_ports.specs.declared.error.ReadError.{ReadError}
+use Rattle.acc_command.specs.Command.{document_limit, Ends, IsAccepted, IsDone, IsDue}
+use Rattle.acc_command.proofs.CommandFacts.{completes, known_bytes, too_long}
+use Rattle.acc_command.proofs.LeavesFacts.{leaves_none}
+use Rattle.acc_command.proofs.command.answer.Goals as goal
+
+pub returns-in-Ok-clause-leaves : goal.returns-in-Ok-clause-leaves
+returns-in-Ok-clause-leaves g c =
+    leaves_none c.in-Ok.bytes (g.S.Source.left c.args.source.now) (g.S.Source.left c.read_all.new.source)
+    (g.K.Sink.written c.args.sink.now) (g.K.Sink.written c.respond.new.sink) c.in-Ok.ensures.within c.in-Ok.ensures.all c.in-Ok.ensures.end c.args.command c.respond.result
+    (subst (λ (bytes : List ℕ). Ends (IsDue c.args.command bytes) c.respond.result (g.K.Sink.written c.args.sink.now) (g.K.Sink.written c.respond.new.sink))
+    c.as_slice.ensures c.respond.ensures.ends)
+
+pub returns-in-Ok-clause-complete : goal.returns-in-Ok-clause-complete
+returns-in-Ok-clause-complete g c = λ no_read no_write.
+    known_bytes (g.S.Source.left c.args.source.now) c.in-Ok.bytes
+    (λ (bytes : List ℕ). IsAccepted c.args.command bytes → length bytes ≤ document_limit → IsDone c.respond.result)
+    c.in-Ok.ensures.all
+    (λ accepted short. completes c.args.command c.in-Ok.bytes c.respond.result (g.K.Sink.written c.args.sink.now) (g.K.Sink.written c.respond.new.sink)
+    accepted short c.respond.ensures.reads (λ e. no_write (c.respond.ensures.cause e))
+    (subst (λ (bytes : List ℕ). Ends (IsDue c.args.command bytes) c.respond.result (g.K.Sink.written c.args.sink.now) (g.K.Sink.written c.respond.new.sink))
+    c.as_slice.ensures c.respond.ensures.ends))
+
+pub returns-in-Err-TooLong-clause-ends : goal.returns-in-Err-TooLong-clause-ends
+returns-in-Err-TooLong-clause-ends g c =
+    too_long c.args.command _ _ _ _ _ (c.in-Err-TooLong.ensures.too_long (ap (λ (e : ReadError). Err e) c.in-Err-TooLong.field-0-is)) (λ l long. (long, refl)) c.say.ensures.said

@@ -1,0 +1,50 @@
+-- The lines that are written.
+use Rattle.std.specs.Prelude.{◌≡◌, ℕ, List, [], ◌∷◌, ◌++◌, length, codes, decimal}
+use Rattle.acc_schedule.specs.declared.error.PlanKind.{PlanKind}
+use Rattle.acc_schedule.specs.declared.error.PlanKind.TheVariants.{Json, Shape, Limit, Topology, Text, Name, Step, Unbuilt}
+use Rattle.acc_schedule.specs.declared.error.PlanError.{PlanError}
+use Rattle.acc_schedule.specs.declared.error.PlanError.TheVariants.{Bad, OutOfMemory}
+use Rattle.acc_schedule.specs.Content.{Content as Plan}
+
+-- a text with a line feed behind it
+abbrev pub line : List ℕ → List ℕ
+line text = text ++ 10 ∷ []
+
+abbrev pub usage_text : List ℕ
+usage_text = codes "usage: accord run | check | free --workers W | gen --seed N --txns M"
+
+abbrev pub limit_text : List ℕ
+limit_text = codes "limit document 16777216"
+
+-- ---- a refused document
+
+abbrev pub number_of : PlanKind → ℕ
+number_of Json = 1
+number_of Shape = 2
+number_of Limit = 3
+number_of Topology = 4
+number_of Text = 5
+number_of Name = 6
+number_of Step = 7
+number_of Unbuilt = 8
+
+-- what stands behind the place
+abbrev pub detail_text : PlanKind → ℕ → ℕ → List ℕ
+detail_text Topology detail at = codes " " ++ decimal detail
+detail_text Text detail at = codes " " ++ decimal detail ++ codes " at " ++ decimal at
+detail_text _ detail at = []
+
+abbrev pub refusal_text : PlanKind → List ℕ → ℕ → ℕ → List ℕ
+refusal_text kind path detail at = codes "bad " ++ decimal (number_of kind) ++ codes " " ++ path ++ detail_text kind detail at
+
+-- the line of this refusal; want of memory has none
+abbrev pub IsRefusalOf : PlanError → List ℕ → Type 0
+IsRefusalOf (Bad kind path detail at) text = text ≡ line (refusal_text kind path detail at)
+IsRefusalOf OutOfMemory text = ⊥
+
+-- ---- an accepted document
+
+abbrev pub ok_text : Plan → List ℕ
+ok_text plan =
+    codes "ok nodes=" ++ decimal (length plan.starts) ++ codes " shards=" ++ decimal (length plan.topology.shards) ++ codes " txns="
+    ++ decimal (length plan.names) ++ codes " steps=" ++ decimal (length plan.steps)

@@ -1,0 +1,93 @@
+//! The lines of a document that is refused, and of one that is accepted.
+ghost use Rattle.std.specs.Prelude.{◌≡◌, ◌++◌, decimal, IfOk, OnOk};
+ghost use Rattle.acc_command.specs.Lines.{detail_text, line, number_of, ok_text, refusal_text, IsRefusalOf};
+
+use acc_base::{Bytes, OutOfMemory, Text};
+use acc_schedule::{Plan, PlanError, PlanKind};
+use std::alloc::Global;
+
+/// The line of an accepted document: how many nodes, shards, transactions and steps it has.
+pub(crate) fn ok_line(alloc: Global, plan: &Plan) -> Result<Bytes, OutOfMemory>
+    ensures { IfOk result (λ text. text ≡ line (ok_text plan.now)) }
+{
+    let mut text = Vec::new(alloc);
+    text.extend_from_slice(b"ok nodes=")?;
+    push_number(&mut text, plan.starts.len() as u64)?;
+    text.extend_from_slice(b" shards=")?;
+    push_number(&mut text, u64::from(plan.topology.shards()))?;
+    text.extend_from_slice(b" txns=")?;
+    push_number(&mut text, plan.names.len() as u64)?;
+    text.extend_from_slice(b" steps=")?;
+    push_number(&mut text, plan.steps.len() as u64)?;
+    text.push(b'\n')?;
+    Ok(Bytes::from_vec(text))
+}
+
+/// The line of a refusal. Want of memory has none.
+pub(crate) fn refusal_line(alloc: Global, error: &PlanError) -> Result<Bytes, OutOfMemory>
+    ensures { IfOk result (IsRefusalOf error.now) }
+{
+    match error {
+        PlanError::Bad {
+            kind,
+            path,
+            detail,
+            at,
+        } => bad_line(alloc, *kind, path, *detail, *at),
+        PlanError::OutOfMemory => Err(OutOfMemory),
+    }
+}
+
+fn bad_line(
+    alloc: Global,
+    kind: PlanKind,
+    path: &Text,
+    detail: u32,
+    at: u64,
+) -> Result<Bytes, OutOfMemory>
+    ensures { IfOk result (λ text. text ≡ line (refusal_text kind path.now detail at)) }
+{
+    let mut text = Vec::new(alloc);
+    text.extend_from_slice(b"bad ")?;
+    push_number(&mut text, number(kind))?;
+    text.extend_from_slice(b" ")?;
+    text.extend_from_slice(path.as_slice())?;
+    push_detail(&mut text, kind, detail, at)?;
+    text.push(b'\n')?;
+    Ok(Bytes::from_vec(text))
+}
+
+// The number of a kind.
+fn number(kind: PlanKind) -> u64
+    ensures { result ≡ number_of kind }
+{
+    kind as u64
+}
+
+// What stands behind the place.
+fn push_detail(text: &mut Vec<u8>, kind: PlanKind, detail: u32, at: u64) -> Result<(), OutOfMemory>
+    ensures { OnOk result (text.new.items ≡ text.old.items ++ detail_text kind detail at) }
+{
+    match kind {
+        PlanKind::Topology => {
+            text.extend_from_slice(b" ")?;
+            push_number(text, u64::from(detail))?;
+        }
+        PlanKind::Text => {
+            text.extend_from_slice(b" ")?;
+            push_number(text, u64::from(detail))?;
+            text.extend_from_slice(b" at ")?;
+            push_number(text, at)?;
+        }
+        _ => {}
+    }
+    Ok(())
+}
+
+fn push_number(text: &mut Vec<u8>, number: u64) -> Result<(), OutOfMemory>
+    ensures { OnOk result (text.new.items ≡ text.old.items ++ decimal number) }
+{
+    let digits = number.to_string(*text.allocator())?;
+    text.extend_from_slice(digits.as_bytes())?;
+    Ok(())
+}

@@ -1,5 +1,0 @@
-use Rattle.acc_form.proofs.FieldLemmas.{elements-as_array}
-use Rattle.acc_form.proofs.fields.elements.Goals as goal
-
-pub returns : goal.returns
-returns c = elements-as_array _ _ _ c.in_ok-as_array.ensures c.as_slice.ensures.value

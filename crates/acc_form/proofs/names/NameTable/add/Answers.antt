@@ -1,6 +1,0 @@
-use Rattle.acc_form.proofs.NameLemmas.{is_new-texts}
-use Rattle.acc_form.proofs.names.NameTable.add.Goals as goal
-
-pub returns-clause-added : goal.returns-clause-added
-returns-clause-added c =
-    is_new-texts _ _ c.in_ok-name.name c.self.inside.names.keys _ c.in_ok-insert.ensures.added c.in_ok-name.ensures.items c.self.view_is

@@ -1,7 +1,0 @@
--- The number is that of the digits before this one.
-use Rattle.std.proofs.Common.{◌≡◌, take}
-use Rattle.std.specs.Str.Parse.{digits_value}
-use Rattle.acc_form.proofs.update.number_of.Given as goal
-
-abbrev pub invariant-loop-digit : goal.invariant-loop-digit
-invariant-loop-digit l = l.number ≡ digits_value 10 (take l.digit-index l.digits)
