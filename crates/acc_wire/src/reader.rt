@@ -52,6 +52,16 @@ impl<'a> Reader<'a> {
         self.ahead
     }
 
+    /// A second reader of the bytes that are left, at the same place.
+    pub fn fork(&self) -> Reader<'a>
+        ensures { result ≡ self.now }
+    {
+        Reader {
+            ahead: self.ahead,
+            place: self.place,
+        }
+    }
+
     /// The next bytes.
     fn take_chunk<const N: usize>(&mut self) -> Result<[u8; N], WireError>
         ensures exact { Takes result self.old self.new (field_at N (λ bytes. bytes) self.old) }

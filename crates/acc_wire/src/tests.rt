@@ -30,6 +30,7 @@ fn fields_are_read(rt: HostRuntime) -> Result<(), Fail> {
     assert_eq!(rt; reader.take_u64()?, 0x0102_0304_0506_0708);
     assert_eq!(rt; reader.take_i64()?, -2);
     assert_eq!(rt; reader.left(), [2, 104, 105].as_slice());
+    assert_eq!(rt; reader.fork().take_u8()?, 2);
     assert_eq!(rt; reader.take_text()?, b"hi".as_slice());
     assert_eq!(rt; reader.place(), 26);
     reader.finish()?;

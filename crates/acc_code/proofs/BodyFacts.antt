@@ -1,0 +1,119 @@
+-- Bodies are short enough for their format, and what was read is a body where it has a key.
+use Rattle.std.proofs.Common.{◌≡◌, ℕ, ◌<◌, ◌≤◌, false, not, List, [], ◌∷◌, length, Some, None, Ok, Err, refl, ap, arith, is_none}
+use Rattle.std.specs.List.{list_any, AllByRecursion}
+use Rattle.std.proofs.lemmas.Bool.{cases_Bool, not-false, or_parts}
+use Rattle.std.proofs.Common.{inl, inr}
+use Rattle.acc_wire.specs.declared.error.WireKind.TheVariants.{Range}
+use Rattle.acc_wire.specs.Reading.{Unread, AreBytes, fault_at}
+use Rattle.acc_value.specs.declared.key.Key.{Key}
+use Rattle.acc_txn.specs.declared.parts.Let.{Let}
+use Rattle.acc_txn.specs.declared.parts.Select.{Select}
+use Rattle.acc_txn.specs.declared.parts.Select.TheVariants.{Nothing, Names, Get}
+use Rattle.acc_txn.specs.declared.parts.Condition.{Condition}
+use Rattle.acc_txn.specs.declared.parts.Condition.TheVariants.{Compare, IsNull, IsNotNull}
+use Rattle.acc_txn.specs.declared.parts.Update.{Update}
+use Rattle.acc_txn.specs.declared.parts.Update.TheVariants.{Set, Delete}
+use Rattle.acc_txn.specs.declared.parts.BodyParts.{BodyParts}
+use Rattle.acc_txn.specs.declared.error.BodyError.{BodyError}
+use Rattle.acc_txn.specs.declared.error.BodyError.TheVariants.{TooMany, UnboundName, TwiceBound, NoKey, BadWord, BadShape, OutOfMemory}
+use Rattle.acc_txn.specs.Words.{is_name, is_key}
+use Rattle.acc_txn.specs.Uses.{selected_keys, updated_key, footprint_of}
+use Rattle.acc_txn.specs.Rules.{is_many, selected_names, condition_has, update_has, some_expression, is_long, has_no_key, has_bad_name, has_bad_key, refusal_of, IsBody, IsRefused}
+use Rattle.acc_code.specs.Reading.{Fails}
+use Rattle.acc_code.specs.Short.{IsShortKey, IsShortLet, IsShortSelect, IsShortCondition, IsShortUpdate, IsShortBody}
+use Rattle.acc_code.specs.BodyReading.{parts_at, body_at, refused_at}
+use Rattle.acc_code.proofs.PartsFormat.{parts_field}
+use Rattle.acc_code.proofs.RulesKept.{rules_kept}
+use Rattle.acc_code.proofs.RulesGiven.{few, keeps, word_fits, key_fits}
+
+-- ---- a body is short
+
+short_key : (key : Key) → not (is_key key) ≡ false → IsShortKey key
+short_key key h = let k = key_fits key h in record { table = k.0.0; key = k.1.0 }
+
+short_lets : (lets : List Let) → has_bad_name lets ≡ false → list_any (λ l. not (is_key l.key)) lets ≡ false → AllByRecursion IsShortLet lets
+short_lets [] names keys = tt
+short_lets (l ∷ lets) names keys =
+    let n = or_parts (not (is_name l.name)) (has_bad_name lets) names in
+    let k = or_parts (not (is_key l.key)) (list_any (λ m. not (is_key m.key)) lets) keys in
+    (record { name = (word_fits l.name (not-false (is_name l.name) n.0)).0; key = short_key l.key k.0 }, short_lets lets n.1 k.1)
+
+short_select : (s : Select) → length (selected_names s) ≤ 16 → list_any (λ key. not (is_key key)) (selected_keys s) ≡ false → IsShortSelect s
+short_select Nothing size keys = tt
+short_select (Names names) size keys = omega arith
+short_select (Get key) size keys = short_key key (or_parts (not (is_key key)) false keys).0
+
+short_condition : (c : Condition) → condition_has is_long c ≡ false → IsShortCondition c
+short_condition (Compare op left right) h =
+    let s = or_parts (is_long left) (is_long right) h in
+    let l = few (length left) s.0 in let r = few (length right) s.1 in (omega (arith, l), omega (arith, r))
+short_condition (IsNull name) h = tt
+short_condition (IsNotNull name) h = tt
+
+short_conditions : (cs : List Condition) → list_any (condition_has is_long) cs ≡ false → AllByRecursion IsShortCondition cs
+short_conditions [] h = tt
+short_conditions (c ∷ cs) h =
+    let s = or_parts (condition_has is_long c) (list_any (condition_has is_long) cs) h in (short_condition c s.0, short_conditions cs s.1)
+
+short_update : (u : Update) → update_has is_long u ≡ false → not (is_key (updated_key u)) ≡ false → IsShortUpdate u
+short_update (Set key value) h k = let l = few (length value) h in (short_key key k, omega (arith, l))
+short_update (Delete key) h k = short_key key k
+
+short_updates : (us : List Update) → list_any (update_has is_long) us ≡ false → list_any (λ u. not (is_key (updated_key u))) us ≡ false → AllByRecursion IsShortUpdate us
+short_updates [] h k = tt
+short_updates (u ∷ us) h k =
+    let s = or_parts (update_has is_long u) (list_any (update_has is_long) us) h in
+    let t = or_parts (not (is_key (updated_key u))) (list_any (λ v. not (is_key (updated_key v))) us) k in
+    (short_update u s.0 t.0, short_updates us s.1 t.1)
+
+below_256 : (n : ℕ) → n ≤ 16 → n < 256
+below_256 n le = omega arith
+
+pub short_body : (parts : BodyParts) → IsBody parts → IsShortBody parts
+short_body parts body =
+    let k = keeps parts body in
+    let uses = or_parts _ (is_many (length (footprint_of parts))) k.size in
+    let long = or_parts _ (some_expression is_long parts) uses.0 in
+    let many_updates = or_parts _ (is_many (length parts.updates)) long.0 in
+    let many_guards = or_parts _ (is_many (length parts.guards)) many_updates.0 in
+    let many = or_parts (is_many (length parts.lets)) (is_many (length (selected_names parts.select))) many_guards.0 in
+    let long_parts = or_parts (list_any (condition_has is_long) parts.guards) (list_any (update_has is_long) parts.updates) long.1 in
+    let words = or_parts (has_bad_name parts.lets) (has_bad_key parts) k.words in
+    let update_keys = or_parts _ (list_any (λ u. not (is_key (updated_key u))) parts.updates) words.1 in
+    let read_keys = or_parts (list_any (λ l. not (is_key l.key)) parts.lets) (list_any (λ key. not (is_key key)) (selected_keys parts.select)) update_keys.0 in
+    record {
+      lets_count = below_256 _ (few _ many.0);
+      lets = short_lets parts.lets words.0 read_keys.0;
+      select = short_select parts.select (few _ many.1) read_keys.1;
+      guards_count = below_256 _ (few _ many_guards.1);
+      guards = short_conditions parts.guards long_parts.0;
+      updates_count = below_256 _ (few _ many_updates.1);
+      updates = short_updates parts.updates long_parts.1 update_keys.1;
+    }
+
+-- ---- what was read
+
+-- parts that were read and keep the rules are the body
+pub body_read : (u after : Unread) (parts : BodyParts) → parts_at u ≡ Ok (parts, after) → refusal_of parts ≡ None → body_at u ≡ Ok (parts, after)
+unfolding body_at
+body_read u after parts e none =
+    let some : has_no_key parts ≡ false = (keeps parts (ap is_none none)).keys in
+    rw (e, some) refl
+
+-- parts that were read and are refused have no key
+refused_for_key : (u after : Unread) (parts : BodyParts) → AreBytes u.bytes → parts_at u ≡ Ok (parts, after) → (error : BodyError) → refusal_of parts ≡ Some error → body_at u ≡ Err (fault_at Range u)
+unfolding body_at
+refused_for_key u after parts bytes e error refused =
+    elim (cases_Bool (has_no_key parts)) [
+      | inl none ↦ rw (e, none) refl
+      | inr some ↦ let kept = rules_kept parts (parts_field.takes u after parts bytes e).1 some in absurd cc
+    ]
+
+pub body_refused : (u after : Unread) (parts : BodyParts) → AreBytes u.bytes → parts_at u ≡ Ok (parts, after) → (error : BodyError) → IsRefused parts error → Fails (refused_at u.place error) (body_at u)
+body_refused u after parts bytes e TooMany h = refused_for_key u after parts bytes e _ h
+body_refused u after parts bytes e UnboundName h = refused_for_key u after parts bytes e _ h
+body_refused u after parts bytes e TwiceBound h = refused_for_key u after parts bytes e _ h
+body_refused u after parts bytes e NoKey h = refused_for_key u after parts bytes e _ h
+body_refused u after parts bytes e BadWord h = refused_for_key u after parts bytes e _ h
+body_refused u after parts bytes e BadShape h = refused_for_key u after parts bytes e _ h
+body_refused u after parts bytes e OutOfMemory h = tt

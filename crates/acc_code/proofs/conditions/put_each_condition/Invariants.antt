@@ -1,0 +1,8 @@
+-- Those so far are spelled.
+use Rattle.std.proofs.Common.{◌≡◌, ◌++◌, take}
+use Rattle.std.specs.List.{flat_map}
+use Rattle.acc_code.specs.BodySpelling.{condition_bytes}
+use Rattle.acc_code.proofs.conditions.put_each_condition.Given as goal
+
+abbrev pub invariant-loop-guard : goal.invariant-loop-guard
+invariant-loop-guard l = l.out ≡ l.fn.out ++ flat_map condition_bytes (take l.guard-index l.guards)

@@ -1,0 +1,8 @@
+-- What is read so far, and reading on from here, give what reading gives.
+use Rattle.std.proofs.Common.{◌≡◌, ◌-◌, []}
+use Rattle.acc_code.specs.Reading.{each_at}
+use Rattle.acc_code.specs.BodyReading.{condition_at}
+use Rattle.acc_code.proofs.conditions.take_each_condition.Given as goal
+
+abbrev pub invariant-loop : goal.invariant-loop
+invariant-loop l = each_at (λ _. condition_at l.lets) (l.count - l.counter) l.guards l.reader ≡ each_at (λ _. condition_at l.lets) l.count [] l.fn.reader

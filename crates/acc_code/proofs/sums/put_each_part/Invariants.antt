@@ -1,0 +1,8 @@
+-- Those so far are spelled.
+use Rattle.std.proofs.Common.{◌≡◌, ◌++◌, take}
+use Rattle.std.specs.List.{flat_map}
+use Rattle.acc_code.specs.BodySpelling.{part_bytes}
+use Rattle.acc_code.proofs.sums.put_each_part.Given as goal
+
+abbrev pub invariant-loop-part : goal.invariant-loop-part
+invariant-loop-part l = l.out ≡ l.fn.out ++ flat_map part_bytes (take l.part-index l.parts)

@@ -1,0 +1,53 @@
+-- Reading cells, lists of them, and outcomes.
+use Rattle.std.specs.Prelude.{ℕ, zero, suc, ℤ, ◌==◌, List, Option, Some, None, Ok, if◌then◌else◌}
+use Rattle.std.specs.List.{list_all}
+use Rattle.acc_wire.specs.Reading.{Unread, Read, ◌>>=◌, i64_at, text_at}
+use Rattle.acc_value.specs.declared.key.Key.{Key}
+use Rattle.acc_value.specs.Key.{key_lt}
+use Rattle.acc_txn.specs.declared.outcome.Verdict.{Verdict}
+use Rattle.acc_txn.specs.declared.outcome.Verdict.TheVariants.{Ok as Done, Skipped, Overflow}
+use Rattle.acc_txn.specs.declared.outcome.Outcome.{Outcome}
+use Rattle.acc_code.specs.Reading.{passing, between_at, listed_at}
+
+-- what stands behind the first byte of a cell
+abbrev pub cell_behind : ℕ → Unread → Read (Option ℤ)
+cell_behind zero u = Ok (None, u)
+cell_behind (suc _) u = do
+  number ← i64_at u
+  Ok (Some number.0, number.1)
+
+unfoldable pub cell_at : Unread → Read (Option ℤ)
+cell_at u = do
+  tag ← between_at 0 1 u
+  cell_behind tag.0 tag.1
+
+-- a key of any texts
+unfoldable pub any_key_at : Unread → Read Key
+any_key_at u = do
+  table ← text_at u
+  key ← text_at table.1
+  Ok (record { table = table.0; key = key.0 }, key.1)
+
+-- a key that is greater than those of the pairs before it
+unfoldable pub next_key_at : List (Key × Option ℤ) → Unread → Read Key
+next_key_at front u = passing (λ key. list_all (λ p. key_lt p.0 key) front) any_key_at u
+
+unfoldable pub pair_at : List (Key × Option ℤ) → Unread → Read (Key × Option ℤ)
+pair_at front u = do
+  key ← next_key_at front u
+  cell ← cell_at key.1
+  Ok ((key.0, cell.0), cell.1)
+
+-- cells by their keys, which rise
+unfoldable pub cells_at : Unread → Read (List (Key × Option ℤ))
+cells_at u = listed_at 0 255 pair_at u
+
+abbrev pub verdict_of : ℕ → Verdict
+verdict_of number = if number == 1 then Done else (if number == 2 then Skipped else Overflow)
+
+unfoldable pub outcome_at : Unread → Read Outcome
+outcome_at u = do
+  verdict ← between_at 1 3 u
+  values ← listed_at 0 255 (λ _. cell_at) verdict.1
+  writes ← cells_at values.1
+  Ok (record { reply = record { verdict = verdict_of verdict.0; values = values.0 }; writes = writes.0 }, writes.1)

@@ -1,0 +1,37 @@
+-- The spelling of cells, of lists of them, and of outcomes.
+use Rattle.std.specs.Prelude.{ℕ, ℤ, List, ◌++◌, length, Option, Some, None}
+use Rattle.std.specs.List.{flat_map}
+use Rattle.acc_wire.specs.Spelling.{u8_bytes, i64_bytes, text_bytes}
+use Rattle.acc_value.specs.declared.key.Key.{Key}
+use Rattle.acc_txn.specs.declared.outcome.Verdict.{Verdict}
+use Rattle.acc_txn.specs.declared.outcome.Verdict.TheVariants.{Ok as Done, Skipped, Overflow}
+use Rattle.acc_txn.specs.declared.outcome.Outcome.{Outcome}
+
+-- a list is its count in one byte, and its elements
+unfoldable pub listed : {A : Type 0} → (A → List ℕ) → List A → List ℕ
+listed spelling xs = u8_bytes (length xs) ++ flat_map spelling xs
+
+-- a cell is 0, or 1 and its number
+unfoldable pub cell_bytes : Option ℤ → List ℕ
+cell_bytes None = u8_bytes 0
+cell_bytes (Some number) = u8_bytes 1 ++ i64_bytes number
+
+-- a key is its table and its text
+unfoldable pub key_bytes : Key → List ℕ
+key_bytes key = text_bytes key.table ++ text_bytes key.key
+
+unfoldable pub pair_bytes : Key × Option ℤ → List ℕ
+pair_bytes pair = key_bytes pair.0 ++ cell_bytes pair.1
+
+-- cells by their keys
+unfoldable pub cells_bytes : List (Key × Option ℤ) → List ℕ
+cells_bytes pairs = listed pair_bytes pairs
+
+abbrev pub verdict_number : Verdict → ℕ
+verdict_number Done = 1
+verdict_number Skipped = 2
+verdict_number Overflow = 3
+
+-- an outcome is its verdict, the cells that were selected, and the writes
+unfoldable pub outcome_bytes : Outcome → List ℕ
+outcome_bytes o = u8_bytes (verdict_number o.reply.verdict) ++ listed cell_bytes o.reply.values ++ cells_bytes o.writes

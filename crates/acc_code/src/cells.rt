@@ -1,0 +1,215 @@
+//! Cells, and lists of them.
+ghost use Rattle.std.specs.Prelude.{◌≡◌, ◌<◌, ◌++◌, ◌∷◌, [], ℤ, Option, List, length, OnOk, OnErr, IfOk, IsTrue};
+ghost use Rattle.std.specs.List.{list_all, flat_map, AllByRecursion};
+ghost use Rattle.acc_wire.specs.Reading.{Unread, Passes, AreBytes};
+ghost use Rattle.acc_value.specs.declared.key.Key.{Key};
+ghost use Rattle.acc_value.specs.Key.{key_lt};
+ghost use Rattle.acc_value.specs.Pairs.{IsRising};
+ghost use Rattle.acc_code.specs.Spelling.{listed, cell_bytes, pair_bytes, cells_bytes};
+ghost use Rattle.acc_code.specs.Short.{IsShortKey, AreShortCells, AreCells};
+ghost use Rattle.acc_code.specs.Reading.{Reads, each_at, listed_at};
+ghost use Rattle.acc_code.specs.CellReading.{cell_at, next_key_at, pair_at, cells_at};
+ghost use Rattle.acc_code.specs.Writing.{Keeps};
+
+use crate::error::CodeError;
+use crate::fields::{out_of_range, take_between};
+use crate::keys::{put_key, take_any_key};
+use acc_base::{Bytes, OutOfMemory};
+use acc_value::{CellList, Cells, Key};
+use acc_wire::{Reader, put_i64, put_u8};
+use std::alloc::Global;
+
+/// Appends a cell: 0, or 1 and its number.
+#[tactic(auto, using(crate::proofs::Kept::keeps_all, crate::proofs::Kept::keeps_front, crate::proofs::Kept::keeps_more), unfolding(crate::specs::Spelling::cell_bytes))]
+pub(crate) fn put_cell(out: &mut Bytes, cell: Option<i64>) -> Result<(), OutOfMemory>
+    ensures ok { OnOk result (out.new ≡ out.old ++ cell_bytes cell) }
+    ensures kept { OnErr result (Keeps out.old out.new) }
+{
+    match cell {
+        None => put_u8(out, 0),
+        Some(number) => {
+            put_u8(out, 1)?;
+            put_i64(out, number)
+        }
+    }
+}
+
+#[tactic(auto, using(crate::proofs::Kept::keeps_all, crate::proofs::Kept::keeps_front, crate::proofs::Kept::keeps_more), unfolding(crate::specs::Spelling::pair_bytes))]
+fn put_pair(out: &mut Bytes, key: &Key, cell: Option<i64>) -> Result<(), OutOfMemory>
+    requires { IsShortKey key.now }
+    ensures ok { OnOk result (out.new ≡ out.old ++ pair_bytes (key.now, cell)) }
+    ensures kept { OnErr result (Keeps out.old out.new) }
+{
+    put_key(out, key)?;
+    put_cell(out, cell)
+}
+
+#[tactic(auto, using(crate::proofs::Kept::keeps_all, crate::proofs::Kept::keeps_front, crate::proofs::Kept::keeps_more))]
+fn put_pairs(out: &mut Bytes, pairs: &[(Key, Option<i64>)]) -> Result<(), OutOfMemory>
+    requires { AllByRecursion (λ p. IsShortKey p.0) pairs.now }
+    ensures ok { OnOk result (out.new ≡ out.old ++ flat_map pair_bytes pairs.now) }
+    ensures kept { OnErr result (Keeps out.old out.new) }
+{
+    for (key, cell) in pairs {
+        put_pair(out, key, *cell)?;
+    }
+    Ok(())
+}
+
+#[tactic(auto, using(crate::proofs::Kept::keeps_all, crate::proofs::Kept::keeps_front, crate::proofs::Kept::keeps_more), unfolding(crate::specs::Spelling::cells_bytes, crate::specs::Spelling::listed))]
+fn put_counted_pairs(out: &mut Bytes, cells: &CellList) -> Result<(), OutOfMemory>
+    requires { AreShortCells cells.now }
+    ensures ok { OnOk result (out.new ≡ out.old ++ cells_bytes cells.now) }
+    ensures kept { OnErr result (Keeps out.old out.new) }
+{
+    put_u8(out, cells.len() as u8)?;
+    put_pairs(out, cells.pairs())
+}
+
+/// Appends a list of cells: a count in one byte, and the pairs of a key and its cell. Without memory for it the bytes are
+/// as before.
+pub fn put_cells(out: &mut Bytes, cells: &CellList) -> Result<(), OutOfMemory>
+    requires { AreShortCells cells.now }
+    ensures ok { OnOk result (out.new ≡ out.old ++ cells_bytes cells.now) }
+    ensures err { OnErr result (out.new ≡ out.old) }
+{
+    let before = out.len();
+    let appended = put_counted_pairs(out, cells);
+    if appended.is_err() {
+        out.truncate(before);
+    }
+    appended
+}
+
+/// A cell.
+#[tactic(auto, unfolding(crate::specs::CellReading::cell_at))]
+pub(crate) fn take_cell(reader: &mut Reader<'_>) -> Result<Option<i64>, CodeError>
+    ensures { Reads result reader.new (cell_at reader.old) }
+{
+    match take_between(reader, 0, 1)? {
+        0 => Ok(None),
+        _ => Ok(Some(reader.take_i64()?)),
+    }
+}
+
+/// Whether a key may follow the pairs.
+fn is_behind(pairs: &CellList, key: &Key) -> bool
+    ensures value { result ≡ list_all (λ p. key_lt p.0 key.now) pairs.now }
+    ensures rising { IsTrue result → (cell : Option ℤ) → IsRising (pairs.now ++ (key.now, cell) ∷ []) }
+{
+    match pairs.pairs().last() {
+        Some((last, _)) => last < key,
+        None => true,
+    }
+}
+
+#[tactic(auto, unfolding(crate::specs::CellReading::next_key_at))]
+fn take_next_key(alloc: Global, reader: &mut Reader<'_>, front: &CellList) -> Result<Key, CodeError>
+    ensures read { Reads result reader.new (next_key_at front.now reader.old) }
+    ensures rising { IfOk result (λ key. (cell : Option ℤ) → IsRising (front.now ++ (key, cell) ∷ [])) }
+{
+    let field = reader.place();
+    let key = take_any_key(alloc, reader)?;
+    if !is_behind(front, &key) {
+        return Err(out_of_range(field));
+    }
+    Ok(key)
+}
+
+#[tactic(auto, unfolding(crate::specs::CellReading::pair_at))]
+fn take_pair(
+    alloc: Global,
+    reader: &mut Reader<'_>,
+    front: &CellList,
+) -> Result<(Key, Option<i64>), CodeError>
+    ensures read { Reads result reader.new (pair_at front.now reader.old) }
+    ensures rising { IfOk result (λ pair. IsRising (front.now ++ pair ∷ [])) }
+{
+    let key = take_next_key(alloc, reader, front)?;
+    let cell = take_cell(reader)?;
+    Ok((key, cell))
+}
+
+#[tactic(auto, using(crate::proofs::Loops::each_goes_on, crate::proofs::Loops::each_fails, crate::proofs::Loops::each_ends))]
+fn take_pairs(alloc: Global, reader: &mut Reader<'_>, count: u8) -> Result<CellList, CodeError>
+    ensures { Reads result reader.new (each_at pair_at count [] reader.old) }
+{
+    let mut pairs = CellList::new(alloc);
+    for _ in 0..count {
+        let (key, cell) = take_pair(alloc, reader, &pairs)?;
+        pairs.push(key, cell)?;
+    }
+    Ok(pairs)
+}
+
+#[tactic(auto, unfolding(crate::specs::CellReading::cells_at, crate::specs::Reading::listed_at))]
+fn take_counted_pairs(alloc: Global, reader: &mut Reader<'_>) -> Result<CellList, CodeError>
+    ensures exact { Reads result reader.new (cells_at reader.old) }
+    ensures kept { OnErr result (reader.new ≡ reader.old) }
+    ensures bytes { AreBytes reader.old.bytes }
+{
+    let mut ahead = reader.fork();
+    let count = take_between(&mut ahead, 0, u8::MAX)?;
+    let cells = take_pairs(alloc, &mut ahead, count)?;
+    *reader = ahead;
+    Ok(cells)
+}
+
+/// A list of cells. After an error the reader is unchanged.
+pub fn take_cells(alloc: Global, reader: &mut Reader<'_>) -> Result<CellList, CodeError>
+    // What is read is spelled so.
+    ensures found { IfOk result (λ cells. Passes reader.old reader.new (cells_bytes cells)) }
+    ensures fits { IfOk result AreCells }
+    // What is spelled so is read, unless memory runs out.
+    ensures only { (cells : List (Key × Option ℤ)) (rest : Unread) → AreCells cells → Passes reader.old rest (cells_bytes cells)
+        → Reads result reader.new (Ok (cells, rest)) }
+    // Which fault it is.
+    ensures exact { Reads result reader.new (cells_at reader.old) }
+    ensures kept { OnErr result (reader.new ≡ reader.old) }
+{
+    take_counted_pairs(alloc, reader)
+}
+
+/// Appends cells one after the other.
+#[tactic(auto, using(crate::proofs::Kept::keeps_all, crate::proofs::Kept::keeps_front, crate::proofs::Kept::keeps_more))]
+fn put_each_cell(out: &mut Bytes, cells: &[Option<i64>]) -> Result<(), OutOfMemory>
+    ensures ok { OnOk result (out.new ≡ out.old ++ flat_map cell_bytes cells.now) }
+    ensures kept { OnErr result (Keeps out.old out.new) }
+{
+    for cell in cells {
+        put_cell(out, *cell)?;
+    }
+    Ok(())
+}
+
+/// Appends a count in one byte, and as many cells.
+#[tactic(auto, using(crate::proofs::Kept::keeps_all, crate::proofs::Kept::keeps_front, crate::proofs::Kept::keeps_more), unfolding(crate::specs::Spelling::listed))]
+pub(crate) fn put_values(out: &mut Bytes, values: &Cells) -> Result<(), OutOfMemory>
+    requires { length values.now < 256 }
+    ensures ok { OnOk result (out.new ≡ out.old ++ listed cell_bytes values.now) }
+    ensures kept { OnErr result (Keeps out.old out.new) }
+{
+    put_u8(out, values.len() as u8)?;
+    put_each_cell(out, values.as_slice())
+}
+
+#[tactic(auto, using(crate::proofs::Loops::each_fails, crate::proofs::Loops::each_ends))]
+fn take_each_cell(alloc: Global, reader: &mut Reader<'_>, count: u8) -> Result<Cells, CodeError>
+    ensures { Reads result reader.new (each_at (λ _. cell_at) count [] reader.old) }
+{
+    let mut values = Cells::new(alloc);
+    for _ in 0..count {
+        let cell = take_cell(reader)?;
+        values.push(cell)?;
+    }
+    Ok(values)
+}
+
+/// A count in one byte, and as many cells.
+#[tactic(auto, unfolding(crate::specs::Reading::listed_at))]
+pub(crate) fn take_values(alloc: Global, reader: &mut Reader<'_>) -> Result<Cells, CodeError>
+    ensures { Reads result reader.new (listed_at 0 255 (λ _. cell_at) reader.old) }
+{
+    let count = take_between(reader, 0, u8::MAX)?;
+    take_each_cell(alloc, reader, count)
+}

@@ -1,0 +1,104 @@
+//! How many bytes keys, cells, lists of cells and outcomes take.
+ghost use Rattle.std.specs.Prelude.{◌≡◌, ◌<◌, ◌≤◌, ◌*◌, ◌^◌, length};
+ghost use Rattle.std.specs.List.{flat_map, AllByRecursion};
+ghost use Rattle.acc_wire.specs.Spelling.{text_bytes, IsShortText};
+ghost use Rattle.acc_code.specs.Spelling.{listed, cell_bytes, key_bytes, pair_bytes, cells_bytes, outcome_bytes};
+ghost use Rattle.acc_code.specs.Short.{IsShortKey, AreShortCells, IsShortOutcome};
+
+use acc_txn::Outcome;
+use acc_value::{CellList, Cells, Key};
+
+/// How many bytes a text takes.
+#[tactic(auto, unfolding(acc_wire::specs::Spelling::text_bytes))]
+pub(crate) fn text_length(text: &[u8]) -> u64
+    requires { IsShortText text.now }
+    ensures exact { result ≡ length (text_bytes text.now) }
+    ensures most { result ≤ 256 }
+{
+    1 + text.len() as u64
+}
+
+/// How many bytes a key takes.
+#[tactic(auto, unfolding(crate::specs::Spelling::key_bytes))]
+pub(crate) fn key_length(key: &Key) -> u64
+    requires { IsShortKey key.now }
+    ensures exact { result ≡ length (key_bytes key.now) }
+    ensures most { result ≤ 512 }
+{
+    text_length(key.table.as_slice()) + text_length(key.key.as_slice())
+}
+
+#[tactic(auto, unfolding(crate::specs::Spelling::cell_bytes, acc_wire::specs::Spelling::i64_bytes, acc_wire::specs::Spelling::u64_bytes))]
+fn cell_length(cell: Option<i64>) -> u64
+    ensures exact { result ≡ length (cell_bytes cell) }
+    ensures most { result ≤ 9 }
+{
+    match cell {
+        None => 1,
+        Some(_) => 9,
+    }
+}
+
+#[tactic(auto, unfolding(crate::specs::Spelling::pair_bytes))]
+fn pair_length(key: &Key, cell: Option<i64>) -> u64
+    requires { IsShortKey key.now }
+    ensures exact { result ≡ length (pair_bytes (key.now, cell)) }
+    ensures most { result ≤ 521 }
+{
+    key_length(key) + cell_length(cell)
+}
+
+fn pairs_length(pairs: &[(Key, Option<i64>)]) -> u64
+    requires count { length pairs.now < 256 }
+    requires short { AllByRecursion (λ p. IsShortKey p.0) pairs.now }
+    ensures exact { result ≡ length (flat_map pair_bytes pairs.now) }
+    ensures most { result ≤ 521 * length pairs.now }
+{
+    let mut total = 0;
+    for (key, cell) in pairs {
+        total += pair_length(key, *cell);
+    }
+    total
+}
+
+/// How many bytes a list of cells takes.
+#[tactic(auto, unfolding(crate::specs::Spelling::cells_bytes, crate::specs::Spelling::listed))]
+pub fn cells_length(cells: &CellList) -> u64
+    requires { AreShortCells cells.now }
+    ensures exact { result ≡ length (cells_bytes cells.now) }
+    ensures most { result < 2 ^ 18 }
+{
+    1 + pairs_length(cells.pairs())
+}
+
+fn each_cell_length(cells: &[Option<i64>]) -> u64
+    requires { length cells.now < 256 }
+    ensures exact { result ≡ length (flat_map cell_bytes cells.now) }
+    ensures most { result ≤ 9 * length cells.now }
+{
+    let mut total = 0;
+    for cell in cells {
+        total += cell_length(*cell);
+    }
+    total
+}
+
+/// How many bytes the selected cells take.
+#[tactic(auto, unfolding(crate::specs::Spelling::listed))]
+fn values_length(values: &Cells) -> u64
+    requires { length values.now < 256 }
+    ensures exact { result ≡ length (listed cell_bytes values.now) }
+    ensures most { result < 2 ^ 12 }
+{
+    1 + each_cell_length(values.as_slice())
+}
+
+/// How many bytes an outcome takes.
+#[tactic(auto, unfolding(crate::specs::Spelling::outcome_bytes))]
+pub fn outcome_length(outcome: &Outcome) -> u64
+    requires { IsShortOutcome outcome.now }
+    ensures exact { result ≡ length (outcome_bytes outcome.now) }
+    ensures most { result < 2 ^ 19 }
+{
+    1 + values_length(&outcome.reply.values) + cells_length(&outcome.writes)
+}

@@ -1,0 +1,135 @@
+//! Sums of terms.
+ghost use Rattle.std.specs.Prelude.{◌≡◌, ◌<◌, ◌++◌, [], length, OnOk, OnErr};
+ghost use Rattle.std.specs.List.{flat_map};
+ghost use Rattle.acc_code.specs.BodySpelling.{term_bytes, part_bytes, sum_bytes, sign_number};
+ghost use Rattle.acc_code.specs.Reading.{Reads, each_at};
+ghost use Rattle.acc_code.specs.BodyReading.{name_at, term_at, part_at, sum_at, greatest_sign};
+ghost use Rattle.acc_code.specs.Writing.{Keeps};
+
+use crate::error::CodeError;
+use crate::fields::{out_of_range, take_between};
+use acc_base::{Bytes, OutOfMemory};
+use acc_txn::{Expr, Part, Term};
+use acc_wire::{Reader, put_i64, put_u8};
+use std::alloc::Global;
+
+#[tactic(auto, using(crate::proofs::Kept::keeps_all, crate::proofs::Kept::keeps_front, crate::proofs::Kept::keeps_more), unfolding(crate::specs::BodySpelling::term_bytes))]
+fn put_term(out: &mut Bytes, term: Term) -> Result<(), OutOfMemory>
+    ensures ok { OnOk result (out.new ≡ out.old ++ term_bytes term) }
+    ensures kept { OnErr result (Keeps out.old out.new) }
+{
+    match term {
+        Term::Number(number) => {
+            put_u8(out, 0)?;
+            put_i64(out, number)
+        }
+        Term::Name(name) => {
+            put_u8(out, 1)?;
+            put_u8(out, name)
+        }
+        Term::Null => put_u8(out, 2),
+    }
+}
+
+#[tactic(auto, using(crate::proofs::Kept::keeps_all, crate::proofs::Kept::keeps_front, crate::proofs::Kept::keeps_more), unfolding(crate::specs::BodySpelling::part_bytes))]
+fn put_part(out: &mut Bytes, part: Part) -> Result<(), OutOfMemory>
+    ensures ok { OnOk result (out.new ≡ out.old ++ part_bytes part) }
+    ensures kept { OnErr result (Keeps out.old out.new) }
+{
+    put_u8(out, u8::from(part.minus))?;
+    put_term(out, part.term)
+}
+
+#[tactic(auto, using(crate::proofs::Kept::keeps_all, crate::proofs::Kept::keeps_front, crate::proofs::Kept::keeps_more))]
+fn put_each_part(out: &mut Bytes, parts: &[Part]) -> Result<(), OutOfMemory>
+    ensures ok { OnOk result (out.new ≡ out.old ++ flat_map part_bytes parts.now) }
+    ensures kept { OnErr result (Keeps out.old out.new) }
+{
+    for part in parts {
+        put_part(out, *part)?;
+    }
+    Ok(())
+}
+
+/// Appends a sum: a count, and each term with its sign.
+#[tactic(auto, using(crate::proofs::Kept::keeps_all, crate::proofs::Kept::keeps_front, crate::proofs::Kept::keeps_more), unfolding(crate::specs::BodySpelling::sum_bytes, crate::specs::Spelling::listed))]
+pub(crate) fn put_sum(out: &mut Bytes, sum: &Expr) -> Result<(), OutOfMemory>
+    requires { length sum.now < 256 }
+    ensures ok { OnOk result (out.new ≡ out.old ++ sum_bytes sum.now) }
+    ensures kept { OnErr result (Keeps out.old out.new) }
+{
+    put_u8(out, sum.len() as u8)?;
+    put_each_part(out, sum.as_slice())
+}
+
+/// The number of one of so many LETs.
+#[tactic(auto, unfolding(crate::specs::BodyReading::name_at))]
+pub(crate) fn take_name(reader: &mut Reader<'_>, lets: usize) -> Result<u8, CodeError>
+    ensures { Reads result reader.new (name_at lets reader.old) }
+{
+    let field = reader.place();
+    let name = reader.take_u8()?;
+    if usize::from(name) >= lets {
+        return Err(out_of_range(field));
+    }
+    Ok(name)
+}
+
+#[tactic(auto, unfolding(crate::specs::BodyReading::term_at))]
+fn take_term(reader: &mut Reader<'_>, lets: usize) -> Result<Term, CodeError>
+    ensures { Reads result reader.new (term_at lets reader.old) }
+{
+    match take_between(reader, 0, 2)? {
+        0 => Ok(Term::Number(reader.take_i64()?)),
+        1 => Ok(Term::Name(take_name(reader, lets)?)),
+        _ => Ok(Term::Null),
+    }
+}
+
+fn most_of_sign(front: &[Part]) -> u8
+    ensures { result ≡ greatest_sign front.now }
+{
+    if front.is_empty() { 0 } else { 1 }
+}
+
+#[tactic(auto, unfolding(crate::specs::BodyReading::part_at))]
+fn take_part(reader: &mut Reader<'_>, lets: usize, front: &[Part]) -> Result<Part, CodeError>
+    ensures { Reads result reader.new (part_at lets front.now reader.old) }
+{
+    let sign = take_between(reader, 0, most_of_sign(front))?;
+    let term = take_term(reader, lets)?;
+    Ok(Part {
+        minus: sign == 1,
+        term,
+    })
+}
+
+#[tactic(auto, using(crate::proofs::Loops::each_goes_on, crate::proofs::Loops::each_fails, crate::proofs::Loops::each_ends))]
+fn take_parts(
+    alloc: Global,
+    reader: &mut Reader<'_>,
+    lets: usize,
+    count: u8,
+) -> Result<Expr, CodeError>
+    ensures { Reads result reader.new (each_at (part_at lets) count [] reader.old) }
+{
+    let mut parts = Expr::new(alloc);
+    for _ in 0..count {
+        let part = take_part(reader, lets, parts.as_slice())?;
+        parts.push(part)?;
+    }
+    Ok(parts)
+}
+
+/// A sum, whose names are numbers of so many LETs.
+#[tactic(auto, unfolding(crate::specs::BodyReading::sum_at, crate::specs::Reading::listed_at))]
+pub(crate) fn take_sum(
+    alloc: Global,
+    reader: &mut Reader<'_>,
+    lets: usize,
+) -> Result<Expr, CodeError>
+    ensures { Reads result reader.new (sum_at lets reader.old) }
+{
+    let count = take_between(reader, 1, 16)?;
+    take_parts(alloc, reader, lets, count)
+}

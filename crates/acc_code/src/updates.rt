@@ -1,0 +1,144 @@
+//! The updates of a body.
+ghost use Rattle.std.specs.Prelude.{◌≡◌, ◌==◌, ◌<◌, ◌++◌, [], true, length, OnOk, OnErr, IfOk};
+ghost use Rattle.std.specs.List.{flat_map, AllByRecursion};
+ghost use Rattle.acc_value.specs.Footprint.{used};
+ghost use Rattle.acc_txn.specs.Uses.{updated_key};
+ghost use Rattle.acc_code.specs.Spelling.{listed};
+ghost use Rattle.acc_code.specs.BodySpelling.{update_bytes};
+ghost use Rattle.acc_code.specs.Short.{IsShortUpdate};
+ghost use Rattle.acc_code.specs.Reading.{Reads, each_at};
+ghost use Rattle.acc_code.specs.BodyReading.{update_with, update_at, next_update_at, updates_at, least_updates};
+ghost use Rattle.acc_code.specs.Writing.{Keeps};
+
+use crate::error::CodeError;
+use crate::fields::take_between;
+use crate::keys::{put_key, take_use};
+use crate::sums::{put_sum, take_sum};
+use acc_base::{Bytes, OutOfMemory};
+use acc_txn::{Condition, Update, Updates};
+use acc_value::{Footprint, Key};
+use acc_wire::{Reader, put_u8};
+use std::alloc::Global;
+
+/// The number of an update that sets its key.
+const SET: u8 = 1;
+
+/// The number of an update that deletes its key.
+const DELETE: u8 = 2;
+
+#[tactic(auto, using(crate::proofs::Kept::keeps_all, crate::proofs::Kept::keeps_front, crate::proofs::Kept::keeps_more), unfolding(crate::specs::BodySpelling::update_bytes))]
+fn put_update(out: &mut Bytes, update: &Update) -> Result<(), OutOfMemory>
+    requires { IsShortUpdate update.now }
+    ensures ok { OnOk result (out.new ≡ out.old ++ update_bytes update.now) }
+    ensures kept { OnErr result (Keeps out.old out.new) }
+{
+    match update {
+        Update::Set { key, value } => {
+            put_u8(out, SET)?;
+            put_key(out, key)?;
+            put_sum(out, value)
+        }
+        Update::Delete { key } => {
+            put_u8(out, DELETE)?;
+            put_key(out, key)
+        }
+    }
+}
+
+#[tactic(auto, using(crate::proofs::Kept::keeps_all, crate::proofs::Kept::keeps_front, crate::proofs::Kept::keeps_more))]
+fn put_each_update(out: &mut Bytes, updates: &[Update]) -> Result<(), OutOfMemory>
+    requires { AllByRecursion IsShortUpdate updates.now }
+    ensures ok { OnOk result (out.new ≡ out.old ++ flat_map update_bytes updates.now) }
+    ensures kept { OnErr result (Keeps out.old out.new) }
+{
+    for update in updates {
+        put_update(out, update)?;
+    }
+    Ok(())
+}
+
+/// Appends updates: a count, and each update.
+#[tactic(auto, using(crate::proofs::Kept::keeps_all, crate::proofs::Kept::keeps_front, crate::proofs::Kept::keeps_more), unfolding(crate::specs::Spelling::listed))]
+pub(crate) fn put_updates(out: &mut Bytes, updates: &Updates) -> Result<(), OutOfMemory>
+    requires count { length updates.now < 256 }
+    requires short { AllByRecursion IsShortUpdate updates.now }
+    ensures ok { OnOk result (out.new ≡ out.old ++ listed update_bytes updates.now) }
+    ensures kept { OnErr result (Keeps out.old out.new) }
+{
+    put_u8(out, updates.len() as u8)?;
+    put_each_update(out, updates.as_slice())
+}
+
+/// What stands behind the key of an update.
+fn take_update_with(
+    alloc: Global,
+    reader: &mut Reader<'_>,
+    lets: usize,
+    number: u8,
+    key: Key,
+) -> Result<Update, CodeError>
+    ensures read { Reads result reader.new (update_with lets key (number == 1) reader.old) }
+    ensures key { IfOk result (λ update. updated_key update ≡ key) }
+{
+    if number == SET {
+        let value = take_sum(alloc, reader, lets)?;
+        Ok(Update::Set { key, value })
+    } else {
+        Ok(Update::Delete { key })
+    }
+}
+
+/// An update. Its key joins the uses.
+#[tactic(auto, unfolding(crate::specs::BodyReading::update_at))]
+fn take_update(
+    alloc: Global,
+    reader: &mut Reader<'_>,
+    lets: usize,
+    uses: &mut Footprint,
+) -> Result<Update, CodeError>
+    ensures read { Reads result reader.new (update_at lets uses.old reader.old) }
+    ensures uses { IfOk result (λ update. uses.new ≡ used uses.old (updated_key update) true) }
+{
+    let number = take_between(reader, SET, DELETE)?;
+    let key = take_use(alloc, reader, uses, true)?;
+    take_update_with(alloc, reader, lets, number, key)
+}
+
+#[tactic(auto, using(crate::proofs::Loops::each_goes_on, crate::proofs::Loops::each_fails, crate::proofs::Loops::each_ends))]
+fn take_each_update(
+    alloc: Global,
+    reader: &mut Reader<'_>,
+    lets: usize,
+    uses: &mut Footprint,
+    count: u8,
+) -> Result<Updates, CodeError>
+    ensures { Reads result reader.new (each_at (next_update_at lets uses.old) count [] reader.old) }
+{
+    let mut updates = Updates::new(alloc);
+    for _ in 0..count {
+        let update = take_update(alloc, reader, lets, uses)?;
+        updates.push(update)?;
+    }
+    Ok(updates)
+}
+
+fn least_of(guards: &[Condition]) -> u8
+    ensures { result ≡ least_updates guards.now }
+{
+    if guards.is_empty() { 0 } else { 1 }
+}
+
+/// The updates of a body with so many LETs and these conditions. Their keys join the uses.
+#[tactic(auto, unfolding(crate::specs::BodyReading::updates_at, crate::specs::Reading::listed_at))]
+pub(crate) fn take_updates(
+    alloc: Global,
+    reader: &mut Reader<'_>,
+    lets: usize,
+    guards: &[Condition],
+    uses: &mut Footprint,
+) -> Result<Updates, CodeError>
+    ensures { Reads result reader.new (updates_at lets uses.old (least_updates guards.now) reader.old) }
+{
+    let count = take_between(reader, least_of(guards), 16)?;
+    take_each_update(alloc, reader, lets, uses, count)
+}
