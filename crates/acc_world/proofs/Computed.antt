@@ -139,11 +139,13 @@ last : notes_of (transfer_between_shards.round 6 3 after_three) ≡ transfer_bet
 unfolding numbers transfer_between_shards.round after_two after_three
 last = refl
 
+pub transfer_between_shards-parts : transfer_between_shards.items ≡ transfer_between_shards.round 6 3 after_three
+transfer_between_shards-parts =
+    ap (λ items. transfer_between_shards.round 6 3 (transfer_between_shards.round 4 2 items)) first_two
+    ∙ ap (transfer_between_shards.round 6 3) third
+
 pub transfer_between_shards-notes : notes_of transfer_between_shards.items ≡ transfer_between_shards.notes
-transfer_between_shards-notes =
-    ap (λ items. notes_of (transfer_between_shards.round 6 3 (transfer_between_shards.round 4 2 items))) first_two
-    ∙ ap (λ items. notes_of (transfer_between_shards.round 6 3 items)) third
-    ∙ last
+transfer_between_shards-notes = ap notes_of transfer_between_shards-parts ∙ last
 
 pub transfer_between_shards-serial : serial transfer_between_shards.serially ≡ transfer_between_shards.replies
 transfer_between_shards-serial = refl

@@ -272,10 +272,10 @@ differs clocks cluster node earlier t owned =
 
 -- ---- what an entry draws
 
-node_is : (node : ℕ) → node_of (actor_of node 0) ≡ node
+pub node_is : (node : ℕ) → node_of (actor_of node 0) ≡ node
 node_is node = omega arith
 
-is_node-node : (node : ℕ) → is_node (actor_of node 0) ≡ true
+pub is_node-node : (node : ℕ) → is_node (actor_of node 0) ≡ true
 is_node-node node = eq-eqb ((node * 64 + 0) % 64) 0 (omega arith)
 
 emits-drawn : (cluster : Cluster) (earlier : List Item) (node : ℕ) (act : Act)

@@ -9,3 +9,16 @@ pub mod TransferStates
 pub mod QuietFacts
 pub mod Stepped
 pub mod PlaceFacts
+pub mod BegunFacts
+pub mod AskFacts
+pub mod AskedFacts
+pub mod PhaseFacts
+pub mod WaiterFacts
+pub mod Tested
+pub mod AgreementTested
+pub mod CoverageTested
+pub mod SerialTested
+pub mod CalmTested
+pub mod RowsSafe
+pub mod ReplayFacts
+pub mod LostFacts

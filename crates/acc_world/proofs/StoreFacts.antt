@@ -13,6 +13,7 @@ use Rattle.acc_stamp.proofs.Order.{id_order, ballot_order, asym}
 use Rattle.acc_topology.specs.Layout.{Layout}
 use Rattle.acc_deps.specs.declared.records.Settled.{Settled}
 use Rattle.acc_value.specs.declared.key.Key.{Key}
+use Rattle.acc_txn.specs.declared.parts.BodyParts.{BodyParts}
 use Rattle.acc_message.specs.declared.message.Message.{Message}
 use Rattle.acc_message.specs.declared.message.Message.TheVariants.{PreAccept, PreAcceptOk, Accept, AcceptOk, Commit, CommitOk, Stable, ReadOk, Apply, Recover, RecoverOk, Nack, Decided, Inform}
 use Rattle.acc_message.specs.Fields.{ballot_of}
@@ -126,6 +127,21 @@ granted_above layout own past (RecoverOk from to id ballot view) x h = absurd (t
 granted_above layout own past (Nack from to id ballot promised) x h = absurd (true≢false (sym h))
 granted_above layout own past (Decided from to id ballot t deps) x h = absurd (true≢false (sym h))
 granted_above layout own past (Inform from to id ballot outcome) x h = absurd (true≢false (sym h))
+
+-- a granted Recover is above every promise before it
+pub recover_granted_above : (layout : Layout) (own : Actor) (past : List Taken) (from to : Actor) (id : TxnId) (ballot : Ballot) (body : BodyParts) (x : TxnId)
+    → grants x (Recover from to id ballot body) (store_answer layout own past (Recover from to id ballot body)) ≡ true
+    → ballot_lt (promise_of past x) ballot ≡ true
+recover_granted_above layout own past from to id ballot body x h =
+    let m : Message = Recover from to id ballot body in
+    let now : List Taken = taking m past in
+    let parts = and_parts (id_eq id x) (list_any is_recover_ok (store_answer layout own past m)) h in
+    ap (λ b. ballot_lt b ballot) (sym (promise_of-taking m past x) ∙ sym (ap (promise_of now) ((id_order.decides id x).0 parts.0)))
+    ∙ cond_both (ballot_lt (promise_of now id) ballot) _ (nack own id ballot (promise_of now id))
+    (λ list. list_any is_recover_ok list ≡ true → ballot_lt (promise_of now id) ballot ≡ true)
+    (λ above _. above)
+    (λ _ k. absurd (true≢false (sym k)))
+    parts.1
 
 -- ---- a vote comes before every promise
 

@@ -3,13 +3,13 @@ use Rattle.std.specs.Prelude.{ℕ, List, [], ◌∷◌}
 use Rattle.acc_stamp.specs.declared.stamps.TxnId.{TxnId}
 use Rattle.acc_stamp.specs.declared.stamps.Ballot.{Ballot}
 use Rattle.acc_stamp.specs.declared.actors.Actor.{Actor}
-use Rattle.acc_stamp.specs.Actor.{actor_of}
+use Rattle.acc_stamp.specs.Actor.{actor_of, shard_of}
 use Rattle.acc_stamp.specs.Stamp.{zero_ballot}
 use Rattle.acc_topology.specs.Layout.{Layout}
 use Rattle.acc_message.specs.declared.message.Message.{Message}
 use Rattle.acc_message.specs.declared.entry.Emitted.{Emitted}
 use Rattle.acc_message.specs.Taken.{Taken}
-use Rattle.acc_message.specs.StoreRules.{store_answer}
+use Rattle.acc_message.specs.StoreRules.{store_answer, waiters_of}
 use Rattle.acc_message.specs.NodeRules.{Act, Deed, node_emits}
 use Rattle.acc_world.specs.Clusters.{id, last_shard, layout}
 
@@ -22,6 +22,16 @@ sent_after layout own past (m ∷ ms) =
 
 abbrev pub sent_by : Layout → Actor → List Message → List (List Message)
 sent_by layout own messages = sent_after layout own [] messages
+
+-- the waiters of a transaction at a store, before each of these messages and behind the last
+abbrev pub waiting_after : Layout → Actor → TxnId → List Taken → List Message → List (List Ballot)
+waiting_after layout own x past [] = waiters_of (shard_of own) past x ∷ []
+waiting_after layout own x past (m ∷ ms) =
+    let now : List Taken = record { message = m; sent = store_answer layout own past m } ∷ past in
+    waiters_of (shard_of own) past x ∷ waiting_after layout own x now ms
+
+abbrev pub waiting_at : Layout → Actor → TxnId → List Message → List (List Ballot)
+waiting_at layout own x messages = waiting_after layout own x [] messages
 
 -- what a node whose clock starts at 0 emits for each of these
 abbrev pub emitted_after : Layout → ℕ → List Deed → List Act → List Emitted

@@ -8,6 +8,7 @@ use Rattle.acc_message.specs.declared.note.Note.{Note}
 use Rattle.acc_message.specs.declared.note.Note.TheVariants.{Begin as BeginNote, Recover as RecoverNote, Blocked, Decide, Outcome, Reply as ReplyNote}
 use Rattle.acc_message.specs.declared.item.Item.{Item}
 use Rattle.acc_message.specs.Run.{Cluster}
+use Rattle.acc_world.specs.declared.ask.Ask.{Ask}
 use Rattle.acc_world.specs.declared.ask.Ask.TheVariants.{Begin, Recover, Deliver, Restart}
 use Rattle.acc_world.specs.Asks.{after_asks}
 use Rattle.acc_world.specs.Schedules.{drained}
@@ -22,8 +23,20 @@ cluster =
       bodies = writing x 1 ∷ writing x 2 ∷ [];
     }
 
+abbrev pub asks : List Ask
+asks =
+    Begin 0 ∷ Begin 1 ∷ Deliver 3 ∷ Deliver 0 ∷ Deliver 1 ∷ Deliver 7 ∷ Deliver 8 ∷ Deliver 4 ∷ Deliver 9
+    ∷ Recover 1 3 ∷ Deliver 14 ∷ Deliver 15 ∷ Deliver 17 ∷ Deliver 18 ∷ []
+
+-- the next asks, and those behind a drain
+abbrev pub more_asks : List Ask
+more_asks = Restart (actor_of 1 0) ∷ Recover 0 2 ∷ []
+
+abbrev pub later_asks : List Ask
+later_asks = Recover 1 3 ∷ []
+
 abbrev pub items : List Item
-items = drained cluster (5 ∷ []) (after_asks cluster 18 (Recover 1 3 ∷ []) (drained cluster (5 ∷ []) (after_asks cluster 15 (Restart (actor_of 1 0) ∷ Recover 0 2 ∷ []) (after_asks cluster 0 (Begin 0 ∷ Begin 1 ∷ Deliver 3 ∷ Deliver 0 ∷ Deliver 1 ∷ Deliver 7 ∷ Deliver 8 ∷ Deliver 4 ∷ Deliver 9 ∷ Recover 1 3 ∷ Deliver 14 ∷ Deliver 15 ∷ Deliver 17 ∷ Deliver 18 ∷ []) []))))
+items = drained cluster (5 ∷ []) (after_asks cluster 18 later_asks (drained cluster (5 ∷ []) (after_asks cluster 15 more_asks (after_asks cluster 0 asks []))))
 
 abbrev pub notes : List Note
 notes =

@@ -6,7 +6,6 @@ use Rattle.acc_topology.specs.Layout.{Layout}
 use Rattle.acc_deps.specs.declared.shards.ShardDeps.{ShardDeps}
 use Rattle.acc_message.specs.declared.message.Message.TheVariants.{Accept, Recover, RecoverOk}
 use Rattle.acc_message.specs.declared.note.Note.TheVariants.{Recover as RecoverNote}
-use Rattle.acc_message.specs.declared.message.Message.{Message}
 use Rattle.acc_message.specs.declared.entry.Emitted.{Emitted}
 use Rattle.acc_message.specs.Coordinator.{silence}
 use Rattle.acc_message.specs.NodeRules.{Act, Recovers, Takes}

@@ -37,3 +37,17 @@ pub mod ConflictByShard
 pub mod ChangedVoteMayBeFast
 pub mod EvidenceBounds
 pub mod ClosedClients
+pub mod AskLaws
+pub mod Noted
+pub mod Refusals
+pub mod DecidedOnce
+pub mod ConflictsCovered
+pub mod OutcomesInTurn
+pub mod CalmOnes
+pub mod Safe
+pub mod SmallerElectorate
+pub mod FirstBodyCounts
+pub mod NotesNamed
+pub mod WritesByShard
+pub mod StrangersIgnored
+pub mod PromisesHeld

@@ -1,4 +1,5 @@
--- Which entries of an actor may be marked lost, what may follow a down, and how messages are numbered where entries are lost.
+-- Which entries of an actor may be marked lost, what may follow a down, and, where entries are lost, how messages are numbered
+-- and what an actor took.
 -- Items stand newest first.
 use Rattle.std.specs.Prelude.{ℕ, Bool, true, false, List, [], ◌∷◌, Option, map}
 use Rattle.acc_stamp.specs.declared.actors.Actor.{Actor}
@@ -10,8 +11,9 @@ use Rattle.acc_message.specs.declared.item.Item.{Item}
 use Rattle.acc_message.specs.declared.item.Item.TheVariants.{Step, Skipped, Down}
 use Rattle.acc_message.specs.declared.item.Skip.TheVariants.{Begun}
 use Rattle.acc_message.specs.Items.{message_at}
-use Rattle.acc_message.specs.Run.{lost_fit, downs_end}
-use Rattle.acc_world.specs.Actors.{a, zero, node_at, store_at}
+use Rattle.acc_message.specs.Taken.{Taken}
+use Rattle.acc_message.specs.Run.{Cluster, taken_of, lost_fit, downs_end}
+use Rattle.acc_world.specs.Actors.{three, a, zero, node_at, store_at}
 
 abbrev pub own : Actor
 own = store_at 1
@@ -98,3 +100,18 @@ sending =
 
 abbrev pub numbered : List (Option Message)
 numbered = map (message_at sending) (0 ∷ 1 ∷ 2 ∷ 3 ∷ [])
+
+-- ---- what the actor took
+
+abbrev pub cluster : Cluster
+cluster = record { layout = three; starts = []; homes = []; bodies = [] }
+
+-- the messages that it took, those of lost entries too. The first entry's number stands for no message
+abbrev pub taken : List Taken
+taken = taken_of cluster own sending
+
+abbrev pub took_both : List Taken
+took_both =
+    record { message = message_of 1; sent = message_of 3 ∷ [] }
+    ∷ record { message = message_of 1; sent = message_of 2 ∷ [] }
+    ∷ []

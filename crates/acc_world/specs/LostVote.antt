@@ -6,6 +6,7 @@ use Rattle.acc_message.specs.declared.note.Note.{Note}
 use Rattle.acc_message.specs.declared.note.Note.TheVariants.{Begin as BeginNote}
 use Rattle.acc_message.specs.declared.item.Item.{Item}
 use Rattle.acc_message.specs.Run.{Cluster}
+use Rattle.acc_world.specs.declared.ask.Ask.{Ask}
 use Rattle.acc_world.specs.declared.ask.Ask.TheVariants.{Begin, Deliver}
 use Rattle.acc_world.specs.Asks.{after_asks}
 use Rattle.acc_world.specs.Schedules.{drained}
@@ -20,8 +21,11 @@ cluster =
       bodies = writing_both alice 1 zoe 2 ∷ [];
     }
 
+abbrev pub asks : List Ask
+asks = Begin 0 ∷ Deliver 0 ∷ Deliver 1 ∷ Deliver 2 ∷ Deliver 3 ∷ Deliver 4 ∷ Deliver 5 ∷ []
+
 abbrev pub items : List Item
-items = drained cluster (11 ∷ []) (after_asks cluster 0 (Begin 0 ∷ Deliver 0 ∷ Deliver 1 ∷ Deliver 2 ∷ Deliver 3 ∷ Deliver 4 ∷ Deliver 5 ∷ []) [])
+items = drained cluster (11 ∷ []) (after_asks cluster 0 asks [])
 
 abbrev pub notes : List Note
 notes =

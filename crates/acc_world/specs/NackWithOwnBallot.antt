@@ -7,6 +7,7 @@ use Rattle.acc_message.specs.declared.note.Note.{Note}
 use Rattle.acc_message.specs.declared.note.Note.TheVariants.{Begin as BeginNote, Recover as RecoverNote, Ended, Decide, Outcome, Reply as ReplyNote}
 use Rattle.acc_message.specs.declared.item.Item.{Item}
 use Rattle.acc_message.specs.Run.{Cluster}
+use Rattle.acc_world.specs.declared.ask.Ask.{Ask}
 use Rattle.acc_world.specs.declared.ask.Ask.TheVariants.{Begin, Recover, Slow, Deliver}
 use Rattle.acc_world.specs.Asks.{after_asks}
 use Rattle.acc_world.specs.Schedules.{drained}
@@ -21,8 +22,13 @@ cluster =
       bodies = writing x 1 ∷ [];
     }
 
+abbrev pub asks : List Ask
+asks =
+    Begin 0 ∷ Deliver 0 ∷ Deliver 1 ∷ Deliver 3 ∷ Deliver 4 ∷ Slow 0 ∷ Deliver 5 ∷ Recover 0 2 ∷ Recover 0 3
+    ∷ Deliver 9 ∷ Deliver 9 ∷ Deliver 12 ∷ Deliver 13 ∷ Deliver 10 ∷ Deliver 15 ∷ Deliver 16 ∷ Deliver 19 ∷ []
+
 abbrev pub items : List Item
-items = drained cluster [] (after_asks cluster 0 (Begin 0 ∷ Deliver 0 ∷ Deliver 1 ∷ Deliver 3 ∷ Deliver 4 ∷ Slow 0 ∷ Deliver 5 ∷ Recover 0 2 ∷ Recover 0 3 ∷ Deliver 9 ∷ Deliver 9 ∷ Deliver 12 ∷ Deliver 13 ∷ Deliver 10 ∷ Deliver 15 ∷ Deliver 16 ∷ Deliver 19 ∷ []) [])
+items = drained cluster [] (after_asks cluster 0 asks [])
 
 abbrev pub notes : List Note
 notes =

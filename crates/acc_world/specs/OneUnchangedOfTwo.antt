@@ -8,6 +8,7 @@ use Rattle.acc_message.specs.declared.note.Note.{Note}
 use Rattle.acc_message.specs.declared.note.Note.TheVariants.{Begin as BeginNote, Recover as RecoverNote, Decide, Outcome, Reply as ReplyNote}
 use Rattle.acc_message.specs.declared.item.Item.{Item}
 use Rattle.acc_message.specs.Run.{Cluster}
+use Rattle.acc_world.specs.declared.ask.Ask.{Ask}
 use Rattle.acc_world.specs.declared.ask.Ask.TheVariants.{Begin, Recover, Deliver, Restart}
 use Rattle.acc_world.specs.Asks.{after_asks}
 use Rattle.acc_world.specs.Schedules.{drained}
@@ -22,8 +23,13 @@ cluster =
       bodies = writing x 1 ∷ writing x 2 ∷ [];
     }
 
+abbrev pub asks : List Ask
+asks =
+    Begin 0 ∷ Begin 1 ∷ Deliver 4 ∷ Deliver 1 ∷ Deliver 0 ∷ Restart (actor_of 1 0) ∷ Recover 0 3 ∷ Deliver 9
+    ∷ Deliver 10 ∷ Deliver 12 ∷ Deliver 13 ∷ []
+
 abbrev pub items : List Item
-items = drained cluster [] (after_asks cluster 0 (Begin 0 ∷ Begin 1 ∷ Deliver 4 ∷ Deliver 1 ∷ Deliver 0 ∷ Restart (actor_of 1 0) ∷ Recover 0 3 ∷ Deliver 9 ∷ Deliver 10 ∷ Deliver 12 ∷ Deliver 13 ∷ []) [])
+items = drained cluster [] (after_asks cluster 0 asks [])
 
 abbrev pub notes : List Note
 notes =

@@ -2,6 +2,7 @@
 -- ballots, and then c, each with the cells of its turn. A Stable of an opened transaction is answered at once: by the present
 -- cells, and by the kept outcome once it is applied.
 use Rattle.std.specs.Prelude.{List, [], ◌∷◌, pos, Some}
+use Rattle.acc_stamp.specs.declared.stamps.Ballot.{Ballot}
 use Rattle.acc_txn.specs.declared.parts.BodyParts.{BodyParts}
 use Rattle.acc_txn.specs.declared.parts.Select.TheVariants.{Names}
 use Rattle.acc_txn.specs.declared.outcome.Outcome.{Outcome}
@@ -46,4 +47,18 @@ answers =
     ∷ [])
     ∷ (ReadOk (store_at 1) (node_at 1) c (ballot 2 64) (Values ((key x, Some (pos 9)) ∷ [])) ∷ [])
     ∷ (ReadOk (store_at 1) (node_at 1) b (ballot 2 64) (Known exchanged) ∷ [])
+    ∷ []
+
+-- the waiters of b, before each message and behind the last
+abbrev pub waiting : List (List Ballot)
+waiting =
+    []
+    ∷ []
+    ∷ (ballot 1 192 ∷ [])
+    ∷ (zero ∷ ballot 1 192 ∷ [])
+    ∷ (zero ∷ ballot 1 192 ∷ [])
+    ∷ (zero ∷ ballot 1 192 ∷ [])
+    ∷ []
+    ∷ []
+    ∷ []
     ∷ []

@@ -8,6 +8,7 @@ use Rattle.acc_message.specs.declared.note.Note.{Note}
 use Rattle.acc_message.specs.declared.note.Note.TheVariants.{Begin as BeginNote, Recover as RecoverNote, Decide, Outcome}
 use Rattle.acc_message.specs.declared.item.Item.{Item}
 use Rattle.acc_message.specs.Run.{Cluster}
+use Rattle.acc_world.specs.declared.ask.Ask.{Ask}
 use Rattle.acc_world.specs.declared.ask.Ask.TheVariants.{Begin, Recover, Deliver, Restart}
 use Rattle.acc_world.specs.Asks.{after_asks}
 use Rattle.acc_world.specs.Schedules.{drained}
@@ -22,8 +23,11 @@ cluster =
       bodies = writing x 1 ∷ [];
     }
 
+abbrev pub asks : List Ask
+asks = Begin 0 ∷ Deliver 0 ∷ Deliver 1 ∷ Deliver 2 ∷ Restart (actor_of 1 0) ∷ Recover 0 2 ∷ []
+
 abbrev pub items : List Item
-items = drained cluster [] (after_asks cluster 0 (Begin 0 ∷ Deliver 0 ∷ Deliver 1 ∷ Deliver 2 ∷ Restart (actor_of 1 0) ∷ Recover 0 2 ∷ []) [])
+items = drained cluster [] (after_asks cluster 0 asks [])
 
 abbrev pub notes : List Note
 notes =

@@ -1,5 +1,5 @@
 -- What laws of every run speak of: the stamps that were drawn, and who sent a message.
-use Rattle.std.specs.Prelude.{◌≡◌, ℕ, false, ◌⊎◌, IsTrue, List, [], ◌∷◌, ◌++◌, Some, Contains}
+use Rattle.std.specs.Prelude.{◌≡◌, ℕ, false, ◌⊎◌, IsTrue, List, [], ◌∷◌, ◌++◌, map, Some, Contains}
 use Rattle.std.specs.List.{flat_map}
 use Rattle.acc_stamp.specs.declared.stamps.Stamp.{Stamp}
 use Rattle.acc_stamp.specs.declared.actors.Actor.{Actor}
@@ -15,6 +15,8 @@ use Rattle.acc_message.specs.Fields.{to_of}
 use Rattle.acc_message.specs.Items.{sent_in, noted_in, message_at, same_actor}
 use Rattle.acc_stamp.specs.declared.stamps.TxnId.{TxnId}
 use Rattle.acc_message.specs.Attempts.{kept_stamp, has_answered}
+use Rattle.acc_message.specs.Taken.{Taken}
+use Rattle.acc_message.specs.NodeRules.{Act, Deed}
 
 -- ---- drawn stamps
 
@@ -63,3 +65,13 @@ pub record KeptBoth (layout : Layout) (shard : ℕ) (x y : TxnId) (answers other
   pub replica : IsTrue (number_among (shard_at layout shard).replicas node)
   pub kept : IsTrue (kept_stamp x answers shard node)
   pub kept_other : IsTrue (kept_stamp y others shard node)
+
+-- ---- what an actor took
+
+-- the messages that a store took
+abbrev pub messages_taken : List Taken → List Message
+messages_taken past = map (λ (step : Taken). step.message) past
+
+-- what a node took
+abbrev pub acts_done : List Deed → List Act
+acts_done past = map (λ (deed : Deed). deed.act) past

@@ -7,6 +7,7 @@ use Rattle.acc_message.specs.declared.note.Note.{Note}
 use Rattle.acc_message.specs.declared.note.Note.TheVariants.{Begin as BeginNote, Decide, Outcome, Reply as ReplyNote}
 use Rattle.acc_message.specs.declared.item.Item.{Item}
 use Rattle.acc_message.specs.Run.{Cluster}
+use Rattle.acc_world.specs.declared.ask.Ask.{Ask}
 use Rattle.acc_world.specs.declared.ask.Ask.TheVariants.{Begin, Deliver}
 use Rattle.acc_world.specs.Asks.{after_asks}
 use Rattle.acc_world.specs.Clusters.{stamp, id, deps_in, node, last_shard, layout, writing, reading, x, ok}
@@ -20,8 +21,13 @@ cluster =
       bodies = writing x 7 ∷ reading x ∷ [];
     }
 
+abbrev pub asks : List Ask
+asks =
+    Begin 0 ∷ Begin 1 ∷ Deliver 0 ∷ Deliver 1 ∷ Deliver 2 ∷ Deliver 3 ∷ Deliver 5 ∷ Deliver 4 ∷ Deliver 6
+    ∷ Deliver 7 ∷ Deliver 8 ∷ Deliver 9 ∷ []
+
 abbrev pub items : List Item
-items = after_asks cluster 0 (Begin 0 ∷ Begin 1 ∷ Deliver 0 ∷ Deliver 1 ∷ Deliver 2 ∷ Deliver 3 ∷ Deliver 5 ∷ Deliver 4 ∷ Deliver 6 ∷ Deliver 7 ∷ Deliver 8 ∷ Deliver 9 ∷ []) []
+items = after_asks cluster 0 asks []
 
 abbrev pub notes : List Note
 notes =

@@ -9,6 +9,7 @@ use Rattle.acc_message.specs.declared.item.Skip.TheVariants.{NoQuorum}
 use Rattle.acc_message.specs.declared.item.Item.{Item}
 use Rattle.acc_message.specs.declared.item.Item.TheVariants.{Skipped}
 use Rattle.acc_message.specs.Run.{Cluster}
+use Rattle.acc_world.specs.declared.ask.Ask.{Ask}
 use Rattle.acc_world.specs.declared.ask.Ask.TheVariants.{Begin, Slow, Deliver}
 use Rattle.acc_world.specs.Asks.{after_asks}
 use Rattle.acc_world.specs.Schedules.{drained}
@@ -23,8 +24,11 @@ cluster =
       bodies = writing x 1 ∷ [];
     }
 
+abbrev pub asks : List Ask
+asks = Begin 0 ∷ Deliver 0 ∷ Deliver 1 ∷ Deliver 5 ∷ Deliver 6 ∷ Slow 0 ∷ Deliver 2 ∷ Deliver 7 ∷ Slow 0 ∷ []
+
 abbrev pub items : List Item
-items = drained cluster [] (after_asks cluster 0 (Begin 0 ∷ Deliver 0 ∷ Deliver 1 ∷ Deliver 5 ∷ Deliver 6 ∷ Slow 0 ∷ Deliver 2 ∷ Deliver 7 ∷ Slow 0 ∷ []) [])
+items = drained cluster [] (after_asks cluster 0 asks [])
 
 abbrev pub notes : List Note
 notes =

@@ -7,6 +7,7 @@ use Rattle.acc_message.specs.declared.note.Note.{Note}
 use Rattle.acc_message.specs.declared.note.Note.TheVariants.{Begin as BeginNote, Recover as RecoverNote, Ended, Decide, Outcome, Reply as ReplyNote}
 use Rattle.acc_message.specs.declared.item.Item.{Item}
 use Rattle.acc_message.specs.Run.{Cluster}
+use Rattle.acc_world.specs.declared.ask.Ask.{Ask}
 use Rattle.acc_world.specs.declared.ask.Ask.TheVariants.{Begin, Recover, Slow, Deliver}
 use Rattle.acc_world.specs.Asks.{after_asks}
 use Rattle.acc_world.specs.Schedules.{drained}
@@ -21,8 +22,14 @@ cluster =
       bodies = writing x 1 ∷ writing x 2 ∷ [];
     }
 
+abbrev pub asks : List Ask
+asks =
+    Begin 0 ∷ Begin 1 ∷ Deliver 0 ∷ Deliver 1 ∷ Deliver 7 ∷ Deliver 8 ∷ Deliver 9 ∷ Deliver 12 ∷ Deliver 13
+    ∷ Deliver 14 ∷ Slow 1 ∷ Deliver 17 ∷ Recover 0 4 ∷ Deliver 21 ∷ Deliver 22 ∷ Deliver 23 ∷ Deliver 26
+    ∷ Deliver 27 ∷ Deliver 28 ∷ []
+
 abbrev pub items : List Item
-items = drained cluster [] (after_asks cluster 0 (Begin 0 ∷ Begin 1 ∷ Deliver 0 ∷ Deliver 1 ∷ Deliver 7 ∷ Deliver 8 ∷ Deliver 9 ∷ Deliver 12 ∷ Deliver 13 ∷ Deliver 14 ∷ Slow 1 ∷ Deliver 17 ∷ Recover 0 4 ∷ Deliver 21 ∷ Deliver 22 ∷ Deliver 23 ∷ Deliver 26 ∷ Deliver 27 ∷ Deliver 28 ∷ []) [])
+items = drained cluster [] (after_asks cluster 0 asks [])
 
 abbrev pub notes : List Note
 notes =

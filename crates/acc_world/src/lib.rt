@@ -4,6 +4,7 @@
 pub mod actors;
 mod ask;
 pub mod laws;
+pub mod promises;
 pub mod rows;
 
 pub use ask::Ask;

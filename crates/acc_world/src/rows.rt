@@ -5,6 +5,7 @@ ghost use Rattle.acc_message.specs.Items.{notes_of};
 ghost use Rattle.acc_txn.specs.Serial.{serial};
 ghost use Rattle.acc_world.specs.Decisions.{Answered, first_outcomes, body_of};
 ghost use Rattle.acc_world.specs.Schedules.{skipped_of};
+ghost use Rattle.acc_world.specs.Safe.{IsSafeRun};
 ghost use Rattle.acc_world.specs.OneUpdate as one_update_row;
 ghost use Rattle.acc_world.specs.LostVote as lost_vote_row;
 ghost use Rattle.acc_world.specs.NoLostVote as no_lost_vote_row;
@@ -27,6 +28,7 @@ pub fn one_update()
     ensures serial { serial one_update_row.serially ≡ one_update_row.replies }
     ensures outcomes { map (λ (a : Answered). a.reply) (first_outcomes one_update_row.notes) ≡ one_update_row.replies }
     ensures bodies { map (λ (a : Answered). body_of one_update_row.cluster one_update_row.items a.id) (first_outcomes one_update_row.notes) ≡ map (λ b. Some b) one_update_row.serially }
+    ensures safe { IsSafeRun one_update_row.cluster one_update_row.items }
 {}
 
 /// An update of two shards whose last vote in the second shard is lost: no fast quorum forms there, and none is lost.
@@ -35,6 +37,7 @@ pub fn lost_vote()
     ensures serial { serial lost_vote_row.serially ≡ lost_vote_row.replies }
     ensures outcomes { map (λ (a : Answered). a.reply) (first_outcomes lost_vote_row.notes) ≡ lost_vote_row.replies }
     ensures bodies { map (λ (a : Answered). body_of lost_vote_row.cluster lost_vote_row.items a.id) (first_outcomes lost_vote_row.notes) ≡ map (λ b. Some b) lost_vote_row.serially }
+    ensures safe { IsSafeRun lost_vote_row.cluster lost_vote_row.items }
 {}
 
 /// The same update without the loss.
@@ -43,6 +46,7 @@ pub fn no_lost_vote()
     ensures serial { serial no_lost_vote_row.serially ≡ no_lost_vote_row.replies }
     ensures outcomes { map (λ (a : Answered). a.reply) (first_outcomes no_lost_vote_row.notes) ≡ no_lost_vote_row.replies }
     ensures bodies { map (λ (a : Answered). body_of no_lost_vote_row.cluster no_lost_vote_row.items a.id) (first_outcomes no_lost_vote_row.notes) ≡ map (λ b. Some b) no_lost_vote_row.serially }
+    ensures safe { IsSafeRun no_lost_vote_row.cluster no_lost_vote_row.items }
 {}
 
 /// Two updates of one key: the store hears b first and draws a greater timestamp for a.
@@ -51,6 +55,7 @@ pub fn conflict_heard_first()
     ensures serial { serial conflict_heard_first_row.serially ≡ conflict_heard_first_row.replies }
     ensures outcomes { map (λ (a : Answered). a.reply) (first_outcomes conflict_heard_first_row.notes) ≡ conflict_heard_first_row.replies }
     ensures bodies { map (λ (a : Answered). body_of conflict_heard_first_row.cluster conflict_heard_first_row.items a.id) (first_outcomes conflict_heard_first_row.notes) ≡ map (λ b. Some b) conflict_heard_first_row.serially }
+    ensures safe { IsSafeRun conflict_heard_first_row.cluster conflict_heard_first_row.items }
 {}
 
 /// Two reads of one key do not conflict, so both are decided fast.
@@ -59,6 +64,7 @@ pub fn reads_do_not_conflict()
     ensures serial { serial reads_do_not_conflict_row.serially ≡ reads_do_not_conflict_row.replies }
     ensures outcomes { map (λ (a : Answered). a.reply) (first_outcomes reads_do_not_conflict_row.notes) ≡ reads_do_not_conflict_row.replies }
     ensures bodies { map (λ (a : Answered). body_of reads_do_not_conflict_row.cluster reads_do_not_conflict_row.items a.id) (first_outcomes reads_do_not_conflict_row.notes) ≡ map (λ b. Some b) reads_do_not_conflict_row.serially }
+    ensures safe { IsSafeRun reads_do_not_conflict_row.cluster reads_do_not_conflict_row.items }
 {}
 
 /// Of five replicas four unchanged votes are a fast quorum.
@@ -67,6 +73,7 @@ pub fn four_of_five()
     ensures serial { serial four_of_five_row.serially ≡ four_of_five_row.replies }
     ensures outcomes { map (λ (a : Answered). a.reply) (first_outcomes four_of_five_row.notes) ≡ four_of_five_row.replies }
     ensures bodies { map (λ (a : Answered). body_of four_of_five_row.cluster four_of_five_row.items a.id) (first_outcomes four_of_five_row.notes) ≡ map (λ b. Some b) four_of_five_row.serially }
+    ensures safe { IsSafeRun four_of_five_row.cluster four_of_five_row.items }
 {}
 
 /// Two votes of five are no majority, so the first slow is passed over.
@@ -76,6 +83,7 @@ pub fn slow_needs_majority()
     ensures serial { serial slow_needs_majority_row.serially ≡ slow_needs_majority_row.replies }
     ensures outcomes { map (λ (a : Answered). a.reply) (first_outcomes slow_needs_majority_row.notes) ≡ slow_needs_majority_row.replies }
     ensures bodies { map (λ (a : Answered). body_of slow_needs_majority_row.cluster slow_needs_majority_row.items a.id) (first_outcomes slow_needs_majority_row.notes) ≡ map (λ b. Some b) slow_needs_majority_row.serially }
+    ensures safe { IsSafeRun slow_needs_majority_row.cluster slow_needs_majority_row.items }
 {}
 
 /// By timestamp b stands before a; the printed order is the serial order.
@@ -84,6 +92,7 @@ pub fn printed_order()
     ensures serial { serial printed_order_row.serially ≡ printed_order_row.replies }
     ensures outcomes { map (λ (a : Answered). a.reply) (first_outcomes printed_order_row.notes) ≡ printed_order_row.replies }
     ensures bodies { map (λ (a : Answered). body_of printed_order_row.cluster printed_order_row.items a.id) (first_outcomes printed_order_row.notes) ≡ map (λ b. Some b) printed_order_row.serially }
+    ensures safe { IsSafeRun printed_order_row.cluster printed_order_row.items }
 {}
 
 /// The Stable of b meets an unapplied a, so the store is silent; the Apply of a answers b.
@@ -92,6 +101,7 @@ pub fn silent_until_applied()
     ensures serial { serial silent_until_applied_row.serially ≡ silent_until_applied_row.replies }
     ensures outcomes { map (λ (a : Answered). a.reply) (first_outcomes silent_until_applied_row.notes) ≡ silent_until_applied_row.replies }
     ensures bodies { map (λ (a : Answered). body_of silent_until_applied_row.cluster silent_until_applied_row.items a.id) (first_outcomes silent_until_applied_row.notes) ≡ map (λ b. Some b) silent_until_applied_row.serially }
+    ensures safe { IsSafeRun silent_until_applied_row.cluster silent_until_applied_row.items }
 {}
 
 /// The home of a restarts, and another node recovers a. The restart closed the client.
@@ -100,6 +110,7 @@ pub fn recovery_after_restart()
     ensures serial { serial recovery_after_restart_row.serially ≡ recovery_after_restart_row.replies }
     ensures outcomes { map (λ (a : Answered). a.reply) (first_outcomes recovery_after_restart_row.notes) ≡ recovery_after_restart_row.replies }
     ensures bodies { map (λ (a : Answered). body_of recovery_after_restart_row.cluster recovery_after_restart_row.items a.id) (first_outcomes recovery_after_restart_row.notes) ≡ map (λ b. Some b) recovery_after_restart_row.serially }
+    ensures safe { IsSafeRun recovery_after_restart_row.cluster recovery_after_restart_row.items }
 {}
 
 /// One unchanged vote of two answers is too few for a fast decision.
@@ -108,6 +119,7 @@ pub fn one_unchanged_of_two()
     ensures serial { serial one_unchanged_of_two_row.serially ≡ one_unchanged_of_two_row.replies }
     ensures outcomes { map (λ (a : Answered). a.reply) (first_outcomes one_unchanged_of_two_row.notes) ≡ one_unchanged_of_two_row.replies }
     ensures bodies { map (λ (a : Answered). body_of one_unchanged_of_two_row.cluster one_unchanged_of_two_row.items a.id) (first_outcomes one_unchanged_of_two_row.notes) ≡ map (λ b. Some b) one_unchanged_of_two_row.serially }
+    ensures safe { IsSafeRun one_unchanged_of_two_row.cluster one_unchanged_of_two_row.items }
 {}
 
 /// Two unchanged votes of three answers would allow a fast decision, but a store has accepted b without a.
@@ -116,6 +128,7 @@ pub fn superseded_by_accept()
     ensures serial { serial superseded_by_accept_row.serially ≡ superseded_by_accept_row.replies }
     ensures outcomes { map (λ (a : Answered). a.reply) (first_outcomes superseded_by_accept_row.notes) ≡ superseded_by_accept_row.replies }
     ensures bodies { map (λ (a : Answered). body_of superseded_by_accept_row.cluster superseded_by_accept_row.items a.id) (first_outcomes superseded_by_accept_row.notes) ≡ map (λ b. Some b) superseded_by_accept_row.serially }
+    ensures safe { IsSafeRun superseded_by_accept_row.cluster superseded_by_accept_row.items }
 {}
 
 /// A recovery of b is blocked by a; once a is decided a later one decides b.
@@ -124,6 +137,7 @@ pub fn blocked_recovery()
     ensures serial { serial blocked_recovery_row.serially ≡ blocked_recovery_row.replies }
     ensures outcomes { map (λ (a : Answered). a.reply) (first_outcomes blocked_recovery_row.notes) ≡ blocked_recovery_row.replies }
     ensures bodies { map (λ (a : Answered). body_of blocked_recovery_row.cluster blocked_recovery_row.items a.id) (first_outcomes blocked_recovery_row.notes) ≡ map (λ b. Some b) blocked_recovery_row.serially }
+    ensures safe { IsSafeRun blocked_recovery_row.cluster blocked_recovery_row.items }
 {}
 
 /// The repeated message gets a Nack with its own ballot, which the recovery ignores.
@@ -132,6 +146,7 @@ pub fn nack_with_own_ballot()
     ensures serial { serial nack_with_own_ballot_row.serially ≡ nack_with_own_ballot_row.replies }
     ensures outcomes { map (λ (a : Answered). a.reply) (first_outcomes nack_with_own_ballot_row.notes) ≡ nack_with_own_ballot_row.replies }
     ensures bodies { map (λ (a : Answered). body_of nack_with_own_ballot_row.cluster nack_with_own_ballot_row.items a.id) (first_outcomes nack_with_own_ballot_row.notes) ≡ map (λ b. Some b) nack_with_own_ballot_row.serially }
+    ensures safe { IsSafeRun nack_with_own_ballot_row.cluster nack_with_own_ballot_row.items }
 {}
 
 /// A transfer between two shards, and a read of both cells.
@@ -139,4 +154,5 @@ pub fn transfer_between_shards()
     ensures notes { notes_of transfer_between_shards_row.items ≡ transfer_between_shards_row.notes }
     ensures serial { serial transfer_between_shards_row.serially ≡ transfer_between_shards_row.replies }
     ensures outcomes { map (λ (a : Answered). a.reply) (first_outcomes transfer_between_shards_row.notes) ≡ transfer_between_shards_row.replies }
+    ensures safe { IsSafeRun transfer_between_shards_row.cluster transfer_between_shards_row.items }
 {}

@@ -1,4 +1,4 @@
-use Rattle.acc_world.proofs.Stepped.{lost_and_down-marked, lost_and_down-marks_refused, lost_and_down-down, lost_and_down-downs_refused, lost_and_down-numbers}
+use Rattle.acc_world.proofs.Stepped.{lost_and_down-marked, lost_and_down-marks_refused, lost_and_down-down, lost_and_down-downs_refused, lost_and_down-taken, lost_and_down-numbers}
 use Rattle.acc_world.proofs.actors.lost_and_down.Goals as goal
 
 pub returns : goal.returns
@@ -8,5 +8,6 @@ returns c =
       marks_refused = lost_and_down-marks_refused;
       down = lost_and_down-down;
       downs_refused = lost_and_down-downs_refused;
+      taken = lost_and_down-taken;
       numbers = lost_and_down-numbers;
     }
