@@ -1,0 +1,71 @@
+//! Answers of the crates below against a table of wanted ones, for all that is told by long texts. The table comes from
+//! standard input. A line of it is a JSON array: a kind, its fields, and the wanted answer.
+//!
+//! - `["text", TEXT, ANSWER]`: the text of a transaction is parsed. The answer is `ok` and the canonical text of its body,
+//!   or its fault: the kind's number, ` at ` and the byte where it stands.
+//! - `["outcome", TEXT, CELLS, ANSWER]`: the body of such a text is evaluated on cells, a list of `[TABLE, KEY, VALUE]`
+//!   where a value is a number or null. The answer is the verdict, then behind a space the selected values, joined by
+//!   commas, and behind ` / ` the writes, as `TABLE.KEY=VALUE` and joined by commas too. Where there are none of them, their
+//!   sign is left out.
+//! - `["document", TEXT, ANSWER]`: the text of a cluster document is read. The answer is `ok` and the counts of the plan, as
+//!   `ok nodes=1 shards=1 txns=1 steps=2`, or the refusal: `bad`, the kind's number and the path, then the detail where
+//!   it isn't 0, and behind the detail of a transaction's text ` at ` and the byte.
+//!
+//! Each answer that differs is printed on a line of its own, and at the end how many of each kind agree. The program fails
+//! where one differs, at a line of another form, and where memory runs out.
+#![tactic(auto)]
+
+mod case;
+mod document;
+mod outcome;
+mod tally;
+mod text;
+
+use anyhow::{Context, Result, ensure};
+use case::Case;
+use serde_json::Value;
+use std::alloc::Global;
+use std::io::{BufRead, BufReader};
+use tally::Tallies;
+
+/// What a crate answers to a case.
+fn answer(alloc: Global, case: &Case<'_>) -> Result<String> {
+    match case {
+        Case::Text(text) => text::answer(alloc, text),
+        Case::Outcome(text, cells) => outcome::answer(alloc, text, cells),
+        Case::Document(document) => document::answer(alloc, document),
+    }
+}
+
+/// Compares the answer to a line with the wanted one.
+fn compare(
+    rt: &impl Print,
+    alloc: Global,
+    tallies: &mut Tallies,
+    number: usize,
+    line: &str,
+) -> Result<()> {
+    let line = Value::from_str(alloc, line)?;
+    let (case, wanted) = case::read(&line)?;
+    let came = answer(alloc, &case)?;
+    let agrees = came.as_str() == wanted;
+    tallies.of(&case).count(agrees);
+    if !agrees {
+        println!(rt; "line {number}: came {came}, wanted {wanted}")?;
+    }
+    Ok(())
+}
+
+fn main(rt: HostRuntime) -> Result<()> {
+    let alloc = rt.alloc();
+    let mut tallies = Tallies::new();
+    for (place, line) in BufReader::new(alloc, rt.reader())?.lines(alloc).enumerate() {
+        let number = place.saturating_add(1);
+        compare(&rt, alloc, &mut tallies, number, &line?).context(format_args!("line {number}"))?;
+    }
+    println!(rt; "text: {}", tallies.texts)?;
+    println!(rt; "outcome: {}", tallies.outcomes)?;
+    println!(rt; "document: {}", tallies.documents)?;
+    ensure!(tallies.all_agree(), "some answers differ");
+    Ok(())
+}
