@@ -49,6 +49,14 @@ impl Body {
         }
     }
 
+    /// The body of parts that keep to the rules, which aren't tested again: for a reader that has tested them one by one.
+    pub fn new_unchecked(parts: BodyParts) -> Body
+        requires { IsBody parts }
+        ensures { result ≡ parts }
+    {
+        Body { parts }
+    }
+
     /// The parts, which keep to the rules.
     pub fn parts(&self) -> &BodyParts
         ensures parts { result.now ≡ self.now }

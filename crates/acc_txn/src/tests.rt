@@ -219,6 +219,8 @@ fn transfers(rt: HostRuntime) -> Result<(), Fail> {
 fn bodies_keep_their_parts(rt: HostRuntime) -> Result<(), Fail> {
     let body = Body::new(transfer(rt.alloc())?)?;
     assert!(rt; *Duplicate::copy(&body)?.parts() == transfer(rt.alloc())?);
+    let again = Body::new_unchecked(body.parts().copy()?);
+    assert!(rt; again == body);
     Ok(())
 }
 
