@@ -1,7 +1,6 @@
 -- What the parser answers at a text of the grammar.
-use Rattle.std.proofs.Common.{◌≡◌, ◌≢◌, ℕ, Bool, true, List, Option, Some, None, is_none, Result, Ok, Err, IfOk, IfErr, MatchResult, refl, sym, ap, ◌∙◌, subst}
+use Rattle.std.proofs.Common.{◌≡◌, ℕ, List, None, Result, Ok, Err, IfOk, IfErr, MatchResult, refl, ap}
 use Rattle.acc_txn.specs.declared.parts.BodyParts.{BodyParts}
-use Rattle.acc_lang.specs.declared.fault.Fault.{Fault}
 use Rattle.acc_lang.specs.declared.error.LangError.{LangError}
 use Rattle.acc_lang.specs.declared.error.LangError.TheVariants.{At, OutOfMemory as NoMemory}
 use Rattle.acc_lang.specs.Answer.{IsFaultIn}
@@ -22,8 +21,3 @@ pub answered : (text : List ℕ) (result : Result BodyParts LangError) → IfOk 
 answered text (Ok body) read fault parts is = let e = is_read text parts is in cc
 answered text (Err (At at kind)) read fault parts is = let n = no_fault text parts (is_read text parts is) in absurd (cc)
 answered text (Err NoMemory) read fault parts is = refl
-
--- the answer is the body that was read
-pub said : {E : Type 0} (P : BodyParts → Type 0) (parts : BodyParts) (result : Result BodyParts E) → IfOk result (λ body. body ≡ parts) → P parts → IfOk result P
-said P parts (Ok body) same holds = subst P (sym same) holds
-said P parts (Err error) same holds = tt

@@ -1,10 +1,10 @@
 -- What is read from a UTF-8 text keeps the rules of bodies.
-use Rattle.std.proofs.Common.{◌≡◌, ◌≤◌, ◌<◌, ◌+◌, ◌==◌, ℕ, Bool, true, false, not, ◌||◌, ◌&&◌, cond, List, [], ◌∷◌, ◌++◌, length, map, codes, nat_le, nat_lt, Option, Some, None, position, IsUtf8, Ok, refl, sym, ap, ◌∙◌, subst, arith}
+use Rattle.std.proofs.Common.{◌≡◌, ◌≤◌, ◌+◌, ◌==◌, ℕ, Bool, true, false, not, ◌||◌, ◌&&◌, cond, List, [], ◌∷◌, ◌++◌, length, codes, nat_lt, Some, None, position, IsUtf8, Ok, refl, sym, ap, ◌∙◌, subst, arith}
 use Rattle.std.proofs.Math.Bool.{and-false}
 use Rattle.std.specs.List.{list_any, prefix_len}
 use Rattle.std.specs.Str.{bytes_eq}
 use Rattle.std.proofs.lemmas.List.Folds.{list_any-append}
-use Rattle.acc_token.specs.Tokens.{Token, Word, Mark, token_at, behind}
+use Rattle.acc_token.specs.Tokens.{Word}
 use Rattle.acc_value.specs.declared.key.Key.{Key}
 use Rattle.acc_value.specs.Footprint.{used}
 use Rattle.acc_txn.specs.declared.parts.Let.{Let}
@@ -15,17 +15,17 @@ use Rattle.acc_txn.specs.declared.parts.Condition.TheVariants.{Compare, IsNull, 
 use Rattle.acc_txn.specs.declared.parts.Update.{Update}
 use Rattle.acc_txn.specs.declared.parts.Update.TheVariants.{Set, Delete}
 use Rattle.acc_txn.specs.declared.parts.BodyParts.{BodyParts}
-use Rattle.acc_txn.specs.Uses.{selected_keys, updated_key, read_keys, written_keys, with_keys, footprint_of}
+use Rattle.acc_txn.specs.Uses.{read_keys, written_keys, with_keys, footprint_of}
 use Rattle.acc_txn.specs.Rules.{is_many, is_long, condition_has, update_has, selected_names, has_name_twice, IsBody}
-use Rattle.acc_lang.specs.Reading.{let_of, are_many, key_written, reading}
-use Rattle.acc_lang.specs.Grammar.{Spells, Each, Behind, ConditionSpelled, UpdateSpelled, ActionSpelled, Spelled, IsTextOf}
-use Rattle.acc_lang.proofs.Fits.{IsFitKey, IsFitLet, IsFitSelect, IsFitCondition, IsFitUpdate, IsFitBody, Uses, after, InTurn, at_end, with_let, with_update, uses_after_select}
+use Rattle.acc_lang.specs.Reading.{key_written, reading}
+use Rattle.acc_lang.specs.Grammar.{ActionSpelled, Spelled, IsTextOf}
+use Rattle.acc_lang.proofs.Fits.{IsFitLet, IsFitSelect, IsFitCondition, IsFitUpdate, IsFitBody, Uses, after, InTurn, at_end, with_let, with_update, uses_after_select}
 use Rattle.acc_lang.proofs.FoundText.{ThisCondition}
 use Rattle.acc_lang.proofs.FoundBody.{reading_found}
 use Rattle.acc_lang.proofs.Counts.{all_uses}
-use Rattle.acc_lang.proofs.Obeys.{Obeys, neither, not_many, at_most, is_body, bytes_differ, none_is_zero}
+use Rattle.acc_lang.proofs.Obeys.{neither, not_many, at_most, is_body, bytes_differ, none_is_zero}
 use Rattle.acc_lang.proofs.Saying.{all_say}
-use Rattle.acc_lang.proofs.Sound.{IsSoundSelect, AreSoundConditions, AreSoundUpdates, lets_sound, select_sound, condition_sound, guards_sound, update_sound, updates_sound}
+use Rattle.acc_lang.proofs.Sound.{AreSoundConditions, AreSoundUpdates, lets_sound, select_sound, condition_sound, guards_sound, update_sound, updates_sound}
 
 -- where an element passes, one is first
 first_passes : {X : Type 0} (p : X → Bool) (xs : List X) → list_any p xs ≡ true → nat_lt (prefix_len (λ x. not (p x)) xs) (length xs) ≡ true

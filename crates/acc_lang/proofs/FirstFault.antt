@@ -1,5 +1,5 @@
 -- The first fault is found as soon as its token is seen.
-use Rattle.std.proofs.Common.{◌≡◌, ℕ, ◌-◌, List, length, Option, Some, None, Result, Ok, Err, refl, sym, ap, ◌∙◌}
+use Rattle.std.proofs.Common.{◌≡◌, ℕ, ◌-◌, List, length, Option, Some, Result, Ok, Err, refl, sym, ap, ◌∙◌}
 use Rattle.acc_token.specs.Tokens.{left_at}
 use Rattle.acc_txn.specs.declared.parts.BodyParts.{BodyParts}
 use Rattle.acc_lang.specs.declared.error.LangKind.{LangKind}

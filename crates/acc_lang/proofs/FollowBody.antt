@@ -1,28 +1,24 @@
 -- Each production goes by the tokens from the left: selects, sums, conditions, updates and the whole text.
-use Rattle.std.proofs.Common.{◌≡◌, ◌≤◌, ◌==◌, ℕ, zero, suc, Bool, true, false, ◌&&◌, ◌||◌, not, cond, List, [], ◌∷◌, ◌++◌, length, codes, pos, Option, Some, None, is_some, unwrap_or, Result, Ok, Err, refl, sym, ap, ◌∙◌, subst, arith}
+use Rattle.std.proofs.Common.{◌≡◌, ◌≤◌, ◌==◌, ℕ, Bool, true, false, cond, List, [], ◌∷◌, ◌++◌, length, codes, pos, is_some, unwrap_or, Ok, Err, refl, sym, ap, ◌∙◌, arith}
 use Rattle.std.specs.Prelude.{neg_ℤ}
-use Rattle.acc_token.specs.Tokens.{Token, token_at, left_at, behind}
-use Rattle.acc_value.specs.declared.key.Key.{Key}
-use Rattle.acc_value.specs.Footprint.{used}
+use Rattle.acc_token.specs.Tokens.{token_at, left_at, behind}
 use Rattle.acc_txn.specs.declared.parts.Let.{Let}
 use Rattle.acc_txn.specs.declared.parts.Select.{Select}
-use Rattle.acc_txn.specs.declared.parts.Select.TheVariants.{Nothing, Names, Get}
+use Rattle.acc_txn.specs.declared.parts.Select.TheVariants.{Nothing, Names}
 use Rattle.acc_txn.specs.declared.parts.Operator.TheVariants.{Equal}
 use Rattle.acc_txn.specs.declared.parts.Term.{Term}
 use Rattle.acc_txn.specs.declared.parts.Term.TheVariants.{Number as NumberTerm, Name as NameTerm, Null}
 use Rattle.acc_txn.specs.declared.parts.Part.{Part}
 use Rattle.acc_txn.specs.declared.parts.Condition.{Condition}
-use Rattle.acc_txn.specs.declared.parts.Condition.TheVariants.{Compare, IsNull, IsNotNull}
+use Rattle.acc_txn.specs.declared.parts.Condition.TheVariants.{IsNull, IsNotNull}
 use Rattle.acc_txn.specs.declared.parts.Update.{Update}
-use Rattle.acc_txn.specs.declared.parts.Update.TheVariants.{Set, Delete}
 use Rattle.acc_txn.specs.declared.parts.BodyParts.{BodyParts}
 use Rattle.acc_lang.specs.declared.fault.Fault.{Fault}
-use Rattle.acc_lang.specs.declared.fault.Standing.{Standing}
 use Rattle.acc_lang.specs.Faults.{fault_behind_minus, fault_behind_end}
-use Rattle.acc_lang.specs.Reading.{Reads, ◌>>=◌, passed, step, standing_of, take_word, take_mark, skip_mark, is_word, is_mark, is_number, is_quoted, is_free, word_of, number_of, text_of, each, table, key_of, are_many, key_text, where_key, from_key, let_of, new_name, binding, one_let, more_lets, bound_name, named, one_item, more_items, items, begins_get, get, selected, select, negative, plain, null, term, is_sign, part_of, one_part, more_parts, expression, operator_of, operator, null_test, comparison, condition_from, condition, one_condition, more_conditions, conditions, assignment, removal, begins_update, update, key_written, one_update, more_updates, guarded, unguarded, action, opening, commit, finish, closing, behind_lets, reading}
+use Rattle.acc_lang.specs.Reading.{◌>>=◌, passed, standing_of, take_word, is_word, is_mark, is_number, number_of, table, where_key, from_key, more_lets, named, items, begins_get, get, selected, select, negative, plain, null, term, is_sign, part_of, one_part, more_parts, expression, operator_of, operator, null_test, comparison, condition_from, condition, one_condition, more_conditions, conditions, assignment, removal, begins_update, update, one_update, more_updates, guarded, unguarded, action, opening, commit, finish, closing, behind_lets, reading}
 use Rattle.acc_lang.specs.First.{behind_all, SameTokens, Seen}
-use Rattle.acc_lang.proofs.Following.{Shape, pairs, places, Stops, Follows, in_sight, in_turn, then_stops, nothing, one_token, by_token, behind_one, loose, repeats, same_first, seen_same, passed_follows, skip_follows, skip_place}
-use Rattle.acc_lang.proofs.FollowText.{Uses, word_follows, word_then, mark_then, then_word, then_mark, token_then, step_then, value_then, then_value, then_some, table_follows, where_key_follows, from_key_follows, lets_follow, named_follows, items_follow, get_follows, begins_seen, begins_same}
+use Rattle.acc_lang.proofs.Following.{pairs, places, Stops, Follows, in_sight, in_turn, then_stops, nothing, by_token, behind_one, loose, repeats, passed_follows, skip_follows, skip_place}
+use Rattle.acc_lang.proofs.FollowText.{Uses, word_follows, word_then, then_word, then_mark, token_then, step_then, value_then, then_value, then_some, table_follows, where_key_follows, from_key_follows, lets_follow, named_follows, items_follow, get_follows, begins_seen, begins_same}
 
 -- the select, which goes by two tokens
 selected_follows : (uses : Uses) (lets : List Let) → Follows 0 pairs (selected uses lets)

@@ -1,12 +1,12 @@
 -- Reading goes by the tokens from the left: texts that show the same tokens are read alike, and a fault is found as soon as
 -- its token is seen, or the one behind a word v.
-use Rattle.std.proofs.Common.{◌≡◌, ◌≤◌, ◌⊎◌, ℕ, zero, suc, Bool, true, false, ◌&&◌, cond, List, [], ◌∷◌, codes, Option, Some, None, Result, Ok, Err, refl, sym, ap, ◌∙◌, subst, inl, inr, ⊎_elim, arith}
+use Rattle.std.proofs.Common.{◌≡◌, ◌≤◌, ◌⊎◌, ℕ, zero, suc, Bool, true, false, cond, List, Option, Some, None, Result, Ok, Err, refl, sym, ap, ◌∙◌, subst, inl, inr, ⊎_elim, arith}
 use Rattle.acc_token.specs.Tokens.{Token, token_at, left_at, behind}
 use Rattle.acc_lang.specs.declared.error.LangKind.{LangKind}
 use Rattle.acc_lang.specs.declared.fault.Fault.{Fault}
 use Rattle.acc_lang.specs.declared.fault.Standing.{Standing}
 use Rattle.acc_lang.specs.Faults.{fault_of}
-use Rattle.acc_lang.specs.Reading.{Reads, ◌>>=◌, passed, fault_at, step, skip_mark, is_word, is_mark, each}
+use Rattle.acc_lang.specs.Reading.{Reads, ◌>>=◌, passed, fault_at, step, skip_mark, is_mark, each}
 use Rattle.acc_lang.specs.First.{behind_all, SameTokens, Seen}
 use Rattle.acc_lang.proofs.Steps.{both}
 

@@ -1,14 +1,14 @@
 -- What is read is spelled so, and was checked: tokens and keys.
-use Rattle.std.proofs.Common.{◌≡◌, ◌≤◌, ℕ, Bool, true, false, List, [], ◌∷◌, ◌++◌, length, codes, Option, Some, None, Result, Ok, Err, refl, sym, ap, ◌∙◌, subst, arith}
+use Rattle.std.proofs.Common.{◌≡◌, ℕ, Bool, true, false, List, [], ◌∷◌, codes, Result, Ok, refl, sym, ap, ◌∙◌, subst}
 use Rattle.acc_token.specs.Tokens.{Token, Word, Mark, Quoted, token_at, behind}
 use Rattle.acc_value.specs.declared.key.Key.{Key}
 use Rattle.acc_value.specs.Footprint.{used}
 use Rattle.acc_txn.specs.Words.{is_reserved}
 use Rattle.acc_lang.specs.declared.fault.Fault.{Fault}
 use Rattle.acc_lang.specs.Faults.{is_long}
-use Rattle.acc_lang.specs.Reading.{Reads, ◌>>=◌, step, standing_of, take_word, take_mark, table, key_text, where_key, from_key, key_of, are_many, word_of, text_of, is_free, is_quoted}
+use Rattle.acc_lang.specs.Reading.{◌>>=◌, step, standing_of, take_word, take_mark, table, key_text, where_key, from_key, key_of, are_many, word_of, text_of, is_free, is_quoted}
 use Rattle.acc_lang.specs.Grammar.{Spells}
-use Rattle.acc_lang.proofs.Steps.{IsSound, both, taken, word_found, mark_found, free_token, quoted_token, join}
+use Rattle.acc_lang.proofs.Steps.{IsSound, both, taken, word_found, mark_found, free_token, quoted_token}
 use Rattle.acc_lang.proofs.Fits.{IsFreeWord, IsFitKey}
 
 pub ok_same : {X : Type 0} (x y : X) → ◌≡◌ {A = Result X Fault} (Ok x) (Ok y) → x ≡ y

@@ -1,17 +1,15 @@
 -- What is read from a whole text is spelled there, and was checked.
-use Rattle.std.proofs.Common.{◌≡◌, ◌≤◌, ◌+◌, ◌==◌, ℕ, Bool, true, false, cond, List, [], ◌∷◌, ◌++◌, length, codes, Option, Some, None, Result, Ok, Err, refl, sym, ap, ◌∙◌, subst, append_assoc, arith}
+use Rattle.std.proofs.Common.{◌≡◌, ◌≤◌, ◌==◌, ℕ, true, false, List, [], ◌∷◌, ◌++◌, length, codes, None, Ok, refl, sym, ap, ◌∙◌, subst, append_assoc}
 use Rattle.std.proofs.lemmas.List.{append-nil}
 use Rattle.acc_token.specs.Tokens.{Token, Word, Mark, Number as Digits, Quoted, Strange, End, token_at, behind}
-use Rattle.acc_value.specs.declared.key.Key.{Key}
 use Rattle.acc_value.specs.Footprint.{used}
 use Rattle.acc_txn.specs.declared.parts.Let.{Let}
 use Rattle.acc_txn.specs.declared.parts.BodyParts.{BodyParts}
-use Rattle.acc_lang.specs.declared.fault.Fault.{Fault}
 use Rattle.acc_lang.specs.Faults.{fault_behind_end}
-use Rattle.acc_lang.specs.Reading.{Reads, ◌>>=◌, passed, step, standing_of, take_word, skip_mark, is_word, more_lets, select, action, opening, commit, finish, closing, behind_lets, reading}
+use Rattle.acc_lang.specs.Reading.{step, standing_of, is_word, more_lets, select, action, opening, commit, finish, closing, behind_lets, reading}
 use Rattle.acc_lang.specs.Grammar.{Spells, MaybeSemicolon, Each, LetSpelled, Spelled}
 use Rattle.acc_lang.proofs.Steps.{both, taken, word_found, word_token}
-use Rattle.acc_lang.proofs.Fits.{IsFitLet, IsFitUpdate, IsFitBody, Uses, after, InTurn, with_let, with_update, uses_after_select}
+use Rattle.acc_lang.proofs.Fits.{IsFitLet, IsFitUpdate, IsFitBody, Uses, after, InTurn, with_let, with_update}
 use Rattle.acc_lang.proofs.Found.{ok_same, word_first}
 use Rattle.acc_lang.proofs.FoundParts.{lets_found}
 use Rattle.acc_lang.proofs.FoundSums.{select_found, passed_behind}

@@ -1,19 +1,17 @@
 -- What is read is spelled so, and was checked: repetitions, names, LETs, selects and sums.
-use Rattle.std.proofs.Common.{◌≡◌, ◌≤◌, ◌+◌, ℕ, zero, suc, Bool, true, false, not, ◌||◌, cond, List, [], ◌∷◌, ◌++◌, length, codes, Option, Some, None, is_some, unwrap_or, position, get_or, pos, Result, Ok, Err, refl, sym, ap, ◌∙◌, subst, true≢false, arith}
-use Rattle.std.specs.Prelude.{neg_ℤ, slice_get}
+use Rattle.std.proofs.Common.{◌≡◌, ◌≤◌, ℕ, zero, suc, Bool, true, false, not, cond, List, [], ◌∷◌, ◌++◌, length, codes, Option, Some, None, is_some, unwrap_or, get_or, Result, Ok, refl, sym, ap, ◌∙◌, subst, true≢false, arith}
+use Rattle.std.specs.Prelude.{slice_get}
 use Rattle.std.specs.Str.{bytes_eq}
 use Rattle.std.proofs.lemmas.List.Quantifiers.{position-Some}
 use Rattle.std.proofs.lemmas.Option.{slice_get-get_or}
 use Rattle.std.proofs.lemmas.Slice.Eq.{bytes_eq-Decides}
-use Rattle.acc_token.specs.Tokens.{Token, Word, Mark, Number as Digits, Quoted, token_at, behind}
-use Rattle.acc_value.specs.declared.key.Key.{Key}
-use Rattle.acc_value.specs.Footprint.{used}
+use Rattle.acc_token.specs.Tokens.{Token, Word, Mark, token_at, behind}
 use Rattle.acc_txn.specs.declared.parts.Let.{Let}
 use Rattle.acc_lang.specs.declared.fault.Fault.{Fault}
-use Rattle.acc_lang.specs.Reading.{Reads, ◌>>=◌, step, standing_of, take_word, take_mark, from_key, word_of, is_free, is_word, let_of, new_name, binding, one_let, more_lets, bound_name, named, each}
+use Rattle.acc_lang.specs.Reading.{Reads, ◌>>=◌, step, standing_of, from_key, word_of, is_free, is_word, let_of, new_name, binding, one_let, more_lets, bound_name, named, each}
 use Rattle.acc_lang.specs.Grammar.{Spells, Each, LetSpelled, NameSpelled}
-use Rattle.acc_lang.proofs.Steps.{IsSound, both, taken, word_found, mark_found, free_token, quoted_token, word_token, join}
-use Rattle.acc_lang.proofs.Fits.{IsFreeWord, IsFitKey, IsFitLet, Uses, after, InTurn, with_let}
+use Rattle.acc_lang.proofs.Steps.{both, taken, free_token, word_token, join}
+use Rattle.acc_lang.proofs.Fits.{IsFreeWord, IsFitLet, Uses, after, InTurn, with_let}
 use Rattle.acc_lang.proofs.Found.{ok_same, word_first, mark_first, free_found, from_tokens, from_key_found}
 
 module _ {S X : Type 0} (again : Token → Bool) (one : Bool → S → List ℕ → Reads S) (push : S → X → S)

@@ -1,8 +1,7 @@
 -- What is read is spelled so, and was checked: selects and sums.
-use Rattle.std.proofs.Common.{◌≡◌, ◌≤◌, ◌+◌, ℕ, Bool, true, false, not, ◌||◌, ◌&&◌, cond, List, [], ◌∷◌, ◌++◌, length, codes, Option, Some, None, is_some, unwrap_or, pos, Result, Ok, Err, refl, sym, ap, ◌∙◌, subst, true≢false, inl, inr, arith}
-use Rattle.std.specs.Prelude.{ℤ, neg_ℤ, slice_get}
+use Rattle.std.proofs.Common.{◌≡◌, ◌≤◌, ℕ, Bool, true, false, ◌||◌, ◌&&◌, cond, List, [], ◌∷◌, ◌++◌, length, codes, Option, Some, None, pos, Ok, refl, sym, ap, ◌∙◌, subst, true≢false, inl, inr, arith}
+use Rattle.std.specs.Prelude.{neg_ℤ}
 use Rattle.acc_token.specs.Tokens.{Token, Word, Mark, Number as Digits, Quoted, Strange, End, token_at, behind}
-use Rattle.acc_value.specs.declared.key.Key.{Key}
 use Rattle.acc_value.specs.Footprint.{used}
 use Rattle.acc_txn.specs.declared.parts.Let.{Let}
 use Rattle.acc_txn.specs.declared.parts.Select.{Select}
@@ -12,13 +11,12 @@ use Rattle.acc_txn.specs.declared.parts.Term.TheVariants.{Number, Name, Null}
 use Rattle.acc_txn.specs.declared.parts.Part.{Part}
 use Rattle.acc_lang.specs.declared.error.LangKind.{LangKind}
 use Rattle.acc_lang.specs.declared.error.LangKind.TheVariants.{Number as NumberKind}
-use Rattle.acc_lang.specs.declared.fault.Fault.{Fault}
-use Rattle.acc_lang.specs.Faults.{fault_behind_minus, exceeds, greatest_fault}
-use Rattle.acc_lang.specs.Reading.{Reads, ◌>>=◌, passed, step, standing_of, take_word, take_mark, from_key, is_word, is_mark, is_number, number_of, one_item, more_items, items, begins_get, get, selected, select, negative, plain, null, term, is_sign, part_of, one_part, more_parts, expression, named}
-use Rattle.acc_lang.specs.Grammar.{Spells, Each, Behind, NameSpelled, SelectSpelled, NumberSpelled, TermSpelled, PartSpelled, ExpressionSpelled}
+use Rattle.acc_lang.specs.Faults.{fault_behind_minus, exceeds}
+use Rattle.acc_lang.specs.Reading.{◌>>=◌, passed, step, standing_of, from_key, is_word, is_mark, is_number, number_of, one_item, more_items, items, begins_get, get, selected, select, negative, plain, null, term, is_sign, part_of, one_part, more_parts, expression, named}
+use Rattle.acc_lang.specs.Grammar.{Spells, Each, Behind, NameSpelled, SelectSpelled, TermSpelled, PartSpelled, ExpressionSpelled}
 use Rattle.acc_lang.proofs.Taking.{misplaced}
-use Rattle.acc_lang.proofs.Steps.{both, taken, word_found, mark_found, word_token, mark_token, number_token, join}
-use Rattle.acc_lang.proofs.Fits.{IsFitKey, IsFitSelect, Uses, uses_after_select, after, InTurn, at_end, after_at_end}
+use Rattle.acc_lang.proofs.Steps.{both, taken, word_token, mark_token, number_token, join}
+use Rattle.acc_lang.proofs.Fits.{IsFitSelect, Uses, uses_after_select, at_end, after_at_end}
 use Rattle.acc_lang.proofs.Found.{ok_same, word_first, mark_first, from_tokens, from_key_found}
 use Rattle.acc_lang.proofs.FoundParts.{each_found, named_found}
 

@@ -1,8 +1,7 @@
 -- What is read is spelled so, and was checked: conditions, updates and the whole text.
-use Rattle.std.proofs.Common.{◌≡◌, ◌≤◌, ◌+◌, ◌==◌, ◌⊎◌, ℕ, Bool, true, false, not, ◌||◌, ◌&&◌, cond, List, [], ◌∷◌, ◌++◌, length, codes, Option, Some, None, is_some, unwrap_or, Result, Ok, Err, refl, sym, ap, ◌∙◌, subst, true≢false, inl, inr, append_assoc, arith}
+use Rattle.std.proofs.Common.{◌≡◌, ◌≤◌, ℕ, Bool, true, false, not, ◌||◌, cond, List, [], ◌∷◌, ◌++◌, length, codes, Option, Some, None, is_some, unwrap_or, Ok, refl, sym, ap, ◌∙◌, subst, true≢false, inl, inr, append_assoc, arith}
 use Rattle.std.proofs.lemmas.List.{append-nil}
-use Rattle.acc_token.specs.Tokens.{Token, Word, Mark, Number as Digits, Quoted, Strange, End, token_at, behind}
-use Rattle.acc_value.specs.declared.key.Key.{Key}
+use Rattle.acc_token.specs.Tokens.{Token, Word, Mark, token_at, behind}
 use Rattle.acc_value.specs.Footprint.{used}
 use Rattle.acc_txn.specs.declared.parts.Let.{Let}
 use Rattle.acc_txn.specs.declared.parts.Operator.{Operator}
@@ -13,17 +12,13 @@ use Rattle.acc_txn.specs.declared.parts.Condition.{Condition}
 use Rattle.acc_txn.specs.declared.parts.Condition.TheVariants.{Compare, IsNull, IsNotNull}
 use Rattle.acc_txn.specs.declared.parts.Update.{Update}
 use Rattle.acc_txn.specs.declared.parts.Update.TheVariants.{Set, Delete}
-use Rattle.acc_txn.specs.declared.parts.BodyParts.{BodyParts}
-use Rattle.acc_lang.specs.declared.error.LangKind.{LangKind}
-use Rattle.acc_lang.specs.declared.fault.Fault.{Fault}
-use Rattle.acc_lang.specs.Faults.{fault_behind_end}
-use Rattle.acc_lang.specs.Reading.{Reads, ◌>>=◌, passed, step, standing_of, take_word, take_mark, skip_mark, table, where_key, from_key, is_word, is_mark, more_lets, select, term, more_parts, expression, operator_of, operator, null_test, comparison, condition_from, condition, one_condition, more_conditions, conditions, assignment, removal, begins_update, update, key_written, one_update, more_updates, guarded, unguarded, action, opening, commit, finish, closing, behind_lets, reading}
-use Rattle.acc_lang.specs.Grammar.{Spells, Each, Behind, MaybeSemicolon, LetSpelled, NameSpelled, TermSpelled, ExpressionSpelled, operator_mark, ConditionSpelled, UpdateSpelled, GuardedSpelled, ActionSpelled, Spelled}
-use Rattle.acc_lang.proofs.Steps.{both, taken, word_found, mark_found, word_token, mark_token, join}
-use Rattle.acc_lang.proofs.Fits.{IsFitKey, IsFitCondition, IsFitUpdate, IsFitBody, Uses, uses_after_select, after, InTurn, at_end, after_at_end, with_update}
+use Rattle.acc_lang.specs.Reading.{◌>>=◌, step, standing_of, take_word, skip_mark, where_key, from_key, is_word, is_mark, term, more_parts, expression, operator_of, operator, null_test, comparison, condition_from, condition, one_condition, more_conditions, conditions, assignment, removal, begins_update, update, key_written, one_update, more_updates, guarded, unguarded, action}
+use Rattle.acc_lang.specs.Grammar.{Spells, Each, Behind, MaybeSemicolon, NameSpelled, TermSpelled, operator_mark, ConditionSpelled, UpdateSpelled, ActionSpelled}
+use Rattle.acc_lang.proofs.Steps.{both, taken, word_token, mark_token, join}
+use Rattle.acc_lang.proofs.Fits.{IsFitCondition, IsFitUpdate, Uses, after, InTurn, at_end, after_at_end, with_update}
 use Rattle.acc_lang.proofs.Found.{ok_same, word_first, mark_first, table_first, where_tokens, where_key_found, from_tokens, from_key_found}
-use Rattle.acc_lang.proofs.FoundParts.{each_found, lets_found, some_is}
-use Rattle.acc_lang.proofs.FoundSums.{select_found, term_found, parts_found, expression_found, passed_behind}
+use Rattle.acc_lang.proofs.FoundParts.{each_found, some_is}
+use Rattle.acc_lang.proofs.FoundSums.{term_found, parts_found, expression_found}
 
 -- one mark of several
 this_mark : (token : Token) (mark : List ℕ) (this op : Operator) (others : Option Operator) (b : Bool) → is_mark mark token ≡ b → mark ≡ operator_mark this

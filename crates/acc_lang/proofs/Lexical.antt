@@ -1,15 +1,14 @@
 -- What tokens of a text say: words are in small letters, and what stands in quotes in a UTF-8 text is UTF-8.
-use Rattle.std.proofs.Common.{◌≡◌, ◌≤◌, ◌<◌, ◌+◌, ◌==◌, ℕ, zero, suc, Bool, true, false, ◌||◌, ◌&&◌, cond, List, [], ◌∷◌, ◌++◌, length, map, take, drop, get_or, Option, Some, None, IsUtf8, refl, sym, ap, ◌∙◌, subst, append_assoc, length-append, arith}
+use Rattle.std.proofs.Common.{◌≡◌, ◌<◌, ◌+◌, ℕ, suc, Bool, true, false, cond, List, [], ◌∷◌, ◌++◌, length, map, take, drop, get_or, IsUtf8, refl, sym, ap, ◌∙◌, subst, append_assoc, length-append, arith}
 use Rattle.std.proofs.lemmas.List.{append-nil}
-use Rattle.std.specs.Char.{is_ascii_digit, is_ascii_alphabetic, is_ascii_lowercase, to_ascii_lowercase}
+use Rattle.std.specs.Char.{is_ascii_digit, to_ascii_lowercase}
 use Rattle.std.specs.List.{list_all, prefix_len, take_while}
-use Rattle.std.specs.Str.{is_utf8, IsCharBoundary}
 use Rattle.std.proofs.iter.FirstChar.{cut, beside_ascii}
-use Rattle.std.proofs.lemmas.Str.{IsUtf8-append, IsUtf8-nil, is_utf8-from_IsUtf8, IsUtf8-from_ascii}
+use Rattle.std.proofs.lemmas.Str.{IsUtf8-append, IsUtf8-nil}
 use Rattle.std.proofs.lemmas.List.{drop_at}
 use Rattle.std.proofs.Math.Seq.{take-append_seam, drop-append_seam, get_or-append_seam}
 use Rattle.std.proofs.lemmas.Bool.Decides.{nat_tests}
-use Rattle.acc_token.specs.Tokens.{Token, Word, Mark, Number, Quoted, Strange, End, is_blank, is_quote, is_mark, is_order, begins_with_equals, mark_len, mark_of, content, is_closed, quoted_len, after_blanks, begins_word, continues_word, token_of, token_len, token_at, behind}
+use Rattle.acc_token.specs.Tokens.{is_blank, is_quote, content, quoted_len, begins_word, continues_word}
 use Rattle.acc_txn.specs.Words.{is_lower_word, begins_word as begins_small, continues_word as continues_small}
 
 -- a text around an ASCII byte

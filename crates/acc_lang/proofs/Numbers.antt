@@ -1,9 +1,9 @@
 -- Numbers that are not at fault.
-use Rattle.std.proofs.Common.{◌≡◌, ◌≤◌, ◌<◌, ℕ, Bool, true, false, cond, nat_lt, Option, Some, None, arith, refl}
+use Rattle.std.proofs.Common.{◌≡◌, ◌≤◌, Some, None, arith}
 use Rattle.acc_token.specs.Tokens.{Token, Word, Mark, Number, Quoted, Strange, End}
 use Rattle.acc_lang.specs.declared.fault.Standing.{Standing}
 use Rattle.acc_lang.specs.declared.fault.Standing.TheVariants.{Misplaced, Fits, Unfit, Extra}
-use Rattle.acc_lang.specs.Faults.{fault_of, fault_behind_minus, exceeds}
+use Rattle.acc_lang.specs.Faults.{fault_of, fault_behind_minus}
 use Rattle.acc_lang.specs.Reading.{number_of}
 use Rattle.acc_lang.proofs.Taking.{misplaced}
 

@@ -1,6 +1,6 @@
 -- What keeps the rules of bodies fits.
-use Rattle.std.proofs.Common.{◌≡◌, ◌≤◌, ◌<◌, ◌+◌, ◌==◌, ℕ, zero, suc, Bool, true, false, not, ◌||◌, ◌&&◌, cond, List, [], ◌∷◌, ◌++◌, length, map, nat_le, nat_lt, Option, Some, None, is_none, position, refl, sym, ap, ◌∙◌, subst, lt-ltb, arith}
-use Rattle.std.specs.Prelude.{slice_get, IsTrue}
+use Rattle.std.proofs.Common.{◌≡◌, ◌≤◌, ◌==◌, ℕ, zero, suc, Bool, true, false, not, ◌||◌, ◌&&◌, cond, List, [], ◌∷◌, ◌++◌, length, map, nat_le, nat_lt, Some, None, is_none, position, refl, sym, ap, ◌∙◌, subst, lt-ltb, arith}
+use Rattle.std.specs.Prelude.{slice_get}
 use Rattle.std.specs.List.{list_any, prefix_len}
 use Rattle.std.specs.Str.{bytes_eq, is_utf8}
 use Rattle.std.proofs.lemmas.List.Folds.{list_any-append}
@@ -11,7 +11,6 @@ use Rattle.acc_value.specs.Footprint.{used}
 use Rattle.acc_txn.specs.declared.parts.Let.{Let}
 use Rattle.acc_txn.specs.declared.parts.Select.{Select}
 use Rattle.acc_txn.specs.declared.parts.Select.TheVariants.{Nothing, Names, Get}
-use Rattle.acc_txn.specs.declared.parts.Part.{Part}
 use Rattle.acc_txn.specs.declared.parts.Condition.{Condition}
 use Rattle.acc_txn.specs.declared.parts.Condition.TheVariants.{Compare, IsNull, IsNotNull}
 use Rattle.acc_txn.specs.declared.parts.Update.{Update}
@@ -20,11 +19,11 @@ use Rattle.acc_txn.specs.declared.parts.BodyParts.{BodyParts}
 use Rattle.acc_txn.specs.declared.error.BodyError.{BodyError}
 use Rattle.acc_txn.specs.Words.{is_reserved, is_lower_word, is_name, is_key}
 use Rattle.acc_txn.specs.Uses.{selected_keys, updated_key, read_keys, written_keys, with_keys, footprint_of}
-use Rattle.acc_txn.specs.Rules.{is_many, is_long, condition_has, update_has, some_expression, selected_names, has_too_many, has_unbound_name, has_name_twice, has_no_key, has_bad_name, has_bad_key, has_bad_shape, refusal_of, IsBody}
-use Rattle.acc_lang.specs.Reading.{let_of, key_written}
+use Rattle.acc_txn.specs.Rules.{is_many, is_long, condition_has, update_has, some_expression, selected_names, has_too_many, has_unbound_name, has_name_twice, has_no_key, has_bad_name, has_bad_key, has_bad_shape, IsBody}
+use Rattle.acc_lang.specs.Reading.{key_written}
 use Rattle.acc_lang.proofs.Fits.{IsFreeWord, IsFitKey, IsFitLet, IsFitSelect, IsFitCondition, IsFitUpdate, IsFitBody, AreNamed, Uses, after, InTurn, at_end, with_let, with_update, uses_after_select}
 use Rattle.acc_lang.proofs.FoundText.{ThisCondition}
-use Rattle.acc_lang.proofs.Counts.{used_keeps, with_keys_keeps, with_keys_some, lets_uses, updates_uses, read_uses, all_uses}
+use Rattle.acc_lang.proofs.Counts.{used_keeps, with_keys_keeps, with_keys_some, lets_uses, updates_uses, all_uses}
 
 pub neither : (a b : Bool) → (a || b) ≡ false → (a ≡ false) × (b ≡ false)
 neither true b is = cc

@@ -1,17 +1,13 @@
 -- What is spelled and fits is read: tokens, keys, LETs, names and the select.
-use Rattle.std.proofs.Common.{◌≡◌, ◌≤◌, ◌+◌, ◌==◌, ℕ, zero, suc, Bool, true, false, not, ◌||◌, ◌&&◌, cond, List, [], ◌∷◌, ◌++◌, length, codes, nat_lt, Option, Some, None, is_some, unwrap_or, position, Result, Ok, Err, refl, sym, ap, ◌∙◌, subst, arith}
-use Rattle.std.specs.Prelude.{slice_get}
-use Rattle.std.specs.Str.{bytes_eq}
-use Rattle.std.proofs.lemmas.Slice.Eq.{bytes_eq-Decides}
-use Rattle.acc_token.specs.Tokens.{Token, Word, Mark, Number as Digits, Quoted, Strange, End, token_at, behind}
+use Rattle.std.proofs.Common.{◌≡◌, ◌≤◌, ℕ, zero, suc, Bool, true, false, not, ◌&&◌, List, [], ◌∷◌, ◌++◌, length, codes, Some, None, is_some, Result, Ok, refl, sym, ap, ◌∙◌, subst, arith}
+use Rattle.acc_token.specs.Tokens.{Token, Word, Mark, Quoted, token_at, behind}
 use Rattle.acc_value.specs.declared.key.Key.{Key}
 use Rattle.acc_value.specs.Footprint.{used}
 use Rattle.acc_txn.specs.declared.parts.Let.{Let}
 use Rattle.acc_txn.specs.declared.parts.Select.{Select}
 use Rattle.acc_txn.specs.declared.parts.Select.TheVariants.{Nothing, Names, Get}
-use Rattle.acc_txn.specs.Words.{is_reserved}
 use Rattle.acc_lang.specs.declared.fault.Fault.{Fault}
-use Rattle.acc_lang.specs.Reading.{Reads, ◌>>=◌, step, standing_of, take_word, take_mark, table, key_text, where_key, from_key, key_of, are_many, word_of, text_of, is_free, is_quoted, is_word, is_mark, let_of, new_name, binding, one_let, more_lets, bound_name, named, one_item, more_items, items, begins_get, get, selected, select, each}
+use Rattle.acc_lang.specs.Reading.{Reads, ◌>>=◌, step, standing_of, take_word, take_mark, table, key_text, where_key, from_key, word_of, is_free, is_word, is_mark, let_of, new_name, binding, one_let, more_lets, bound_name, named, one_item, more_items, items, begins_get, get, selected, select, each}
 use Rattle.acc_lang.specs.Grammar.{Spells, Each, Behind, LetSpelled, NameSpelled, SelectSpelled}
 use Rattle.acc_lang.proofs.Steps.{word_only, mark_only, takes_word, takes_quoted, is_word_same}
 use Rattle.acc_lang.proofs.Fits.{IsFreeWord, IsFitKey, IsFitLet, IsFitSelect, AreNamed, Uses, uses_after_select, after, InTurn, with_let, at_end, after_at_end}

@@ -1,9 +1,6 @@
 -- What is spelled and fits is read: updates, actions and whole texts.
-use Rattle.std.proofs.Common.{◌≡◌, ◌≤◌, ◌+◌, ◌==◌, ◌⊎◌, ℕ, Bool, true, false, not, ◌||◌, ◌&&◌, cond, List, [], ◌∷◌, ◌++◌, length, codes, Option, Some, None, is_some, Result, Ok, Err, refl, sym, ap, ◌∙◌, subst, ⊎_elim, arith}
-use Rattle.std.proofs.lemmas.List.{append-nil}
-use Rattle.acc_token.specs.Tokens.{Token, Word, Mark, Quoted, End, token_at, behind}
-use Rattle.acc_value.specs.declared.key.Key.{Key}
-use Rattle.acc_value.specs.Footprint.{used}
+use Rattle.std.proofs.Common.{◌≡◌, ◌≤◌, ◌==◌, ℕ, Bool, true, false, List, [], ◌∷◌, ◌++◌, length, codes, Ok, refl, sym, ap, ◌∙◌, subst, ⊎_elim, arith}
+use Rattle.acc_token.specs.Tokens.{Token, Word, Mark, End, token_at, behind}
 use Rattle.acc_txn.specs.declared.parts.Let.{Let}
 use Rattle.acc_txn.specs.declared.parts.Select.{Select}
 use Rattle.acc_txn.specs.declared.parts.Select.TheVariants.{Nothing, Names, Get}
@@ -11,12 +8,11 @@ use Rattle.acc_txn.specs.declared.parts.Condition.{Condition}
 use Rattle.acc_txn.specs.declared.parts.Update.{Update}
 use Rattle.acc_txn.specs.declared.parts.Update.TheVariants.{Set, Delete}
 use Rattle.acc_txn.specs.declared.parts.BodyParts.{BodyParts}
-use Rattle.acc_lang.specs.declared.fault.Fault.{Fault}
 use Rattle.acc_lang.specs.Faults.{fault_behind_end}
-use Rattle.acc_lang.specs.Reading.{Reads, ◌>>=◌, passed, step, standing_of, take_word, take_mark, skip_mark, table, where_key, from_key, is_word, is_mark, is_sign, more_lets, select, expression, condition, one_condition, more_conditions, conditions, begins_update, assignment, removal, update, key_written, one_update, more_updates, guarded, unguarded, action, opening, commit, finish, closing, behind_lets, reading}
-use Rattle.acc_lang.specs.Grammar.{Spells, Each, Behind, MaybeSemicolon, LetSpelled, SelectSpelled, ConditionSpelled, UpdateSpelled, GuardedSpelled, ActionSpelled, Spelled}
-use Rattle.acc_lang.proofs.Steps.{word_only, mark_only, takes_word, is_word_same}
-use Rattle.acc_lang.proofs.Fits.{IsFitKey, IsFitCondition, IsFitUpdate, IsFitBody, AreNamed, Uses, uses_after_select, after, InTurn, at_end, after_at_end, with_let, with_update}
+use Rattle.acc_lang.specs.Reading.{step, standing_of, take_word, take_mark, skip_mark, table, where_key, from_key, is_word, is_mark, is_sign, more_lets, select, expression, condition, one_condition, more_conditions, conditions, begins_update, assignment, removal, update, one_update, more_updates, guarded, unguarded, action, opening, commit, finish, closing, behind_lets, reading}
+use Rattle.acc_lang.specs.Grammar.{Spells, Each, Behind, MaybeSemicolon, SelectSpelled, ConditionSpelled, UpdateSpelled, GuardedSpelled, ActionSpelled, Spelled}
+use Rattle.acc_lang.proofs.Steps.{word_only, mark_only, takes_word}
+use Rattle.acc_lang.proofs.Fits.{IsFitCondition, IsFitUpdate, IsFitBody, AreNamed, Uses, uses_after_select, after, InTurn, at_end, after_at_end, with_let, with_update}
 use Rattle.acc_lang.proofs.Found.{where_tokens, from_tokens}
 use Rattle.acc_lang.proofs.FoundText.{ThisCondition, updates_alone}
 use Rattle.acc_lang.proofs.FoundBody.{lets_alone}

@@ -1,11 +1,9 @@
 -- What is spelled and fits is read: sums, conditions and updates.
-use Rattle.std.proofs.Common.{◌≡◌, ◌≤◌, ◌+◌, ◌==◌, ◌⊎◌, ℕ, Bool, true, false, not, ◌||◌, ◌&&◌, cond, List, [], ◌∷◌, ◌++◌, length, codes, nat_lt, Option, Some, None, is_some, unwrap_or, pos, Result, Ok, Err, refl, sym, ap, ◌∙◌, subst, inl, inr, ⊎_elim, arith}
-use Rattle.std.specs.Prelude.{ℤ, neg_ℤ, slice_get}
+use Rattle.std.proofs.Common.{◌≡◌, ◌≤◌, ℕ, Bool, true, false, cond, List, [], ◌∷◌, ◌++◌, length, codes, nat_lt, Some, Ok, refl, sym, ap, ◌∙◌, subst, ⊎_elim, arith}
+use Rattle.std.specs.Prelude.{ℤ}
 use Rattle.std.specs.Str.{bytes_eq}
 use Rattle.std.proofs.lemmas.Slice.Eq.{bytes_eq-Decides}
-use Rattle.acc_token.specs.Tokens.{Token, Word, Mark, Number as Digits, Quoted, Strange, End, token_at, behind}
-use Rattle.acc_value.specs.declared.key.Key.{Key}
-use Rattle.acc_value.specs.Footprint.{used}
+use Rattle.acc_token.specs.Tokens.{Mark, token_at, behind}
 use Rattle.acc_txn.specs.declared.parts.Let.{Let}
 use Rattle.acc_txn.specs.declared.parts.Operator.{Operator}
 use Rattle.acc_txn.specs.declared.parts.Operator.TheVariants.{Equal, Differs, Less, AtMost, More, AtLeast}
@@ -14,18 +12,14 @@ use Rattle.acc_txn.specs.declared.parts.Term.TheVariants.{Number, Name, Null}
 use Rattle.acc_txn.specs.declared.parts.Part.{Part}
 use Rattle.acc_txn.specs.declared.parts.Condition.{Condition}
 use Rattle.acc_txn.specs.declared.parts.Condition.TheVariants.{Compare, IsNull, IsNotNull}
-use Rattle.acc_txn.specs.declared.parts.Update.{Update}
-use Rattle.acc_txn.specs.declared.parts.Update.TheVariants.{Set, Delete}
 use Rattle.acc_txn.specs.Words.{is_reserved}
-use Rattle.acc_lang.specs.declared.fault.Fault.{Fault}
-use Rattle.acc_lang.specs.Faults.{fault_behind_minus, exceeds}
-use Rattle.acc_lang.specs.Reading.{Reads, ◌>>=◌, passed, step, standing_of, take_word, take_mark, table, where_key, from_key, is_word, is_mark, is_number, number_of, named, negative, plain, null, term, is_sign, part_of, one_part, more_parts, expression, operator_of, operator, null_test, comparison, condition_from, condition, one_condition, more_conditions, conditions, begins_update, assignment, removal, update, key_written, one_update, more_updates, each}
-use Rattle.acc_lang.specs.Grammar.{Spells, Each, Behind, NameSpelled, NumberSpelled, TermSpelled, PartSpelled, ExpressionSpelled, operator_mark, ConditionSpelled, UpdateSpelled}
-use Rattle.acc_lang.proofs.Steps.{word_only, mark_only, takes_word, takes_mark, takes_number, is_word_same}
-use Rattle.acc_lang.proofs.Fits.{IsFreeWord, IsFitKey, IsFitCondition, IsFitUpdate, AreNamed, Uses, after, InTurn, at_end, after_at_end, with_update}
-use Rattle.acc_lang.proofs.Found.{where_tokens, from_tokens}
+use Rattle.acc_lang.specs.Faults.{fault_behind_minus}
+use Rattle.acc_lang.specs.Reading.{step, standing_of, take_word, is_word, is_mark, named, negative, plain, null, term, is_sign, part_of, one_part, more_parts, expression, operator_of, operator, null_test, comparison, condition_from, condition}
+use Rattle.acc_lang.specs.Grammar.{Spells, Each, Behind, NumberSpelled, TermSpelled, PartSpelled, ExpressionSpelled, operator_mark, ConditionSpelled}
+use Rattle.acc_lang.proofs.Steps.{word_only, takes_word, takes_mark, takes_number}
+use Rattle.acc_lang.proofs.Fits.{IsFitCondition, AreNamed, at_end, after_at_end}
 use Rattle.acc_lang.proofs.FoundSums.{Any}
-use Rattle.acc_lang.proofs.Only.{then_ok, each_only, table_only, where_key_only, from_key_only, front_of, named_only, never_checked}
+use Rattle.acc_lang.proofs.Only.{then_ok, each_only, named_only, never_checked}
 
 -- a number within a limit doesn't exceed it
 within : (limit n : ℕ) → n ≤ limit → nat_lt limit n ≡ false

@@ -1,10 +1,9 @@
 -- One more of a repetition, the last, and a fault within one.
-use Rattle.std.proofs.Common.{◌≡◌, ◌<◌, ◌≤◌, ℕ, zero, suc, ◌+◌, ◌-◌, ◌==◌, Bool, true, false, cond, List, Option, Some, None, Result, Ok, Err, refl, sym, ap, ◌∙◌, subst, eq-eqb, arith}
+use Rattle.std.proofs.Common.{◌≡◌, ◌<◌, ◌≤◌, ℕ, zero, suc, ◌+◌, ◌-◌, ◌==◌, Bool, true, false, List, Ok, refl, ap, ◌∙◌, subst, arith}
 use Rattle.acc_token.specs.Tokens.{Token, token_at}
-use Rattle.acc_lang.specs.declared.fault.Fault.{Fault}
 use Rattle.acc_lang.specs.declared.fault.ReadError.{ReadError}
 use Rattle.acc_lang.specs.Answer.{Fails}
-use Rattle.acc_lang.specs.Reading.{Reads, each, ◌>>=◌}
+use Rattle.acc_lang.specs.Reading.{Reads, each}
 use Rattle.acc_lang.proofs.Taking.{fails_on}
 
 module _ {S : Type 0} (again : Token → Bool) (one : Bool → S → List ℕ → Reads S) where

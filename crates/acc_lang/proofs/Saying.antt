@@ -1,9 +1,9 @@
 -- What the tokens of a UTF-8 text say, and that it stays UTF-8 behind each.
-use Rattle.std.proofs.Common.{◌≡◌, ◌≤◌, ◌<◌, ◌+◌, ◌==◌, ℕ, zero, suc, Bool, true, false, ◌||◌, ◌&&◌, cond, List, [], ◌∷◌, ◌++◌, length, map, take, drop, Option, Some, None, IsUtf8, refl, sym, ap, ◌∙◌, subst, arith}
+use Rattle.std.proofs.Common.{◌≡◌, ◌<◌, ◌+◌, ◌==◌, ℕ, suc, Bool, true, false, ◌||◌, ◌&&◌, cond, List, [], ◌∷◌, map, take, drop, Option, IsUtf8, refl, sym, subst, arith}
 use Rattle.std.specs.Char.{is_ascii_digit, to_ascii_lowercase}
 use Rattle.std.specs.List.{prefix_len, take_while}
 use Rattle.std.specs.Str.{is_utf8}
-use Rattle.std.proofs.lemmas.Str.{IsUtf8-nil, is_utf8-from_IsUtf8}
+use Rattle.std.proofs.lemmas.Str.{is_utf8-from_IsUtf8}
 use Rattle.std.proofs.lemmas.Bool.Decides.{nat_tests}
 use Rattle.acc_token.specs.Tokens.{Token, Word, Mark, Number, Quoted, Strange, End, is_blank, is_quote, is_mark, is_order, begins_with_equals, mark_len, mark_of, number_of, content, is_closed, quoted_len, after_blanks, begins_word, continues_word, token_of, token_len, token_at, behind}
 use Rattle.acc_txn.specs.Words.{is_lower_word}

@@ -1,10 +1,9 @@
 -- What is spelled and fits keeps the rules of bodies.
-use Rattle.std.proofs.Common.{◌≡◌, ◌≤◌, ◌<◌, ◌+◌, ◌==◌, ◌⊎◌, ℕ, zero, suc, Bool, true, false, not, ◌||◌, ◌&&◌, cond, List, [], ◌∷◌, ◌++◌, length, map, codes, nat_le, nat_lt, Option, Some, None, position, IsUtf8, refl, sym, ap, ◌∙◌, subst, ⊎_elim, arith}
-use Rattle.std.specs.Prelude.{slice_get}
-use Rattle.std.specs.List.{list_any, prefix_len}
-use Rattle.std.specs.Str.{bytes_eq, is_utf8}
+use Rattle.std.proofs.Common.{◌≡◌, ℕ, Bool, true, false, not, cond, List, [], ◌∷◌, length, codes, nat_le, Some, IsUtf8, refl, ap, subst, ⊎_elim, arith}
+use Rattle.std.specs.List.{list_any}
+use Rattle.std.specs.Str.{is_utf8}
 use Rattle.std.proofs.lemmas.Option.{slice_get_within}
-use Rattle.acc_token.specs.Tokens.{Token, Word, Mark, Number as Digits, Quoted, token_at, behind}
+use Rattle.acc_token.specs.Tokens.{Word, Mark, Number as Digits, Quoted}
 use Rattle.acc_value.specs.declared.key.Key.{Key}
 use Rattle.acc_txn.specs.declared.parts.Let.{Let}
 use Rattle.acc_txn.specs.declared.parts.Select.{Select}
@@ -12,18 +11,16 @@ use Rattle.acc_txn.specs.declared.parts.Select.TheVariants.{Nothing, Names, Get}
 use Rattle.acc_txn.specs.declared.parts.Term.{Term}
 use Rattle.acc_txn.specs.declared.parts.Term.TheVariants.{Number, Name, Null}
 use Rattle.acc_txn.specs.declared.parts.Part.{Part}
-use Rattle.acc_txn.specs.declared.parts.Operator.{Operator}
 use Rattle.acc_txn.specs.declared.parts.Condition.{Condition}
 use Rattle.acc_txn.specs.declared.parts.Condition.TheVariants.{Compare, IsNull, IsNotNull}
 use Rattle.acc_txn.specs.declared.parts.Update.{Update}
 use Rattle.acc_txn.specs.declared.parts.Update.TheVariants.{Set, Delete}
-use Rattle.acc_txn.specs.Words.{is_lower_word, is_name, is_key, is_reserved}
+use Rattle.acc_txn.specs.Words.{is_lower_word, is_name, is_key}
 use Rattle.acc_txn.specs.Uses.{selected_keys, updated_key}
 use Rattle.acc_txn.specs.Rules.{is_unbound, term_is_unbound, mentions_unbound, asks_unbound, condition_has, update_has, is_malformed, selects_nothing, selected_names}
-use Rattle.acc_lang.specs.Reading.{part_of}
-use Rattle.acc_lang.specs.Grammar.{Spells, Each, Behind, LetSpelled, NameSpelled, SelectSpelled, NumberSpelled, TermSpelled, PartSpelled, ExpressionSpelled, operator_mark, ConditionSpelled, UpdateSpelled, GuardedSpelled, ActionSpelled}
-use Rattle.acc_lang.proofs.Fits.{IsFreeWord, IsFitKey, IsFitLet, IsFitSelect, IsFitUpdate, Uses, after, InTurn, with_let, with_update}
-use Rattle.acc_lang.proofs.Saying.{Says, AllSay, all_say}
+use Rattle.acc_lang.specs.Grammar.{Each, Behind, LetSpelled, NameSpelled, SelectSpelled, TermSpelled, PartSpelled, ExpressionSpelled, operator_mark, ConditionSpelled, UpdateSpelled}
+use Rattle.acc_lang.proofs.Fits.{IsFreeWord, IsFitKey, IsFitLet, IsFitSelect, IsFitUpdate, Uses, InTurn, with_let, with_update}
+use Rattle.acc_lang.proofs.Saying.{all_say}
 
 -- names and keys
 name_is : (name : List ℕ) → IsFreeWord name → is_lower_word name ≡ true → is_name name ≡ true

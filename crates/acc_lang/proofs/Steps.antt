@@ -1,13 +1,12 @@
 -- One token, taken or not: what was taken, and what can be.
-use Rattle.std.proofs.Common.{◌≡◌, ◌≤◌, ℕ, Bool, true, false, not, ◌&&◌, cond, List, [], ◌∷◌, ◌++◌, length, nat_le, nat_lt, Option, Some, None, is_some, Result, Ok, Err, refl, sym, ap, ◌∙◌, subst, arith}
-use Rattle.std.specs.Str.{bytes_eq}
+use Rattle.std.proofs.Common.{◌≡◌, ◌≤◌, ℕ, Bool, true, false, not, ◌&&◌, cond, List, [], ◌∷◌, ◌++◌, length, nat_le, nat_lt, Option, Some, None, Result, Ok, Err, refl, sym, ap, subst, arith}
 use Rattle.std.proofs.lemmas.Slice.Eq.{bytes_eq-Decides}
 use Rattle.acc_token.specs.Tokens.{Token, Word, Mark, Number, Quoted, Strange, End, token_at, behind}
 use Rattle.acc_txn.specs.Words.{is_reserved}
 use Rattle.acc_lang.specs.declared.fault.Fault.{Fault}
 use Rattle.acc_lang.specs.declared.fault.Standing.{Standing}
 use Rattle.acc_lang.specs.declared.fault.Standing.TheVariants.{Misplaced, Fits, Unfit, Extra}
-use Rattle.acc_lang.specs.Faults.{fault_of, fault_behind_minus, is_long, is_broken, is_large, exceeds, greatest_fault}
+use Rattle.acc_lang.specs.Faults.{fault_of, is_long, is_broken, is_large, greatest_fault}
 use Rattle.acc_lang.specs.Reading.{◌>>=◌, passed, standing_of, step, take_word, take_mark, is_word, is_mark, is_free, is_quoted, is_number, word_of, text_of, number_of}
 use Rattle.acc_lang.specs.Grammar.{Spells}
 use Rattle.acc_lang.proofs.Taking.{misplaced}

@@ -1,8 +1,7 @@
 -- The grammar: which texts are transactions, and which body each of them says. A production relates two places of a text, each
 -- given by what follows it: from the one to the other stands such a part, and nothing else but blanks.
-use Rattle.std.specs.Prelude.{◌≡◌, ◌⊎◌, ◌≤◌, ℕ, Bool, true, false, ℤ, pos, neg_ℤ, List, [], ◌∷◌, codes, Some, slice_get, if◌then◌else◌}
+use Rattle.std.specs.Prelude.{◌≡◌, ◌⊎◌, ◌≤◌, ℕ, true, false, ℤ, pos, neg_ℤ, List, [], ◌∷◌, codes, Some, slice_get, if◌then◌else◌}
 use Rattle.acc_token.specs.Tokens.{Token, Word, Mark, Number as Digits, Quoted, End, token_at, behind}
-use Rattle.acc_value.specs.declared.key.Key.{Key}
 use Rattle.acc_txn.specs.declared.parts.Let.{Let}
 use Rattle.acc_txn.specs.declared.parts.Select.{Select}
 use Rattle.acc_txn.specs.declared.parts.Select.TheVariants.{Nothing, Names, Get}

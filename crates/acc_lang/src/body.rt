@@ -1,7 +1,6 @@
 //! The parser.
 ghost use Rattle.std.specs.Prelude.{◌≡◌, Ok, IfOk, IfErr, MatchResult};
 ghost use Rattle.acc_txn.specs.declared.parts.BodyParts.{BodyParts};
-ghost use Rattle.acc_txn.specs.Rules.{IsBody};
 ghost use Rattle.acc_lang.specs.declared.error.LangError.{LangError};
 ghost use Rattle.acc_lang.specs.Answer.{IsFaultIn, IsPlaced};
 ghost use Rattle.acc_lang.specs.Grammar.{IsTextOf};
@@ -10,7 +9,7 @@ ghost use Rattle.acc_lang.specs.Reading.{reading};
 use crate::error::LangError;
 use crate::fault::ReadError;
 use crate::parser::read;
-use acc_txn::{Body, BodyError, BodyParts};
+use acc_txn::Body;
 use std::alloc::Global;
 
 /// The body that the text of a transaction says, or the first fault of a text that is none.
@@ -34,20 +33,8 @@ fn read_body(alloc: Global, text: &str) -> Result<Body, LangError>
     ensures fault { IfErr result (IsFaultIn text.now) }
 {
     match read(alloc, text.as_bytes()) {
-        Ok(parts) => body_of(parts),
+        Ok(parts) => Ok(Body::new_unchecked(parts)),
         Err(error) => Err(placed(text.len(), error)),
-    }
-}
-
-fn body_of(parts: BodyParts) -> Result<Body, LangError>
-    requires { IsBody parts }
-    ensures body { IfOk result (λ body. body ≡ parts) }
-    ensures memory { IfErr result (λ error. error ≡ LangError.OutOfMemory) }
-{
-    match Body::new(parts) {
-        Ok(body) => Ok(body),
-        Err(BodyError::OutOfMemory) => Err(LangError::OutOfMemory),
-        Err(_) => unreachable!(),
     }
 }
 

@@ -132,7 +132,7 @@ fn is_broken(lexeme: &Lexeme<'_>) -> bool
     ensures { result ≡ is_broken_token (token_shown lexeme.now) }
 {
     match lexeme {
-        Lexeme::Quoted(text) => !(text.closed && text.len >= 1 && text.len <= LONGEST_TEXT),
+        Lexeme::Quoted(text) => !text.len.is_some_and(|len| len >= 1 && len <= LONGEST_TEXT),
         _ => false,
     }
 }

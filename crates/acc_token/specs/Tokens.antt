@@ -75,6 +75,10 @@ is_closed true [] = true
 is_closed false (c ∷ cs) = if is_quote c then is_closed true cs else is_closed false cs
 is_closed true (c ∷ cs) = if is_quote c then is_closed false cs else true
 
+-- how many bytes it says, where the closing quote is there
+abbrev pub content_len : List ℕ → Option ℕ
+content_len text = if is_closed false text then Some (length (content false text)) else None
+
 -- how many bytes the quoted text has, with its closing quote
 abbrev pub quoted_len : Bool → List ℕ → ℕ
 quoted_len false [] = 0

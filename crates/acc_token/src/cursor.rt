@@ -89,8 +89,7 @@ fn quoted(behind_quote: &[u8]) -> (Lexeme<'_>, usize)
     let Extent { reach, len, closed } = quoted_extent(behind_quote);
     let text = QuotedText {
         behind_quote,
-        len,
-        closed,
+        len: closed.then_some(len),
     };
     (Lexeme::Quoted(text), 1 + reach)
 }

@@ -1,6 +1,6 @@
 //! A token as it stands in the text.
-ghost use Rattle.std.specs.Prelude.{◌≡◌, false, length, IfOk};
-ghost use Rattle.acc_token.specs.Tokens.{content};
+ghost use Rattle.std.specs.Prelude.{◌≡◌, false, IfOk};
+ghost use Rattle.acc_token.specs.Tokens.{content, content_len};
 
 use acc_base::{OutOfMemory, Text};
 use std::alloc::Global;
@@ -27,11 +27,9 @@ pub enum Lexeme<'a> {
 pub struct QuotedText<'a> {
     /// All that stands behind the opening quote, up to the end of the whole text.
     pub behind_quote: &'a [u8],
-    /// How many bytes the quoted text says, with one for two quotes.
-    pub len: usize,
-    /// Whether the closing quote is there.
-    pub closed: bool,
-    ghost counts: { len ≡ length (content false behind_quote.now) },
+    /// How many bytes the quoted text says, with one for two quotes. There is none where the closing quote is missing.
+    pub len: Option<usize>,
+    ghost counts: { len ≡ content_len behind_quote.now },
 }
 
 impl QuotedText<'_> {
@@ -39,7 +37,7 @@ impl QuotedText<'_> {
     pub fn says(&self, alloc: Global) -> Result<Text, OutOfMemory>
         ensures { IfOk result (λ text. text ≡ content false self.now.behind_quote.now) }
     {
-        let mut text = Text::from_vec(Vec::with_capacity(alloc, self.len)?);
+        let mut text = Text::from_vec(Vec::with_capacity(alloc, self.len.unwrap_or(0))?);
         let mut waits = false;
         for byte in self.behind_quote {
             let quote = *byte == b'\'';

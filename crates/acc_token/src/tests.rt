@@ -16,7 +16,7 @@ fn shows(cursor: &mut Cursor<'_>, spelling: &str, left: usize) -> bool {
 
 fn says(alloc: Global, text: &QuotedText<'_>, wanted: &str) -> Result<bool, Fail> {
     let content = text.says(alloc)?;
-    Ok(text.closed && content.as_slice() == wanted.as_bytes())
+    Ok(text.len == Some(wanted.len()) && content.as_slice() == wanted.as_bytes())
 }
 
 #[test]

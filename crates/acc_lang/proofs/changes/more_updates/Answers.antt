@@ -1,8 +1,7 @@
-use Rattle.std.proofs.Common.{◌≡◌, ◌<◌, ◌==◌, ◌+◌, length, ◌++◌, ◌∷◌, [], true, false, Ok, sym, ap, subst, ◌∙◌, arith}
+use Rattle.std.proofs.Common.{◌≡◌, ◌<◌, ◌+◌, length, true, false, Ok, sym, subst, ◌∙◌, arith}
 use Rattle.acc_token.specs.Tokens.{token_at}
-use Rattle.acc_value.specs.Footprint.{used}
 use Rattle.acc_lang.specs.Answer.{Fails}
-use Rattle.acc_lang.specs.Reading.{begins_update, update, each, one_update, more_updates, key_written, ◌>>=◌}
+use Rattle.acc_lang.specs.Reading.{begins_update, update, one_update, more_updates}
 use Rattle.acc_lang.proofs.Looping.{handed_on, below, one_more}
 use Rattle.acc_lang.proofs.Repeating.{ended, continued, failed}
 use Rattle.acc_lang.proofs.Taking.{fails_on}

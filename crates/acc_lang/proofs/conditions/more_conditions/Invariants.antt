@@ -1,5 +1,5 @@
 -- What is left goes on from what was read so far.
-use Rattle.std.proofs.Common.{◌≡◌, ◌<◌, ◌≤◌, ◌-◌, length, [], ◌∷◌, codes}
+use Rattle.std.proofs.Common.{◌≡◌, ◌≤◌, ◌-◌, length, [], ◌∷◌, codes}
 use Rattle.acc_lang.specs.Reading.{is_word, each, one_condition}
 use Rattle.acc_lang.proofs.conditions.more_conditions.Given as goal
 

@@ -1,7 +1,7 @@
-use Rattle.std.proofs.Common.{◌≡◌, ◌<◌, ◌==◌, ◌+◌, length, ◌++◌, ◌∷◌, [], true, codes, sym, ap, subst, ◌∙◌, arith, length-append}
+use Rattle.std.proofs.Common.{◌≡◌, ◌<◌, ◌+◌, length, true, codes, sym, subst, ◌∙◌, arith}
 use Rattle.acc_token.specs.Tokens.{token_at}
 use Rattle.acc_lang.specs.Answer.{Fails}
-use Rattle.acc_lang.specs.Reading.{is_word, each, one_let, more_lets}
+use Rattle.acc_lang.specs.Reading.{is_word, one_let, more_lets}
 use Rattle.acc_lang.proofs.Looping.{handed_on, below, one_more}
 use Rattle.acc_lang.proofs.Repeating.{ended, continued, failed}
 use Rattle.acc_lang.proofs.lets.lets.Goals as goal

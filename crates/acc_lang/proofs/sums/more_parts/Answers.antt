@@ -1,7 +1,7 @@
-use Rattle.std.proofs.Common.{◌≡◌, ◌<◌, ◌==◌, ◌+◌, length, ◌++◌, ◌∷◌, [], true, sym, ap, subst, ◌∙◌, arith}
+use Rattle.std.proofs.Common.{◌≡◌, ◌<◌, ◌+◌, length, true, sym, subst, ◌∙◌, arith}
 use Rattle.acc_token.specs.Tokens.{token_at}
 use Rattle.acc_lang.specs.Answer.{Fails}
-use Rattle.acc_lang.specs.Reading.{is_sign, each, one_part, more_parts}
+use Rattle.acc_lang.specs.Reading.{is_sign, one_part, more_parts}
 use Rattle.acc_lang.proofs.Looping.{handed_on, below, one_more}
 use Rattle.acc_lang.proofs.Repeating.{ended, continued, failed}
 use Rattle.acc_lang.proofs.sums.more_parts.Goals as goal

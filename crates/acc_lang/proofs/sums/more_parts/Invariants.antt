@@ -1,5 +1,5 @@
 -- What is left goes on from what was read so far.
-use Rattle.std.proofs.Common.{◌≡◌, ◌<◌, ◌≤◌, ◌-◌, length, [], ◌∷◌, false}
+use Rattle.std.proofs.Common.{◌≡◌, ◌≤◌, ◌-◌, length, [], ◌∷◌, false}
 use Rattle.acc_lang.specs.Reading.{is_sign, each, one_part, part_of}
 use Rattle.acc_lang.proofs.sums.more_parts.Given as goal
 

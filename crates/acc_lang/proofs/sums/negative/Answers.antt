@@ -1,5 +1,3 @@
-use Rattle.std.proofs.Common.{sym, ap, ◌∙◌}
-use Rattle.acc_lang.specs.Faults.{fault_of}
 use Rattle.acc_lang.proofs.Taking.{fits_at}
 use Rattle.acc_lang.proofs.sums.negative.Goals as goal
 
