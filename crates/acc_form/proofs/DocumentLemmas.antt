@@ -11,31 +11,21 @@ use Rattle.acc_schedule.specs.declared.error.PlanError.{PlanError}
 use Rattle.acc_schedule.specs.declared.error.PlanError.TheVariants.{Bad, OutOfMemory}
 use Rattle.acc_schedule.specs.Content.{Content as Whole}
 use Rattle.acc_schedule.specs.Faults.{IsFault}
-use Rattle.acc_schedule.specs.Document.{document_fault, plan_of, Breaks, IsCause as BreaksRules, IsNoJson, Means as Says, Reads}
+use Rattle.acc_schedule.specs.Document.{document_fault, plan_of, IsCause as BreaksRules, IsRead, IsRefused, Means as Says, Reads}
+use Rattle.acc_schedule.proofs.AnswerFacts.{one_fault, same_json, same_plan as same_whole, says_no_fault}
 use Rattle.acc_form.specs.Form.{IsFirstForm, Narrows}
-use Rattle.acc_form.specs.Document.{IsCause, IsRead, IsRefused, Means}
+use Rattle.acc_form.specs.Document.{IsCause, Means}
 use Rattle.acc_form.proofs.FormLemmas.{same_plan}
 
 -- ---- one meaning
 
--- a document has one data
-same_json : (bytes : List ℕ) (d e : Data) → read bytes ≡ Some d → read bytes ≡ Some e → d ≡ e
-same_json bytes d e a b = same_Some d e (sym a ∙ b)
-
 same_form : (bytes : List ℕ) (whole other : Whole) (a : Says bytes whole) (b : Says bytes other) (plan : Plan) → IsFirstForm a.json whole plan → IsFirstForm b.json other plan
 same_form bytes whole other a b plan form =
     let json : a.json ≡ b.json = same_json bytes a.json b.json a.reads b.reads in
-    let wholes : whole ≡ other = a.says ∙ ap plan_of json ∙ sym b.says in
+    let wholes : whole ≡ other = same_whole bytes whole other a b in
     subst (λ (w : Whole). IsFirstForm b.json w plan) wholes (subst (λ (d : Data). IsFirstForm d whole plan) json form)
 
--- a document that says a plan isn't refused
-pub says_no_fault : (bytes : List ℕ) (whole : Whole) (kind : PlanKind) (path : List ℕ) (detail at : ℕ) → Says bytes whole → BreaksRules bytes (Bad kind path detail at) → ⊥
-says_no_fault bytes whole kind path detail at says (inl no_json) = no_json.broken (says.utf8, subst (λ (o : Option Data). IsSome o) (sym says.reads) refl)
-says_no_fault bytes whole kind path detail at says (inr breaks) =
-    let json : says.json ≡ breaks.json = same_json bytes says.json breaks.json says.reads breaks.reads in
-    none-some _ (sym says.keeps_rules ∙ ap document_fault json ∙ breaks.first)
-
--- nor is one of the first form
+-- a document of the first form isn't refused
 pub means_no_cause : (bytes : List ℕ) (plan : Plan) (kind : PlanKind) (path : List ℕ) (detail at : ℕ) → Means bytes plan → IsCause bytes (Bad kind path detail at) → ⊥
 means_no_cause bytes plan kind path detail at means (inl breaks) = says_no_fault bytes means.whole kind path detail at means.says breaks
 means_no_cause bytes plan kind path detail at means (inr unbuilt) = unbuilt.form plan (same_form bytes means.whole unbuilt.whole means.says unbuilt.says plan means.form)
@@ -44,15 +34,6 @@ pub same_meaning : (bytes : List ℕ) (plan other : Plan) → Means bytes plan �
 same_meaning bytes plan other a b = same_plan a.says.json a.whole plan other a.form (same_form bytes b.whole a.whole b.says a.says other b.form)
 
 -- ---- one refusal
-
-no_json_breaks : (bytes : List ℕ) (a b : PlanError) → IsNoJson bytes a → Breaks bytes b → ⊥
-no_json_breaks bytes a b no_json breaks = no_json.broken (breaks.utf8, subst (λ (o : Option Data). IsSome o) (sym breaks.reads) refl)
-
-one_fault : (bytes : List ℕ) (a b : PlanError) → IsNoJson bytes a ⊎ Breaks bytes a → IsNoJson bytes b ⊎ Breaks bytes b → a ≡ b
-one_fault bytes a b (inl x) (inl y) = same_Some a b (sym x.says ∙ y.says)
-one_fault bytes a b (inl x) (inr y) = absurd (no_json_breaks bytes a b x y)
-one_fault bytes a b (inr x) (inl y) = absurd (no_json_breaks bytes b a y x)
-one_fault bytes a b (inr x) (inr y) = same_Some a b (sym x.first ∙ ap document_fault (same_json bytes x.json y.json x.reads y.reads) ∙ y.first)
 
 one_cause : (bytes : List ℕ) (kind kind' : PlanKind) (path path' : List ℕ) (detail detail' at at' : ℕ) → IsCause bytes (Bad kind path detail at) → IsCause bytes (Bad kind' path' detail' at')
     → Bad kind path detail at ≡ Bad kind' path' detail' at'

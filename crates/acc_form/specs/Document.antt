@@ -1,5 +1,5 @@
 -- What a document of the first form means, and why each other one is refused.
-use Rattle.std.specs.Prelude.{◌≡◌, ◌⊎◌, ℕ, List, codes, Result, Ok, Err, ⊤}
+use Rattle.std.specs.Prelude.{◌≡◌, ◌⊎◌, ℕ, List, codes, ⊤}
 use Rattle.acc_plan.specs.declared.plan.Plan.{Plan}
 use Rattle.acc_schedule.specs.declared.error.PlanKind.TheVariants.{Unbuilt}
 use Rattle.acc_schedule.specs.declared.error.PlanError.{PlanError}
@@ -25,16 +25,3 @@ pub record IsUnbuilt (bytes : List ℕ) (error : PlanError) : Type 0 where
 abbrev pub IsCause : List ℕ → PlanError → Type 0
 IsCause bytes OutOfMemory = ⊤
 IsCause bytes (Bad kind path detail at) = BreaksRules bytes (Bad kind path detail at) ⊎ IsUnbuilt bytes (Bad kind path detail at)
-
--- this plan, unless memory ran out
-abbrev pub IsRead : Plan → Result Plan PlanError → Type 0
-IsRead plan (Ok other) = other ≡ plan
-IsRead plan (Err (Bad kind path detail at)) = ⊥
-IsRead plan (Err OutOfMemory) = ⊤
-
--- this refusal, unless memory ran out, which isn't the document's doing
-abbrev pub IsRefused : PlanError → Result Plan PlanError → Type 0
-IsRefused (Bad kind path detail at) (Ok plan) = ⊥
-IsRefused (Bad kind path detail at) (Err (Bad kind' path' detail' at')) = Bad kind' path' detail' at' ≡ Bad kind path detail at
-IsRefused (Bad kind path detail at) (Err OutOfMemory) = ⊤
-IsRefused OutOfMemory result = ⊤

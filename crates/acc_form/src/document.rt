@@ -4,7 +4,8 @@ ghost use Rattle.acc_schedule.specs.declared.error.PlanKind.TheVariants.{Unbuilt
 ghost use Rattle.acc_schedule.specs.declared.error.PlanError.TheVariants.{Bad};
 ghost use Rattle.acc_schedule.specs.Faults.{IsFault};
 ghost use Rattle.acc_plan.specs.Plan.{IsPlan};
-ghost use Rattle.acc_form.specs.Document.{IsCause, IsRead, IsRefused, Means};
+ghost use Rattle.acc_form.specs.Document.{IsCause, Means};
+ghost use Rattle.acc_schedule.specs.Document.{IsRead, IsRefused};
 
 use crate::form::narrowed;
 use acc_base::Sequence;
@@ -14,8 +15,8 @@ use std::alloc::Global;
 
 /// The plan that a document of the first form says.
 ///
-/// A document that breaks a rule is refused with the first that it breaks, as `acc_schedule` refuses it. One that breaks
-/// none and isn't of the first form is refused as `Unbuilt`, with the path `-`.
+/// A document that breaks a rule is refused with the first that it breaks, as `acc_schedule` refuses it. If it breaks none
+/// but has another form, the refusal is `Unbuilt`, and its path is `-`.
 pub fn read(alloc: Global, bytes: &[u8]) -> Result<Plan, PlanError>
     ensures accepted { IfOk result (Means bytes.now) }
     ensures sound { IfOk result IsPlan }

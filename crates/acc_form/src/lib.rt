@@ -1,8 +1,8 @@
 //! The documents of the first form, and the plan of each.
 //!
-//! A document is of the first form where it breaks no rule, there are one node without a clock, one shard and at most 64
-//! transactions, nothing is said of what is printed, and the schedule is made of pairs: the begin of a transaction that no
-//! earlier step begins, and a drain.
+//! A document has the first form if it breaks no rule and is narrow in these ways: it has a single node, without a clock, a
+//! single shard, 64 transactions or fewer, and no word of what is printed; and in its schedule a drain follows each begin,
+//! nothing else stands there, and nothing is begun twice.
 #![tactic(auto)]
 
 mod begins;

@@ -1,5 +1,5 @@
 -- The rules of a document, one after another.
-use Rattle.std.proofs.Common.{◌≡◌, ℕ, List, None, Result, refl, sym, ap, subst, ◌∙◌}
+use Rattle.std.proofs.Common.{◌≡◌, ℕ, List, None, Result, ap, subst, ◌∙◌}
 use Rattle.acc_stamp.specs.declared.actors.Actor.{Actor}
 use Rattle.acc_topology.specs.Layout.{Layout}
 use Rattle.acc_topology.specs.Sets.{in_set, is_among}

@@ -1,5 +1,5 @@
 -- A JSON value's parts, as its data has them.
-use Rattle.std.proofs.Common.{◌≡◌, ℕ, ◌||◌, List, [], ◌∷◌, ◌++◌, find, map, Bool, true, false, not, cond, Option, Some, None, is_some, option_map, String, Global, Bor, string_bytes, refl, sym, ap, ◌∙◌}
+use Rattle.std.proofs.Common.{◌≡◌, ℕ, ◌||◌, List, [], ◌∷◌, ◌++◌, find, map, Bool, true, false, not, cond, Option, Some, is_some, option_map, String, Global, Bor, string_bytes, refl, sym, ap, ◌∙◌}
 use Rattle.std.specs.List.{list_any, list_all}
 use Rattle.std.specs.Map.{keys_of}
 use Rattle.std.specs.Str.{bytes_eq}
@@ -11,7 +11,7 @@ use Rattle.serde_json.specs.declared.value.Value.{Value}
 use Rattle.acc_schedule.specs.declared.error.PlanKind.TheVariants.{Shape}
 use Rattle.acc_schedule.specs.Paths.{Path}
 use Rattle.acc_schedule.specs.Faults.{fault}
-use Rattle.acc_schedule.specs.Fields.{items_list, elements, has_each, member_names, object_fault, other_field, other_fault}
+use Rattle.acc_schedule.specs.Fields.{items_list, elements, member_names, object_fault, other_field, other_fault}
 use Rattle.acc_schedule.specs.Parts.{is_among}
 
 pub items_list-items_of : (ds : List Data) → items_list (items_of ds) ≡ ds

@@ -1,5 +1,5 @@
 -- What rules that are kept say of the data, and of the steps.
-use Rattle.std.proofs.Common.{◌≡◌, ℕ, zero, suc, ◌+◌, ◌<◌, ◌≤◌, ◌&&◌, List, [], ◌∷◌, length, map, find, position, get_or, Bool, true, false, cond, Option, Some, None, is_some, unwrap_or, option_map, Contains, IsTrue, refl, sym, ap, subst, ◌∙◌, arith, add-zero, zero-add}
+use Rattle.std.proofs.Common.{◌≡◌, ℕ, zero, suc, ◌+◌, ◌<◌, ◌≤◌, List, [], ◌∷◌, length, map, position, get_or, Bool, true, false, cond, Option, Some, None, is_some, unwrap_or, option_map, Contains, refl, subst, arith, add-zero}
 use Rattle.std.specs.List.{AllByRecursion}
 use Rattle.std.specs.Option.{option_and_then}
 use Rattle.std.specs.Str.{bytes_eq}
@@ -16,11 +16,11 @@ use Rattle.acc_schedule.specs.declared.error.PlanKind.TheVariants.{Name, Step}
 use Rattle.acc_schedule.specs.declared.words.Word.{Word}
 use Rattle.acc_schedule.specs.declared.words.Word.TheVariants.{Begin as BeginWord, Deliver as DeliverWord, Drop as DropWord, Recover as RecoverWord, Slow as SlowWord, Restart as RestartWord, Fail as FailWord, Drain as DrainWord}
 use Rattle.acc_schedule.specs.Paths.{Path}
-use Rattle.acc_schedule.specs.Faults.{Fault, ◌then◌, each, fault, must}
-use Rattle.acc_schedule.specs.Fields.{is_from_to, is_number_from_to, is_text, is_whole, items, natural, number}
+use Rattle.acc_schedule.specs.Faults.{Fault, ◌then◌, each, must}
+use Rattle.acc_schedule.specs.Fields.{is_from_to, is_number_from_to, items, natural, number}
 use Rattle.acc_schedule.specs.Actors.{actor_named, actor_text, actors}
 use Rattle.acc_schedule.specs.Transactions.{is_one_of}
-use Rattle.acc_schedule.specs.Steps.{Cast, actor_at, actor_fault, actor_in, cast_in, count_fault, form_fault, form_step, name_fault, node_fault, operand_path, operands_in, step_fault, step_of, transaction_in, transaction_of, word_in}
+use Rattle.acc_schedule.specs.Steps.{actor_at, actor_fault, cast_in, count_fault, form_fault, form_step, name_fault, node_fault, operand_path, operands_in, step_fault, step_of, transaction_of, word_in}
 use Rattle.acc_schedule.specs.Plan.{IsStep}
 
 pub then_none : (f g : Fault) → (f then g) ≡ None → (f ≡ None) × (g ≡ None)

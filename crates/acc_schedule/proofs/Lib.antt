@@ -1,4 +1,5 @@
 mod ActorFacts
+pub mod AnswerFacts
 mod BuiltFacts
 mod ClusterFacts
 mod DocumentFacts

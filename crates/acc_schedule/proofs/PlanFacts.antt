@@ -1,30 +1,26 @@
 -- The plan of a document that breaks no rule.
-use Rattle.std.proofs.Common.{◌≡◌, ℕ, zero, suc, ◌+◌, ◌<◌, ◌≤◌, ◌&&◌, not, List, [], ◌∷◌, length, take, map, get_or, Bool, true, false, Option, Some, None, Result, Ok, Err, IfOk, All, IsTrue, codes, refl, sym, ap, subst, ◌∙◌, arith, zero-add}
-use Rattle.std.specs.List.{AllByRecursion, list_any}
-use Rattle.std.proofs.lemmas.Bool.{and_parts, leb-true, not-true}
+use Rattle.std.proofs.Common.{◌≡◌, ℕ, zero, suc, ◌<◌, ◌≤◌, List, [], ◌∷◌, length, take, map, get_or, Bool, true, false, None, Result, Ok, Err, IfOk, All, IsTrue, codes, refl, sym, ap, subst, ◌∙◌, arith, zero-add}
+use Rattle.std.specs.List.{AllByRecursion}
+use Rattle.std.proofs.lemmas.Bool.{and_parts, leb-true}
 use Rattle.std.proofs.lemmas.List.{length-map, get_or-map, take_all}
 use Rattle.serde_json.specs.Data.{Data, null}
-use Rattle.acc_topology.specs.declared.error.TopologyError.{TopologyError}
-use Rattle.acc_topology.specs.declared.error.TopologyError.TheVariants.{Wrong, OutOfMemory}
-use Rattle.acc_topology.specs.declared.error.TopologyKind.{TopologyKind}
 use Rattle.acc_topology.specs.declared.given.NodeSpec.{NodeSpec}
 use Rattle.acc_topology.specs.declared.given.ShardSpec.{ShardSpec}
-use Rattle.acc_topology.specs.Faults.{Fault as TopologyFault, ids, is_new as is_new_number, node_fault as topology_node_fault, nodes_fault as topology_nodes_fault, shards_fault as topology_shards_fault, fault_of, given_layout, given_shard}
-use Rattle.acc_topology.specs.Layout.{Layout, IsLayout}
+use Rattle.acc_topology.specs.Faults.{ids, nodes_fault as topology_nodes_fault, shards_fault as topology_shards_fault, fault_of, given_shard}
 use Rattle.acc_topology.specs.Sets.{in_order, is_among}
 use Rattle.acc_topology.proofs.Accepted.{given_is_layout}
 use Rattle.acc_topology.proofs.Listed.{length-in_order-take}
 use Rattle.acc_schedule.specs.declared.error.PlanError.{PlanError}
 use Rattle.acc_schedule.specs.declared.error.PlanKind.TheVariants.{Limit, Name}
 use Rattle.acc_schedule.specs.Content.{Content}
-use Rattle.acc_schedule.specs.Faults.{Fault, ◌then◌, each, Gives, must}
-use Rattle.acc_schedule.specs.Fields.{field, is_number_from_to, items, list_fault, number, object_fault}
+use Rattle.acc_schedule.specs.Faults.{◌then◌, each, Gives}
+use Rattle.acc_schedule.specs.Fields.{field, items, list_fault}
 use Rattle.acc_schedule.specs.Paths.{field_path, part_path}
 use Rattle.acc_schedule.specs.Nodes.{clock, clock_fault, node_fault, node_of, nodes_fault, nodes_of}
 use Rattle.acc_schedule.specs.Shards.{is_end, replicas_fault, shard_fault, shards_fault, shards_of, shard_of}
 use Rattle.acc_schedule.specs.Cluster.{cluster_fault, node_path, placed, shard_path}
-use Rattle.acc_schedule.specs.Transactions.{bodies_of, body_fault, home_fault, home_of, homes_of, is_name, is_new, name_fault, name_of, names_of, transaction_fault, transactions_fault}
-use Rattle.acc_schedule.specs.Steps.{cast_in, schedule_fault, step_fault, step_of, steps_of}
+use Rattle.acc_schedule.specs.Transactions.{body_fault, home_fault, home_of, is_name, is_new, name_fault, name_of, names_of, transaction_fault, transactions_fault}
+use Rattle.acc_schedule.specs.Steps.{cast_in, schedule_fault, step_fault, step_of}
 use Rattle.acc_schedule.specs.Document.{base_fault, document_fault, is_node_of, layout_of, nodes, plan_of, print, print_fault, schedule, shards, txns}
 use Rattle.acc_schedule.specs.Plan.{IsPlan, IsStep}
 use Rattle.acc_schedule.proofs.ClusterFacts.{fine_node, no_fault, nodes_fine, none_at}
@@ -119,7 +115,7 @@ IsPlan-plan_of d h =
     let none : fault_of ns ss ≡ None = no_fault ns ss placed_parts.0 placed_parts.1 in
     let few_shards : length ss ≤ 15 = omega (arith, length-map (items (shards d)) shard_of, few_items 15 (shards d) (field_path (codes "shards")) (then_none _ _ sharded.1).0) in
     let rules = λ (place : ℕ). transaction_fault (is_node_of d) (take place (names_of (txns d))) place in
-    let each_transaction : each rules 0 ts ≡ None = (then_none _ _ told.1).1 in
+    let each_transaction : each rules 0 ts ≡ None = (then_none (list_fault 10000 (field_path (codes "txns")) (txns d)) (each rules 0 ts) told.1).1 in
     record {
       layout = given_is_layout ns ss (numbered ns is_start) few_shards none;
       nodes = refl;

@@ -1,5 +1,5 @@
 -- A cluster document: the first rule that it breaks, and the plan that it says.
-use Rattle.std.specs.Prelude.{◌≡◌, ◌⊎◌, ℕ, ◌||◌, List, [], ◌∷◌, Bool, Some, None, IsSome, IsUtf8, codes, unwrap_or, if◌then◌else◌}
+use Rattle.std.specs.Prelude.{◌≡◌, ◌⊎◌, ℕ, ◌||◌, List, [], ◌∷◌, Bool, Some, None, Result, Ok, Err, IsSome, IsUtf8, codes, unwrap_or, if◌then◌else◌, ⊤}
 use Rattle.std.specs.Str.{bytes_eq}
 use Rattle.serde_json.specs.Data.{Data, string}
 use Rattle.serde_json.specs.Find.{get}
@@ -141,3 +141,18 @@ IsUnread bytes (Bad kind path detail at) = IsNoJson bytes (Bad kind path detail 
 abbrev pub IsCause : List ℕ → PlanError → Type 0
 IsCause bytes OutOfMemory = Unit {0}
 IsCause bytes (Bad kind path detail at) = IsNoJson bytes (Bad kind path detail at) ⊎ Breaks bytes (Bad kind path detail at)
+
+-- ---- what is answered
+
+-- this value, unless memory ran out
+abbrev pub IsRead : {T : Type 0} → T → Result T PlanError → Type 0
+IsRead value (Ok other) = other ≡ value
+IsRead value (Err (Bad kind path detail at)) = ⊥
+IsRead value (Err OutOfMemory) = ⊤
+
+-- this refusal, unless memory ran out, which isn't the document's doing
+abbrev pub IsRefused : {T : Type 0} → PlanError → Result T PlanError → Type 0
+IsRefused (Bad kind path detail at) (Ok value) = ⊥
+IsRefused (Bad kind path detail at) (Err (Bad kind' path' detail' at')) = Bad kind' path' detail' at' ≡ Bad kind path detail at
+IsRefused (Bad kind path detail at) (Err OutOfMemory) = ⊤
+IsRefused OutOfMemory result = ⊤

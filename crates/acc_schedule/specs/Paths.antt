@@ -14,7 +14,7 @@ abbrev pub path_text : Path → List ℕ
 path_text [] = codes "-"
 path_text (part ∷ parts) = pointer (part ∷ parts)
 
--- `~0` stands for a tilde, and `~1` for a slash
+-- a tilde is spelled `~0`, a slash `~1`
 abbrev pub escaped_byte : ℕ → List ℕ
 escaped_byte byte = if byte == 126 then codes "~0" else if byte == 47 then codes "~1" else byte ∷ []
 

@@ -13,11 +13,11 @@ use Rattle.acc_schedule.specs.Texts.{text_fault, text_body}
 
 -- ---- names
 
--- a letter a to z, or a digit
+-- a small letter or a digit
 abbrev pub is_name_byte : ℕ → Bool
 is_name_byte byte = is_ascii_lowercase byte || is_ascii_digit byte
 
--- a letter a to z, and then up to 15 letters or digits
+-- 1 to 16 small letters and digits, a letter first
 abbrev pub is_name : List ℕ → Bool
 is_name [] = false
 is_name (first ∷ others) = is_ascii_lowercase first && nat_le (length others) 15 && list_all is_name_byte others

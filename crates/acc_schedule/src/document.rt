@@ -1,7 +1,9 @@
 //! Reads a whole document.
 ghost use Rattle.std.specs.Prelude.{◌≡◌, IfOk, IfErr};
 ghost use Rattle.serde_json.specs.View.{view};
-ghost use Rattle.acc_schedule.specs.Document.{base_fault, document_fault, layout_of, nodes as nodes_data, plan_of, print as print_data, print_fault, print_of, version_fault, IsCause, IsUnread, Means, Reads};
+ghost use Rattle.acc_schedule.specs.Document.{base_fault, document_fault, layout_of, nodes as nodes_data, plan_of, print as print_data, print_fault, print_of, version_fault, IsCause, IsRead, IsRefused, IsUnread, Means, Reads};
+ghost use Rattle.acc_schedule.specs.declared.error.PlanError.{PlanError};
+ghost use Rattle.acc_schedule.specs.Content.{Content};
 ghost use Rattle.acc_schedule.specs.Faults.{Gives, IsOfRule};
 ghost use Rattle.acc_schedule.specs.Nodes.{nodes_of};
 ghost use Rattle.acc_schedule.specs.Plan.{IsPlan};
@@ -23,11 +25,17 @@ use std::alloc::Global;
 ///
 /// A document that breaks a rule is refused with the first that it breaks, in the order of `docs/FORMATS.md`. This is
 /// `read_json` and then `read_plan`.
+#[tactic(auto, using(crate::proofs::AnswerFacts::given_read, crate::proofs::AnswerFacts::given_refuses))]
 pub fn read(alloc: Global, bytes: &[u8]) -> Result<Plan, PlanError>
+    // What is answered, and what the answer says of the document.
     ensures accepted { IfOk result (Means bytes.now) }
     ensures sound { IfOk result IsPlan }
     ensures refused { IfErr result (IsCause bytes.now) }
     ensures built { IfErr result IsOfRule }
+
+    // What each document gives, unless memory runs out.
+    ensures read { (plan : Content) → Means bytes.now plan → IsRead plan result }
+    ensures refuses { (error : PlanError) → IsCause bytes.now error → IsRefused error result }
 {
     let root = read_json(alloc, bytes)?;
     read_plan(alloc, &root)

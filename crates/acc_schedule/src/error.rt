@@ -31,8 +31,8 @@ pub enum PlanError {
     /// The first rule that the document breaks.
     Bad {
         kind: PlanKind,
-        /// Where: a JSON pointer, or `-` for the whole document. The name of an unknown field has `~0` for a tilde and
-        /// `~1` for a slash.
+        /// Where: a JSON pointer, or `-` for the whole document. As in JSON pointers, `~0` and `~1` in a field's name spell a
+        /// tilde and a slash.
         path: Text,
         /// The number of the topology's refusal, or of the language's; else 0.
         detail: u32,

@@ -104,7 +104,7 @@ fn name(alloc: Global, item: &Value, place: usize, names: &mut NameTable) -> Res
     Ok(())
 }
 
-// Whether the bytes are a letter a to z and then up to 15 letters or digits.
+// Whether the bytes are 1 to 16 small letters and digits, a letter first.
 fn is_name(bytes: &[u8]) -> bool
     ensures { result ≡ is_name_of bytes.now }
 {

@@ -1,5 +1,5 @@
 -- The nodes before this one are read.
-use Rattle.std.proofs.Common.{◌≡◌, ◌≤◌, All, length}
+use Rattle.std.proofs.Common.{◌≤◌, All}
 use Rattle.acc_schedule.specs.Nodes.{node_fault, node_of}
 use Rattle.acc_schedule.proofs.EachFacts.{AreRead}
 use Rattle.acc_schedule.proofs.nodes.nodes.Given as goal

@@ -1,6 +1,6 @@
-use Rattle.std.proofs.Common.{◌≡◌, refl, sym, subst}
+use Rattle.std.proofs.Common.{◌≡◌}
 use Rattle.acc_schedule.specs.Seen.{seen}
-use Rattle.acc_schedule.specs.Steps.{Cast, cast_in}
+use Rattle.acc_schedule.specs.Steps.{cast_in}
 use Rattle.acc_schedule.specs.Document.{schedule}
 use Rattle.serde_json.specs.View.{view}
 use Rattle.acc_schedule.proofs.DocumentFacts.{given_steps, same_cast}

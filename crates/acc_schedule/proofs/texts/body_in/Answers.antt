@@ -1,8 +1,6 @@
-use Rattle.std.proofs.Common.{◌≡◌, [], Ok, map, sym, ap}
+use Rattle.std.proofs.Common.{map, sym, ap}
 use Rattle.std.specs.Result.{result_unwrap_or}
-use Rattle.acc_txn.specs.declared.parts.BodyParts.{BodyParts}
-use Rattle.acc_txn.specs.declared.parts.Select.TheVariants.{Nothing}
-use Rattle.acc_lang.specs.Reading.{placed, reading, reading_fault}
+use Rattle.acc_lang.specs.Reading.{placed, reading_fault}
 use Rattle.acc_schedule.specs.Parts.{part_text}
 use Rattle.acc_schedule.specs.Texts.{at_path, no_parts}
 use Rattle.acc_schedule.proofs.texts.body_in.Goals as goal

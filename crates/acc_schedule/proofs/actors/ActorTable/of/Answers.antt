@@ -1,4 +1,4 @@
-use Rattle.std.proofs.Common.{◌≡◌, ℕ, ◌<◌, ◌≤◌, List, None, length, ap, ◌∙◌, arith}
+use Rattle.std.proofs.Common.{◌≡◌, ℕ, ◌<◌, ◌≤◌, List, None, length, ap, arith}
 use Rattle.acc_schedule.specs.Actors.{at_name}
 use Rattle.acc_schedule.proofs.ActorFacts.{all_added, nodes_added, shard_added, shown}
 use Rattle.acc_schedule.proofs.actors.ActorTable.of.Goals as goal
