@@ -98,7 +98,7 @@ is_vote x (Some (Apply from to id ballot body t deps outcome)) = false
 abbrev pub has_voted : TxnId → List Deed → Bool
 has_voted x past = list_any (λ (deed : Deed). is_vote x deed.took) past
 
--- the client of x is open from the begin to the reply
+-- the begin opens the client of x, and the reply closes it
 abbrev pub opens : TxnId → Note → Bool
 opens x (Begin id) = id_eq id x
 opens x (Decide id t path deps) = false

@@ -20,7 +20,7 @@ use Rattle.acc_first.specs.StoreRules.{or_else}
 
 -- ---- names
 
--- the number of the transaction to which a begin among the items gives the id
+-- the number of the transaction whose begin drew the id
 abbrev pub txn_of : List Item → TxnId → Option ℕ
 txn_of [] x = None
 txn_of (item ∷ later) x = or_else (number_at x (event_of item) (noted_in item)) (txn_of later x)

@@ -113,7 +113,7 @@ firsts_after before (a ∷ answers) =
 abbrev pub first_outcomes : List Note → List Answered
 first_outcomes notes = firsts_after [] (outcomes_of notes)
 
--- a first outcome stands behind its transaction's begin and not behind its reply
+-- before the first outcome of a transaction comes its begin, and no reply of it
 abbrev pub IsInPlace : List Note → Type 0
 IsInPlace notes =
     (before after : List Note) (x : TxnId) (reply : Reply)
@@ -121,7 +121,7 @@ IsInPlace notes =
     → is_answered x (outcomes_of before) ≡ false
     → (list_any (opens x) before ≡ true) × (list_any (closes x) before ≡ false)
 
--- Serial outcomes: the first outcomes are those of the bodies, run one by one on one map that is empty at first
+-- Serial outcomes: a serial run of the bodies, in the order of their first outcomes, gives the same replies
 pub record SerialOutcomes (plan : Plan) (items : List Item) : Type 0 where
   pub bodies : List BodyParts
   pub bodies_are : map (λ (a : Answered). body_of plan items a.id) (first_outcomes (notes_of items)) ≡ map (λ b. Some b) bodies

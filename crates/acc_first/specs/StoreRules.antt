@@ -140,7 +140,7 @@ older_of heard x body =
 abbrev pub older_rivals : List Taken → TxnId → BodyParts → List TxnId
 older_rivals past x body = older_of (known past) x body
 
--- a vote that was made is given again
+-- an earlier vote stands
 abbrev pub vote_given : Option Vote → Vote → Vote
 vote_given None made = made
 vote_given (Some earlier) made = earlier

@@ -1,5 +1,4 @@
--- Calm: no restart, recover or slow, and every message that was sent is taken. In a calm run each begun transaction has a
--- reply.
+-- Calm: a run without restarts, recovers and slows that leaves no message untaken. Whatever it begins has its reply.
 use Rattle.std.specs.Prelude.{ℕ, ◌<◌, Bool, true, false, IsTrue, List, length}
 use Rattle.std.specs.List.{list_any, list_all}
 use Rattle.acc_stamp.specs.declared.stamps.TxnId.{TxnId}

@@ -1,4 +1,4 @@
--- Two updates of one key: the store hears b first and draws a greater timestamp for a.
+-- Two updates of one key that reach a store in reverse order, so that its vote for a isn't a's own timestamp.
 use Rattle.std.specs.Prelude.{List, [], ◌∷◌}
 use Rattle.acc_txn.specs.declared.parts.BodyParts.{BodyParts}
 use Rattle.acc_txn.specs.declared.outcome.Reply.{Reply}

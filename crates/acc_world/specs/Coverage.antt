@@ -11,7 +11,7 @@ use Rattle.acc_message.specs.Shares.{conflict_in}
 use Rattle.acc_message.specs.Run.{Cluster}
 use Rattle.acc_world.specs.Decisions.{Decision, decisions_of, body_of}
 
--- two different transactions use a key of the shard that at least one of them writes
+-- these are two transactions, and their bodies conflict in the shard
 pub record Conflict (cluster : Cluster) (items : List Item) (shard : ℕ) (x y : TxnId) : Type 0 where
   pub first : BodyParts
   pub second : BodyParts

@@ -1,4 +1,4 @@
--- Of five replicas four unchanged votes are a fast quorum.
+-- A fast decision on five replicas of which one has not voted.
 use Rattle.std.specs.Prelude.{List, [], ◌∷◌}
 use Rattle.acc_txn.specs.declared.parts.BodyParts.{BodyParts}
 use Rattle.acc_txn.specs.declared.outcome.Reply.{Reply}

@@ -1,4 +1,4 @@
--- An update of two shards whose last vote in the second shard is lost: no fast quorum forms there, and none is lost.
+-- An update of two shards. A vote of the second never comes, and without it a fast quorum there is neither reached nor lost.
 use Rattle.std.specs.Prelude.{List, [], ◌∷◌}
 use Rattle.acc_txn.specs.declared.parts.BodyParts.{BodyParts}
 use Rattle.acc_txn.specs.declared.outcome.Reply.{Reply}

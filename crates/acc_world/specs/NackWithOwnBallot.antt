@@ -1,4 +1,4 @@
--- The repeated message gets a Nack with its own ballot, which the recovery ignores.
+-- A message of a recovery comes again and is refused. The Nack has the recovery's own ballot, so the recovery goes on.
 use Rattle.std.specs.Prelude.{List, [], ◌∷◌}
 use Rattle.acc_txn.specs.declared.parts.BodyParts.{BodyParts}
 use Rattle.acc_txn.specs.declared.outcome.Reply.{Reply}

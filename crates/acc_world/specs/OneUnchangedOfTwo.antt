@@ -1,4 +1,4 @@
--- One unchanged vote of two answers is too few for a fast decision.
+-- One of the two votes that a recovery hears is changed, so nothing was decided fast.
 use Rattle.std.specs.Prelude.{List, [], ◌∷◌}
 use Rattle.acc_stamp.specs.Actor.{actor_of}
 use Rattle.acc_txn.specs.declared.parts.BodyParts.{BodyParts}

@@ -1,6 +1,6 @@
 -- Of three transactions on one key, b waits for a and c for both. Applying a opens b for its two waiters, in the order of their
--- ballots, and then c, each with the cells of its turn. A Stable of an opened transaction is answered at once: by the present
--- cells, and by the kept outcome once it is applied.
+-- ballots, and then c, each with the cells of its turn. A Stable that comes after its transaction was opened doesn't wait: it
+-- gets the cells of that moment, and later, behind the Apply, the outcome.
 use Rattle.std.specs.Prelude.{List, [], ◌∷◌, pos, Some}
 use Rattle.acc_stamp.specs.declared.stamps.Ballot.{Ballot}
 use Rattle.acc_txn.specs.declared.parts.BodyParts.{BodyParts}

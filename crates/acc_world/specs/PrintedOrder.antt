@@ -1,4 +1,4 @@
--- By timestamp b stands before a; the printed order is the serial order.
+-- The timestamp of b is smaller, but a is done first. A serial run has to take them as their outcomes are printed.
 use Rattle.std.specs.Prelude.{List, [], ◌∷◌, pos, Some}
 use Rattle.acc_txn.specs.declared.parts.BodyParts.{BodyParts}
 use Rattle.acc_txn.specs.declared.outcome.Reply.{Reply}

@@ -1,6 +1,6 @@
--- Four recoveries of one transaction, each with two answers. The record of the greatest ballot is proposed again. At one ballot
--- a committed record goes before an accepted one, and of two accepted ones that of the least store. A stable record goes before
--- all others, and is the decision.
+-- Four recoveries of one transaction, each with two answers. The highest ballot is proposed again. Where
+-- ballots are equal, a committed record wins over an accepted one, and among accepted ones the first store's. A stable record
+-- wins over all others, and is the decision.
 use Rattle.std.specs.Prelude.{ℕ, false, List, [], ◌∷◌, Option, None, Some}
 use Rattle.acc_stamp.specs.declared.stamps.TxnId.{TxnId}
 use Rattle.acc_stamp.specs.declared.stamps.Ballot.{Ballot}

@@ -1,5 +1,5 @@
--- Serial outcomes: the first outcomes, in their order, are those of the bodies run one by one on one map that is empty at
--- first; every outcome and every reply of a transaction equals its first outcome.
+-- Serial outcomes: taking the bodies in the order of their first outcomes, a serial run of them gives the same replies; and
+-- no other outcome and no reply of a transaction differs from its first outcome.
 use Rattle.std.specs.Prelude.{◌≡◌, false, IsTrue, List, ◌∷◌, ◌++◌, Some, Contains, map}
 use Rattle.std.specs.List.{list_any}
 use Rattle.acc_stamp.specs.declared.stamps.TxnId.{TxnId}
@@ -13,7 +13,7 @@ use Rattle.acc_message.specs.Items.{notes_of, begins, replies}
 use Rattle.acc_message.specs.Run.{Cluster}
 use Rattle.acc_world.specs.Decisions.{Answered, outcomes_of, replies_of, is_answered, first_outcomes, body_of}
 
--- a first outcome stands behind its transaction's begin and not behind its reply
+-- before the first outcome of a transaction comes its begin, and no reply of it
 abbrev pub IsInPlace : List Note → Type 0
 IsInPlace notes =
     (before after : List Note) (x : TxnId) (reply : Reply)

@@ -1,4 +1,4 @@
--- The Stable of b meets an unapplied a, so the store is silent; the Apply of a answers b.
+-- A store can't answer the Stable of b as long as a isn't applied there. It does so when the Apply of a comes.
 use Rattle.std.specs.Prelude.{List, [], ◌∷◌, pos, Some}
 use Rattle.acc_txn.specs.declared.parts.BodyParts.{BodyParts}
 use Rattle.acc_txn.specs.declared.outcome.Reply.{Reply}

@@ -1,4 +1,4 @@
--- Two unchanged votes of three answers would allow a fast decision, but a store has accepted b without a.
+-- By the votes that the recovery of a hears, a was possibly decided fast. A store that accepted b without a rules it out.
 use Rattle.std.specs.Prelude.{List, [], ◌∷◌}
 use Rattle.acc_txn.specs.declared.parts.BodyParts.{BodyParts}
 use Rattle.acc_txn.specs.declared.outcome.Reply.{Reply}

@@ -105,7 +105,7 @@ pub fn stamps_are_drawn_once()
     draws_are_of_node();
 }
 
-/// A begin stands at the home of its transaction and is its first, and a recover stands behind one.
+/// No transaction is begun twice, or elsewhere than at its home, or recovered before its begin.
 pub fn begins_stand_first()
     ensures home { (cluster : Cluster) (items after earlier : List Item) (e : Entry) (txn : ℕ) → EachStands cluster items →
         items ≡ after ++ Item.Step e ∷ earlier → e.event ≡ Event.Begin txn → IsHomeOf cluster txn e.actor }

@@ -31,7 +31,7 @@ pub fn one_update()
     ensures safe { IsSafeRun one_update_row.cluster one_update_row.items }
 {}
 
-/// An update of two shards whose last vote in the second shard is lost: no fast quorum forms there, and none is lost.
+/// An update of two shards. A vote of the second never comes, and without it a fast quorum there is neither reached nor lost.
 pub fn lost_vote()
     ensures notes { notes_of lost_vote_row.items ≡ lost_vote_row.notes }
     ensures serial { serial lost_vote_row.serially ≡ lost_vote_row.replies }
@@ -49,7 +49,7 @@ pub fn no_lost_vote()
     ensures safe { IsSafeRun no_lost_vote_row.cluster no_lost_vote_row.items }
 {}
 
-/// Two updates of one key: the store hears b first and draws a greater timestamp for a.
+/// Two updates of one key that reach a store in reverse order, so that its vote for a isn't a's own timestamp.
 pub fn conflict_heard_first()
     ensures notes { notes_of conflict_heard_first_row.items ≡ conflict_heard_first_row.notes }
     ensures serial { serial conflict_heard_first_row.serially ≡ conflict_heard_first_row.replies }
@@ -67,7 +67,7 @@ pub fn reads_do_not_conflict()
     ensures safe { IsSafeRun reads_do_not_conflict_row.cluster reads_do_not_conflict_row.items }
 {}
 
-/// Of five replicas four unchanged votes are a fast quorum.
+/// A fast decision on five replicas of which one has not voted.
 pub fn four_of_five()
     ensures notes { notes_of four_of_five_row.items ≡ four_of_five_row.notes }
     ensures serial { serial four_of_five_row.serially ≡ four_of_five_row.replies }
@@ -86,7 +86,7 @@ pub fn slow_needs_majority()
     ensures safe { IsSafeRun slow_needs_majority_row.cluster slow_needs_majority_row.items }
 {}
 
-/// By timestamp b stands before a; the printed order is the serial order.
+/// The timestamp of b is smaller, but a is done first. A serial run has to take them as their outcomes are printed.
 pub fn printed_order()
     ensures notes { notes_of printed_order_row.items ≡ printed_order_row.notes }
     ensures serial { serial printed_order_row.serially ≡ printed_order_row.replies }
@@ -95,7 +95,7 @@ pub fn printed_order()
     ensures safe { IsSafeRun printed_order_row.cluster printed_order_row.items }
 {}
 
-/// The Stable of b meets an unapplied a, so the store is silent; the Apply of a answers b.
+/// A store can't answer the Stable of b as long as a isn't applied there. It does so when the Apply of a comes.
 pub fn silent_until_applied()
     ensures notes { notes_of silent_until_applied_row.items ≡ silent_until_applied_row.notes }
     ensures serial { serial silent_until_applied_row.serially ≡ silent_until_applied_row.replies }
@@ -113,7 +113,7 @@ pub fn recovery_after_restart()
     ensures safe { IsSafeRun recovery_after_restart_row.cluster recovery_after_restart_row.items }
 {}
 
-/// One unchanged vote of two answers is too few for a fast decision.
+/// One of the two votes that a recovery hears is changed, so nothing was decided fast.
 pub fn one_unchanged_of_two()
     ensures notes { notes_of one_unchanged_of_two_row.items ≡ one_unchanged_of_two_row.notes }
     ensures serial { serial one_unchanged_of_two_row.serially ≡ one_unchanged_of_two_row.replies }
@@ -122,7 +122,7 @@ pub fn one_unchanged_of_two()
     ensures safe { IsSafeRun one_unchanged_of_two_row.cluster one_unchanged_of_two_row.items }
 {}
 
-/// Two unchanged votes of three answers would allow a fast decision, but a store has accepted b without a.
+/// By the votes that the recovery of a hears, a was possibly decided fast. A store that accepted b without a rules it out.
 pub fn superseded_by_accept()
     ensures notes { notes_of superseded_by_accept_row.items ≡ superseded_by_accept_row.notes }
     ensures serial { serial superseded_by_accept_row.serially ≡ superseded_by_accept_row.replies }
@@ -140,7 +140,7 @@ pub fn blocked_recovery()
     ensures safe { IsSafeRun blocked_recovery_row.cluster blocked_recovery_row.items }
 {}
 
-/// The repeated message gets a Nack with its own ballot, which the recovery ignores.
+/// A message of a recovery comes again and is refused. The Nack has the recovery's own ballot, so the recovery goes on.
 pub fn nack_with_own_ballot()
     ensures notes { notes_of nack_with_own_ballot_row.items ≡ nack_with_own_ballot_row.notes }
     ensures serial { serial nack_with_own_ballot_row.serially ≡ nack_with_own_ballot_row.replies }
