@@ -1,7 +1,9 @@
 -- The line of a refusal, and when a command is done.
-use Rattle.std.proofs.Common.{◌≡◌, ◌≢◌, ◌<◌, ◌≤◌, ℕ, List, length, Option, None, Some, refl, subst, arith}
+use Rattle.std.proofs.Common.{◌≡◌, ◌≢◌, ◌<◌, ◌≤◌, ℕ, suc, List, [], length, replicate, Option, None, Some, inl, refl, subst, arith}
 use Rattle.std.specs.Prelude.{IfSome}
-use Rattle.acc_form.proofs.DocumentLemmas.{means_no_cause, says_no_fault}
+use Rattle.std.proofs.lemmas.List.{length-replicate}
+use Rattle.acc_schedule.proofs.AnswerFacts.{says_no_fault}
+use Rattle.acc_form.proofs.DocumentLemmas.{means_no_cause}
 use Rattle.acc_schedule.specs.declared.error.PlanError.{PlanError}
 use Rattle.acc_schedule.specs.declared.error.PlanError.TheVariants.{Bad, OutOfMemory as NoMemory}
 use Rattle.acc_command.specs.declared.status.Status.{Status}
@@ -9,7 +11,7 @@ use Rattle.acc_command.specs.declared.status.Status.TheVariants.{Done, No, Usage
 use Rattle.acc_command.specs.declared.words.Command.{Command}
 use Rattle.acc_command.specs.declared.words.Command.TheVariants.{Run, Check}
 use Rattle.acc_command.specs.Lines.{IsRefusalOf}
-use Rattle.acc_command.specs.Command.{Ends, IsAccepted, IsCause, IsDone, IsDue, IsRefusal, Says, document_limit}
+use Rattle.acc_command.specs.Command.{Ends, EndsOnGiven, IsAccepted, IsCause, IsDone, IsDue, IsRefusal, Says, document_limit}
 use Rattle.acc_command.proofs.EndsFacts.{ends_due}
 
 -- the line of an error is that of a refusal with its cause
@@ -27,11 +29,28 @@ pub known_bytes : (o : Option (List ℕ)) (b : List ℕ) (P : List ℕ → Type 
 known_bytes None b P e p = e
 known_bytes (Some l) b P e p = subst P e p
 
+-- there are longer lists than any
+longer : (n : ℕ) → (l : List ℕ) × (n < length l)
+longer n = (replicate (suc n) 0, rw (length-replicate {A = ℕ} (suc n) 0) (omega arith))
+
 pub too_long : (command : Command) (o : Option (List ℕ)) (text : List ℕ) (result : Status) (old new : Option (List ℕ))
     → IfSome o (λ l. document_limit < length l) → ((l : List ℕ) → document_limit < length l → IsDue command l Limit text)
-    → Says Limit text result old new → IfSome o (λ bytes. Ends (IsDue command bytes) result old new)
-too_long command None text result old new long due said = long
-too_long command (Some l) text result old new long due said = ends_due command l Limit text result old new (due l long) said
+    → Says Limit text result old new → EndsOnGiven command o result old new
+too_long command None text result old new long due said =
+    let many = longer document_limit in
+    record { bytes = many.0; given = tt; ends = ends_due command many.0 Limit text result old new (due many.0 many.1) said }
+too_long command (Some l) text result old new long due said = record { bytes = l; given = refl; ends = ends_due command l Limit text result old new (due l long) said }
+
+-- where nothing of a document was written, it may be any
+given : (o : Option (List ℕ)) → (bytes : List ℕ) × IfSome o (λ told. bytes ≡ told)
+given None = ([], tt)
+given (Some l) = (l, refl)
+
+pub unread : (command : Command) (o old : Option (List ℕ)) → EndsOnGiven command o ReadFault old old
+unread command o old = let g = given o in record { bytes = g.0; given = g.1; ends = refl }
+
+pub unanswered : (command : Command) (o old : Option (List ℕ)) → EndsOnGiven command o OutOfMemory old old
+unanswered command o old = let g = given o in record { bytes = g.0; given = g.1; ends = inl refl }
 
 -- a document that is accepted isn't refused
 not_refused : (command : Command) (bytes text : List ℕ) → IsAccepted command bytes → IsRefusal (IsCause command bytes) text → ⊥

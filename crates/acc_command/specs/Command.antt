@@ -1,5 +1,5 @@
 -- What a command writes and how it ends, from its words and the bytes of its document.
-use Rattle.std.specs.Prelude.{◌≡◌, ◌⊎◌, ℕ, ◌+◌, ◌<◌, ◌≤◌, List, length, reverse, Option}
+use Rattle.std.specs.Prelude.{◌≡◌, ◌⊎◌, ℕ, ◌+◌, ◌<◌, ◌≤◌, List, length, reverse, Option, IfSome}
 use Rattle.acc_ports.specs.Sink.{followed_by, WritesPart}
 use Rattle.acc_ports.specs.Source.{without_first, none_left, TakesAtMost}
 use Rattle.acc_plan.specs.declared.plan.Plan.{Plan}
@@ -99,6 +99,12 @@ Ends P WriteFault old new = WritesLess P old new
 Ends P BadInput old new = Writes P BadInput old new
 Ends P Limit old new = Writes P Limit old new
 Ends P OutOfMemory old new = (new ≡ old) ⊎ WritesLess P old new
+
+-- it ends as is due on a document that the source gives: on the bytes that it tells, and on some where it tells none
+pub record EndsOnGiven (command : Command) (left : Option (List ℕ)) (status : Status) (old new : Option (List ℕ)) : Type 0 where
+  pub bytes : List ℕ
+  pub given : IfSome left (λ told. bytes ≡ told)
+  pub ends : Ends (IsDue command bytes) status old new
 
 -- what is left of the source: nothing of a document that was read whole, all behind the byte past the limit, and with a
 -- fault or want of memory no less than that

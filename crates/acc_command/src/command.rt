@@ -7,7 +7,7 @@ ghost use Rattle.acc_schedule.specs.Document.{Means as Says};
 ghost use Rattle.acc_form.specs.Document.{Means};
 ghost use Rattle.acc_command.specs.declared.words.Command.TheVariants.{Run, Check};
 ghost use Rattle.acc_command.specs.Words.{IsCheckLine, IsLine, IsRunLine};
-ghost use Rattle.acc_command.specs.Command.{document_limit, Ends, IsAccepted, IsDone, IsDue, IsUsage, Leaves};
+ghost use Rattle.acc_command.specs.Command.{document_limit, Ends, EndsOnGiven, IsAccepted, IsDone, IsDue, IsUsage, Leaves};
 
 use crate::check::check;
 use crate::reply::{Reply, say};
@@ -27,10 +27,10 @@ const LIMIT: &[u8] = b"limit document 16777216\n";
 
 /// Does what a command line says: reads from `source`, writes to `sink`, and tells how it ended.
 ///
-/// `words` are the words behind the program's name. `run` reads a document up to the end of the source, runs it, and
-/// writes the report; `check` reads one, and writes a line of what it has. A document that is refused gets the line of its
-/// refusal. A document has at most 16,777,216 bytes: where there is one more, reading stops there. Every other list of words
-/// gets the usage line, and nothing is read.
+/// `words` don't count the program's name. Both commands take what the source gives up to its end as a document, but no more
+/// than 16,777,216 bytes: where there is one more, reading stops there. `run` writes the report of its run, `check` a line of
+/// what it has, and a document that is refused gets the line of its refusal. Other words get the usage line, and nothing is
+/// read.
 pub fn accord<R: AllocGlobal, S: Source, K: Sink>(
     rt: &R,
     words: &[Text],
@@ -39,8 +39,8 @@ pub fn accord<R: AllocGlobal, S: Source, K: Sink>(
 ) -> Status
     // What is written, what is left of the source, and the status, for every list of words and every document.
     ensures usage { ¬ (IsLine words.now) → Ends IsUsage result (K.written sink.old) (K.written sink.new) }
-    ensures run { IsRunLine words.now → IfSome (S.left source.old) (λ bytes. Ends (IsDue Run bytes) result (K.written sink.old) (K.written sink.new)) }
-    ensures check { IsCheckLine words.now → IfSome (S.left source.old) (λ bytes. Ends (IsDue Check bytes) result (K.written sink.old) (K.written sink.new)) }
+    ensures run { IsRunLine words.now → EndsOnGiven Run (S.left source.old) result (K.written sink.old) (K.written sink.new) }
+    ensures check { IsCheckLine words.now → EndsOnGiven Check (S.left source.old) result (K.written sink.old) (K.written sink.new) }
 
     // When each of the answers comes that tell of a port, and which comes where no port fails.
     ensures usage_only { result ≡ Status.Usage → ¬ (IsLine words.now) }
@@ -68,7 +68,7 @@ fn answer<S: Source, K: Sink>(
     source: &mut S,
     sink: &mut K,
 ) -> Status
-    ensures ends { IfSome (S.left source.old) (λ bytes. Ends (IsDue command bytes) result (K.written sink.old) (K.written sink.new)) }
+    ensures ends { EndsOnGiven command (S.left source.old) result (K.written sink.old) (K.written sink.new) }
     ensures words { result ≢ Status.Usage }
     ensures leaves { Leaves result (S.left source.old) (S.left source.new) }
     ensures read_fault { result ≡ Status.ReadFault → Rose (S.faults source.old) (S.faults source.new) }

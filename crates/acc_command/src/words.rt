@@ -7,9 +7,9 @@ use acc_base::Text;
 /// A command that is built.
 #[derive(Clone, Copy, Debug, PartialEq, Eq)]
 pub enum Command {
-    /// Reads a document, runs it, and writes the report.
+    /// From a document to the report of its run.
     Run,
-    /// Reads a document, and writes what it has.
+    /// From a document to how many nodes, shards, transactions and steps it has.
     Check,
 }
 

@@ -2,9 +2,18 @@
 use Rattle.std.proofs.Common.{◌≤◌, List, ℕ, length, Err, refl, ap, subst}
 use Rattle.acc_ports.specs.declared.error.ReadError.{ReadError}
 use Rattle.acc_command.specs.Command.{document_limit, Ends, IsAccepted, IsDone, IsDue}
-use Rattle.acc_command.proofs.CommandFacts.{completes, known_bytes, too_long}
+use Rattle.acc_command.proofs.CommandFacts.{completes, known_bytes, too_long, unanswered, unread}
 use Rattle.acc_command.proofs.LeavesFacts.{leaves_none}
 use Rattle.acc_command.proofs.command.answer.Goals as goal
+
+pub returns-in-Ok-clause-ends : goal.returns-in-Ok-clause-ends
+returns-in-Ok-clause-ends g c = record {
+  bytes = c.in-Ok.bytes;
+  given = c.in-Ok.ensures.all;
+  ends =
+      subst (λ (bytes : List ℕ). Ends (IsDue c.args.command bytes) c.respond.result (g.K.Sink.written c.args.sink.now) (g.K.Sink.written c.respond.new.sink))
+      c.as_slice.ensures c.respond.ensures.ends;
+}
 
 pub returns-in-Ok-clause-leaves : goal.returns-in-Ok-clause-leaves
 returns-in-Ok-clause-leaves g c =
@@ -26,3 +35,9 @@ returns-in-Ok-clause-complete g c = λ no_read no_write.
 pub returns-in-Err-TooLong-clause-ends : goal.returns-in-Err-TooLong-clause-ends
 returns-in-Err-TooLong-clause-ends g c =
     too_long c.args.command _ _ _ _ _ (c.in-Err-TooLong.ensures.too_long (ap (λ (e : ReadError). Err e) c.in-Err-TooLong.field-0-is)) (λ l long. (long, refl)) c.say.ensures.said
+
+pub returns-in-Err-Failed-clause-ends : goal.returns-in-Err-Failed-clause-ends
+returns-in-Err-Failed-clause-ends g c = unread c.args.command (g.S.Source.left c.args.source.now) (g.K.Sink.written c.args.sink.now)
+
+pub returns-in-Err-OutOfMemory-clause-ends : goal.returns-in-Err-OutOfMemory-clause-ends
+returns-in-Err-OutOfMemory-clause-ends g c = unanswered c.args.command (g.S.Source.left c.args.source.now) (g.K.Sink.written c.args.sink.now)
