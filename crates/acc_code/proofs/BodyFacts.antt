@@ -1,10 +1,8 @@
 -- Bodies are short enough for their format, and what was read is a body where it has a key.
-use Rattle.std.proofs.Common.{◌≡◌, ℕ, ◌<◌, ◌≤◌, false, not, List, [], ◌∷◌, length, Some, None, Ok, Err, refl, ap, arith, is_none}
+use Rattle.std.proofs.Common.{◌≡◌, ℕ, ◌<◌, ◌≤◌, true, false, not, List, [], ◌∷◌, length, Ok, ap, arith, is_none}
 use Rattle.std.specs.List.{list_any, AllByRecursion}
-use Rattle.std.proofs.lemmas.Bool.{cases_Bool, not-false, or_parts}
-use Rattle.std.proofs.Common.{inl, inr}
-use Rattle.acc_wire.specs.declared.error.WireKind.TheVariants.{Range}
-use Rattle.acc_wire.specs.Reading.{Unread, AreBytes, fault_at}
+use Rattle.std.proofs.lemmas.Bool.{not-false, not-true, or_parts}
+use Rattle.acc_wire.specs.Reading.{Unread, AreBytes}
 use Rattle.acc_value.specs.declared.key.Key.{Key}
 use Rattle.acc_txn.specs.declared.parts.Let.{Let}
 use Rattle.acc_txn.specs.declared.parts.Select.{Select}
@@ -14,14 +12,11 @@ use Rattle.acc_txn.specs.declared.parts.Condition.TheVariants.{Compare, IsNull, 
 use Rattle.acc_txn.specs.declared.parts.Update.{Update}
 use Rattle.acc_txn.specs.declared.parts.Update.TheVariants.{Set, Delete}
 use Rattle.acc_txn.specs.declared.parts.BodyParts.{BodyParts}
-use Rattle.acc_txn.specs.declared.error.BodyError.{BodyError}
-use Rattle.acc_txn.specs.declared.error.BodyError.TheVariants.{TooMany, UnboundName, TwiceBound, NoKey, BadWord, BadShape, OutOfMemory}
 use Rattle.acc_txn.specs.Words.{is_name, is_key}
 use Rattle.acc_txn.specs.Uses.{selected_keys, updated_key, footprint_of}
-use Rattle.acc_txn.specs.Rules.{is_many, selected_names, condition_has, update_has, some_expression, is_long, has_no_key, has_bad_name, has_bad_key, refusal_of, IsBody, IsRefused}
-use Rattle.acc_code.specs.Reading.{Fails}
+use Rattle.acc_txn.specs.Rules.{is_many, selected_names, condition_has, update_has, some_expression, is_long, has_no_key, has_bad_name, has_bad_key, IsBody}
 use Rattle.acc_code.specs.Short.{IsShortKey, IsShortLet, IsShortSelect, IsShortCondition, IsShortUpdate, IsShortBody}
-use Rattle.acc_code.specs.BodyReading.{parts_at, body_at, refused_at}
+use Rattle.acc_code.specs.BodyReading.{parts_at}
 use Rattle.acc_code.proofs.PartsFormat.{parts_field}
 use Rattle.acc_code.proofs.RulesKept.{rules_kept}
 use Rattle.acc_code.proofs.RulesGiven.{few, keeps, word_fits, key_fits}
@@ -93,27 +88,6 @@ short_body parts body =
 
 -- ---- what was read
 
--- parts that were read and keep the rules are the body
-pub body_read : (u after : Unread) (parts : BodyParts) → parts_at u ≡ Ok (parts, after) → refusal_of parts ≡ None → body_at u ≡ Ok (parts, after)
-unfolding body_at
-body_read u after parts e none =
-    let some : has_no_key parts ≡ false = (keeps parts (ap is_none none)).keys in
-    rw (e, some) refl
-
--- parts that were read and are refused have no key
-refused_for_key : (u after : Unread) (parts : BodyParts) → AreBytes u.bytes → parts_at u ≡ Ok (parts, after) → (error : BodyError) → refusal_of parts ≡ Some error → body_at u ≡ Err (fault_at Range u)
-unfolding body_at
-refused_for_key u after parts bytes e error refused =
-    elim (cases_Bool (has_no_key parts)) [
-      | inl none ↦ rw (e, none) refl
-      | inr some ↦ let kept = rules_kept parts (parts_field.takes u after parts bytes e).1 some in absurd cc
-    ]
-
-pub body_refused : (u after : Unread) (parts : BodyParts) → AreBytes u.bytes → parts_at u ≡ Ok (parts, after) → (error : BodyError) → IsRefused parts error → Fails (refused_at u.place error) (body_at u)
-body_refused u after parts bytes e TooMany h = refused_for_key u after parts bytes e _ h
-body_refused u after parts bytes e UnboundName h = refused_for_key u after parts bytes e _ h
-body_refused u after parts bytes e TwiceBound h = refused_for_key u after parts bytes e _ h
-body_refused u after parts bytes e NoKey h = refused_for_key u after parts bytes e _ h
-body_refused u after parts bytes e BadWord h = refused_for_key u after parts bytes e _ h
-body_refused u after parts bytes e BadShape h = refused_for_key u after parts bytes e _ h
-body_refused u after parts bytes e OutOfMemory h = tt
+-- parts that were read and have a key keep the rules
+pub read_rules : (u after : Unread) (parts : BodyParts) → AreBytes u.bytes → parts_at u ≡ Ok (parts, after) → not (has_no_key parts) ≡ true → IsBody parts
+read_rules u after parts bytes e some = ap is_none (rules_kept parts (parts_field.takes u after parts bytes e).1 (not-true (has_no_key parts) some))

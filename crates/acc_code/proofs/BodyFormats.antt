@@ -24,7 +24,7 @@ use Rattle.acc_code.specs.BodyReading.{use_at, let_uses, new_name_at, let_at, le
 use Rattle.acc_code.proofs.Formats.{made_field, made_of_two, tagged_field, done_field, same_field, passing_field, listed_field}
 use Rattle.acc_code.proofs.CellFormats.{alike_field}
 use Rattle.acc_code.proofs.BodyFits.{FitsUse, FitsNewName, FitsLet, FitsName, FitsSelect, FitsSum, FitsCondition, FitsUpdate, FitsNextUpdate, FitLets, FitConditions, FitUpdates}
-use Rattle.acc_code.proofs.SumFormats.{word_field, use_field, name_field, sum_field}
+use Rattle.acc_code.proofs.SumFormats.{word_field, use_field, let_number_field, sum_field}
 
 -- ---- LETs
 
@@ -95,7 +95,7 @@ select_behind_field lets zero h = same_field (done_field Nothing) (record {
   from = λ s f. nothing_only s f.1;
   bytes_are = λ s f. ap select_tail (sym (nothing_only s f.1));
 })
-select_behind_field lets (suc zero) h = same_field (made_field Names select_tail (λ n fits. refl) (alike_field (name_field (length lets)) 1 16 (omega arith))) (record {
+select_behind_field lets (suc zero) h = same_field (made_field Names select_tail (λ n fits. refl) (alike_field (let_number_field (length lets)) 1 16 (omega arith))) (record {
   to = λ s m. subst (λ (x : Select). FitsSelect lets x × (select_tag x ≡ 1)) (sym m.2) (m.1, refl);
   from = λ s f. names_only lets s f.0 f.1;
   bytes_are = λ s f. refl;
@@ -189,12 +189,12 @@ condition_behind_field lets (suc (suc (suc zero))) h = compare_field lets 3 Less
 condition_behind_field lets (suc (suc (suc (suc zero)))) h = compare_field lets 4 AtMost refl
 condition_behind_field lets (suc (suc (suc (suc (suc zero))))) h = compare_field lets 5 More refl
 condition_behind_field lets (suc (suc (suc (suc (suc (suc zero)))))) h = compare_field lets 6 AtLeast refl
-condition_behind_field lets (suc (suc (suc (suc (suc (suc (suc zero))))))) h = same_field (made_field IsNull condition_tail (λ n fits. refl) (name_field lets)) (record {
+condition_behind_field lets (suc (suc (suc (suc (suc (suc (suc zero))))))) h = same_field (made_field IsNull condition_tail (λ n fits. refl) (let_number_field lets)) (record {
   to = λ c m. subst (λ (x : Condition). FitsCondition lets x × (condition_number x ≡ 7)) (sym m.2) (m.1, refl);
   from = λ c f. null_only lets c f.0 f.1;
   bytes_are = λ c f. refl;
 })
-condition_behind_field lets (suc (suc (suc (suc (suc (suc (suc (suc zero)))))))) h = same_field (made_field IsNotNull condition_tail (λ n fits. refl) (name_field lets)) (record {
+condition_behind_field lets (suc (suc (suc (suc (suc (suc (suc (suc zero)))))))) h = same_field (made_field IsNotNull condition_tail (λ n fits. refl) (let_number_field lets)) (record {
   to = λ c m. subst (λ (x : Condition). FitsCondition lets x × (condition_number x ≡ 8)) (sym m.2) (m.1, refl);
   from = λ c f. not_null_only lets c f.0 f.1;
   bytes_are = λ c f. refl;

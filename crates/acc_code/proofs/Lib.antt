@@ -12,7 +12,9 @@ pub mod SumFormats
 pub mod BodyFormats
 pub mod PartsFormat
 pub mod UseCounts
+pub mod KeyCounts
 pub mod RulesKept
 pub mod RulesGiven
 pub mod BodyFacts
+pub mod AnswersFit
 pub mod NumberedBody

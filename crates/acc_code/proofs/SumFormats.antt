@@ -14,7 +14,7 @@ use Rattle.acc_txn.specs.Words.{is_name, is_key_text}
 use Rattle.acc_txn.specs.Rules.{is_many}
 use Rattle.acc_code.specs.Spelling.{key_bytes}
 use Rattle.acc_code.specs.BodySpelling.{term_bytes, sign_number, part_bytes, sum_bytes}
-use Rattle.acc_code.specs.BodyReading.{word_at, key_text_at, key_at, use_at, name_at, term_behind, term_at, greatest_sign, part_at, sum_at}
+use Rattle.acc_code.specs.BodyReading.{word_at, key_text_at, key_at, use_at, let_number_at, term_behind, term_at, greatest_sign, part_at, sum_at}
 use Rattle.acc_code.proofs.Formats.{made_field, made_of_two, tagged_field, done_field, same_field, passing_field, between_field, listed_field}
 use Rattle.acc_code.proofs.CellFormats.{key_of_texts}
 use Rattle.acc_code.proofs.BodyFits.{FitsWord, FitsKeyText, FitsKey, FitsUse, FitsName, FitsTerm, FitsPart, FitsSum}
@@ -35,9 +35,9 @@ pub use_field : (uses : List (Key × Bool)) (writes : Bool) → IsField (FitsUse
 unfolding use_at
 use_field uses writes = passing_field (λ key. not (is_many (length (used uses key writes)))) key_field
 
-pub name_field : (lets : ℕ) → IsField (FitsName lets) u8_bytes (name_at lets)
-unfolding name_at
-name_field lets = passing_field (λ name. nat_lt name lets) u8_field
+pub let_number_field : (lets : ℕ) → IsField (FitsName lets) u8_bytes (let_number_at lets)
+unfolding let_number_at
+let_number_field lets = passing_field (λ name. nat_lt name lets) u8_field
 
 -- ---- terms
 
@@ -83,7 +83,7 @@ term_behind_field lets zero h = same_field (made_field Number term_tail (λ n fi
   from = λ t f. number_only lets t f.0 f.1;
   bytes_are = λ t f. refl;
 })
-term_behind_field lets (suc zero) h = same_field (made_field Name term_tail (λ n fits. refl) (name_field lets)) (record {
+term_behind_field lets (suc zero) h = same_field (made_field Name term_tail (λ n fits. refl) (let_number_field lets)) (record {
   to = λ t m. subst (λ (x : Term). FitsTerm lets x × (term_tag x ≡ 1)) (sym m.2) (m.1, refl);
   from = λ t f. name_only lets t f.0 f.1;
   bytes_are = λ t f. refl;

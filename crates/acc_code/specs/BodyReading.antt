@@ -1,10 +1,10 @@
 -- Reading a body. A field that would break a rule of bodies is out of range.
-use Rattle.std.specs.Prelude.{ℕ, zero, suc, Bool, true, false, not, ◌==◌, List, [], ◌∷◌, length, map, Option, Some, None, Ok, nat_lt, if◌then◌else◌}
+use Rattle.std.specs.Prelude.{ℕ, zero, suc, Bool, true, false, not, ◌||◌, ◌==◌, List, [], ◌∷◌, length, map, Option, Some, None, Ok, nat_lt, if◌then◌else◌}
 use Rattle.std.specs.List.{list_any}
 use Rattle.std.specs.Str.{bytes_eq}
-use Rattle.acc_wire.specs.declared.error.WireKind.TheVariants.{Range}
 use Rattle.acc_wire.specs.Reading.{Unread, Read, ◌>>=◌, u8_at, i64_at, text_at}
 use Rattle.acc_value.specs.declared.key.Key.{Key}
+use Rattle.acc_value.specs.Key.{key_eq}
 use Rattle.acc_value.specs.Footprint.{used}
 use Rattle.acc_txn.specs.declared.parts.Let.{Let}
 use Rattle.acc_txn.specs.declared.parts.Select.{Select}
@@ -19,13 +19,9 @@ use Rattle.acc_txn.specs.declared.parts.Condition.TheVariants.{Compare, IsNull, 
 use Rattle.acc_txn.specs.declared.parts.Update.{Update}
 use Rattle.acc_txn.specs.declared.parts.Update.TheVariants.{Set, Delete}
 use Rattle.acc_txn.specs.declared.parts.BodyParts.{BodyParts}
-use Rattle.acc_txn.specs.declared.error.BodyError.{BodyError}
-use Rattle.acc_txn.specs.declared.error.BodyError.TheVariants.{OutOfMemory}
 use Rattle.acc_txn.specs.Words.{is_name, is_key_text}
 use Rattle.acc_txn.specs.Uses.{selected_keys, updated_key, with_keys}
 use Rattle.acc_txn.specs.Rules.{is_many, has_no_key}
-use Rattle.acc_code.specs.declared.error.CodeError.{CodeError}
-use Rattle.acc_code.specs.declared.error.CodeError.TheVariants.{Wire, OutOfMemory as NoMemory}
 use Rattle.acc_code.specs.Reading.{passing, between_at, listed_at}
 
 -- ---- keys
@@ -70,14 +66,14 @@ lets_at u = listed_at 0 16 let_at u
 -- ---- the select
 
 -- the number of one of so many LETs
-unfoldable pub name_at : ℕ → Unread → Read ℕ
-name_at lets u = passing (λ name. nat_lt name lets) u8_at u
+unfoldable pub let_number_at : ℕ → Unread → Read ℕ
+let_number_at lets u = passing (λ name. nat_lt name lets) u8_at u
 
 -- what stands behind the first byte of a select
 abbrev pub select_behind : List Let → ℕ → Unread → Read Select
 select_behind lets zero u = Ok (Nothing, u)
 select_behind lets (suc zero) u = do
-  names ← listed_at 1 16 (λ _. name_at (length lets)) u
+  names ← listed_at 1 16 (λ _. let_number_at (length lets)) u
   Ok (Names names.0, names.1)
 select_behind lets (suc (suc _)) u = do
   key ← use_at (let_uses lets) false u
@@ -95,7 +91,7 @@ term_behind lets zero u = do
   number ← i64_at u
   Ok (Number number.0, number.1)
 term_behind lets (suc zero) u = do
-  name ← name_at lets u
+  name ← let_number_at lets u
   Ok (Name name.0, name.1)
 term_behind lets (suc (suc _)) u = Ok (Null, u)
 
@@ -140,7 +136,7 @@ condition_behind lets number (Some op) u = do
   right ← sum_at lets left.1
   Ok (Compare op left.0 right.0, right.1)
 condition_behind lets number None u = do
-  name ← name_at lets u
+  name ← let_number_at lets u
   Ok (null_test number name.0, name.1)
 
 unfoldable pub condition_at : ℕ → Unread → Read Condition
@@ -186,6 +182,15 @@ updates_at lets uses least u = listed_at least 16 (next_update_at lets uses) u
 abbrev pub read_uses : List Let → Select → List (Key × Bool)
 read_uses lets select = with_keys false (let_uses lets) (selected_keys select)
 
+-- and of updates
+abbrev pub uses_so_far : List Let → Select → List Update → List (Key × Bool)
+uses_so_far lets select updates = with_keys true (read_uses lets select) (map updated_key updates)
+
+-- whether a key is among them
+abbrev pub is_among : List Let → Select → List Update → Key → Bool
+is_among lets select updates key =
+    list_any (λ l. key_eq key l.key) lets || list_any (key_eq key) (selected_keys select) || list_any (λ u. key_eq key (updated_key u)) updates
+
 unfoldable pub parts_at : Unread → Read BodyParts
 parts_at u = do
   lets ← lets_at u
@@ -197,8 +202,3 @@ parts_at u = do
 -- a body has a key
 unfoldable pub body_at : Unread → Read BodyParts
 body_at u = passing (λ parts. not (has_no_key parts)) parts_at u
-
--- what is answered where parts are no body: want of memory, or the fault of a body that begins at this place
-abbrev pub refused_at : ℕ → BodyError → CodeError
-refused_at place OutOfMemory = NoMemory
-refused_at place _ = Wire (record { kind = Range; place = place })

@@ -1,11 +1,13 @@
 //! Bodies.
-ghost use Rattle.std.specs.Prelude.{◌≡◌, ◌++◌, Ok, OnOk, OnErr, IfOk};
+ghost use Rattle.std.specs.Prelude.{◌≡◌, not, ◌++◌, Ok, OnOk, OnErr, IfOk};
+ghost use Rattle.std.specs.List.{AllByRecursion};
 ghost use Rattle.acc_wire.specs.Reading.{Unread, Passes, AreBytes};
 ghost use Rattle.acc_txn.specs.declared.parts.BodyParts.{BodyParts};
+ghost use Rattle.acc_txn.specs.Rules.{has_no_key};
 ghost use Rattle.acc_code.specs.BodySpelling.{body_bytes};
-ghost use Rattle.acc_code.specs.Short.{IsShortBody, IsNumberedBody};
+ghost use Rattle.acc_code.specs.Short.{IsShortBody, IsNumberedBody, HasTerms, SetsTerms};
 ghost use Rattle.acc_code.specs.Reading.{Reads};
-ghost use Rattle.acc_code.specs.BodyReading.{parts_at, body_at, refused_at};
+ghost use Rattle.acc_code.specs.BodyReading.{parts_at, body_at};
 ghost use Rattle.acc_code.specs.Writing.{Keeps};
 
 use crate::conditions::{put_conditions, take_conditions};
@@ -15,8 +17,7 @@ use crate::lets::{put_lets, take_lets};
 use crate::select::{put_select, take_select};
 use crate::updates::{put_updates, take_updates};
 use acc_base::{Bytes, OutOfMemory};
-use acc_txn::{Body, BodyError, BodyParts};
-use acc_value::Footprint;
+use acc_txn::{Body, BodyParts, Select};
 use acc_wire::Reader;
 use std::alloc::Global;
 
@@ -25,6 +26,8 @@ fn put_parts(out: &mut Bytes, parts: &BodyParts) -> Result<(), OutOfMemory>
     requires { IsShortBody parts.now }
     ensures ok { OnOk result (out.new ≡ out.old ++ body_bytes parts.now) }
     ensures kept { OnErr result (Keeps out.old out.new) }
+    ensures guards { OnOk result (AllByRecursion HasTerms parts.now.guards) }
+    ensures updates { OnOk result (AllByRecursion SetsTerms parts.now.updates) }
 {
     put_lets(out, &parts.lets)?;
     put_select(out, &parts.select)?;
@@ -37,11 +40,18 @@ fn take_parts(alloc: Global, reader: &mut Reader<'_>) -> Result<BodyParts, CodeE
     ensures exact { Reads result reader.new (parts_at reader.old) }
     ensures bytes { AreBytes reader.old.bytes }
 {
-    let mut uses = Footprint::new(alloc);
-    let lets = take_lets(alloc, reader, &mut uses)?;
-    let select = take_select(alloc, reader, lets.as_slice(), &mut uses)?;
+    let mut keys = 0;
+    let lets = take_lets(alloc, reader, &mut keys)?;
+    let select = take_select(alloc, reader, lets.as_slice(), &mut keys)?;
     let guards = take_conditions(alloc, reader, lets.len())?;
-    let updates = take_updates(alloc, reader, lets.len(), guards.as_slice(), &mut uses)?;
+    let updates = take_updates(
+        alloc,
+        reader,
+        lets.as_slice(),
+        &select,
+        guards.as_slice(),
+        &mut keys,
+    )?;
     Ok(BodyParts {
         lets,
         select,
@@ -50,29 +60,12 @@ fn take_parts(alloc: Global, reader: &mut Reader<'_>) -> Result<BodyParts, CodeE
     })
 }
 
-/// What is answered where the parts that were read from this place on are no body.
-fn fault_of(error: BodyError, place: u64) -> CodeError
-    ensures { result ≡ refused_at place error }
+fn has_key(parts: &BodyParts) -> bool
+    ensures { result ≡ not (has_no_key parts.now) }
 {
-    match error {
-        BodyError::OutOfMemory => CodeError::OutOfMemory,
-        BodyError::TooMany
-        | BodyError::UnboundName
-        | BodyError::TwiceBound
-        | BodyError::NoKey
-        | BodyError::BadWord
-        | BodyError::BadShape => out_of_range(place),
-    }
-}
-
-/// The body of parts that were read from this place on.
-fn body_of(parts: BodyParts, place: u64) -> Result<Body, CodeError>
-    ensures { (before after : Unread) → before.place ≡ place → AreBytes before.bytes → parts_at before ≡ Ok (parts, after)
-        → Reads result after (body_at before) }
-{
-    match Body::new(parts) {
-        Ok(body) => Ok(body),
-        Err(error) => Err(fault_of(error, place)),
+    match parts.select {
+        Select::Get(_) => true,
+        Select::Nothing | Select::Names(_) => !parts.lets.is_empty() || !parts.updates.is_empty(),
     }
 }
 
@@ -83,7 +76,10 @@ fn take_fields(alloc: Global, reader: &mut Reader<'_>) -> Result<Body, CodeError
 {
     let place = reader.place();
     let parts = take_parts(alloc, reader)?;
-    body_of(parts, place)
+    if !has_key(&parts) {
+        return Err(out_of_range(place));
+    }
+    Ok(Body::new_unchecked(parts))
 }
 
 /// A body, read by a second reader, so that an error leaves this one where it is.
@@ -102,6 +98,8 @@ fn take_ahead(alloc: Global, reader: &mut Reader<'_>) -> Result<Body, CodeError>
 pub fn put_body(out: &mut Bytes, body: &Body) -> Result<(), OutOfMemory>
     ensures ok { OnOk result (out.new ≡ out.old ++ body_bytes body.now) }
     ensures err { OnErr result (out.new ≡ out.old) }
+    // What is written can be read.
+    ensures fits { OnOk result (IsNumberedBody body.now) }
 {
     let before = out.len();
     let appended = put_parts(out, body.parts());
@@ -111,7 +109,11 @@ pub fn put_body(out: &mut Bytes, body: &Body) -> Result<(), OutOfMemory>
     appended
 }
 
-/// A body. After an error the reader is unchanged.
+/// A body. The error is that of the first field at fault, with the place of its first byte: Short where the bytes end
+/// inside the field, and Range where it holds what isn't allowed. That is a count, a sign or the number of a kind outside
+/// its bounds; the number of no LET; a name of a LET or of a table that may not be one (`is_free_word`), or that a
+/// LET before has; a key's text without its form (`is_free_key_text`); and the seventeenth different key, at its table. A body whose parts are allowed and that
+/// has no key is Range at its own first byte. After an error the reader is unchanged.
 pub fn take_body(alloc: Global, reader: &mut Reader<'_>) -> Result<Body, CodeError>
     // What is read is spelled so.
     ensures found { IfOk result (λ body. Passes reader.old reader.new (body_bytes body)) }

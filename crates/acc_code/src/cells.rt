@@ -6,7 +6,7 @@ ghost use Rattle.acc_value.specs.declared.key.Key.{Key};
 ghost use Rattle.acc_value.specs.Key.{key_lt};
 ghost use Rattle.acc_value.specs.Pairs.{IsRising};
 ghost use Rattle.acc_code.specs.Spelling.{listed, cell_bytes, pair_bytes, cells_bytes};
-ghost use Rattle.acc_code.specs.Short.{IsShortKey, AreShortCells, AreCells};
+ghost use Rattle.acc_code.specs.Short.{IsShortKey, AreShortCells, AreCells, IsCell};
 ghost use Rattle.acc_code.specs.Reading.{Reads, each_at, listed_at};
 ghost use Rattle.acc_code.specs.CellReading.{cell_at, next_key_at, pair_at, cells_at};
 ghost use Rattle.acc_code.specs.Writing.{Keeps};
@@ -24,6 +24,7 @@ use std::alloc::Global;
 pub(crate) fn put_cell(out: &mut Bytes, cell: Option<i64>) -> Result<(), OutOfMemory>
     ensures ok { OnOk result (out.new ≡ out.old ++ cell_bytes cell) }
     ensures kept { OnErr result (Keeps out.old out.new) }
+    ensures fits { IsCell cell }
 {
     match cell {
         None => put_u8(out, 0),
@@ -39,6 +40,7 @@ fn put_pair(out: &mut Bytes, key: &Key, cell: Option<i64>) -> Result<(), OutOfMe
     requires { IsShortKey key.now }
     ensures ok { OnOk result (out.new ≡ out.old ++ pair_bytes (key.now, cell)) }
     ensures kept { OnErr result (Keeps out.old out.new) }
+    ensures fits { IsCell cell }
 {
     put_key(out, key)?;
     put_cell(out, cell)
@@ -49,6 +51,7 @@ fn put_pairs(out: &mut Bytes, pairs: &[(Key, Option<i64>)]) -> Result<(), OutOfM
     requires { AllByRecursion (λ p. IsShortKey p.0) pairs.now }
     ensures ok { OnOk result (out.new ≡ out.old ++ flat_map pair_bytes pairs.now) }
     ensures kept { OnErr result (Keeps out.old out.new) }
+    ensures fits { OnOk result (AllByRecursion (λ p. IsCell p.1) pairs.now) }
 {
     for (key, cell) in pairs {
         put_pair(out, key, *cell)?;
@@ -61,6 +64,7 @@ fn put_counted_pairs(out: &mut Bytes, cells: &CellList) -> Result<(), OutOfMemor
     requires { AreShortCells cells.now }
     ensures ok { OnOk result (out.new ≡ out.old ++ cells_bytes cells.now) }
     ensures kept { OnErr result (Keeps out.old out.new) }
+    ensures fits { OnOk result (AreCells cells.now) }
 {
     put_u8(out, cells.len() as u8)?;
     put_pairs(out, cells.pairs())
@@ -72,6 +76,8 @@ pub fn put_cells(out: &mut Bytes, cells: &CellList) -> Result<(), OutOfMemory>
     requires { AreShortCells cells.now }
     ensures ok { OnOk result (out.new ≡ out.old ++ cells_bytes cells.now) }
     ensures err { OnErr result (out.new ≡ out.old) }
+    // What is written can be read.
+    ensures fits { OnOk result (AreCells cells.now) }
 {
     let before = out.len();
     let appended = put_counted_pairs(out, cells);
@@ -155,7 +161,9 @@ fn take_counted_pairs(alloc: Global, reader: &mut Reader<'_>) -> Result<CellList
     Ok(cells)
 }
 
-/// A list of cells. After an error the reader is unchanged.
+/// A list of cells. The error is that of the first field at fault, with the place of its first byte: Short where the bytes
+/// end inside the field, and Range where it holds what isn't allowed, which is a cell that begins with neither 0 nor 1, or
+/// a key that isn't greater than the one before it. After an error the reader is unchanged.
 pub fn take_cells(alloc: Global, reader: &mut Reader<'_>) -> Result<CellList, CodeError>
     // What is read is spelled so.
     ensures found { IfOk result (λ cells. Passes reader.old reader.new (cells_bytes cells)) }
@@ -175,6 +183,7 @@ pub fn take_cells(alloc: Global, reader: &mut Reader<'_>) -> Result<CellList, Co
 fn put_each_cell(out: &mut Bytes, cells: &[Option<i64>]) -> Result<(), OutOfMemory>
     ensures ok { OnOk result (out.new ≡ out.old ++ flat_map cell_bytes cells.now) }
     ensures kept { OnErr result (Keeps out.old out.new) }
+    ensures fits { OnOk result (AllByRecursion IsCell cells.now) }
 {
     for cell in cells {
         put_cell(out, *cell)?;
@@ -188,6 +197,7 @@ pub(crate) fn put_values(out: &mut Bytes, values: &Cells) -> Result<(), OutOfMem
     requires { length values.now < 256 }
     ensures ok { OnOk result (out.new ≡ out.old ++ listed cell_bytes values.now) }
     ensures kept { OnErr result (Keeps out.old out.new) }
+    ensures fits { OnOk result (AllByRecursion IsCell values.now) }
 {
     put_u8(out, values.len() as u8)?;
     put_each_cell(out, values.as_slice())
@@ -198,6 +208,7 @@ fn take_each_cell(alloc: Global, reader: &mut Reader<'_>, count: u8) -> Result<C
     ensures { Reads result reader.new (each_at (λ _. cell_at) count [] reader.old) }
 {
     let mut values = Cells::new(alloc);
+    values.reserve(usize::from(count))?;
     for _ in 0..count {
         let cell = take_cell(reader)?;
         values.push(cell)?;

@@ -3,14 +3,14 @@ ghost use Rattle.std.specs.Prelude.{◌≡◌, ◌<◌, ◌++◌, [], length, On
 ghost use Rattle.std.specs.List.{flat_map, AllByRecursion};
 ghost use Rattle.acc_code.specs.Spelling.{listed};
 ghost use Rattle.acc_code.specs.BodySpelling.{condition_bytes, operator_number};
-ghost use Rattle.acc_code.specs.Short.{IsShortCondition};
+ghost use Rattle.acc_code.specs.Short.{IsShortCondition, HasTerms};
 ghost use Rattle.acc_code.specs.Reading.{Reads, each_at};
 ghost use Rattle.acc_code.specs.BodyReading.{operator_of, null_test, condition_behind, condition_at, conditions_at};
 ghost use Rattle.acc_code.specs.Writing.{Keeps};
 
 use crate::error::CodeError;
 use crate::fields::take_between;
-use crate::sums::{put_sum, take_name, take_sum};
+use crate::sums::{put_sum, take_let_number, take_sum};
 use acc_base::{Bytes, OutOfMemory};
 use acc_txn::{Condition, Conditions, Operator};
 use acc_wire::{Reader, put_u8};
@@ -33,6 +33,7 @@ fn put_condition(out: &mut Bytes, guard: &Condition) -> Result<(), OutOfMemory>
     requires { IsShortCondition guard.now }
     ensures ok { OnOk result (out.new ≡ out.old ++ condition_bytes guard.now) }
     ensures kept { OnErr result (Keeps out.old out.new) }
+    ensures fits { OnOk result (HasTerms guard.now) }
 {
     match guard {
         Condition::Compare { op, left, right } => {
@@ -56,6 +57,7 @@ fn put_each_condition(out: &mut Bytes, guards: &[Condition]) -> Result<(), OutOf
     requires { AllByRecursion IsShortCondition guards.now }
     ensures ok { OnOk result (out.new ≡ out.old ++ flat_map condition_bytes guards.now) }
     ensures kept { OnErr result (Keeps out.old out.new) }
+    ensures fits { OnOk result (AllByRecursion HasTerms guards.now) }
 {
     for guard in guards {
         put_condition(out, guard)?;
@@ -70,6 +72,7 @@ pub(crate) fn put_conditions(out: &mut Bytes, guards: &Conditions) -> Result<(),
     requires short { AllByRecursion IsShortCondition guards.now }
     ensures ok { OnOk result (out.new ≡ out.old ++ listed condition_bytes guards.now) }
     ensures kept { OnErr result (Keeps out.old out.new) }
+    ensures fits { OnOk result (AllByRecursion HasTerms guards.now) }
 {
     put_u8(out, guards.len() as u8)?;
     put_each_condition(out, guards.as_slice())
@@ -116,7 +119,7 @@ fn take_condition_behind(
             Ok(Condition::Compare { op, left, right })
         }
         None => {
-            let name = take_name(reader, lets)?;
+            let name = take_let_number(reader, lets)?;
             Ok(test_for_null(number, name))
         }
     }
@@ -144,6 +147,7 @@ fn take_each_condition(
     ensures { Reads result reader.new (each_at (λ _. condition_at lets) count [] reader.old) }
 {
     let mut guards = Conditions::new(alloc);
+    guards.reserve(usize::from(count))?;
     for _ in 0..count {
         let guard = take_condition(alloc, reader, lets)?;
         guards.push(guard)?;

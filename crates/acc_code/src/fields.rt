@@ -18,7 +18,8 @@ pub fn out_of_range(place: u64) -> CodeError
     })
 }
 
-/// A byte from `least` to `most`. After an error the reader is unchanged.
+/// A byte from `least` to `most`. Both errors have the place of this byte: it is Short where no byte is left, and Range
+/// where the byte is smaller or greater. After an error the reader is unchanged.
 #[tactic(auto, unfolding(crate::specs::Reading::between_at))]
 pub fn take_between(reader: &mut Reader<'_>, least: u8, most: u8) -> Result<u8, CodeError>
     ensures exact { Reads result reader.new (between_at least most reader.old) }

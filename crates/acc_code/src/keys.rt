@@ -1,18 +1,21 @@
 //! Keys.
-ghost use Rattle.std.specs.Prelude.{◌≡◌, ◌++◌, OnOk, OnErr, IfOk};
+ghost use Rattle.std.specs.Prelude.{◌≡◌, ◌≤◌, ◌++◌, Bool, length, OnOk, OnErr, IfOk};
+ghost use Rattle.std.specs.List.{list_any};
+ghost use Rattle.acc_value.specs.Key.{key_eq};
 ghost use Rattle.acc_value.specs.Footprint.{used};
+ghost use Rattle.acc_txn.specs.Uses.{selected_keys, updated_key};
 ghost use Rattle.acc_code.specs.Spelling.{key_bytes};
 ghost use Rattle.acc_code.specs.Short.{IsShortKey};
 ghost use Rattle.acc_code.specs.Reading.{Reads, ReadsBy};
 ghost use Rattle.acc_code.specs.CellReading.{any_key_at};
-ghost use Rattle.acc_code.specs.BodyReading.{word_at, key_text_at, key_at, use_at};
+ghost use Rattle.acc_code.specs.BodyReading.{word_at, key_text_at, key_at, use_at, uses_so_far, is_among};
 ghost use Rattle.acc_code.specs.Writing.{Keeps};
 
 use crate::error::CodeError;
 use crate::fields::out_of_range;
 use acc_base::{Bytes, OutOfMemory, Text};
-use acc_txn::{is_free_key_text, is_free_word};
-use acc_value::{Footprint, Key};
+use acc_txn::{Let, Select, Update, is_free_key_text, is_free_word};
+use acc_value::Key;
 use acc_wire::{Reader, put_text};
 use std::alloc::Global;
 
@@ -80,22 +83,57 @@ fn take_key(alloc: Global, reader: &mut Reader<'_>) -> Result<Key, CodeError>
     })
 }
 
-/// A key of a body, which joins the uses of keys before it.
+fn is_bound(lets: &[Let], key: &Key) -> bool
+    ensures { result ≡ list_any (λ l. key_eq key.now l.key) lets.now }
+{
+    lets.iter().any(|binding| key == &binding.key)
+}
+
+fn is_selected(select: &Select, key: &Key) -> bool
+    ensures { result ≡ list_any (key_eq key.now) (selected_keys select.now) }
+{
+    match select {
+        Select::Get(selected) => key == selected,
+        Select::Nothing | Select::Names(_) => false,
+    }
+}
+
+fn is_updated(updates: &[Update], key: &Key) -> bool
+    ensures { result ≡ list_any (λ u. key_eq key.now (updated_key u)) updates.now }
+{
+    updates.iter().any(|update| key == update.key())
+}
+
+/// Whether a key is one of LETs, of a select that reads one, or of updates.
+fn is_used(lets: &[Let], select: &Select, updates: &[Update], key: &Key) -> bool
+    ensures { result ≡ is_among lets.now select.now updates.now key.now }
+{
+    is_bound(lets, key) || is_selected(select, key) || is_updated(updates, key)
+}
+
+/// A key of a body behind LETs, a select and updates, which have so many different keys. It joins their count.
 #[tactic(auto, unfolding(crate::specs::BodyReading::use_at))]
 pub(crate) fn take_use(
     alloc: Global,
     reader: &mut Reader<'_>,
-    uses: &mut Footprint,
-    writes: bool,
+    lets: &[Let],
+    select: &Select,
+    updates: &[Update],
+    keys: &mut usize,
 ) -> Result<Key, CodeError>
-    ensures read { Reads result reader.new (use_at uses.old writes reader.old) }
-    ensures uses { IfOk result (λ key. uses.new ≡ used uses.old key writes) }
+    requires counted { keys.old ≡ length (uses_so_far lets.now select.now updates.now) }
+    requires few { keys.old ≤ 16 }
+    ensures read { (writes : Bool) → Reads result reader.new (use_at (uses_so_far lets.now select.now updates.now) writes reader.old) }
+    ensures counted { IfOk result (λ key. (writes : Bool) → keys.new ≡ length (used (uses_so_far lets.now select.now updates.now) key writes)) }
+    ensures few { keys.new ≤ 16 }
 {
     let field = reader.place();
     let key = take_key(alloc, reader)?;
-    uses.add(&key, writes)?;
-    if uses.len() > MOST_KEYS {
-        return Err(out_of_range(field));
+    if !is_used(lets, select, updates, &key) {
+        if *keys == MOST_KEYS {
+            return Err(out_of_range(field));
+        }
+        *keys += 1;
     }
     Ok(key)
 }

@@ -1,5 +1,5 @@
 //! The LETs of a body.
-ghost use Rattle.std.specs.Prelude.{◌≡◌, ◌<◌, ◌++◌, ◌∷◌, [], length, OnOk, OnErr, IfOk};
+ghost use Rattle.std.specs.Prelude.{◌≡◌, ◌<◌, ◌≤◌, ◌++◌, ◌∷◌, [], length, OnOk, OnErr, IfOk};
 ghost use Rattle.std.specs.List.{flat_map, list_any, AllByRecursion};
 ghost use Rattle.std.specs.Str.{bytes_eq};
 ghost use Rattle.acc_wire.specs.Reading.{AreBytes};
@@ -14,8 +14,7 @@ use crate::error::CodeError;
 use crate::fields::{out_of_range, take_between};
 use crate::keys::{put_key, take_use, take_word};
 use acc_base::{Bytes, OutOfMemory, Text};
-use acc_txn::{Let, Lets};
-use acc_value::Footprint;
+use acc_txn::{Let, Lets, Select};
 use acc_wire::{Reader, put_text, put_u8};
 use std::alloc::Global;
 
@@ -76,14 +75,16 @@ fn take_let(
     alloc: Global,
     reader: &mut Reader<'_>,
     front: &[Let],
-    uses: &mut Footprint,
+    keys: &mut usize,
 ) -> Result<Let, CodeError>
-    requires { uses.old ≡ let_uses front.now }
+    requires counted { keys.old ≡ length (let_uses front.now) }
+    requires few { keys.old ≤ 16 }
     ensures read { Reads result reader.new (let_at front.now reader.old) }
-    ensures uses { IfOk result (λ binding. uses.new ≡ let_uses (front.now ++ binding ∷ [])) }
+    ensures counted { IfOk result (λ binding. keys.new ≡ length (let_uses (front.now ++ binding ∷ []))) }
+    ensures few { keys.new ≤ 16 }
 {
     let name = take_new_name(reader, front)?;
-    let key = take_use(alloc, reader, uses, false)?;
+    let key = take_use(alloc, reader, front, &Select::Nothing, &[], keys)?;
     Ok(Let {
         name: Text::from_slice(alloc, name)?,
         key,
@@ -94,33 +95,36 @@ fn take_let(
 fn take_each_let(
     alloc: Global,
     reader: &mut Reader<'_>,
-    uses: &mut Footprint,
     count: u8,
+    keys: &mut usize,
 ) -> Result<Lets, CodeError>
-    requires { uses.old ≡ [] }
+    requires { keys.old ≡ 0 }
     ensures read { Reads result reader.new (each_at let_at count [] reader.old) }
-    ensures uses { IfOk result (λ lets. uses.new ≡ let_uses lets) }
+    ensures counted { IfOk result (λ lets. keys.new ≡ length (let_uses lets)) }
+    ensures few { keys.new ≤ 16 }
 {
     let mut lets = Lets::new(alloc);
+    lets.reserve(usize::from(count))?;
     for _ in 0..count {
-        let binding = take_let(alloc, reader, lets.as_slice(), uses)?;
+        let binding = take_let(alloc, reader, lets.as_slice(), keys)?;
         lets.push(binding)?;
     }
     Ok(lets)
 }
 
-/// The LETs of a body, whose keys join the uses.
+/// The LETs of a body, whose different keys are counted.
 #[tactic(auto, unfolding(crate::specs::BodyReading::lets_at, crate::specs::Reading::listed_at))]
 pub(crate) fn take_lets(
     alloc: Global,
     reader: &mut Reader<'_>,
-    uses: &mut Footprint,
+    keys: &mut usize,
 ) -> Result<Lets, CodeError>
-    requires { uses.old ≡ [] }
+    requires { keys.old ≡ 0 }
     ensures read { Reads result reader.new (lets_at reader.old) }
-    ensures uses { IfOk result (λ lets. uses.new ≡ let_uses lets) }
+    ensures counted { IfOk result (λ lets. keys.new ≡ length (let_uses lets)) }
+    ensures few { keys.new ≤ 16 }
     ensures bytes { AreBytes reader.old.bytes }
 {
     let count = take_between(reader, 0, 16)?;
-    take_each_let(alloc, reader, uses, count)
+    take_each_let(alloc, reader, count, keys)
 }

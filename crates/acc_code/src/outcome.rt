@@ -27,6 +27,7 @@ fn put_fields(out: &mut Bytes, outcome: &Outcome) -> Result<(), OutOfMemory>
     requires { IsShortOutcome outcome.now }
     ensures ok { OnOk result (out.new ≡ out.old ++ outcome_bytes outcome.now) }
     ensures kept { OnErr result (Keeps out.old out.new) }
+    ensures fits { OnOk result (IsOutcome outcome.now) }
 {
     put_u8(out, number_of(outcome.reply.verdict))?;
     put_values(out, &outcome.reply.values)?;
@@ -38,6 +39,8 @@ pub fn put_outcome(out: &mut Bytes, outcome: &Outcome) -> Result<(), OutOfMemory
     requires { IsShortOutcome outcome.now }
     ensures ok { OnOk result (out.new ≡ out.old ++ outcome_bytes outcome.now) }
     ensures err { OnErr result (out.new ≡ out.old) }
+    // What is written can be read.
+    ensures fits { OnOk result (IsOutcome outcome.now) }
 {
     let before = out.len();
     let appended = put_fields(out, outcome);
@@ -77,7 +80,9 @@ fn take_fields(alloc: Global, reader: &mut Reader<'_>) -> Result<Outcome, CodeEr
     })
 }
 
-/// An outcome. After an error the reader is unchanged.
+/// An outcome. The error is that of the first field at fault, with the place of its first byte: Short where the bytes end
+/// inside the field, and Range where it holds what isn't allowed, which is a verdict other than 1, 2 and 3, or what
+/// `take_cells` doesn't allow. After an error the reader is unchanged.
 pub fn take_outcome(alloc: Global, reader: &mut Reader<'_>) -> Result<Outcome, CodeError>
     // What is read is spelled so.
     ensures found { IfOk result (λ outcome. Passes reader.old reader.new (outcome_bytes outcome)) }

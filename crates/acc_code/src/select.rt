@@ -1,21 +1,20 @@
 //! What a body answers.
-ghost use Rattle.std.specs.Prelude.{◌≡◌, ◌<◌, ◌++◌, [], length, OnOk, OnErr, IfOk};
+ghost use Rattle.std.specs.Prelude.{◌≡◌, ◌<◌, ◌≤◌, ◌++◌, [], length, OnOk, OnErr, IfOk};
 ghost use Rattle.std.specs.List.{flat_map};
 ghost use Rattle.acc_wire.specs.Spelling.{u8_bytes};
 ghost use Rattle.acc_code.specs.Spelling.{listed};
 ghost use Rattle.acc_code.specs.BodySpelling.{select_bytes};
 ghost use Rattle.acc_code.specs.Short.{IsShortSelect};
 ghost use Rattle.acc_code.specs.Reading.{Reads, each_at, listed_at};
-ghost use Rattle.acc_code.specs.BodyReading.{name_at, select_at, let_uses, read_uses};
+ghost use Rattle.acc_code.specs.BodyReading.{let_number_at, select_at, let_uses, read_uses};
 ghost use Rattle.acc_code.specs.Writing.{Keeps};
 
 use crate::error::CodeError;
 use crate::fields::take_between;
 use crate::keys::{put_key, take_use};
-use crate::sums::take_name;
+use crate::sums::take_let_number;
 use acc_base::{Bytes, OutOfMemory};
 use acc_txn::{Let, Numbers, Select};
-use acc_value::Footprint;
 use acc_wire::{Reader, put_u8};
 use std::alloc::Global;
 
@@ -67,11 +66,12 @@ fn take_each_name(
     lets: usize,
     count: u8,
 ) -> Result<Numbers, CodeError>
-    ensures { Reads result reader.new (each_at (λ _. name_at lets) count [] reader.old) }
+    ensures { Reads result reader.new (each_at (λ _. let_number_at lets) count [] reader.old) }
 {
     let mut names = Numbers::new(alloc);
+    names.reserve(usize::from(count))?;
     for _ in 0..count {
-        let name = take_name(reader, lets)?;
+        let name = take_let_number(reader, lets)?;
         names.push(name)?;
     }
     Ok(names)
@@ -79,27 +79,32 @@ fn take_each_name(
 
 #[tactic(auto, unfolding(crate::specs::Reading::listed_at))]
 fn take_names(alloc: Global, reader: &mut Reader<'_>, lets: usize) -> Result<Numbers, CodeError>
-    ensures { Reads result reader.new (listed_at 1 16 (λ _. name_at lets) reader.old) }
+    ensures { Reads result reader.new (listed_at 1 16 (λ _. let_number_at lets) reader.old) }
 {
     let count = take_between(reader, 1, 16)?;
     take_each_name(alloc, reader, lets, count)
 }
 
-/// The select of a body with these LETs. Its key joins their uses.
+/// The select of a body with these LETs. Its key joins the count of their different keys.
 #[tactic(auto, unfolding(crate::specs::BodyReading::select_at))]
 pub(crate) fn take_select(
     alloc: Global,
     reader: &mut Reader<'_>,
     lets: &[Let],
-    uses: &mut Footprint,
+    keys: &mut usize,
 ) -> Result<Select, CodeError>
-    requires { uses.old ≡ let_uses lets.now }
+    requires counted { keys.old ≡ length (let_uses lets.now) }
+    requires few { keys.old ≤ 16 }
     ensures read { Reads result reader.new (select_at lets.now reader.old) }
-    ensures uses { IfOk result (λ select. uses.new ≡ read_uses lets.now select) }
+    ensures counted { IfOk result (λ select. keys.new ≡ length (read_uses lets.now select)) }
+    ensures few { keys.new ≤ 16 }
 {
     match take_between(reader, 0, 2)? {
         0 => Ok(Select::Nothing),
         1 => Ok(Select::Names(take_names(alloc, reader, lets.len())?)),
-        _ => Ok(Select::Get(take_use(alloc, reader, uses, false)?)),
+        _ => {
+            let key = take_use(alloc, reader, lets, &Select::Nothing, &[], keys)?;
+            Ok(Select::Get(key))
+        }
     }
 }

@@ -2,8 +2,9 @@
 ghost use Rattle.std.specs.Prelude.{◌≡◌, ◌<◌, ◌++◌, [], length, OnOk, OnErr};
 ghost use Rattle.std.specs.List.{flat_map};
 ghost use Rattle.acc_code.specs.BodySpelling.{term_bytes, part_bytes, sum_bytes, sign_number};
+ghost use Rattle.acc_code.specs.Short.{IsTerm, AreTerms};
 ghost use Rattle.acc_code.specs.Reading.{Reads, each_at};
-ghost use Rattle.acc_code.specs.BodyReading.{name_at, term_at, part_at, sum_at, greatest_sign};
+ghost use Rattle.acc_code.specs.BodyReading.{let_number_at, term_at, part_at, sum_at, greatest_sign};
 ghost use Rattle.acc_code.specs.Writing.{Keeps};
 
 use crate::error::CodeError;
@@ -17,6 +18,7 @@ use std::alloc::Global;
 fn put_term(out: &mut Bytes, term: Term) -> Result<(), OutOfMemory>
     ensures ok { OnOk result (out.new ≡ out.old ++ term_bytes term) }
     ensures kept { OnErr result (Keeps out.old out.new) }
+    ensures fits { IsTerm term }
 {
     match term {
         Term::Number(number) => {
@@ -35,6 +37,7 @@ fn put_term(out: &mut Bytes, term: Term) -> Result<(), OutOfMemory>
 fn put_part(out: &mut Bytes, part: Part) -> Result<(), OutOfMemory>
     ensures ok { OnOk result (out.new ≡ out.old ++ part_bytes part) }
     ensures kept { OnErr result (Keeps out.old out.new) }
+    ensures fits { IsTerm part.term }
 {
     put_u8(out, u8::from(part.minus))?;
     put_term(out, part.term)
@@ -44,6 +47,7 @@ fn put_part(out: &mut Bytes, part: Part) -> Result<(), OutOfMemory>
 fn put_each_part(out: &mut Bytes, parts: &[Part]) -> Result<(), OutOfMemory>
     ensures ok { OnOk result (out.new ≡ out.old ++ flat_map part_bytes parts.now) }
     ensures kept { OnErr result (Keeps out.old out.new) }
+    ensures fits { OnOk result (AreTerms parts.now) }
 {
     for part in parts {
         put_part(out, *part)?;
@@ -57,15 +61,16 @@ pub(crate) fn put_sum(out: &mut Bytes, sum: &Expr) -> Result<(), OutOfMemory>
     requires { length sum.now < 256 }
     ensures ok { OnOk result (out.new ≡ out.old ++ sum_bytes sum.now) }
     ensures kept { OnErr result (Keeps out.old out.new) }
+    ensures fits { OnOk result (AreTerms sum.now) }
 {
     put_u8(out, sum.len() as u8)?;
     put_each_part(out, sum.as_slice())
 }
 
 /// The number of one of so many LETs.
-#[tactic(auto, unfolding(crate::specs::BodyReading::name_at))]
-pub(crate) fn take_name(reader: &mut Reader<'_>, lets: usize) -> Result<u8, CodeError>
-    ensures { Reads result reader.new (name_at lets reader.old) }
+#[tactic(auto, unfolding(crate::specs::BodyReading::let_number_at))]
+pub(crate) fn take_let_number(reader: &mut Reader<'_>, lets: usize) -> Result<u8, CodeError>
+    ensures { Reads result reader.new (let_number_at lets reader.old) }
 {
     let field = reader.place();
     let name = reader.take_u8()?;
@@ -81,7 +86,7 @@ fn take_term(reader: &mut Reader<'_>, lets: usize) -> Result<Term, CodeError>
 {
     match take_between(reader, 0, 2)? {
         0 => Ok(Term::Number(reader.take_i64()?)),
-        1 => Ok(Term::Name(take_name(reader, lets)?)),
+        1 => Ok(Term::Name(take_let_number(reader, lets)?)),
         _ => Ok(Term::Null),
     }
 }
@@ -114,6 +119,7 @@ fn take_parts(
     ensures { Reads result reader.new (each_at (part_at lets) count [] reader.old) }
 {
     let mut parts = Expr::new(alloc);
+    parts.reserve(usize::from(count))?;
     for _ in 0..count {
         let part = take_part(reader, lets, parts.as_slice())?;
         parts.push(part)?;

@@ -1,13 +1,13 @@
 //! The updates of a body.
-ghost use Rattle.std.specs.Prelude.{◌≡◌, ◌==◌, ◌<◌, ◌++◌, [], true, length, OnOk, OnErr, IfOk};
+ghost use Rattle.std.specs.Prelude.{◌≡◌, ◌==◌, ◌<◌, ◌≤◌, ◌++◌, [], true, length, OnOk, OnErr, IfOk};
 ghost use Rattle.std.specs.List.{flat_map, AllByRecursion};
 ghost use Rattle.acc_value.specs.Footprint.{used};
 ghost use Rattle.acc_txn.specs.Uses.{updated_key};
 ghost use Rattle.acc_code.specs.Spelling.{listed};
 ghost use Rattle.acc_code.specs.BodySpelling.{update_bytes};
-ghost use Rattle.acc_code.specs.Short.{IsShortUpdate};
+ghost use Rattle.acc_code.specs.Short.{IsShortUpdate, SetsTerms};
 ghost use Rattle.acc_code.specs.Reading.{Reads, each_at};
-ghost use Rattle.acc_code.specs.BodyReading.{update_with, update_at, next_update_at, updates_at, least_updates};
+ghost use Rattle.acc_code.specs.BodyReading.{update_with, update_at, next_update_at, updates_at, least_updates, read_uses, uses_so_far};
 ghost use Rattle.acc_code.specs.Writing.{Keeps};
 
 use crate::error::CodeError;
@@ -15,8 +15,8 @@ use crate::fields::take_between;
 use crate::keys::{put_key, take_use};
 use crate::sums::{put_sum, take_sum};
 use acc_base::{Bytes, OutOfMemory};
-use acc_txn::{Condition, Update, Updates};
-use acc_value::{Footprint, Key};
+use acc_txn::{Condition, Let, Select, Update, Updates};
+use acc_value::Key;
 use acc_wire::{Reader, put_u8};
 use std::alloc::Global;
 
@@ -31,6 +31,7 @@ fn put_update(out: &mut Bytes, update: &Update) -> Result<(), OutOfMemory>
     requires { IsShortUpdate update.now }
     ensures ok { OnOk result (out.new ≡ out.old ++ update_bytes update.now) }
     ensures kept { OnErr result (Keeps out.old out.new) }
+    ensures fits { OnOk result (SetsTerms update.now) }
 {
     match update {
         Update::Set { key, value } => {
@@ -50,6 +51,7 @@ fn put_each_update(out: &mut Bytes, updates: &[Update]) -> Result<(), OutOfMemor
     requires { AllByRecursion IsShortUpdate updates.now }
     ensures ok { OnOk result (out.new ≡ out.old ++ flat_map update_bytes updates.now) }
     ensures kept { OnErr result (Keeps out.old out.new) }
+    ensures fits { OnOk result (AllByRecursion SetsTerms updates.now) }
 {
     for update in updates {
         put_update(out, update)?;
@@ -64,6 +66,7 @@ pub(crate) fn put_updates(out: &mut Bytes, updates: &Updates) -> Result<(), OutO
     requires short { AllByRecursion IsShortUpdate updates.now }
     ensures ok { OnOk result (out.new ≡ out.old ++ listed update_bytes updates.now) }
     ensures kept { OnErr result (Keeps out.old out.new) }
+    ensures fits { OnOk result (AllByRecursion SetsTerms updates.now) }
 {
     put_u8(out, updates.len() as u8)?;
     put_each_update(out, updates.as_slice())
@@ -88,35 +91,44 @@ fn take_update_with(
     }
 }
 
-/// An update. Its key joins the uses.
+/// An update behind LETs, a select and other updates. Its key joins the count of their different keys.
 #[tactic(auto, unfolding(crate::specs::BodyReading::update_at))]
 fn take_update(
     alloc: Global,
     reader: &mut Reader<'_>,
-    lets: usize,
-    uses: &mut Footprint,
+    lets: &[Let],
+    select: &Select,
+    front: &[Update],
+    keys: &mut usize,
 ) -> Result<Update, CodeError>
-    ensures read { Reads result reader.new (update_at lets uses.old reader.old) }
-    ensures uses { IfOk result (λ update. uses.new ≡ used uses.old (updated_key update) true) }
+    requires counted { keys.old ≡ length (uses_so_far lets.now select.now front.now) }
+    requires few { keys.old ≤ 16 }
+    ensures read { Reads result reader.new (next_update_at (length lets.now) (read_uses lets.now select.now) front.now reader.old) }
+    ensures counted { IfOk result (λ update. keys.new ≡ length (used (uses_so_far lets.now select.now front.now) (updated_key update) true)) }
+    ensures few { keys.new ≤ 16 }
 {
     let number = take_between(reader, SET, DELETE)?;
-    let key = take_use(alloc, reader, uses, true)?;
-    take_update_with(alloc, reader, lets, number, key)
+    let key = take_use(alloc, reader, lets, select, front, keys)?;
+    take_update_with(alloc, reader, lets.len(), number, key)
 }
 
 #[tactic(auto, using(crate::proofs::Loops::each_goes_on, crate::proofs::Loops::each_fails, crate::proofs::Loops::each_ends))]
 fn take_each_update(
     alloc: Global,
     reader: &mut Reader<'_>,
-    lets: usize,
-    uses: &mut Footprint,
+    lets: &[Let],
+    select: &Select,
     count: u8,
+    keys: &mut usize,
 ) -> Result<Updates, CodeError>
-    ensures { Reads result reader.new (each_at (next_update_at lets uses.old) count [] reader.old) }
+    requires counted { keys.old ≡ length (read_uses lets.now select.now) }
+    requires few { keys.old ≤ 16 }
+    ensures { Reads result reader.new (each_at (next_update_at (length lets.now) (read_uses lets.now select.now)) count [] reader.old) }
 {
     let mut updates = Updates::new(alloc);
+    updates.reserve(usize::from(count))?;
     for _ in 0..count {
-        let update = take_update(alloc, reader, lets, uses)?;
+        let update = take_update(alloc, reader, lets, select, updates.as_slice(), keys)?;
         updates.push(update)?;
     }
     Ok(updates)
@@ -128,17 +140,20 @@ fn least_of(guards: &[Condition]) -> u8
     if guards.is_empty() { 0 } else { 1 }
 }
 
-/// The updates of a body with so many LETs and these conditions. Their keys join the uses.
+/// The updates of a body with these LETs, this select and these conditions. Their keys join the count of different keys.
 #[tactic(auto, unfolding(crate::specs::BodyReading::updates_at, crate::specs::Reading::listed_at))]
 pub(crate) fn take_updates(
     alloc: Global,
     reader: &mut Reader<'_>,
-    lets: usize,
+    lets: &[Let],
+    select: &Select,
     guards: &[Condition],
-    uses: &mut Footprint,
+    keys: &mut usize,
 ) -> Result<Updates, CodeError>
-    ensures { Reads result reader.new (updates_at lets uses.old (least_updates guards.now) reader.old) }
+    requires counted { keys.old ≡ length (read_uses lets.now select.now) }
+    requires few { keys.old ≤ 16 }
+    ensures { Reads result reader.new (updates_at (length lets.now) (read_uses lets.now select.now) (least_updates guards.now) reader.old) }
 {
     let count = take_between(reader, least_of(guards), 16)?;
-    take_each_update(alloc, reader, lets, uses, count)
+    take_each_update(alloc, reader, lets, select, count, keys)
 }

@@ -1,8 +1,12 @@
--- Those so far are spelled.
+-- Those so far are spelled, and fit.
 use Rattle.std.proofs.Common.{◌≡◌, ◌++◌, take}
-use Rattle.std.specs.List.{flat_map}
+use Rattle.std.specs.List.{flat_map, AllByRecursion}
 use Rattle.acc_code.specs.BodySpelling.{condition_bytes}
+use Rattle.acc_code.specs.Short.{HasTerms}
 use Rattle.acc_code.proofs.conditions.put_each_condition.Given as goal
 
 abbrev pub invariant-loop-guard : goal.invariant-loop-guard
-invariant-loop-guard l = l.out ≡ l.fn.out ++ flat_map condition_bytes (take l.guard-index l.guards)
+invariant-loop-guard l = record {
+  spelled : l.out ≡ l.fn.out ++ flat_map condition_bytes (take l.guard-index l.guards);
+  fits : AllByRecursion HasTerms (take l.guard-index l.guards);
+}

@@ -1,8 +1,12 @@
--- Those so far are spelled.
+-- Those so far are spelled, and fit.
 use Rattle.std.proofs.Common.{◌≡◌, ◌++◌, take}
-use Rattle.std.specs.List.{flat_map}
+use Rattle.std.specs.List.{flat_map, AllByRecursion}
 use Rattle.acc_code.specs.BodySpelling.{part_bytes}
+use Rattle.acc_code.specs.Short.{IsTerm}
 use Rattle.acc_code.proofs.sums.put_each_part.Given as goal
 
 abbrev pub invariant-loop-part : goal.invariant-loop-part
-invariant-loop-part l = l.out ≡ l.fn.out ++ flat_map part_bytes (take l.part-index l.parts)
+invariant-loop-part l = record {
+  spelled : l.out ≡ l.fn.out ++ flat_map part_bytes (take l.part-index l.parts);
+  fits : AllByRecursion (λ part. IsTerm part.term) (take l.part-index l.parts);
+}
