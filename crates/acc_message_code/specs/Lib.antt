@@ -1,0 +1,6 @@
+pub mod Spelling
+pub mod Reading
+pub mod Short
+pub mod Fitting
+pub mod MessageSpelling
+pub mod MessageReading

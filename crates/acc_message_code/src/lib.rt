@@ -1,0 +1,24 @@
+//! The byte format of messages. Numbers have their highest byte first.
+#![tactic(auto)]
+
+mod answer;
+mod deps;
+mod envelope;
+mod ids;
+pub mod laws;
+mod lengths;
+mod message;
+mod message_lengths;
+mod records;
+mod replies;
+mod requests;
+mod stamps;
+mod view;
+
+pub use acc_code::CodeError;
+pub use lengths::deps_length;
+pub use message::{decode, encode};
+pub use message_lengths::message_length;
+
+#[cfg(test)]
+mod tests;

@@ -1,0 +1,73 @@
+//! How many bytes a message takes.
+ghost use Rattle.std.specs.Prelude.{◌≡◌, ◌<◌, ◌+◌, ◌^◌, length};
+ghost use Rattle.acc_code.specs.BodySpelling.{body_bytes};
+ghost use Rattle.acc_message_code.specs.Spelling.{deps_bytes};
+ghost use Rattle.acc_message_code.specs.Short.{AreShortDeps, IsShortAnswer, HasShortContent, IsShortMessage};
+ghost use Rattle.acc_message_code.specs.MessageSpelling.{answer_bytes, content_bytes, message_bytes};
+
+use crate::lengths::{dated_length, deps_length, view_length};
+use crate::stamps::STAMP;
+use acc_code::{body_length, cells_length, outcome_length};
+use acc_deps::Deps;
+use acc_message::{Message, ReadAnswer};
+use acc_txn::Body;
+
+/// How many bytes the number of a message and what all messages have in common take.
+const HEAD: u64 = 29;
+
+#[tactic(auto, unfolding(crate::specs::MessageSpelling::answer_bytes))]
+fn answer_length(answer: &ReadAnswer) -> u64
+    requires { IsShortAnswer answer.now }
+    ensures exact { result ≡ length (answer_bytes answer.now) }
+    ensures most { result < 2 ^ 20 }
+{
+    match answer {
+        ReadAnswer::Values(cells) => 1 + cells_length(cells),
+        ReadAnswer::Known(outcome) => 1 + outcome_length(outcome),
+    }
+}
+
+fn proposal_length(body: &Body, deps: &Deps) -> u64
+    requires { AreShortDeps deps.now }
+    ensures exact { result ≡ length (body_bytes body.now) + (12 + length (deps_bytes deps.now)) }
+    ensures most { result < 2 ^ 26 }
+{
+    body_length(body) + dated_length(deps)
+}
+
+#[tactic(auto, using(crate::proofs::ByteCounts::dated_takes, crate::proofs::ByteCounts::proposal_takes, crate::proofs::ByteCounts::apply_takes, crate::proofs::ByteCounts::stamp_takes), unfolding(crate::specs::MessageSpelling::content_bytes))]
+fn content_length(m: &Message) -> u64
+    requires { HasShortContent m.now }
+    ensures exact { result ≡ length (content_bytes m.now) }
+    ensures most { result < 2 ^ 30 }
+{
+    match m {
+        Message::PreAccept { body, .. } | Message::Recover { body, .. } => body_length(body),
+        Message::PreAcceptOk { deps, .. } | Message::Decided { deps, .. } => dated_length(deps),
+        Message::Accept { body, deps, .. }
+        | Message::Commit { body, deps, .. }
+        | Message::Stable { body, deps, .. } => proposal_length(body, deps),
+        Message::AcceptOk { deps, .. } => deps_length(deps),
+        Message::CommitOk { .. } => 0,
+        Message::ReadOk { answer, .. } => answer_length(answer),
+        Message::Apply {
+            body,
+            deps,
+            outcome,
+            ..
+        } => proposal_length(body, deps) + outcome_length(outcome),
+        Message::RecoverOk { view, .. } => view_length(view),
+        Message::Nack { .. } => STAMP,
+        Message::Inform { outcome, .. } => outcome_length(outcome),
+    }
+}
+
+/// How many bytes `encode` makes of a message, without making them.
+#[tactic(auto, using(crate::proofs::ByteCounts::message_takes))]
+pub fn message_length(m: &Message) -> u64
+    requires { IsShortMessage m.now }
+    ensures exact { result ≡ length (message_bytes m.now) }
+    ensures most { result < 2 ^ 31 }
+{
+    HEAD + content_length(m)
+}

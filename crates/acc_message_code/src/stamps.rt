@@ -1,0 +1,71 @@
+//! Actors and stamps.
+ghost use Rattle.std.specs.Prelude.{◌≡◌, ◌++◌, OnOk};
+ghost use Rattle.acc_message_code.specs.Spelling.{actor_bytes, stamp_bytes};
+ghost use Rattle.acc_message_code.specs.Short.{IsShortActor};
+ghost use Rattle.acc_message_code.specs.Fitting.{FitsStamp};
+ghost use Rattle.acc_code.specs.Reading.{Reads};
+ghost use Rattle.acc_message_code.specs.Reading.{actor_at, stamp_at, id_at, ballot_at};
+
+use acc_base::{Bytes, OutOfMemory};
+use acc_code::CodeError;
+use acc_stamp::{Actor, Ballot, Stamp, TxnId};
+use acc_wire::{Reader, put_u16, put_u32, put_u64};
+
+/// How many bytes a stamp takes.
+pub(crate) const STAMP: u64 = 12;
+
+/// Appends the number of an actor.
+#[tactic(auto, unfolding(crate::specs::Spelling::actor_bytes))]
+pub(crate) fn put_actor(out: &mut Bytes, actor: Actor) -> Result<(), OutOfMemory>
+    requires { IsShortActor actor }
+    ensures { OnOk result (out.new ≡ out.old ++ actor_bytes actor) }
+{
+    put_u16(out, actor.0 as u16)
+}
+
+/// Appends a stamp.
+#[tactic(auto, unfolding(crate::specs::Spelling::stamp_bytes))]
+pub(crate) fn put_stamp(out: &mut Bytes, stamp: Stamp) -> Result<(), OutOfMemory>
+    ensures spelled { OnOk result (out.new ≡ out.old ++ stamp_bytes stamp) }
+    ensures fits { FitsStamp stamp }
+{
+    put_u64(out, stamp.h)?;
+    put_u32(out, stamp.origin)
+}
+
+/// An actor.
+#[tactic(auto, unfolding(crate::specs::Reading::actor_at))]
+pub(crate) fn take_actor(reader: &mut Reader<'_>) -> Result<Actor, CodeError>
+    ensures { Reads result reader.new (actor_at reader.old) }
+{
+    let number = reader.take_u16()?;
+    Ok(Actor(u32::from(number)))
+}
+
+/// A stamp.
+#[tactic(auto, unfolding(crate::specs::Reading::stamp_at))]
+pub(crate) fn take_stamp(reader: &mut Reader<'_>) -> Result<Stamp, CodeError>
+    ensures { Reads result reader.new (stamp_at reader.old) }
+{
+    let h = reader.take_u64()?;
+    let origin = reader.take_u32()?;
+    Ok(Stamp { h, origin })
+}
+
+/// The id of a transaction.
+#[tactic(auto, unfolding(crate::specs::Reading::id_at))]
+pub(crate) fn take_id(reader: &mut Reader<'_>) -> Result<TxnId, CodeError>
+    ensures { Reads result reader.new (id_at reader.old) }
+{
+    let stamp = take_stamp(reader)?;
+    Ok(TxnId(stamp))
+}
+
+/// A ballot.
+#[tactic(auto, unfolding(crate::specs::Reading::ballot_at))]
+pub(crate) fn take_ballot(reader: &mut Reader<'_>) -> Result<Ballot, CodeError>
+    ensures { Reads result reader.new (ballot_at reader.old) }
+{
+    let stamp = take_stamp(reader)?;
+    Ok(Ballot(stamp))
+}
