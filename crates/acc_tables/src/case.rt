@@ -11,6 +11,8 @@ pub enum Case<'l> {
     Outcome(&'l str, &'l [Value]),
     /// The text of a cluster document.
     Document(&'l str),
+    /// Bytes, in base 16.
+    Message(&'l str),
 }
 
 /// What a line asks, and the answer that it wants.
@@ -37,6 +39,7 @@ fn short_case<'l>(kind: &str, text: &'l str) -> Option<Case<'l>> {
     match kind {
         "text" => Some(Case::Text(text)),
         "document" => Some(Case::Document(text)),
+        "message" => Some(Case::Message(text)),
         _ => None,
     }
 }

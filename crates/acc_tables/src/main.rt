@@ -10,6 +10,9 @@
 //! - `["document", TEXT, ANSWER]`: the text of a cluster document is read. The answer is `ok` and the counts of the plan, as
 //!   `ok nodes=1 shards=1 txns=1 steps=2`, or the refusal: `bad`, the kind's number and the path, then the detail where
 //!   it isn't 0, and behind the detail of a transaction's text ` at ` and the byte.
+//! - `["message", BASE16, ANSWER]`: bytes are decoded. The answer is `ok` and the message as `{:?}` tells it, or its fault:
+//!   the kind's number, ` at ` and the byte where it stands. It is `spelled otherwise` where `encode` doesn't give the very
+//!   bytes again, and `of another length` where `message_length` isn't their count.
 //!
 //! Each answer that differs is printed on a line of its own, and at the end how many of each kind agree. The program fails
 //! where one differs, at a line of another form, and where memory runs out.
@@ -17,6 +20,7 @@
 
 mod case;
 mod document;
+mod message;
 mod outcome;
 mod tally;
 mod text;
@@ -34,6 +38,7 @@ fn answer(alloc: Global, case: &Case<'_>) -> Result<String> {
         Case::Text(text) => text::answer(alloc, text),
         Case::Outcome(text, cells) => outcome::answer(alloc, text, cells),
         Case::Document(document) => document::answer(alloc, document),
+        Case::Message(digits) => message::answer(alloc, digits),
     }
 }
 
@@ -66,6 +71,7 @@ fn main(rt: HostRuntime) -> Result<()> {
     println!(rt; "text: {}", tallies.texts)?;
     println!(rt; "outcome: {}", tallies.outcomes)?;
     println!(rt; "document: {}", tallies.documents)?;
+    println!(rt; "message: {}", tallies.messages)?;
     ensure!(tallies.all_agree(), "some answers differ");
     Ok(())
 }

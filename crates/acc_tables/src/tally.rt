@@ -39,6 +39,7 @@ pub struct Tallies {
     pub texts: Tally,
     pub outcomes: Tally,
     pub documents: Tally,
+    pub messages: Tally,
 }
 
 impl Tallies {
@@ -48,6 +49,7 @@ impl Tallies {
             texts: Tally::new(),
             outcomes: Tally::new(),
             documents: Tally::new(),
+            messages: Tally::new(),
         }
     }
 
@@ -57,11 +59,15 @@ impl Tallies {
             Case::Text(_) => &mut self.texts,
             Case::Outcome(_, _) => &mut self.outcomes,
             Case::Document(_) => &mut self.documents,
+            Case::Message(_) => &mut self.messages,
         }
     }
 
     /// Whether no answer differs.
     pub fn all_agree(&self) -> bool {
-        self.texts.is_whole() && self.outcomes.is_whole() && self.documents.is_whole()
+        self.texts.is_whole()
+            && self.outcomes.is_whole()
+            && self.documents.is_whole()
+            && self.messages.is_whole()
     }
 }
