@@ -21,7 +21,7 @@ use Rattle.acc_txn.specs.declared.outcome.Outcome.{Outcome}
 use Rattle.acc_txn.specs.Words.{is_name, is_key_text}
 use Rattle.acc_txn.specs.Rules.{is_many, has_no_key}
 use Rattle.acc_code.specs.CellReading.{cell_behind, cell_at, any_key_at, next_key_at, pair_at, cells_at, outcome_at, verdict_of}
-use Rattle.acc_code.specs.BodyReading.{word_at, key_text_at, key_at, use_at, let_uses, new_name_at, let_at, lets_at, name_at, select_behind, select_at, term_behind, term_at, greatest_sign, part_at, sum_at, operator_of, null_test, condition_behind, condition_at, conditions_at, update_with, update_at, next_update_at, least_updates, updates_at, read_uses, parts_at, body_at}
+use Rattle.acc_code.specs.BodyReading.{word_at, key_text_at, key_at, use_at, let_uses, new_name_at, let_at, lets_at, let_number_at, select_behind, select_at, term_behind, term_at, greatest_sign, part_at, sum_at, operator_of, null_test, condition_behind, condition_at, conditions_at, update_with, update_at, next_update_at, least_updates, updates_at, read_uses, parts_at, body_at}
 use Rattle.acc_message_code.proofs.Stability.{IsStable, stable_then, stable_done, stable_passing, u8_stable, i64_stable, text_stable, between_stable, listed_stable}
 
 -- ---- cells and outcomes
@@ -98,8 +98,8 @@ lets_stable : IsStable lets_at
 unfolding lets_at
 lets_stable = listed_stable let_stable 0 16
 
-name_stable : (lets : ℕ) → IsStable (name_at lets)
-unfolding name_at
+name_stable : (lets : ℕ) → IsStable (let_number_at lets)
+unfolding let_number_at
 name_stable lets = stable_passing (λ name. nat_lt name lets) u8_stable
 
 select_behind_stable : (lets : List Let) (tag : ℕ) → IsStable (select_behind lets tag)
