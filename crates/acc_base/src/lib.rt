@@ -1,11 +1,13 @@
-//! What every crate of Accord shares: the error of memory, the trait behind `copy`, and the list that contracts see as
-//! a plain list.
+//! What every crate of Accord shares: the error of memory, the trait behind `copy`, the list that contracts see as a plain
+//! list, and how numbers are written.
 #![tactic(auto)]
 
 mod memory;
+mod numbers;
 mod sequence;
 
 pub use memory::{Duplicate, OutOfMemory};
+pub use numbers::{push_number, push_signed_number};
 pub use sequence::Sequence;
 
 /// A list of bytes.
@@ -13,6 +15,3 @@ pub type Bytes = Sequence<u8>;
 
 /// The bytes of a text, which are UTF-8 where the text came from a program's user.
 pub type Text = Sequence<u8>;
-
-#[cfg(test)]
-mod tests;

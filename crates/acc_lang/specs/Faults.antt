@@ -15,7 +15,7 @@ is_long (Quoted text closed) = false
 is_long Strange = false
 is_long End = false
 
--- a quoted text that isn't closed, is empty, or has more than 64 bytes
+-- a text without its closing quote, without content, or with more content than 64 bytes
 abbrev pub is_broken : Token → Bool
 is_broken (Word word) = false
 is_broken (Mark mark) = false

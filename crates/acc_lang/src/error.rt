@@ -3,25 +3,25 @@ use acc_base::OutOfMemory;
 use std::error::Error;
 use std::fmt;
 
-/// What is wrong with the first token at fault. Where a token has several faults, the one of the greatest number counts.
+/// What is wrong with the first token at fault. If several things are, it is the one with the greatest number.
 #[derive(Clone, Copy, Debug, PartialEq, Eq)]
 pub enum LangKind {
-    /// The next byte begins no token.
+    /// No token has this byte as its first.
     Char = 1,
-    /// A token that the grammar doesn't allow there.
+    /// The grammar takes no such token in this place.
     Word = 2,
     /// A number that with its sign doesn't fit 64 bits.
     Number = 3,
-    /// A text in quotes that isn't closed, is empty, or has more than 64 bytes.
+    /// No quote closes the text, or it is empty or longer than 64 bytes.
     Text = 4,
-    /// The text ends where a token is needed.
+    /// Nothing follows, though the grammar wants a token.
     Missing = 5,
-    /// A word of more than 32 bytes, a LET of a name that is bound, or a use of a name that isn't.
+    /// The word is longer than 32 bytes, a second LET binds the name, or no LET binds the name that is used.
     Name = 6,
-    /// The seventeenth LET, item of the select, condition, update, term of a sum or different key, or a COMMIT where there is
-    /// no key.
+    /// There are sixteen LETs, items of the select, conditions, updates, terms of the sum or different keys, and here one more
+    /// begins. Or the text has come to its COMMIT without a key.
     Size = 7,
-    /// A token behind the end.
+    /// The transaction is complete, and a further token follows.
     Trailing = 8,
 }
 
@@ -30,7 +30,7 @@ pub enum LangKind {
 pub enum LangError {
     /// The first fault from the left.
     At {
-        /// The byte at which the token at fault begins, or the length of the text where it ended.
+        /// How many bytes stand before the token that is wrong, or before the end of the text if that comes too early.
         at: u64,
         /// What is wrong with it.
         kind: LangKind,

@@ -23,8 +23,8 @@ pub fn what_is_read_is_a_body()
     ensures { (text : List ℕ) (parts : BodyParts) → IsUtf8 text → reading text ≡ Ok parts → IsTextOf text parts }
 {}
 
-/// The first fault is found as soon as its token is seen: no text that shows the same tokens up to it and with it, and
-/// behind a word v also the next, is of the grammar. Its place is the byte where that token begins.
+/// The first fault is found as soon as its token is seen: no text of the grammar begins with the tokens up to it and with
+/// it, and behind a word v also the next one. The place of a fault is that of its token.
 pub fn faults_are_found_at_once()
     ensures { (text : List ℕ) (kind : LangKind) (at : ℕ) → reading_fault text ≡ Some (kind, at)
         → (count : ℕ) × (at ≡ length text - left_at (behind_all count text))

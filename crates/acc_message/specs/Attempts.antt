@@ -27,8 +27,8 @@ use Rattle.acc_message.specs.Items.{or_else, same_actor}
 use Rattle.acc_message.specs.Shares.{shards_used, is_store_of}
 use Rattle.acc_message.specs.BallotRules.{is_accept_ok, is_commit_ok, is_recover_ok}
 
--- The kind of messages that an attempt sent last: PreAccept, Recover, Accept, Commit or Stable, with what the last three
--- propose, commit or have decided.
+-- How far an attempt has come: it has asked for votes, asked for evidence, proposed, committed, or decided and now reads. The
+-- last three have the timestamp and the dependencies in question.
 pub data Phase : Type 0 where
   Voting : Phase
   Recovering : Phase
@@ -154,7 +154,7 @@ abbrev pub cell_in : Key → Message → Option ℤ
 cell_in key (ReadOk from to id ballot answer) = cell_in_read key answer
 cell_in key _ = None
 
--- a key's cell is the one in the answer of its own shard, and null where that has none
+-- a key is looked up in the answer of its own shard, and is null where this one lacks it
 abbrev pub cell_read : Layout → List Message → Key → Option ℤ
 cell_read layout [] key = None
 cell_read layout (m ∷ answers) key =

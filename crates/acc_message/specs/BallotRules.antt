@@ -30,7 +30,7 @@ is_recover_ok _ = false
 
 -- ---- promises
 
--- a Recover, Accept or Commit about x is answered by RecoverOk, AcceptOk or CommitOk
+-- a message about x with a ballot to promise is granted: RecoverOk, AcceptOk or CommitOk answers it
 abbrev pub grants : TxnId → Message → List Message → Bool
 grants x (Accept from to id ballot body t deps) sent = id_eq id x && list_any is_accept_ok sent
 grants x (Commit from to id ballot body t deps) sent = id_eq id x && list_any is_commit_ok sent
@@ -48,7 +48,7 @@ promise_of (step ∷ past) x = greater_ballot (promise_of past x) (granted_by x 
 
 -- ---- records
 
--- the content of the last Accept that was answered by AcceptOk
+-- what the latest granted Accept says
 abbrev pub accepted_by : TxnId → Message → List Message → Option Accepted
 accepted_by x (Accept from to id ballot body t deps) sent =
     cond (id_eq id x && list_any is_accept_ok sent) (Some (record { ballot = ballot; t = t; deps = deps })) None
@@ -58,7 +58,7 @@ abbrev pub accepted_of : List Taken → TxnId → Option Accepted
 accepted_of [] x = None
 accepted_of (step ∷ past) x = or_else (accepted_by x step.message step.sent) (accepted_of past x)
 
--- the content of the last Commit that was answered by CommitOk
+-- what the latest granted Commit says
 abbrev pub committed_by : TxnId → Message → List Message → Option Accepted
 committed_by x (Commit from to id ballot body t deps) sent =
     cond (id_eq id x && list_any is_commit_ok sent) (Some (record { ballot = ballot; t = t; deps = deps })) None

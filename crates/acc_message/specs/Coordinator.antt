@@ -200,7 +200,8 @@ is_past_recover _ = false
 abbrev pub on_nack : TxnId → Attempt → Ballot → Reaction
 on_nack x a promised = when (not (is_decided a.phase) && ballot_lt a.ballot promised) (λ a. end x a promised) a
 
--- a decision that a store has already is adopted by an undecided attempt that is past Recover or at ballot zero
+-- a store tells that there is a decision. An attempt that has none takes it over if its ballot is zero or its phase comes
+-- after Recover
 abbrev pub on_decided : Layout → Actor → TxnId → Attempt → Settled → Reaction
 on_decided layout own x a s =
     when (not (is_decided a.phase) && (is_past_recover a.phase || ballot_eq a.ballot zero_ballot))
@@ -208,7 +209,7 @@ on_decided layout own x a s =
 
 -- ---- every message
 
--- Nack and Decided fit every phase, and each one counts
+-- Nack and Decided are heard in any phase, as often as they come
 abbrev pub on_message : Layout → Actor → TxnId → Attempt → Message → Reaction
 on_message layout own x a (Nack from to id ballot promised) = on_nack x a promised
 on_message layout own x a (Decided from to id ballot t deps) = on_decided layout own x a (record { t = t; deps = deps })

@@ -76,7 +76,7 @@ abbrev pub is_restart : Act → Bool
 is_restart Restarts = true
 is_restart _ = false
 
--- the client of x is open from the begin until the reply or a restart
+-- the begin opens the client of x; its reply closes it, and so does a restart
 abbrev pub is_open : TxnId → List Deed → Bool
 is_open x [] = false
 is_open x (deed ∷ past) =
@@ -116,7 +116,7 @@ abbrev pub emitted_by : (Attempt → Reaction) → Option Attempt → Emitted
 emitted_by react None = silence
 emitted_by react (Some a) = (react a).emitted
 
--- behind the outcome the reply is given, where the client is open
+-- an outcome has the reply right behind it, as long as the client is open
 abbrev pub replied : Bool → Note → List Note
 replied is_open (OutcomeNote id reply) = OutcomeNote id reply ∷ cond is_open (ReplyNote id reply ∷ []) []
 replied is_open note = note ∷ []

@@ -164,7 +164,7 @@ written_by_all layout shard history [] cells = cells
 written_by_all layout shard history (c ∷ changes) cells =
     written_by_all layout shard history changes (written_by layout shard history c cells)
 
--- the cell of a key is that of the last write applied
+-- the cells of a store, as what it has applied left them
 abbrev pub cells_at : Layout → ℕ → List Taken → Key → Option ℤ
 cells_at layout shard [] = λ key. None
 cells_at layout shard (step ∷ past) =

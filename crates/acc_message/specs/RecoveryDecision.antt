@@ -1,5 +1,5 @@
--- Recovery decision: what a recovery goes on with, as a function of the first RecoverOk answers with which every shard has
--- a majority.
+-- Recovery decision: how a recovery goes on once a majority of every shard has sent RecoverOk. It depends on these answers
+-- alone.
 use Rattle.std.specs.Prelude.{ℕ, Bool, true, false, not, cond, ◌==◌, ◌&&◌, ◌||◌, nat_lt, List, [], ◌∷◌, ◌++◌, Option, None, Some}
 use Rattle.std.specs.List.{list_any, filter_map, flat_map}
 use Rattle.std.specs.Bool.{beq}
@@ -36,7 +36,7 @@ views_in answers = filter_map view_in answers
 abbrev pub store_lt : Actor → Actor → Bool
 store_lt a b = nat_lt (shard_of a) (shard_of b) || (shard_of a == shard_of b && nat_lt (node_of a) (node_of b))
 
--- ---- a stable record, of several the one of the least store
+-- ---- stable records: that of the first store counts
 
 pub record Stably : Type 0 where
   pub store : Actor
@@ -57,7 +57,7 @@ abbrev pub least_stably : List Stably → Option Stably
 least_stably [] = None
 least_stably (s ∷ rest) = Some (lesser_of s (least_stably rest))
 
--- ---- a committed or accepted record: of the greatest ballot, committed first, then of the least store
+-- ---- other records: a higher ballot wins, then committed over accepted, then the first store
 
 pub record Claim : Type 0 where
   pub store : Actor

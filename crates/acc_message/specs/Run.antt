@@ -45,8 +45,8 @@ recovers None body = None
 recovers (Some x) None = None
 recovers (Some x) (Some body) = Some (Recovers x body)
 
--- what an event takes, after these items: a message number stands for the message, and the transaction of a recover for
--- the id of its begin
+-- what an event takes: its number is that of a message among these items, and the transaction that it recovers or slows
+-- down has its id there
 abbrev pub act_of : Cluster → List Item → Event → Option Act
 act_of cluster earlier (Begin txn) = option_map (Begins txn) (slice_get cluster.bodies txn)
 act_of cluster earlier (Recover txn) = recovers (id_of_txn earlier txn) (slice_get cluster.bodies txn)
@@ -108,7 +108,7 @@ abbrev pub attempt_at : Cluster → List Item → Actor → TxnId → Option Att
 attempt_at cluster earlier a x =
     attempt_of cluster.layout (node_of a) (clock_start cluster.starts (node_of a)) x (deeds_of cluster a earlier)
 
--- the attempt has ballot zero, is in the first phase, and has a majority of answers in every shard
+-- an attempt at ballot zero that still asks for votes and has a majority of them everywhere
 abbrev pub is_slowable : Layout → Option Attempt → Bool
 is_slowable layout None = false
 is_slowable layout (Some a) = ballot_eq a.ballot zero_ballot && may_slow_down layout a a.phase
@@ -127,9 +127,9 @@ IsNodeOf layout a = (node : ℕ) × IsTrue (is_among layout.nodes node) × (a �
 abbrev pub IsHomeOf : Cluster → ℕ → Actor → Type 0
 IsHomeOf cluster txn a = (node : ℕ) × (slice_get cluster.homes txn ≡ Some node) × (a ≡ actor_of node 0)
 
--- A begin stands at the home of its transaction and is its first. A recover stands at a node, after a begin of the
--- transaction. A slow stands at the home, where the attempt can be slowed down. A message was sent to the actor by an
--- earlier entry; taking it again is allowed. A restart may stand anywhere.
+-- Where an event may come: a begin at the home, if the transaction has none so far; a recover at any node, once there is one;
+-- a slow at the home, if there is an attempt to slow down; a message at the actor that it goes to, however often; a restart
+-- anywhere.
 abbrev pub MayStand : Cluster → List Item → Actor → Act → Event → Type 0
 MayStand cluster earlier a act (Begin txn) = IsHomeOf cluster txn a × IsTrue (not (is_begun earlier txn))
 MayStand cluster earlier a act (Recover txn) = IsNodeOf cluster.layout a × IsTrue (is_begun earlier txn)
@@ -174,11 +174,11 @@ abbrev pub lost_fit : Actor → ℕ → List Item → Bool
 lost_fit a owed [] = owed == 0
 lost_fit a owed (item ∷ earlier) = mark_fits a owed item && lost_fit a (owed_after a owed item) earlier
 
--- among the items of an actor the lost entries are just those that stand directly before a restart which kept so many
+-- a restart has as many lost entries right in front of it, among the items of its actor, as it kept, and no others are lost
 abbrev pub LostBeforeRestarts : List Item → Type 0
 LostBeforeRestarts items = (a : Actor) → IsTrue (lost_fit a 0 items)
 
--- the actor has a down with no restart since; lost entries leave it down
+-- the actor is down: since its last down it has had nothing but lost entries
 abbrev pub down_after : Actor → Item → Bool → Bool
 down_after a (Step e) before = before && (not (same_actor e.actor a) || e.lost)
 down_after a (Skipped step cause) before = before

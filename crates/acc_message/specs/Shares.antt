@@ -18,7 +18,7 @@ shards_used layout body = in_order (shards_of layout (footprint_of body))
 abbrev pub stores_of_shard : Layout → ℕ → List Actor
 stores_of_shard layout shard = map (λ node. actor_of node shard) (shard_at layout shard).replicas
 
--- all stores of a transaction, ordered by shard and then by node
+-- all stores of a transaction: shard by shard, and in a shard node by node
 abbrev pub stores_used : Layout → BodyParts → List Actor
 stores_used layout body = flat_map (stores_of_shard layout) (shards_used layout body)
 

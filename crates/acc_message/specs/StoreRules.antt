@@ -52,7 +52,7 @@ unless_promised own history x b least answer =
 abbrev pub voted : Actor → TxnId → Ballot → Vote → List Message
 voted own x b v = PreAcceptOk own (home_of x b) x b v.vote v.deps ∷ []
 
--- on PreAccept: where no ballot above zero is promised, the vote
+-- on PreAccept: the vote, as long as the promise is zero
 abbrev pub on_preaccept : Layout → Actor → List Taken → TxnId → Ballot → BodyParts → List Message
 on_preaccept layout own now x b body =
     unless_stable own x b (stable_of now x)
@@ -98,11 +98,11 @@ abbrev pub stable_ballots : List Taken → TxnId → List Ballot
 stable_ballots [] x = []
 stable_ballots (step ∷ past) x = stable_ballots_in x step.message (stable_ballots past x)
 
--- the waiters of x: the ballots of the Stables that were taken before it was opened
+-- the waiters of x: as long as it isn't opened, the ballots of its Stables
 abbrev pub waiters_of : ℕ → List Taken → TxnId → List Ballot
 waiters_of shard history x = cond (is_opened shard history x) [] (stable_ballots history x)
 
--- opening x sends the cells to its waiters. Before it was opened all its Stables wait
+-- when x is opened each of its Stables gets the cells, since up to then all of them wait
 abbrev pub opening_of : Layout → Actor → List Taken → Change → (Key → Option ℤ) → List Message
 opening_of layout own now c cells =
     cond c.opens

@@ -22,7 +22,7 @@ pub record Vote : Type 0 where
   pub vote : Stamp
   pub deps : List ShardDeps
 
--- ---- the vote of x: the one in the first PreAcceptOk or RecoverOk about x that the store sent
+-- ---- the vote of x, given by the store's earliest answer that has one
 
 abbrev pub vote_in : TxnId → Message → Option Vote
 vote_in x (PreAcceptOk from to id ballot vote deps) = cond (id_eq id x) (Some (record { vote = vote; deps = deps })) None
@@ -37,7 +37,7 @@ abbrev pub vote_of : List Taken → TxnId → Option Vote
 vote_of [] x = None
 vote_of (step ∷ past) x = or_else (vote_of past x) (first_vote x step.sent)
 
--- ---- the stamps of x: its own, each timestamp of a taken Accept, Commit, Stable or Apply about it, and its vote
+-- ---- the stamps of x: its own, its vote, and those that Accepts, Commits, Stables and Applies brought as its timestamp
 
 abbrev pub times_in : TxnId → Message → List Stamp
 times_in x (Accept from to id ballot body t deps) = cond (id_eq id x) (t ∷ []) []

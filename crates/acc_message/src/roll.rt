@@ -2,5 +2,5 @@
 use acc_base::Sequence;
 use acc_stamp::TxnId;
 
-/// A list of pairs of a transaction's id and its number, rising by id, each id once.
+/// For each id the number of its transaction. The ids rise, so none stands twice.
 pub type Roll = Sequence<(TxnId, u32)>;

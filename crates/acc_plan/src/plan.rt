@@ -10,7 +10,7 @@ pub type Names = Sequence<Text>;
 /// The bodies of transactions, by their numbers.
 pub type Bodies = Sequence<Body>;
 
-/// The numbers of transactions, counted from 0, in the order in which they are begun.
+/// Which transactions are begun, one after another, by their numbers from 0 on.
 pub type Begins = Sequence<u32>;
 
 /// A plan of the first form: one node, one shard on it, transactions, and the order in which they are begun,

@@ -31,8 +31,8 @@ impl Model for MemSource {
 }
 
 impl MemSource {
-    /// A source of these bytes. Each read gives at most `piece` of them. The reads whose numbers stand in `fails`, counted
-    /// from 0, fail, and no others. Nothing is allocated: the lists come with their memory.
+    /// A source of these bytes, with up to `piece` of them for a read. Counting reads from 0, those in `fails` fail and the
+    /// rest succeed. Nothing is allocated: the lists come with their memory.
     pub fn new(_alloc: Global, bytes: Bytes, piece: usize, fails: Calls) -> MemSource
         requires { 0 < piece }
         ensures { result ≡ record { bytes = bytes; piece = piece; fails = fails; calls = 0; faults = 0 } }
@@ -100,8 +100,8 @@ impl Model for MemSink {
 }
 
 impl MemSink {
-    /// A sink that holds no bytes yet. Each write takes at most `piece` bytes. The writes whose numbers stand in `fails`,
-    /// counted from 0, fail, and no others. A write that finds no memory isn't counted.
+    /// A sink that holds no bytes yet, and takes up to `piece` in a write. Counting writes from 0, those in `fails` fail and
+    /// the rest don't. A write that finds no memory isn't counted.
     pub fn new(alloc: Global, piece: usize, fails: Calls) -> MemSink
         requires { 0 < piece }
         ensures { result ≡ record { bytes = []; piece = piece; fails = fails; calls = 0; faults = 0 } }

@@ -114,8 +114,8 @@ impl<W: Write> Sink for StdSink<W> {
 
     ghost written = { λ _. None };
 
-    /// Writes once. Each error of the writer is a fault, an interrupt too, and so is a write that takes nothing of a piece
-    /// that isn't empty.
+    /// Writes once. Each error of the writer is a fault, an interrupt too. It is also a fault if there are bytes to write and
+    /// the writer takes none.
     fn write(&mut self, piece: &[u8]) -> Result<usize, PortError>
         ensures room { IfOk result (λ count. count ≤ length piece.now) }
         ensures progress { IfOk result (λ count. (count ≡ 0) ↔ (piece.now ≡ [])) }

@@ -1,6 +1,6 @@
--- The canonical text of a body: words of the language in capitals, one space between two tokens, but no space in front of
--- `;` and `,`, around `.`, inside the brackets of a LET and between the minus sign of a number and its digits. There is no
--- `;` behind END IF and behind the last TRANSACTION. A part that may follow another begins with its space.
+-- The canonical text of a body. Reserved words are in capitals, and a space parts each two tokens, but for these: `,` and `;`
+-- follow directly, `.` stands between its two words directly, brackets touch what they enclose, and a minus sign its number.
+-- Where the grammar leaves a `;` open it is left out. A part that may follow another begins with its space.
 use Rattle.std.specs.Prelude.{ℕ, Bool, true, false, ◌==◌, if◌then◌else◌, List, [], ◌∷◌, ◌++◌, slice_get, flat_map, codes}
 use Rattle.std.specs.Option.{option_map_or}
 use Rattle.std.specs.List.{join_by}

@@ -1,5 +1,5 @@
 //! Stamps, the logical clocks that draw them, and the actors that they name. Stamps are the timestamps of CEP-15, after the
-//! paper by Elliott Smith, Zhang, Eggleston and Andreas; the logical clock and the form of the origin are this project's own.
+//! paper by Elliott Smith, Zhang, Eggleston and Andreas; that clocks are logical, and what an origin is made of, is our choice.
 #![tactic(auto)]
 
 mod actors;

@@ -25,7 +25,7 @@ is_blank c = c == 32 || c == 9 || c == 10 || c == 13
 unfoldable pub after_blanks : List ℕ → List ℕ
 after_blanks text = drop (prefix_len is_blank text) text
 
--- words are letters, digits and underscores, without a digit in front
+-- a word begins with a letter or an underscore, and goes on with any of these and digits
 abbrev pub begins_word : ℕ → Bool
 begins_word c = is_ascii_alphabetic c || c == 95
 

@@ -71,7 +71,7 @@ ends_rise [] = false
 ends_rise (s ∷ []) = is_none s.end
 ends_rise (s ∷ t ∷ shards) = is_end_before s.end t.end && ends_rise (t ∷ shards)
 
--- of r = 2f + 1 replicas at least f + 1 are the electorate
+-- a shard has as many replicas as it may, and its electorate is a majority of them or more
 pub record IsShard (nodes : List ℕ) (s : Shard) : Type 0 where
   pub count : IsTrue (is_replica_count (length s.replicas))
   pub replicas : IsPartOf s.replicas nodes

@@ -13,9 +13,9 @@ pub enum TopologyKind {
     NoNode = 1,
     /// There is no shard.
     NoShard = 2,
-    /// The last shard has an end, an earlier one has none, or an end isn't greater than the one before.
+    /// The ends don't rise from shard to shard, or it isn't the last shard alone that has none.
     Order = 3,
-    /// The count of a shard's replicas isn't 1, 3, 5 or 7.
+    /// A shard has a number of replicas other than 1, 3, 5 and 7.
     Replicas = 4,
     /// A node stands for the second time, among the nodes or among the replicas of a shard.
     Twice = 5,

@@ -94,7 +94,7 @@ impl Topology {
         self.shard(shard).replicas
     }
 
-    /// The shard of a key: the first whose end is greater than the key's bytes, or which has no end.
+    /// The shard that holds a key: the first one whose end lies above the key. The last shard, without an end, holds the rest.
     pub fn shard_of(&self, key: &Key) -> u32
         ensures value { result ≡ shard_of_key self.now key.now }
         ensures exists { HasShard self.now result }

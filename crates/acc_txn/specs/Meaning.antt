@@ -70,7 +70,7 @@ compares_cells op None right = false
 compares_cells op (Some a) None = false
 compares_cells op (Some a) (Some b) = compares op a b
 
--- both sides are summed before they are compared
+-- the right side is summed even where the left one is null
 abbrev pub compared : Operator → Result (Option ℤ) Overflow → Result (Option ℤ) Overflow → Result Bool Overflow
 compared op (Err error) right = Err error
 compared op (Ok left) (Err error) = Err error
@@ -115,7 +115,7 @@ abbrev pub writes_of : List (Option ℤ) → List Update → Result (List (Key �
 writes_of bound [] = Ok []
 writes_of bound (update ∷ updates) = in_front (write_of bound update) (writes_of bound updates)
 
--- one pair for each key, the last one given, in the order of the keys
+-- the writes sorted by key, of which the last to each key counts
 abbrev pub last_of_each : List (Key × Option ℤ) → List (Key × Option ℤ)
 last_of_each writes = fold (λ so_far write. put so_far write.0 write.1) [] writes
 

@@ -44,7 +44,7 @@ some_expression test parts = list_any (condition_has test) parts.guards || list_
 abbrev pub is_long : List Part → Bool
 is_long expr = is_many (length expr)
 
--- more than 16 LETs, select items, conditions, updates, terms of one expression or distinct keys
+-- one of the counts is above 16: LETs, selected names, conditions, updates, terms in a sum, keys that differ
 abbrev pub has_too_many : BodyParts → Bool
 has_too_many parts =
     is_many (length parts.lets) || is_many (length (selected_names parts.select)) || is_many (length parts.guards) || is_many (length parts.updates)
@@ -92,7 +92,7 @@ has_bad_key parts =
     list_any (λ l. not (is_key l.key)) parts.lets || list_any (λ key. not (is_key key)) (selected_keys parts.select)
     || list_any (λ update. not (is_key (updated_key update))) parts.updates
 
--- no term, or a minus as the first sign
+-- it is empty or begins with a minus
 abbrev pub is_malformed : List Part → Bool
 is_malformed [] = true
 is_malformed (part ∷ expr) = part.minus

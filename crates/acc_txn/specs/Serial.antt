@@ -1,4 +1,4 @@
--- Bodies that are run one by one on one map of cells.
+-- Bodies in turn, each on the cells that those before it have left.
 use Rattle.std.specs.Prelude.{List, [], ◌∷◌, ℤ, Option, None}
 use Rattle.acc_value.specs.declared.key.Key.{Key}
 use Rattle.acc_value.specs.Cells.{applied}
@@ -20,6 +20,6 @@ abbrev pub map_after_all : (Key → Option ℤ) → List BodyParts → Key → O
 map_after_all cells [] = cells
 map_after_all cells (body ∷ bodies) = map_after_all (map_after cells body) bodies
 
--- the replies of bodies that are run one by one on one map, which is empty at first
+-- the replies of bodies in turn, from the map on which every cell is null
 abbrev pub serial : List BodyParts → List Reply
 serial bodies = replies_from (λ _. None) bodies

@@ -20,11 +20,11 @@ abbrev pub updated_key : Update → Key
 updated_key (Set key value) = key
 updated_key (Delete key) = key
 
--- the keys read: those of the LETs, and that of the select
+-- the keys that LETs name, and the one that a select by key names
 abbrev pub read_keys : BodyParts → List Key
 read_keys parts = map (λ l. l.key) parts.lets ++ selected_keys parts.select
 
--- the keys written: those of all updates, whether or not they will be made
+-- the keys that updates name, also behind conditions that may turn out false
 abbrev pub written_keys : BodyParts → List Key
 written_keys parts = map updated_key parts.updates
 

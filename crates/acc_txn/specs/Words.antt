@@ -21,7 +21,7 @@ begins_word c = is_ascii_lowercase c || c == 95
 abbrev pub continues_word : ℕ → Bool
 continues_word c = begins_word c || is_ascii_digit c
 
--- small letters, digits and underscores, not beginning with a digit
+-- a small letter or an underscore, and then any of these and digits
 abbrev pub is_lower_word : List ℕ → Bool
 is_lower_word [] = false
 is_lower_word (c ∷ cs) = begins_word c && list_all continues_word cs

@@ -74,7 +74,7 @@ impl Body {
         footprint(&self.parts)
     }
 
-    /// The outcome of the body on the cells before it. A key that `cells` lacks reads as null.
+    /// The outcome of the body on the cells before it. Where `cells` doesn't have a key, its cell is null.
     pub fn evaluate(&self, cells: &CellList) -> Result<Outcome, OutOfMemory>
         ensures { IfOk result (λ outcome. outcome ≡ outcome_of self.now (cell_of cells.now)) }
     {

@@ -6,7 +6,7 @@ use std::fmt;
 /// Why parts are no body. Where they break several rules, the first in this order is answered.
 #[derive(Clone, Copy, Debug, PartialEq, Eq)]
 pub enum BodyError {
-    /// More than 16 LETs, items of the select, conditions, updates, terms of one sum, or different keys.
+    /// One of these counts is above 16: LETs, items of the select, conditions, updates, terms in a sum, keys that differ.
     TooMany = 1,
     /// A number that names no LET.
     UnboundName = 2,
@@ -14,10 +14,10 @@ pub enum BodyError {
     TwiceBound = 3,
     /// No key at all.
     NoKey = 4,
-    /// A LET or a table whose name is no word in lower case of at most 32 bytes or belongs to the language, or a key's
-    /// text that isn't 1 to 64 bytes of UTF-8.
+    /// The name of a LET or of a table is reserved, longer than 32 bytes, or no word in small letters; or the text of a key is
+    /// empty, longer than 64 bytes, or not UTF-8.
     BadWord = 5,
-    /// A sum without a term or with a minus in front of it, a select without an item, or conditions without an update.
+    /// A sum is empty or begins with a minus, a select by names is empty, or no update follows the conditions.
     BadShape = 6,
     /// Memory was refused, whatever the parts are.
     OutOfMemory = 7,

@@ -173,7 +173,7 @@ fn compare(op: Operator, a: i64, b: i64) -> bool
     }
 }
 
-/// The writes of the updates: of each key the last, in the order of the keys.
+/// The writes of the updates, sorted by key; the last update of a key counts.
 fn write(
     alloc: Global,
     bound: &[Option<i64>],

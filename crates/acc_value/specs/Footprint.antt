@@ -1,4 +1,4 @@
--- Footprints: which keys a transaction reads and writes, as rising pairs of a key and whether it is written.
+-- Footprints: the keys that a transaction uses, rising, each with a flag that tells whether it is written.
 use Rattle.std.specs.Prelude.{Bool, false, ◌&&◌, ◌||◌, List, unwrap_or}
 use Rattle.std.specs.List.{list_any}
 use Rattle.std.specs.Bool.{beq}
@@ -20,6 +20,6 @@ used uses key writes = put uses key (is_written uses key || writes)
 abbrev pub uses_eq : List (Key × Bool) → List (Key × Bool) → Bool
 uses_eq = pointwise (eq_of_both (on (λ p. p.0) key_eq) (on (λ p. p.1) beq))
 
--- some key is in both, and at least one of the two writes it
+-- they share a key that isn't merely read by both
 abbrev pub clashes : List (Key × Bool) → List (Key × Bool) → Bool
 clashes a b = list_any (λ p. list_any (λ q. key_eq p.0 q.0 && (p.1 || q.1)) b) a

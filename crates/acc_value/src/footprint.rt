@@ -42,7 +42,7 @@ impl Footprint {
         }
     }
 
-    /// The pairs of a key and whether it is written, whose keys rise.
+    /// The keys, rising, each with a flag that tells whether it is written.
     pub fn pairs(&self) -> &[(Key, bool)]
         ensures pairs { result.now ≡ self.now }
         ensures rising { IsRising self.now }
@@ -122,8 +122,8 @@ impl Eq for Footprint {
     ghost laws = { Prim.search (comparing, rules) };
 }
 
-/// Whether two transactions conflict: some key is in both footprints, and at least one of them writes it. Takes time
-/// linear in both, and no memory.
+/// Whether two transactions conflict: they share a key that isn't merely read by both. Takes time linear in both
+/// footprints, and no memory.
 pub fn conflicts(a: &Footprint, b: &Footprint) -> bool
     ensures { result ≡ clashes a.now b.now }
 {

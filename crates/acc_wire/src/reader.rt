@@ -135,7 +135,7 @@ impl<'a> Reader<'a> {
         self.take_u64().map(u64::cast_signed)
     }
 
-    /// Reads a text: its length in one byte, and its bytes. Short exactly where the length or the bytes are cut, with the
+    /// Reads a text: its length in one byte, and its bytes. Where the bytes end before the text does, this is Short at the
     /// place of the length.
     pub fn take_text(&mut self) -> Result<&'a [u8], WireError>
         ensures found { IfOk result (λ text. Passes self.old self.new (text_bytes text.now)) }
