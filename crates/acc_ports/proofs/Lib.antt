@@ -1,2 +1,3 @@
+mod Emptiness
 pub mod SinkLemmas
 pub mod SourceLemmas

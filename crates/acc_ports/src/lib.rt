@@ -4,6 +4,7 @@
 
 mod calls;
 mod error;
+mod history;
 mod memory;
 mod sink;
 mod source;
@@ -12,11 +13,9 @@ mod whole;
 
 pub use calls::Calls;
 pub use error::{PortError, ReadError};
+pub use history::History;
 pub use memory::{MemSink, MemSource};
 pub use sink::Sink;
 pub use source::Source;
 pub use standard::{StdSink, StdSource};
 pub use whole::{read_all, write_all};
-
-#[cfg(test)]
-mod tests;
