@@ -1,3 +1,7 @@
+pub mod Crashes
 mod Emptiness
+pub mod Images
 pub mod SinkLemmas
 pub mod SourceLemmas
+pub mod Times
+pub mod Undoing

@@ -1,6 +1,10 @@
+pub mod Disk
 pub mod Errors
 pub mod Faults
+pub mod MemoryDisk
 pub mod MemPort
 pub mod Sink
 pub mod Source
 pub mod StdPort
+pub mod Strict
+pub mod Undo

@@ -3,18 +3,25 @@
 #![tactic(auto)]
 
 mod calls;
+mod disk;
+mod disk_calls;
 mod error;
 mod history;
 mod memory;
+mod memory_disk;
 mod sink;
 mod source;
 mod standard;
+mod surface;
+mod undo;
 mod whole;
 
 pub use calls::Calls;
+pub use disk::{Disk, Rig};
 pub use error::{PortError, ReadError};
 pub use history::History;
 pub use memory::{MemSink, MemSource};
+pub use memory_disk::MemDisk;
 pub use sink::Sink;
 pub use source::Source;
 pub use standard::{StdSink, StdSource};
