@@ -29,8 +29,10 @@ pub CanCrash-failure : (writes later : List Write) (at count before : ℕ) (cont
 CanCrash-failure writes later at count before content saved inside is_before none can is_later =
     let is = is_later ∙ ap (λ (s : List ℕ). writes ++ record { at = at; count = count; before = before; saved = s } ∷ []) none in
     let undo = one_failed_write_more writes later at count before content inside is_before is can.undo in
-    let ranges : ranges_of later ≡ ranges_of writes ++ (at, count) ∷ [] = ap ranges_of is ∙ map-append (λ (write : Write). (write.at, write.count)) writes (record { at = at; count = count; before = before; saved = [] } ∷ []) in
-    (undo.0, record {
-      undo = undo.1;
-      image = subst (λ (s : List ℕ). IsImage s (ranges_of later) content) (sym undo.0) (subst (λ (r : Ranges). IsImage (synced_of writes content) r content) (sym ranges) (image_more (synced_of writes content) (ranges_of writes) at count content can.image));
-    })
+    let ranges : ranges_of later ≡ ranges_of writes ++ (at, count) ∷ [] = ap ranges_of is ∙ map-append (λ (write : Write). (write.at, write.count)) writes (record { at = at; count = count; before = before; saved = [] } ∷ []) in (
+      undo.0,
+      record {
+        undo = undo.1;
+        image = subst (λ (s : List ℕ). IsImage s (ranges_of later) content) (sym undo.0) (subst (λ (r : Ranges). IsImage (synced_of writes content) r content) (sym ranges) (image_more (synced_of writes content) (ranges_of writes) at count content can.image));
+      },
+    )

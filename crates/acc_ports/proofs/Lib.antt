@@ -1,6 +1,7 @@
 pub mod Crashes
 mod Emptiness
 pub mod Images
+pub mod Makers
 pub mod SinkLemmas
 pub mod SourceLemmas
 pub mod Times

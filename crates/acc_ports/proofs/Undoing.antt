@@ -49,7 +49,7 @@ module _ (at : ℕ) (content : List ℕ) (inside : at ≤ length content) where
         drop_at bytes (drop (at + length bytes) content) over (sym all) ∙ sym (drop-drop (length bytes) at content) ∙ ap (λ (n : ℕ). drop n (drop at content)) (sym all) in (
           [],
           put_back ∙ ap (λ (l : List ℕ). take at content ++ saved ++ l) rest ∙ append_assoc (take at content) saved (drop over (drop at content))
-          ∙ ap (λ (l : List ℕ). take at content ++ l) (take-append-drop over (drop at content)) ∙ take-append-drop at content ∙ sym (append-nil content),
+              ∙ ap (λ (l : List ℕ). take at content ++ l) (take-append-drop over (drop at content)) ∙ take-append-drop at content ∙ sym (append-nil content),
         )
 
     past_the_end : length content - at < length bytes → Rest
@@ -58,7 +58,7 @@ module _ (at : ℕ) (content : List ℕ) (inside : at ≤ length content) where
         let whole : saved ≡ drop at content = take_all over (drop at content) (omega (arith, length-drop {A = ℕ})) in (
           drop over (bytes ++ drop (at + length bytes) content),
           put_back ∙ ap (λ (l : List ℕ). take at content ++ l ++ drop over (bytes ++ drop (at + length bytes) content)) whole
-          ∙ ap (λ (l : List ℕ). l ++ drop over (bytes ++ drop (at + length bytes) content)) (take-append-drop at content),
+              ∙ ap (λ (l : List ℕ). l ++ drop over (bytes ++ drop (at + length bytes) content)) (take-append-drop at content),
         )
 
     rest : Rest
@@ -98,8 +98,7 @@ one_write_more writes later at count before over bytes content saved new inside 
     ap (λ (n : ℕ). take n (overwritten at saved new)) is_before ∙ ap (λ (l : List ℕ). take (length content) (overwritten at l new)) is_saved ∙ ap (λ (l : List ℕ). take (length content) (overwritten at (take over (drop at content)) l)) is_new
     ∙ taken_back_is at content inside bytes over is_over in
     let saved_size : length saved ≤ length content - at = omega (arith, ap length is_saved, length-take {A = ℕ}, length-drop {A = ℕ}) in
-    let new_size : length content ≤ length new = omega (arith, ap length is_new, length_written at bytes content inside) in
-    (
+    let new_size : length content ≤ length new = omega (arith, ap length is_new, length_written at bytes content inside) in (
       ap (λ (l : List Write). synced_of l new) is_later ∙ synced_of-push writes write new ∙ ap (λ (l : List ℕ). synced_of writes l) back,
       subst (λ (l : List Write). CanUndo (reverse l) new) (sym is_later) (CanUndo-push writes write new (omega arith, omega arith, subst (λ (l : List ℕ). CanUndo (reverse writes) l) (sym back) can)),
     )
@@ -109,8 +108,7 @@ pub one_failed_write_more : (writes later : List Write) (at count before : ℕ) 
     → (synced_of later content ≡ synced_of writes content) × CanUndo (reverse later) content
 one_failed_write_more writes later at count before content inside is_before is_later can =
     let write : Write = record { at = at; count = count; before = before; saved = [] } in
-    let back : taken_back write content ≡ content = ap (λ (n : ℕ). take n (overwritten at [] content)) is_before ∙ nothing_taken_back at content in
-    (
+    let back : taken_back write content ≡ content = ap (λ (n : ℕ). take n (overwritten at [] content)) is_before ∙ nothing_taken_back at content in (
       ap (λ (l : List Write). synced_of l content) is_later ∙ synced_of-push writes write content ∙ ap (λ (l : List ℕ). synced_of writes l) back,
       subst (λ (l : List Write). CanUndo (reverse l) content) (sym is_later) (CanUndo-push writes write content (omega arith, omega arith, subst (λ (l : List ℕ). CanUndo (reverse writes) l) (sym back) can)),
     )

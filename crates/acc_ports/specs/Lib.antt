@@ -2,6 +2,7 @@ pub mod Disk
 pub mod Errors
 pub mod Faults
 pub mod MemoryDisk
+pub mod MemoryMaker
 pub mod MemPort
 pub mod Sink
 pub mod Source

@@ -64,6 +64,15 @@ impl MemDisk {
     }
 }
 
+impl MemDisk {
+    /// What a read gives.
+    pub fn content(&self) -> &[u8]
+        ensures { result.now ≡ self.now.now.content }
+    {
+        self.surface.content()
+    }
+}
+
 impl Disk for MemDisk {
     ghost use Rattle.std.specs.Prelude.{is_none, length};
     ghost use Rattle.acc_ports.specs.MemoryDisk.{IsImageOf, WasImage, counts_now, only_now};
