@@ -1,0 +1,4 @@
+pub mod Appending
+pub mod Gates
+pub mod Layouts
+pub mod Moments

@@ -1,0 +1,36 @@
+//! Appending to the bytes of a journal on a disk.
+ghost use Rattle.std.specs.Prelude.{◌≡◌, ◌≢◌, ◌⊎◌, ◌+◌, ◌^◌, ◌<◌, ◌≤◌, ℕ, IsTrue, List, [], ◌∷◌, ◌++◌, length, Some, None, IfOk, OnOk, IsErr, IsErrOf};
+ghost use Rattle.acc_ports.specs.Disk.{Only, LeavesOnly};
+ghost use Rattle.acc_ports.specs.Faults.{Rose};
+ghost use Rattle.acc_ports.specs.Strict.{after_call};
+ghost use Rattle.acc_journal.specs.Layout.{payloads_of};
+ghost use Rattle.acc_journal.specs.Journal.{IsAtRest, HasGateAt, IsGroup, ReadsAsEither};
+
+use crate::durable::write_durably;
+use acc_ports::{Disk, PortError};
+
+/// Appends a group of records to a journal on a disk at rest, and answers where its closed gate stands then. `bytes` are
+/// the records without the gate in front of them, and a closed gate. First they are written behind the gate that is
+/// closed, and synced, and only then is it opened: so a crash leaves all of the group or nothing of it.
+pub(crate) fn append_records<D: Disk>(
+    disk: &mut D,
+    gate: u64,
+    bytes: &[u8],
+) -> Result<u64, PortError>
+    requires fits { length (D.content disk.old) < 2 ^ 64 }
+    requires gate { HasGateAt (D.content disk.old) (payloads_of (D.content disk.old)) gate }
+    requires rest { IsAtRest (D.content disk.old) (D.is_image disk.old) (D.strict disk.old) (D.synced disk.old) (D.written disk.old) }
+
+    ensures appended { IfOk result (λ place. (group : List (List ℕ)) → IsGroup group bytes.now → HasGateAt (D.content disk.new) (payloads_of (D.content disk.old) ++ group) place) }
+    ensures rest { OnOk result (IsAtRest (D.content disk.new) (D.is_image disk.new) (D.strict disk.new) (D.synced disk.new) (D.written disk.new)) }
+    ensures any_moment { (group : List (List ℕ)) → IsGroup group bytes.now → LeavesOnly D.clock D.was_image disk.old disk.new (ReadsAsEither (payloads_of (D.content disk.old)) group) }
+
+    ensures fits { length (D.content disk.new) < 2 ^ 64 }
+    ensures counted { D.faults disk.old ≤ D.faults disk.new }
+    ensures cause { IsErrOf result PortError.Failed → Rose (D.faults disk.old) (D.faults disk.new) }
+    ensures kind { D.strict disk.new ≡ D.strict disk.old }
+{
+    write_durably(disk, gate + 1, bytes)?;
+    write_durably(disk, gate, &[1])?;
+    Ok(gate + bytes.len() as u64)
+}
