@@ -1,5 +1,5 @@
 -- A journal, as contracts see it.
-use Rattle.std.specs.Prelude.{◌≡◌, ◌⊎◌, ℕ, ◌+◌, ◌-◌, ◌*◌, ◌≤◌, ◌<◌, Bool, true, false, IsTrue, List, [], ◌∷◌, ◌++◌, length, sum_by, Option, Some}
+use Rattle.std.specs.Prelude.{◌≡◌, ◌⊎◌, ℕ, ◌+◌, ◌-◌, ◌*◌, ◌≤◌, ◌<◌, Bool, true, false, IsTrue, List, [], ◌∷◌, ◌++◌, length, sum_by, Option, None, Some, ◌==◌, ◌&&◌, if◌then◌else◌}
 use Rattle.acc_ports.specs.Disk.{overwritten, Only}
 use Rattle.acc_ports.specs.Strict.{Ranges}
 use Rattle.acc_journal.specs.declared.error.JournalError.{JournalError}
@@ -39,6 +39,21 @@ pub record IsAtRest (content : List ℕ) (images : List ℕ → Type 0) (strict 
   pub only : Only content images
   pub all_synced : IsTrue strict → synced ≡ content
   pub none_written : IsTrue strict → written ≡ []
+
+-- The armed call is one of the next calls.
+abbrev pub FailsWithin : ℕ → Option ℕ → Type 0
+FailsWithin calls None = ⊥
+FailsWithin calls (Some passed) = passed < calls
+
+-- whether a crash by choice keeps the group of an append whose armed call failed: only where the last of its four calls
+-- did, the second sync, and the crash leaves what a read gives
+abbrev pub keeps_group : Option ℕ → ℕ → Bool
+keeps_group None choice = false
+keeps_group (Some passed) choice = (passed == 3) && (choice == 1)
+
+-- what a crash by choice leaves of an append whose armed call failed
+abbrev pub left_by_choice : Option ℕ → ℕ → List (List ℕ) → List (List ℕ) → List (List ℕ)
+left_by_choice armed choice before group = if keeps_group armed choice then before ++ group else before
 
 -- Of a write and its sync on a strict disk at rest, one failed: the write, or the sync behind it.
 pub record FailedHalfWay (at : ℕ) (bytes : List ℕ) (armed : Option ℕ) (before after synced : List ℕ) (written : Ranges) : Type 0 where

@@ -2,9 +2,9 @@
 ghost use Rattle.std.specs.Prelude.{◌≡◌, ◌≢◌, ◌⊎◌, ◌+◌, ◌^◌, ◌<◌, ◌≤◌, ℕ, IsTrue, List, [], ◌∷◌, ◌++◌, length, Some, None, IfOk, OnOk, IsErr, IsErrOf};
 ghost use Rattle.acc_ports.specs.Disk.{Only, LeavesOnly};
 ghost use Rattle.acc_ports.specs.Faults.{Rose};
-ghost use Rattle.acc_ports.specs.Strict.{after_call};
-ghost use Rattle.acc_journal.specs.Layout.{payloads_of};
-ghost use Rattle.acc_journal.specs.Journal.{IsAtRest, HasGateAt, IsGroup, ReadsAsEither};
+ghost use Rattle.acc_ports.specs.Strict.{after_call, LeftByChoice};
+ghost use Rattle.acc_journal.specs.Layout.{Reads, payloads_of};
+ghost use Rattle.acc_journal.specs.Journal.{IsAtRest, HasGateAt, IsGroup, ReadsAsEither, FailsWithin, left_by_choice};
 
 use crate::durable::write_durably;
 use acc_ports::{Disk, PortError};
@@ -29,6 +29,14 @@ pub(crate) fn append_records<D: Disk>(
     ensures counted { D.faults disk.old ≤ D.faults disk.new }
     ensures cause { IsErrOf result PortError.Failed → Rose (D.faults disk.old) (D.faults disk.new) }
     ensures kind { D.strict disk.new ≡ D.strict disk.old }
+
+    // On a strict disk the armed one of the four calls fails, and no other; and what a crash leaves then is known.
+    ensures counts { IsTrue (D.strict disk.old) → OnOk result (D.armed disk.new ≡ after_call (after_call (after_call (after_call (D.armed disk.old))))) }
+    ensures early { IsTrue (D.strict disk.old) → FailsWithin 4 (D.armed disk.old) → IsErr result }
+    ensures late { IsTrue (D.strict disk.old) → ¬ FailsWithin 4 (D.armed disk.old) → ¬ IsErrOf result PortError.Failed }
+    ensures still { IsTrue (D.strict disk.old) → ¬ FailsWithin 4 (D.armed disk.old) → D.faults disk.new ≡ D.faults disk.old }
+    ensures failed { IsTrue (D.strict disk.old) → IsErrOf result PortError.Failed → (group : List (List ℕ)) → IsGroup group bytes.now → (choice : ℕ) (left : List ℕ) → LeftByChoice choice (D.content disk.new) (D.synced disk.new) (D.written disk.new) left
+        → Reads left (left_by_choice (D.armed disk.old) choice (payloads_of (D.content disk.old)) group) }
 {
     write_durably(disk, gate + 1, bytes)?;
     write_durably(disk, gate, &[1])?;
