@@ -25,9 +25,9 @@ chosen choice content synced written left by = elim (cases_eq choice 0) [
       let test : (choice == 0) ≡ false = grind (arith, nat_tests) in
       let rest = subst (λ (b : Bool). MatchBool b (left ≡ synced) (MatchBool (choice == 1) (left ≡ content) (IsFilled choice written content left))) test by in
       elim (cases_eq choice 1) [
-      | inl one ↦ let is_one : (choice == 1) ≡ true = grind (arith, nat_tests) in of_read one (subst (λ (b : Bool). MatchBool b (left ≡ content) (IsFilled choice written content left)) is_one rest)
-      | inr other ↦ let not_one : (choice == 1) ≡ false = grind (arith, nat_tests) in of_byte other (subst (λ (b : Bool). MatchBool b (left ≡ content) (IsFilled choice written content left)) not_one rest)
-    ]
+        | inl one ↦ let is_one : (choice == 1) ≡ true = grind (arith, nat_tests) in of_read one (subst (λ (b : Bool). MatchBool b (left ≡ content) (IsFilled choice written content left)) is_one rest)
+        | inr other ↦ let not_one : (choice == 1) ≡ false = grind (arith, nat_tests) in of_byte other (subst (λ (b : Bool). MatchBool b (left ≡ content) (IsFilled choice written content left)) not_one rest)
+      ]
 ]
 
 within_one : (at count k : ℕ) → (k < at) ⊎ (at + count ≤ k) → is_within ((at, count) ∷ []) k ≡ false

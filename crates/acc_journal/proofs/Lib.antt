@@ -1,5 +1,6 @@
 pub mod Appending
 pub mod Choices
 pub mod Gates
+pub mod Groups
 pub mod Layouts
 pub mod Moments

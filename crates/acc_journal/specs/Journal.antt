@@ -1,10 +1,10 @@
 -- A journal, as contracts see it.
-use Rattle.std.specs.Prelude.{◌≡◌, ◌⊎◌, ℕ, ◌+◌, ◌-◌, ◌*◌, ◌≤◌, ◌<◌, Bool, true, false, IsTrue, List, [], ◌∷◌, ◌++◌, length, sum_by, Option, None, Some, ◌==◌, ◌&&◌, if◌then◌else◌}
+use Rattle.std.specs.Prelude.{◌≡◌, ◌⊎◌, ℕ, ◌+◌, ◌-◌, ◌*◌, ◌^◌, ◌≤◌, ◌<◌, Bool, true, false, IsTrue, List, [], ◌∷◌, ◌++◌, length, sum_by, Option, None, Some, ◌==◌, ◌&&◌, if◌then◌else◌}
 use Rattle.acc_ports.specs.Disk.{overwritten, Only}
 use Rattle.acc_ports.specs.Strict.{Ranges}
 use Rattle.acc_journal.specs.declared.error.JournalError.{JournalError}
 use Rattle.acc_journal.specs.declared.error.JournalError.TheVariants as errors
-use Rattle.acc_journal.specs.Layout.{records, AreShort, Reads, IsForeign, IsCut}
+use Rattle.acc_journal.specs.Layout.{records, AreShort, Reads, IsForeign, IsCut, payloads_of}
 
 pub record JournalState (D : Type 0) : Type 0 where
   -- the disk under it
@@ -39,6 +39,12 @@ pub record IsAtRest (content : List ℕ) (images : List ℕ → Type 0) (strict 
   pub only : Only content images
   pub all_synced : IsTrue strict → synced ≡ content
   pub none_written : IsTrue strict → written ≡ []
+
+-- A journal that isn't broken: its disk is at rest, and reads as payloads whose closed gate is at this place.
+pub record IsSettled (content : List ℕ) (images : List ℕ → Type 0) (strict : Bool) (synced : List ℕ) (written : Ranges) (gate : ℕ) : Type 0 where
+  pub fits : length content < 2 ^ 64
+  pub has_gate : HasGateAt content (payloads_of content) gate
+  pub rest : IsAtRest content images strict synced written
 
 -- The armed call is one of the next calls.
 abbrev pub FailsWithin : ℕ → Option ℕ → Type 0

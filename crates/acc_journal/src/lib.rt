@@ -4,5 +4,13 @@
 mod append;
 mod durable;
 mod error;
+mod group;
+mod journal;
+mod reading;
 
+use acc_base::{Bytes, Sequence};
 pub use error::JournalError;
+pub use journal::Journal;
+
+/// A list of payloads.
+pub type Payloads = Sequence<Bytes>;

@@ -1,0 +1,63 @@
+//! Reading the bytes of a journal.
+ghost use Rattle.std.specs.Prelude.{◌≡◌, ◌+◌, ◌^◌, ◌<◌, ◌++◌, length, IfOk, IfErr, IfSome, IfNone};
+ghost use Rattle.acc_journal.specs.Layout.{sized, NoRecord};
+ghost use Rattle.acc_journal.specs.Journal.{HasGateAt, IsRefused};
+
+use crate::{JournalError, Payloads};
+use acc_base::{Bytes, Sequence};
+use acc_wire::Reader;
+use std::alloc::Global;
+
+/// What the bytes of a journal tell: its payloads, and where the closed gate behind the last of them stands.
+#[derive(Drop)]
+pub(crate) struct Told {
+    pub(crate) payloads: Payloads,
+    pub(crate) gate: u64,
+}
+
+/// The payload at the front of these bytes, and what is left from the next gate on, or `None` where one of them is cut.
+fn take_record(bytes: &[u8]) -> Option<(&[u8], &[u8])>
+    ensures short { IfSome result (λ parts. length parts.0.now < 2 ^ 32) }
+    ensures spelled { IfSome result (λ parts. bytes.now ≡ sized parts.0.now ++ parts.1.now) }
+    ensures gate { IfSome result (λ parts. 0 < length parts.1.now) }
+    ensures cut { IfNone result (NoRecord bytes.now) }
+{
+    let mut reader = Reader::new(bytes);
+    let Ok(count) = reader.take_u32() else {
+        return None;
+    };
+    let rest = reader.left();
+    let count = count as usize;
+    if rest.len() <= count {
+        return None;
+    }
+    Some(rest.split_at(count))
+}
+
+/// Reads the bytes of a journal.
+pub(crate) fn read_payloads(alloc: Global, bytes: &[u8]) -> Result<Told, JournalError>
+    ensures told { IfOk result (λ told. HasGateAt bytes.now told.payloads told.gate) }
+    ensures refused { IfErr result (IsRefused bytes.now) }
+{
+    let [version, rest @ ..] = bytes else {
+        return Err(JournalError::BadRecord { place: 0 });
+    };
+    if *version != 1 {
+        return Err(JournalError::BadVersion { byte: *version });
+    }
+    if rest.is_empty() {
+        return Err(JournalError::BadRecord { place: 1 });
+    }
+    let mut payloads = Sequence::new(alloc);
+    let mut gate = 1;
+    let mut rest = rest;
+    while rest[0] == 1 {
+        let Some((payload, next)) = take_record(&rest[1..]) else {
+            return Err(JournalError::BadRecord { place: gate });
+        };
+        payloads.push(Bytes::from_slice(alloc, payload)?)?;
+        gate += 5 + payload.len() as u64;
+        rest = next;
+    }
+    Ok(Told { payloads, gate })
+}
