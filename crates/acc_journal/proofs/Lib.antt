@@ -4,3 +4,4 @@ pub mod Gates
 pub mod Groups
 pub mod Layouts
 pub mod Moments
+pub mod Readings
