@@ -6,8 +6,8 @@ ghost use Rattle.acc_ports.specs.Strict.{after_call, LeftByChoice};
 ghost use Rattle.acc_journal.specs.Layout.{Reads, payloads_of};
 ghost use Rattle.acc_journal.specs.Journal.{IsAtRest, IsSettled, IsOfTheDisk, HasGateAt, IsGroup, ReadsAsEither, FailsWithin, left_by_choice};
 
-use crate::durable::write_durably;
 use crate::JournalError;
+use crate::durable::write_durably;
 use acc_ports::{Disk, PortError};
 
 /// Appends a group of records to a journal on a disk at rest, and answers where its closed gate stands then. `bytes` are
@@ -54,11 +54,11 @@ pub(crate) fn put_down<D: Disk>(
     requires settled { IsSettled (D.content disk.old) (D.is_image disk.old) (D.strict disk.old) (D.synced disk.old) (D.written disk.old) gate.old }
     requires sound { broken.old ≡ false }
 
-    ensures ok { OnOk result (broken.new ≡ false) }
+    ensures ok { (group : List (List ℕ)) → IsGroup group bytes.now → OnOk result ((broken.new ≡ false) × (payloads_of (D.content disk.new) ≡ payloads_of (D.content disk.old) ++ group)) }
+    ensures lasts { (group : List (List ℕ)) → IsGroup group bytes.now → OnOk result ((image : List ℕ) → D.is_image disk.new image → Reads image (payloads_of (D.content disk.new))) }
     ensures broken { OnErr result (broken.new ≡ true) }
     ensures error { IfErr result IsOfTheDisk }
-    ensures settled { OnOk result ((group : List (List ℕ)) → IsGroup group bytes.now → IsSettled (D.content disk.new) (D.is_image disk.new) (D.strict disk.new) (D.synced disk.new) (D.written disk.new) gate.new) }
-    ensures appended { OnOk result ((group : List (List ℕ)) → IsGroup group bytes.now → payloads_of (D.content disk.new) ≡ payloads_of (D.content disk.old) ++ group) }
+    ensures settled { (group : List (List ℕ)) → IsGroup group bytes.now → broken.new ≡ false → IsSettled (D.content disk.new) (D.is_image disk.new) (D.strict disk.new) (D.synced disk.new) (D.written disk.new) gate.new }
     ensures any_moment { (group : List (List ℕ)) → IsGroup group bytes.now → LeavesOnly D.clock D.was_image disk.old disk.new (ReadsAsEither (payloads_of (D.content disk.old)) group) }
 
     ensures counted { D.faults disk.old ≤ D.faults disk.new }

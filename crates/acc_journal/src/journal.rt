@@ -1,14 +1,14 @@
 //! A journal on a disk.
-ghost use Rattle.std.specs.Prelude.{◌≡◌, ◌⊎◌, ◌^◌, ◌<◌, ◌≤◌, IsTrue, true, false, List, [], ◌∷◌, ◌++◌, ℕ, length, Some, None, IfOk, IfErr, OnOk, OnErr, IsErr, IsErrOf};
+ghost use Rattle.std.specs.Prelude.{◌≡◌, ◌≢◌, ◌^◌, ◌<◌, ◌≤◌, IsTrue, true, false, List, [], ◌∷◌, ◌++◌, ℕ, length, Some, Err, IfOk, IfErr, OnOk, OnErr, IsErr};
 ghost use Rattle.acc_ports.specs.Disk.{Only, LeavesOnly};
 ghost use Rattle.acc_ports.specs.Faults.{Rose};
 ghost use Rattle.acc_ports.specs.Strict.{after_call, LeftByChoice};
 
-use crate::append::append_records;
+use crate::append::put_down;
 use crate::group::{fill, fill_one};
 use crate::{JournalError, Payloads};
 use acc_base::OutOfMemory;
-use acc_ports::{Disk, PortError, Rig};
+use acc_ports::{Disk, Rig};
 use std::alloc::Global;
 use std::marker::Model;
 
@@ -69,6 +69,83 @@ impl<D: Disk> Journal<D> {
         self.buffer.clear();
         self.buffer.reserve(room as usize)?;
         Ok(())
+    }
+
+    /// Appends a payload. At Ok each crash from then on leaves it. After an error the journal is broken, and the payload stands
+    /// on the disk or doesn't. It makes four calls of the disk.
+    pub fn append(&mut self, payload: &[u8]) -> Result<(), JournalError>
+        requires sound { self.old.broken ≡ false }
+        requires short { length payload.now < 2 ^ 32 }
+        requires room { length payload.now ≤ self.old.spare }
+
+        ensures ok { OnOk result ((self.new.broken ≡ false) × (self.new.payloads ≡ self.old.payloads ++ payload.now ∷ [])) }
+        ensures lasts { OnOk result ((image : List ℕ) → D.is_image self.new.disk image → Reads image self.new.payloads) }
+        ensures broken { OnErr result (self.new.broken ≡ true) }
+        ensures error { IfErr result IsOfTheDisk }
+        ensures any_moment { LeavesOnly D.clock D.was_image self.old.disk self.new.disk (ReadsAsEither self.old.payloads (payload.now ∷ [])) }
+        ensures spare { self.old.spare ≤ self.new.spare }
+
+        ensures counted { D.faults self.old.disk ≤ D.faults self.new.disk }
+        ensures cause { result ≡ Err JournalError.DiskFault → Rose (D.faults self.old.disk) (D.faults self.new.disk) }
+
+        // On a strict disk the armed one of the four calls fails, and no other; and what a crash leaves then is known.
+        ensures kind { D.strict self.new.disk ≡ D.strict self.old.disk }
+        ensures counts { IsTrue (D.strict self.old.disk) → OnOk result (D.armed self.new.disk ≡ after_call (after_call (after_call (after_call (D.armed self.old.disk))))) }
+        ensures early { IsTrue (D.strict self.old.disk) → FailsWithin 4 (D.armed self.old.disk) → IsErr result }
+        ensures late { IsTrue (D.strict self.old.disk) → ¬ FailsWithin 4 (D.armed self.old.disk) → result ≢ Err JournalError.DiskFault }
+        ensures still { IsTrue (D.strict self.old.disk) → ¬ FailsWithin 4 (D.armed self.old.disk) → D.faults self.new.disk ≡ D.faults self.old.disk }
+        ensures failed { IsTrue (D.strict self.old.disk) → result ≡ Err JournalError.DiskFault → (choice : ℕ) (left : List ℕ) → LeftByChoice choice (D.content self.new.disk) (D.synced self.new.disk) (D.written self.new.disk) left
+            → Reads left (left_by_choice (D.armed self.old.disk) choice self.old.payloads (payload.now ∷ [])) }
+    {
+        if payload.is_empty() {
+            return put_down(&mut self.disk, &mut self.gate, &mut self.broken, &[0; 5]);
+        }
+        fill_one(&mut self.buffer, payload);
+        put_down(
+            &mut self.disk,
+            &mut self.gate,
+            &mut self.broken,
+            &self.buffer[1..],
+        )
+    }
+
+    /// Appends a group of payloads. At Ok each crash from then on leaves all of them. After an error the journal is broken,
+    /// and either all of them stand on the disk or none. It makes four calls of the disk, as many as for one payload.
+    pub fn append_group(&mut self, payloads: &Payloads) -> Result<(), JournalError>
+        requires sound { self.old.broken ≡ false }
+        requires some { 0 < length payloads.now }
+        requires short { AreShort payloads.now }
+        requires room { group_room payloads.now ≤ self.old.spare }
+
+        ensures ok { OnOk result ((self.new.broken ≡ false) × (self.new.payloads ≡ self.old.payloads ++ payloads.now)) }
+        ensures lasts { OnOk result ((image : List ℕ) → D.is_image self.new.disk image → Reads image self.new.payloads) }
+        ensures broken { OnErr result (self.new.broken ≡ true) }
+        ensures error { IfErr result IsOfTheDisk }
+        ensures any_moment { LeavesOnly D.clock D.was_image self.old.disk self.new.disk (ReadsAsEither self.old.payloads payloads.now) }
+        ensures spare { self.old.spare ≤ self.new.spare }
+
+        ensures counted { D.faults self.old.disk ≤ D.faults self.new.disk }
+        ensures cause { result ≡ Err JournalError.DiskFault → Rose (D.faults self.old.disk) (D.faults self.new.disk) }
+
+        // On a strict disk the armed one of the four calls fails, and no other; and what a crash leaves then is known.
+        ensures kind { D.strict self.new.disk ≡ D.strict self.old.disk }
+        ensures counts { IsTrue (D.strict self.old.disk) → OnOk result (D.armed self.new.disk ≡ after_call (after_call (after_call (after_call (D.armed self.old.disk))))) }
+        ensures early { IsTrue (D.strict self.old.disk) → FailsWithin 4 (D.armed self.old.disk) → IsErr result }
+        ensures late { IsTrue (D.strict self.old.disk) → ¬ FailsWithin 4 (D.armed self.old.disk) → result ≢ Err JournalError.DiskFault }
+        ensures still { IsTrue (D.strict self.old.disk) → ¬ FailsWithin 4 (D.armed self.old.disk) → D.faults self.new.disk ≡ D.faults self.old.disk }
+        ensures failed { IsTrue (D.strict self.old.disk) → result ≡ Err JournalError.DiskFault → (choice : ℕ) (left : List ℕ) → LeftByChoice choice (D.content self.new.disk) (D.synced self.new.disk) (D.written self.new.disk) left
+            → Reads left (left_by_choice (D.armed self.old.disk) choice self.old.payloads payloads.now) }
+    {
+        if let [payload] = payloads.as_slice() {
+            return self.append(payload.as_slice());
+        }
+        fill(&mut self.buffer, payloads.as_slice());
+        put_down(
+            &mut self.disk,
+            &mut self.gate,
+            &mut self.broken,
+            &self.buffer[1..],
+        )
     }
 
     /// Whether a call of the disk failed or found no memory. Such a journal takes nothing any more.
