@@ -36,7 +36,7 @@ step most rest payload later counts first behind more =
     let room : nat_lt (4 + length payload) (length rest) ≡ true = grind (arith, nat_tests) in
     rw (counts, room) (ap (λ (l : List ℕ). l ∷ records_behind most (drop (4 + length payload) rest)) first ∙ ap (λ (l : List ℕ). payload ∷ records_behind most l) behind)
 
-regrouped : (payload : List ℕ) (payloads : List (List ℕ)) (end : List ℕ) → (sized payload ++ records payloads) ++ end ≡ u32_bytes (length payload) ++ (payload ++ (records payloads ++ end))
+pub regrouped : (payload : List ℕ) (payloads : List (List ℕ)) (end : List ℕ) → (sized payload ++ records payloads) ++ end ≡ u32_bytes (length payload) ++ (payload ++ (records payloads ++ end))
 regrouped payload payloads end =
     append_assoc (sized payload) (records payloads) end ∙ append_assoc (u32_bytes (length payload)) payload (records payloads ++ end)
 

@@ -5,3 +5,4 @@ pub mod Groups
 pub mod Layouts
 pub mod Moments
 pub mod Readings
+pub mod Unique

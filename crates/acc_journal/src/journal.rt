@@ -1,11 +1,12 @@
 //! A journal on a disk.
-ghost use Rattle.std.specs.Prelude.{◌≡◌, ◌≢◌, ◌^◌, ◌<◌, ◌≤◌, IsTrue, true, false, List, [], ◌∷◌, ◌++◌, ℕ, length, Some, Err, IfOk, IfErr, OnOk, OnErr, IsErr};
+ghost use Rattle.std.specs.Prelude.{◌≡◌, ◌≢◌, ◌^◌, ◌<◌, ◌≤◌, IsTrue, true, false, List, [], ◌∷◌, ◌++◌, ℕ, length, Some, None, Err, IfOk, IfErr, OnOk, OnErr, IsErr};
 ghost use Rattle.acc_ports.specs.Disk.{Only, LeavesOnly};
 ghost use Rattle.acc_ports.specs.Faults.{Rose};
 ghost use Rattle.acc_ports.specs.Strict.{after_call, LeftByChoice};
 
 use crate::append::put_down;
 use crate::group::{fill, fill_one};
+use crate::reading::read_disk;
 use crate::{JournalError, Payloads};
 use acc_base::OutOfMemory;
 use acc_ports::{Disk, Rig};
@@ -39,7 +40,7 @@ impl<D: Disk> Model for Journal<D> {
 
 impl<D: Disk> Journal<D> {
     ghost use Rattle.acc_journal.specs.Layout.{Reads, AreShort};
-    ghost use Rattle.acc_journal.specs.Journal.{IsAtRest, ReadsAsEither, IsOfTheDisk, FailsWithin, group_room, left_by_choice};
+    ghost use Rattle.acc_journal.specs.Journal.{IsAtRest, ReadsAsEither, IsOfTheDisk, IsRefused, FailsWithin, group_room, left_by_choice};
 
     /// A journal without payloads, on a disk that holds the bytes 1 and 0, synced. It makes no call of the disk and takes no
     /// memory.
@@ -53,6 +54,48 @@ impl<D: Disk> Journal<D> {
             gate: 1,
             buffer: Vec::new(alloc),
             broken: false,
+        }
+    }
+
+    /// Opens the journal on a disk, as a crash left it, and gives its payloads. It reads the disk in two calls and writes
+    /// nothing. Every error hands the disk back. `BadVersion` and `BadRecord` tell of the bytes, and come on no journal that
+    /// this crate wrote, whatever a crash left of it.
+    pub fn reopen(alloc: Global, disk: D) -> Result<(Journal<D>, Payloads), (JournalError, D)>
+        requires { IsAtRest (D.content disk) (D.is_image disk) (D.strict disk) (D.synced disk) (D.written disk) }
+
+        ensures ok { IfOk result (λ r. r.0 ≡ record { disk = r.0.disk; payloads = r.1; spare = 0; broken = false }) }
+        ensures payloads { IfOk result (λ r. Reads (D.content disk) r.1) }
+        ensures lasts { IfOk result (λ r. (image : List ℕ) → D.is_image r.0.disk image → Reads image r.1) }
+        ensures content { IfOk result (λ r. D.content r.0.disk ≡ D.content disk) }
+        ensures any_moment { IfOk result (λ r. LeavesOnly D.clock D.was_image disk r.0.disk (λ image. image ≡ D.content disk)) }
+
+        ensures refused { IfErr result (λ e. IsRefused (D.content disk) e.0) }
+        ensures never { (payloads : List (List ℕ)) → Reads (D.content disk) payloads → IfErr result (λ e. IsOfTheDisk e.0) }
+        ensures err_content { IfErr result (λ e. D.content e.1 ≡ D.content disk) }
+        ensures err_only { IfErr result (λ e. Only (D.content disk) (D.is_image e.1)) }
+        ensures err_any_moment { IfErr result (λ e. LeavesOnly D.clock D.was_image disk e.1 (λ image. image ≡ D.content disk)) }
+
+        ensures counted { IfOk result (λ r. D.faults disk ≤ D.faults r.0.disk) }
+        ensures err_counted { IfErr result (λ e. D.faults disk ≤ D.faults e.1) }
+        ensures cause { IfErr result (λ e. e.0 ≡ JournalError.DiskFault → Rose (D.faults disk) (D.faults e.1)) }
+
+        ensures kind { IfOk result (λ r. D.strict r.0.disk ≡ D.strict disk) }
+        ensures err_kind { IfErr result (λ e. D.strict e.1 ≡ D.strict disk) }
+        ensures passes { IsTrue (D.strict disk) → D.armed disk ≡ None → IfErr result (λ e. e.0 ≢ JournalError.DiskFault) }
+        ensures unarmed { IsTrue (D.strict disk) → D.armed disk ≡ None → IfOk result (λ r. (D.armed r.0.disk ≡ None) × (D.faults r.0.disk ≡ D.faults disk)) }
+    {
+        let mut disk = disk;
+        match read_disk(alloc, &mut disk) {
+            Ok(told) => Ok((
+                Journal {
+                    disk,
+                    gate: told.gate,
+                    buffer: Vec::new(alloc),
+                    broken: false,
+                },
+                told.payloads,
+            )),
+            Err(error) => Err((error, disk)),
         }
     }
 

@@ -6,6 +6,7 @@ mod durable;
 mod error;
 mod group;
 mod journal;
+pub mod laws;
 mod reading;
 
 use acc_base::{Bytes, Sequence};
