@@ -1,7 +1,7 @@
 -- The two writes of an append, and what a crash leaves of each.
-use Rattle.std.proofs.Common.{◌≡◌, ◌⊎◌, inl, inr, ⊎_elim, ℕ, ◌+◌, List, [], ◌∷◌, ◌++◌, length, drop, refl, sym, ◌∙◌, ap, subst, arith, append_assoc, length-append}
+use Rattle.std.proofs.Common.{◌≡◌, ◌⊎◌, inl, inr, ℕ, ◌+◌, List, [], ◌∷◌, ◌++◌, length, drop, refl, sym, ◌∙◌, ap, subst, arith, append_assoc, length-append}
 use Rattle.acc_ports.specs.Disk.{overwritten, Torn, LeavesOnly}
-use Rattle.acc_journal.specs.Layout.{records, AreShort, Reads}
+use Rattle.acc_journal.specs.Layout.{records, Reads}
 use Rattle.acc_journal.specs.Journal.{ReadsAsEither, HasGateAt, IsGroup}
 use Rattle.acc_journal.proofs.Gates.{written_at, torn_at, torn_byte}
 use Rattle.acc_journal.proofs.Layouts.{records-append, AreShort-append, reads_closed, reads_either, opened}

@@ -1,12 +1,12 @@
 -- What a crash by choice leaves of an append on a strict disk whose armed call failed.
 use Rattle.std.proofs.Common.{◌≡◌, ◌≢◌, ◌⊎◌, inl, inr, ℕ, zero, suc, ◌+◌, ◌-◌, ◌<◌, ◌≤◌, Bool, true, false, List, [], ◌∷◌, ◌++◌, length, get_or, drop, refl, sym, ◌∙◌, ap, subst, arith, append_assoc, length-append, Option, Some, None}
-use Rattle.std.specs.Prelude.{◌==◌, ◌&&◌, ◌||◌, nat_le, nat_lt, max, if◌then◌else◌, MatchBool}
-use Rattle.std.proofs.lemmas.Bool.{cases_eq, cases_lt}
+use Rattle.std.specs.Prelude.{◌==◌, MatchBool}
+use Rattle.std.proofs.lemmas.Bool.{cases_eq}
 use Rattle.std.proofs.lemmas.Bool.Decides.{nat_tests}
 use Rattle.std.proofs.lemmas.List.{get_or-append-add}
 use Rattle.acc_ports.specs.Disk.{overwritten, Torn}
 use Rattle.acc_ports.specs.Strict.{Ranges, is_within, IsFilled, LeftByChoice, after_call}
-use Rattle.acc_journal.specs.Layout.{records, Reads}
+use Rattle.acc_journal.specs.Layout.{Reads}
 use Rattle.acc_journal.specs.Journal.{HasGateAt, IsGroup, FailedHalfWay, left_by_choice}
 use Rattle.acc_journal.proofs.Gates.{written_at, torn_at, torn_byte}
 use Rattle.acc_journal.proofs.Layouts.{reads_closed}

@@ -1,5 +1,5 @@
 -- A journal, as contracts see it.
-use Rattle.std.specs.Prelude.{◌≡◌, ◌⊎◌, ℕ, ◌+◌, ◌-◌, ◌*◌, ◌^◌, ◌≤◌, ◌<◌, Bool, true, false, IsTrue, List, [], ◌∷◌, ◌++◌, length, sum_by, Option, None, Some, ◌==◌, ◌&&◌, if◌then◌else◌}
+use Rattle.std.specs.Prelude.{◌≡◌, ◌⊎◌, ℕ, ◌+◌, ◌-◌, ◌*◌, ◌^◌, ◌<◌, Bool, false, IsTrue, List, [], ◌∷◌, ◌++◌, length, sum_by, Option, None, Some, ◌==◌, ◌&&◌, if◌then◌else◌}
 use Rattle.acc_ports.specs.Disk.{overwritten, Only}
 use Rattle.acc_ports.specs.Strict.{Ranges}
 use Rattle.acc_journal.specs.declared.error.JournalError.{JournalError}

@@ -1,6 +1,6 @@
 //! A journal on a disk.
 ghost use Rattle.std.specs.Prelude.{◌≡◌, ◌≢◌, ◌^◌, ◌<◌, ◌≤◌, IsTrue, true, false, List, [], ◌∷◌, ◌++◌, ℕ, length, Some, None, Err, IfOk, IfErr, OnOk, OnErr, IsErr};
-ghost use Rattle.acc_ports.specs.Disk.{Only, LeavesOnly};
+ghost use Rattle.acc_ports.specs.Disk.{Only, NoFurther, Elapses, LeavesOnly};
 ghost use Rattle.acc_ports.specs.Faults.{Rose};
 ghost use Rattle.acc_ports.specs.Strict.{after_call, LeftByChoice};
 
@@ -221,7 +221,15 @@ impl<D: Rig> Journal<D> {
         ensures payloads { self.new.payloads ≡ self.old.payloads }
         ensures spare { self.new.spare ≡ self.old.spare }
         ensures broken { self.new.broken ≡ self.old.broken }
+
         ensures content { D.content self.new.disk ≡ D.content self.old.disk }
+        ensures images { NoFurther (D.is_image self.old.disk) (D.is_image self.new.disk) }
+        ensures no_fewer { NoFurther (D.is_image self.new.disk) (D.is_image self.old.disk) }
+        ensures clock { D.clock self.new.disk ≡ D.clock self.old.disk }
+        ensures time { Elapses (D.clock self.old.disk) (D.clock self.new.disk) (D.was_image self.old.disk) (D.was_image self.new.disk) (D.is_image self.new.disk) }
+        ensures faults { D.faults self.new.disk ≡ D.faults self.old.disk }
+        ensures kind { D.strict self.new.disk ≡ D.strict self.old.disk }
+        ensures strict { IsTrue (D.strict self.old.disk) → (D.synced self.new.disk ≡ D.synced self.old.disk) × (D.written self.new.disk ≡ D.written self.old.disk) }
     {
         self.disk.arm(calls);
     }

@@ -1,16 +1,16 @@
 -- What a crash may leave after one write more, and by choice.
-use Rattle.std.proofs.Common.{◌≡◌, ◌⊎◌, inl, inr, ℕ, ◌+◌, ◌-◌, ◌<◌, ◌≤◌, List, [], ◌∷◌, ◌++◌, length, take, drop, get_or, refl, sym, ◌∙◌, ap, subst, arith, length-append, length-take, length-drop, Bool, true, false, cond}
+use Rattle.std.proofs.Common.{◌≡◌, ◌⊎◌, inl, inr, ℕ, ◌+◌, ◌-◌, ◌<◌, ◌≤◌, List, [], ◌∷◌, ◌++◌, length, take, drop, get_or, refl, sym, ◌∙◌, ap, arith, length-append, length-take, Bool, true, false, cond}
 use Rattle.std.specs.Prelude.{min, max, map, ◌||◌, ◌&&◌, nat_le, nat_lt, not}
-use Rattle.std.specs.List.{list_any, range_with_len}
+use Rattle.std.specs.List.{range_with_len}
 use Rattle.std.proofs.lemmas.List.{get_or_append_left, get_or-append-add, get_or-take, get_or-drop}
 use Rattle.std.proofs.lemmas.List.Folds.{list_any-append}
 use Rattle.std.proofs.lemmas.List.FromFn.{get_or-map-range_with_len, length-map-range_with_len}
 use Rattle.std.proofs.lemmas.Grind.{same_number_lists}
 use Rattle.std.proofs.lemmas.Bool.{cases_lt}
 use Rattle.std.proofs.lemmas.Bool.Decides.{nat_tests}
-use Rattle.acc_ports.specs.Disk.{overwritten, Torn, Follows}
+use Rattle.acc_ports.specs.Disk.{overwritten, Torn}
 use Rattle.acc_ports.proofs.Undoing.{length_written}
-use Rattle.acc_ports.specs.Strict.{Ranges, is_within, extent, IsImage, IsFilled}
+use Rattle.acc_ports.specs.Strict.{Ranges, is_within, extent, IsImage}
 
 -- a place lies in one range
 abbrev pub in_range : ℕ → ℕ → ℕ → Bool

@@ -1,6 +1,6 @@
 -- The last disk that was given back under a number.
-use Rattle.std.proofs.Common.{◌≡◌, ℕ, zero, suc, ◌+◌, ◌<◌, List, [], ◌∷◌, length, get_or, drop, refl, sym, ◌∙◌, ap, subst, Option, Some, None, eq-eqb}
-use Rattle.std.specs.Prelude.{◌==◌, if◌then◌else◌, true}
+use Rattle.std.proofs.Common.{◌≡◌, ℕ, zero, suc, ◌+◌, ◌<◌, List, [], ◌∷◌, length, get_or, drop, refl, sym, ◌∙◌, ap, Some, None, eq-eqb}
+use Rattle.std.specs.Prelude.{◌==◌, true}
 use Rattle.std.proofs.lemmas.List.{drop_more}
 use Rattle.acc_ports.specs.MemoryDisk.{MemoryDisk}
 use Rattle.acc_ports.specs.MemoryMaker.{last_content}

@@ -1,6 +1,6 @@
 -- Reads that follow one another.
 use Rattle.std.proofs.Common.{◌≡◌, ℕ, ◌+◌, ◌<◌, ◌≤◌, ◌++◌, [], ◌∷◌, List, length, take, drop, refl, ap, append_assoc, subst, arith, Option, Some, None, ◌∙◌, sym}
-use Rattle.std.specs.Prelude.{IfSome, All}
+use Rattle.std.specs.Prelude.{IfSome}
 use Rattle.std.proofs.Math.Seq.{take-add}
 use Rattle.std.proofs.lemmas.List.Elements.{All-push}
 use Rattle.std.proofs.lemmas.List.{drop-drop, length-drop}

@@ -1,5 +1,5 @@
 -- A strict disk: it fails at the armed call alone, and a crash leaves of it what was chosen.
-use Rattle.std.specs.Prelude.{◌≡◌, ◌≢◌, ℕ, ◌+◌, ◌-◌, ◌<◌, ◌≤◌, max, nat_le, nat_lt, ◌==◌, ◌&&◌, Bool, true, false, if◌then◌else◌, List, [], ◌∷◌, ◌++◌, length, slice_index, Option, None, Some, Result, Ok, Err, IsErr, IsErrOf, MatchBool}
+use Rattle.std.specs.Prelude.{◌≡◌, ◌≢◌, ℕ, ◌+◌, ◌-◌, ◌<◌, ◌≤◌, max, nat_le, nat_lt, ◌==◌, ◌&&◌, Bool, false, if◌then◌else◌, List, [], ◌∷◌, length, slice_index, Option, None, Some, Result, Ok, Err, IsErr, IsErrOf, MatchBool}
 use Rattle.std.specs.List.{list_any}
 use Rattle.acc_ports.specs.declared.error.PortError.{PortError}
 use Rattle.acc_ports.specs.declared.error.PortError.TheVariants as port

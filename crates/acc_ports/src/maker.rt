@@ -20,7 +20,8 @@ pub trait DiskMaker {
         ensures content { IfOk result (λ disk. Self.D.content disk ≡ 1 ∷ 0 ∷ []) }
         ensures only { IfOk result (λ disk. Only (1 ∷ 0 ∷ []) (Self.D.is_image disk)) }
         ensures counts { IfOk result (λ disk. (Self.D.faults disk ≡ 0) × (Self.D.armed disk ≡ None)) }
-        ensures strict { IsTrue (strict self.old) → IfOk result (λ disk. IsTrue (Self.D.strict disk) × (Self.D.synced disk ≡ 1 ∷ 0 ∷ []) × (Self.D.written disk ≡ [])) }
+        ensures synced { IfOk result (λ disk. IsTrue (Self.D.strict disk) → (Self.D.synced disk ≡ 1 ∷ 0 ∷ []) × (Self.D.written disk ≡ [])) }
+        ensures strict { IsTrue (strict self.old) → IfOk result (λ disk. IsTrue (Self.D.strict disk)) }
 
         ensures kind { strict self.new ≡ strict self.old }
         ensures given { given self.new ≡ given self.old };

@@ -1,5 +1,5 @@
 -- The first write leaves the closed gate, and the second opens it.
-use Rattle.std.proofs.Common.{arith, sym, subst, Option, ◌≡◌, ◌∙◌, ap, List, ℕ, [], ◌∷◌}
+use Rattle.std.proofs.Common.{arith, sym, subst, Option, ◌∙◌, ap, List, ℕ, [], ◌∷◌}
 use Rattle.std.specs.Prelude.{IsTrue, IsErrOf}
 use Rattle.std.proofs.lemmas.Grind.{common_steps}
 use Rattle.acc_ports.specs.declared.error.PortError.TheVariants as PortError

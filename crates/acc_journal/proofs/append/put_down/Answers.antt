@@ -1,5 +1,5 @@
 -- The bytes have the old payloads and the group, and their gate is known.
-use Rattle.std.proofs.Common.{sym, subst, ◌∙◌, List, ℕ, refl}
+use Rattle.std.proofs.Common.{sym, subst, List, ℕ}
 use Rattle.acc_journal.specs.Layout.{Reads, payloads_of}
 use Rattle.acc_journal.specs.Journal.{HasGateAt}
 use Rattle.acc_journal.proofs.Layouts.{payloads_are}

@@ -1,6 +1,6 @@
 -- One record more stands in the buffer.
-use Rattle.std.proofs.Common.{arith, ◌≡◌, ◌∙◌, ap, sym, List, ℕ, ◌∷◌, ◌++◌, length}
-use Rattle.acc_journal.specs.Layout.{sized, records}
+use Rattle.std.proofs.Common.{arith, ◌∙◌, ap, sym, List, ℕ, ◌∷◌, ◌++◌, length}
+use Rattle.acc_journal.specs.Layout.{sized}
 use Rattle.acc_journal.proofs.Groups.{records_more, lengths_left}
 use Rattle.acc_journal.proofs.group.fill.Goals as goal
 

@@ -1,5 +1,4 @@
 -- Readings are unique.
-use Rattle.std.proofs.Common.{sym, ◌∙◌}
 use Rattle.acc_journal.proofs.Layouts.{payloads_are}
 use Rattle.acc_journal.proofs.Unique.{one_list, one_place, not_foreign, not_cut, foreign_or_cut, one_version}
 use Rattle.acc_journal.proofs.laws.one_reading.Goals as goal

@@ -1,5 +1,5 @@
 -- One record more was read.
-use Rattle.std.proofs.Common.{arith, rules, ◌≡◌, ◌∙◌, ap, sym, subst, ℕ, List, [], ◌∷◌, ◌++◌, length, drop, get_or}
+use Rattle.std.proofs.Common.{arith, ◌≡◌, sym, subst, [], ◌∷◌, ◌++◌, drop, get_or}
 use Rattle.std.proofs.lemmas.Grind.{common_steps}
 use Rattle.acc_journal.specs.Layout.{sized, AreShort}
 use Rattle.acc_journal.proofs.Layouts.{AreShort-append}

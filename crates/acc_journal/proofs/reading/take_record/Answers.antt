@@ -1,5 +1,5 @@
 -- A whole record would have been read.
-use Rattle.std.proofs.Common.{arith, ◌≡◌, ◌∙◌, ap, sym, ℕ, List, ◌∷◌, ◌++◌, length, length-append}
+use Rattle.std.proofs.Common.{arith, ◌≡◌, ◌∙◌, ap, ◌∷◌, ◌++◌, length, length-append}
 use Rattle.acc_wire.specs.Reading.{Unread}
 use Rattle.acc_journal.proofs.Readings.{behind_length, passes_length}
 use Rattle.acc_journal.proofs.reading.take_record.Goals as goal

@@ -1,9 +1,8 @@
 -- The new write saved what it wrote over.
-use Rattle.std.proofs.Common.{arith, rules, refl, ◌≡◌, ◌-◌, ◌≤◌, length, take, drop, reverse, [], ◌∷◌, ◌++◌}
+use Rattle.std.proofs.Common.{arith, rules, refl, ◌≡◌, ◌-◌, ◌≤◌, length, take, drop}
 use Rattle.std.specs.Prelude.{min}
 use Rattle.std.proofs.lemmas.Grind.{common_steps}
 use Rattle.acc_ports.specs.Disk.{overwritten}
-use Rattle.acc_ports.specs.Undo.{synced_of, CanUndo}
 use Rattle.acc_ports.proofs.Crashes.{CanCrash-write}
 use Rattle.acc_ports.proofs.Undoing.{one_write_more}
 use Rattle.acc_ports.proofs.undo.write_over.Goals as goal

@@ -1,9 +1,9 @@
 -- The group of one payload.
-use Rattle.std.proofs.Common.{arith, rules, ◌≡◌, ◌∙◌, ap, sym, subst, ℕ, List, Option, [], ◌∷◌, ◌++◌, length, drop}
-use Rattle.std.specs.Prelude.{OnOk, false, IsTrue, Result}
+use Rattle.std.proofs.Common.{rules, ◌≡◌, ◌∙◌, sym, subst, [], ◌∷◌, ◌++◌}
+use Rattle.std.specs.Prelude.{OnOk, false, IsTrue}
 use Rattle.acc_ports.specs.Disk.{LeavesOnly}
-use Rattle.acc_journal.specs.Layout.{Reads, AreShort, payloads_of}
-use Rattle.acc_journal.specs.Journal.{JournalState, IsGroup, ReadsAsEither, left_by_choice}
+use Rattle.acc_journal.specs.Layout.{Reads, payloads_of}
+use Rattle.acc_journal.specs.Journal.{JournalState, ReadsAsEither, left_by_choice}
 use Rattle.acc_journal.proofs.Groups.{one_is_group, nothing_is_group}
 use Rattle.acc_journal.proofs.journal.Journal.append.Goals as goal
 

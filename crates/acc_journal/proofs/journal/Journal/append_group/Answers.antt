@@ -1,9 +1,9 @@
 -- The group of all payloads.
-use Rattle.std.proofs.Common.{arith, rules, ◌≡◌, ◌∙◌, ap, sym, subst, ℕ, List, Option, [], ◌∷◌, ◌++◌, length, drop}
-use Rattle.std.specs.Prelude.{OnOk, false, IsTrue, Result}
+use Rattle.std.proofs.Common.{rules, ◌≡◌, ◌∙◌, sym, subst, [], ◌∷◌, ◌++◌}
+use Rattle.std.specs.Prelude.{OnOk, false, IsTrue}
 use Rattle.acc_ports.specs.Disk.{LeavesOnly}
-use Rattle.acc_journal.specs.Layout.{Reads, AreShort, payloads_of, records}
-use Rattle.acc_journal.specs.Journal.{JournalState, IsGroup, ReadsAsEither, left_by_choice}
+use Rattle.acc_journal.specs.Layout.{Reads, payloads_of, records}
+use Rattle.acc_journal.specs.Journal.{JournalState, ReadsAsEither, left_by_choice}
 use Rattle.acc_journal.proofs.Groups.{some_are_group}
 use Rattle.acc_journal.proofs.journal.Journal.append_group.Goals as goal
 

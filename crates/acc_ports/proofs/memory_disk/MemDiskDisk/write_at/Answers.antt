@@ -1,5 +1,5 @@
 -- What stood there before joins the past, and each image comes from one of it.
-use Rattle.std.proofs.Common.{rules, ap, sym, ◌∙◌, ◌≡◌, [], ◌∷◌, ◌++◌, length}
+use Rattle.std.proofs.Common.{rules, ◌≡◌, [], ◌∷◌, ◌++◌, length}
 use Rattle.acc_ports.proofs.Times.{time_goes_on, images_follow}
 use Rattle.acc_ports.proofs.memory_disk.MemDiskDisk.write_at.Goals as goal
 

@@ -1,6 +1,6 @@
 -- Behind the disk that is found there is none of its number.
-use Rattle.std.proofs.Common.{arith, rules, ◌≡◌, ◌∙◌, sym, ◌+◌, ◌-◌, ◌<◌, length, get_or, drop, ap, subst, Some, None}
-use Rattle.acc_ports.specs.MemoryMaker.{MemoryMaker, last_content}
+use Rattle.std.proofs.Common.{arith, rules, ◌≡◌, ◌∙◌, sym, ◌+◌, ◌-◌, ◌<◌, length, drop, ap, Some, None}
+use Rattle.acc_ports.specs.MemoryMaker.{last_content}
 use Rattle.acc_ports.proofs.Makers.{last_content_at}
 use Rattle.acc_ports.proofs.memory_maker.MemMaker.content.Goals as goal
 
