@@ -30,11 +30,13 @@ impl Model for MemDisk {
 }
 
 impl MemDisk {
-    ghost use Rattle.acc_ports.specs.MemoryDisk.{settled_on};
+    ghost use Rattle.acc_ports.specs.Disk.{Only};
+    ghost use Rattle.acc_ports.specs.MemoryDisk.{IsImageOf, settled_on};
 
     /// A disk that holds these bytes, all synced. Nothing is armed, and it is strict.
     pub fn of(alloc: Global, bytes: Bytes) -> Result<MemDisk, OutOfMemory>
-        ensures { IfOk result (λ disk. disk ≡ record { now = settled_on bytes; past = []; armed = None; fails = None; calls = 0; faults = 0 }) }
+        ensures only { IfOk result (λ disk. Only bytes (IsImageOf disk.now)) }
+        ensures value { IfOk result (λ disk. disk ≡ record { now = settled_on bytes; past = []; armed = None; fails = None; calls = 0; faults = 0 }) }
     {
         Ok(MemDisk {
             surface: Surface::holding(alloc, bytes),
@@ -45,7 +47,8 @@ impl MemDisk {
 
     /// A disk that holds the two bytes 1 and 0, synced. Nothing is armed, and it is strict.
     pub fn new(alloc: Global) -> Result<MemDisk, OutOfMemory>
-        ensures { IfOk result (λ disk. disk ≡ record { now = settled_on (1 ∷ 0 ∷ []); past = []; armed = None; fails = None; calls = 0; faults = 0 }) }
+        ensures only { IfOk result (λ disk. Only (1 ∷ 0 ∷ []) (IsImageOf disk.now)) }
+        ensures value { IfOk result (λ disk. disk ≡ record { now = settled_on (1 ∷ 0 ∷ []); past = []; armed = None; fails = None; calls = 0; faults = 0 }) }
     {
         MemDisk::of(alloc, Sequence::from_slice(alloc, &[1, 0])?)
     }
@@ -53,7 +56,8 @@ impl MemDisk {
     /// A disk as of `new` whose calls of these numbers fail besides the armed one. Calls of `Disk` are counted from 0. It
     /// isn't strict.
     pub fn listed(alloc: Global, fails: Calls) -> Result<MemDisk, OutOfMemory>
-        ensures { IfOk result (λ disk. disk ≡ record { now = settled_on (1 ∷ 0 ∷ []); past = []; armed = None; fails = Some fails; calls = 0; faults = 0 }) }
+        ensures only { IfOk result (λ disk. Only (1 ∷ 0 ∷ []) (IsImageOf disk.now)) }
+        ensures value { IfOk result (λ disk. disk ≡ record { now = settled_on (1 ∷ 0 ∷ []); past = []; armed = None; fails = Some fails; calls = 0; faults = 0 }) }
     {
         let bytes = Sequence::from_slice(alloc, &[1, 0])?;
         Ok(MemDisk {

@@ -1,6 +1,6 @@
 //! The bytes of a disk in memory, with what takes back each write since the last sync.
 ghost use Rattle.std.specs.Prelude.{◌≡◌, ◌+◌, ◌≤◌, ◌<◌, ◌^◌, [], ◌∷◌, ◌++◌, length, take, min, vec_len, IfOk, OnOk, OnErr};
-ghost use Rattle.acc_ports.specs.Disk.{overwritten, Stands};
+ghost use Rattle.acc_ports.specs.Disk.{overwritten, Only, Stands};
 ghost use Rattle.acc_ports.specs.Strict.{IsImage, LeftByChoice};
 
 use crate::undo::{fill, note_failure, take_back, write_over};
@@ -46,6 +46,7 @@ impl Surface {
     /// These bytes, all synced. It takes no memory.
     pub(crate) fn holding(alloc: Global, content: Bytes) -> Surface
         ensures value { result ≡ settled_on content }
+        ensures only { Only content (IsImageOf result) }
         ensures stands { Stands result.content (IsImageOf result) }
     {
         Surface {
