@@ -23,7 +23,8 @@ use Rattle.acc_message.specs.declared.answer.ReadAnswer.TheVariants.{Values, Kno
 use Rattle.acc_message.specs.declared.message.Message.{Message}
 use Rattle.acc_message.specs.declared.message.Message.TheVariants.{PreAccept, PreAcceptOk, Accept, AcceptOk, Commit, CommitOk, Stable, ReadOk, Apply, Recover, RecoverOk, Nack, Decided, Inform}
 use Rattle.acc_message.specs.Fields.{from_of, is_about}
-use Rattle.acc_message.specs.Items.{or_else, same_actor}
+use Rattle.acc_base.specs.Faults.{or_else}
+use Rattle.acc_message.specs.Items.{same_actor}
 use Rattle.acc_message.specs.Shares.{shards_used, is_store_of}
 use Rattle.acc_message.specs.BallotRules.{is_accept_ok, is_commit_ok, is_recover_ok}
 

@@ -13,7 +13,8 @@ use Rattle.acc_message.specs.declared.entry.Event.{Event}
 use Rattle.acc_message.specs.declared.entry.Event.TheVariants.{Begin as BeginEvent, Recover as RecoverEvent, Slow as SlowEvent, Message as MessageEvent, Restart as RestartEvent}
 use Rattle.acc_message.specs.declared.item.Item.{Item}
 use Rattle.acc_message.specs.declared.item.Item.TheVariants.{Step, Skipped, Down}
-use Rattle.acc_message.specs.Items.{or_else, event_begins, begins_txn, is_begun, id_begun, id_drawn, id_of_txn}
+use Rattle.acc_base.specs.Faults.{or_else}
+use Rattle.acc_message.specs.Items.{event_begins, begins_txn, is_begun, id_begun, id_drawn, id_of_txn}
 use Rattle.acc_message.specs.NodeRules.{Begins, Deed, next_id, node_emits}
 use Rattle.acc_message.specs.Run.{Cluster, clock_start, act_of, deeds_of, emits_by, emits, MayStand, StandsOn, EachStands}
 use Rattle.acc_world.proofs.Standing.{not_none}

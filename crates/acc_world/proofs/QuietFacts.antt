@@ -7,7 +7,7 @@ use Rattle.acc_stamp.proofs.Order.{id_order}
 use Rattle.acc_stamp.proofs.Rising.{is_among-filter}
 use Rattle.acc_message.specs.declared.message.Message.{Message}
 use Rattle.acc_message.specs.declared.message.Message.TheVariants.{PreAccept, PreAcceptOk, Accept, AcceptOk, Commit, CommitOk, Stable, ReadOk, Apply, Recover, RecoverOk, Nack, Decided, Inform}
-use Rattle.acc_message.specs.Items.{or_else}
+use Rattle.acc_base.specs.Faults.{or_else}
 use Rattle.acc_message.specs.Taken.{Taken, known}
 use Rattle.acc_message.specs.BallotRules.{stable_of, settled_in, kept_outcome, outcome_in}
 use Rattle.acc_message.specs.Opening.{IsOpened, Stays, Opens, may_open, Standing, stable_ones, in_turn, is_ready, Change, Turn, turn_of, with_applied, pass, is_change, changes_of, with_outcome, opened_of, applied_of}

@@ -13,7 +13,7 @@ use Rattle.acc_txn.specs.declared.parts.BodyParts.{BodyParts}
 use Rattle.acc_message.specs.declared.message.Message.{Message}
 use Rattle.acc_message.specs.declared.message.Message.TheVariants.{PreAccept, PreAcceptOk, Accept, AcceptOk, Commit, CommitOk, Stable, ReadOk, Apply, Recover, RecoverOk, Nack, Decided, Inform}
 use Rattle.acc_message.specs.Fields.{id_of}
-use Rattle.acc_message.specs.Items.{or_else}
+use Rattle.acc_base.specs.Faults.{or_else}
 use Rattle.acc_message.specs.Taken.{Taken, Heard, is_heard, known, learnt, learnt_from, body_in}
 use Rattle.acc_message.specs.BallotRules.{stable_of, settled_in}
 use Rattle.acc_message.specs.Opening.{Standing, standing_with, stable_ones, standing_lt, in_turn}
