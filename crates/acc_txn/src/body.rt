@@ -92,7 +92,7 @@ impl Body {
         ensures uses { IfOk result (λ uses. uses ≡ footprint_of self.now) }
         ensures keys { IfOk result (λ uses. (key : Key) → find uses key ≡ (if is_updated self.now key then Some true else (if is_read self.now key then Some false else None))) }
     {
-        self.content.uses.copy()
+        self.uses().copy()
     }
 
     /// The outcome of the body on the cells before it. Where `cells` doesn't have a key, its cell is null.

@@ -166,7 +166,8 @@ fn update_mentions_no_let(lets: usize, update: &Update) -> bool
 fn sum_mentions_no_let(lets: usize, sum: &[Part]) -> bool
     ensures { result ≡ mentions_unbound lets sum.now }
 {
-    sum.iter().any(|part| term_mentions_no_let(lets, &part.term))
+    sum.iter()
+        .any(|part| term_mentions_no_let(lets, &part.term))
 }
 
 fn term_mentions_no_let(lets: usize, term: &Term) -> bool
