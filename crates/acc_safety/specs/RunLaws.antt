@@ -5,16 +5,12 @@ use Rattle.acc_stamp.specs.declared.stamps.Stamp.{Stamp}
 use Rattle.acc_stamp.specs.declared.actors.Actor.{Actor}
 use Rattle.acc_stamp.specs.Stamp.{stamp_eq}
 use Rattle.acc_stamp.specs.Rising.{is_among}
-use Rattle.acc_topology.specs.Layout.{Layout, shard_at}
-use Rattle.acc_topology.specs.Sets.{is_among as number_among}
 use Rattle.acc_message.specs.declared.message.Message.{Message}
 use Rattle.acc_message.specs.declared.note.Note.{Note}
 use Rattle.acc_message.specs.declared.note.Note.TheVariants.{Begin as BeginNote, Recover as RecoverNote}
 use Rattle.acc_message.specs.declared.item.Item.{Item}
 use Rattle.acc_message.specs.Fields.{to_of}
 use Rattle.acc_message.specs.Items.{sent_in, noted_in, message_at, same_actor}
-use Rattle.acc_stamp.specs.declared.stamps.TxnId.{TxnId}
-use Rattle.acc_message.specs.Attempts.{kept_stamp, has_answered}
 use Rattle.acc_message.specs.Taken.{Taken}
 use Rattle.acc_message.specs.NodeRules.{Act, Deed}
 
@@ -49,22 +45,6 @@ pub record WasSent (earlier : List Item) (number : ℕ) (actor : Actor) : Type 0
   pub numbered : message_at earlier number ≡ Some message
   pub sent : IsSentIn message earlier
   pub addressed : IsTrue (same_actor (to_of message) actor)
-
--- ---- quorums of answers
-
--- some replica of the shard kept the transaction's timestamp in the first answers, and is among those of the others
-pub record KeptAndAnswered (layout : Layout) (shard : ℕ) (x : TxnId) (answers others : List Message) : Type 0 where
-  pub node : ℕ
-  pub replica : IsTrue (number_among (shard_at layout shard).replicas node)
-  pub kept : IsTrue (kept_stamp x answers shard node)
-  pub answered : IsTrue (has_answered others shard node)
-
--- some replica of the shard kept the timestamps of both transactions
-pub record KeptBoth (layout : Layout) (shard : ℕ) (x y : TxnId) (answers others : List Message) : Type 0 where
-  pub node : ℕ
-  pub replica : IsTrue (number_among (shard_at layout shard).replicas node)
-  pub kept : IsTrue (kept_stamp x answers shard node)
-  pub kept_other : IsTrue (kept_stamp y others shard node)
 
 -- ---- what an actor took
 
