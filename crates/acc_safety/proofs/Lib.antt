@@ -3,3 +3,4 @@ pub mod DrawFacts
 pub mod ReplayFacts
 pub mod PlaceFacts
 pub mod BegunFacts
+pub mod PlaceOrder
