@@ -4,3 +4,4 @@ pub mod ReplayFacts
 pub mod PlaceFacts
 pub mod BegunFacts
 pub mod PlaceOrder
+pub mod StoreSent
