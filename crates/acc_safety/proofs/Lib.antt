@@ -5,3 +5,5 @@ pub mod PlaceFacts
 pub mod BegunFacts
 pub mod PlaceOrder
 pub mod StoreSent
+pub mod NodeMoved
+pub mod NodeSent
