@@ -7,3 +7,4 @@ pub mod PlaceOrder
 pub mod StoreSent
 pub mod NodeMoved
 pub mod NodeSent
+pub mod Bridge

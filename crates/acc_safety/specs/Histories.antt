@@ -10,7 +10,7 @@ use Rattle.acc_message.specs.declared.note.Note.{Note}
 use Rattle.acc_message.specs.declared.entry.Entry.{Entry}
 use Rattle.acc_message.specs.declared.item.Item.{Item}
 use Rattle.acc_message.specs.declared.item.Item.TheVariants.{Step}
-use Rattle.acc_message.specs.Fields.{to_of}
+use Rattle.acc_message.specs.Fields.{from_of, to_of}
 use Rattle.acc_message.specs.Taken.{Taken}
 use Rattle.acc_message.specs.StoreRules.{store_answer}
 use Rattle.acc_message.specs.NodeRules.{Deed, node_emits}
@@ -90,6 +90,16 @@ pub record FromNode (cluster : Cluster) (items : List Item) (a : Actor) (m : Mes
   pub at : StandsAt deed past (deeds_of cluster a items)
   pub sent : IsIn m deed.emitted.out
 
+-- its sender did
 pub data Sender (cluster : Cluster) (items : List Item) (m : Message) : Type 0 where
-  IsStore : (a : Actor) → FromStore cluster items a m → Sender cluster items m
-  IsNode : (a : Actor) → FromNode cluster items a m → Sender cluster items m
+  IsStore : FromStore cluster items (from_of m) m → Sender cluster items m
+  IsNode : FromNode cluster items (from_of m) m → Sender cluster items m
+
+-- a node made the note, at this place of its history
+pub record NotedBy (cluster : Cluster) (items : List Item) (note : Note) : Type 0 where
+  pub actor : Actor
+  pub is_node : is_node actor ≡ true
+  pub deed : Deed
+  pub past : List Deed
+  pub at : StandsAt deed past (deeds_of cluster actor items)
+  pub noted : IsIn note deed.emitted.notes

@@ -6,7 +6,8 @@
 --     FastIsFound      where x is decided fast, every proposal and every decision of it has its own timestamp
 --     OneTimestamp, TimestampsDiffer, OneSetOfDeps      agreement
 --     CoveredByFast, CoveredByCommits      coverage
-use Rattle.std.specs.Prelude.{◌≡◌, ℕ, true, false, List, Option, None, Some}
+use Rattle.std.specs.Prelude.{◌≡◌, ℕ, true, false, List, [], ◌∷◌, ◌++◌, Option, None, Some}
+use Rattle.std.specs.List.{AllByRecursion}
 use Rattle.acc_stamp.specs.declared.stamps.Stamp.{Stamp}
 use Rattle.acc_stamp.specs.declared.stamps.TxnId.{TxnId}
 use Rattle.acc_stamp.specs.declared.stamps.Ballot.{Ballot}
@@ -14,7 +15,9 @@ use Rattle.acc_stamp.specs.declared.actors.Actor.{Actor}
 use Rattle.acc_stamp.specs.Actor.{home_of}
 use Rattle.acc_stamp.specs.Stamp.{stamp_lt, ballot_lt, zero_ballot}
 use Rattle.acc_deps.specs.declared.shards.ShardDeps.{ShardDeps}
+use Rattle.acc_deps.specs.declared.records.Accepted.{Accepted}
 use Rattle.acc_deps.specs.declared.records.Settled.{Settled}
+use Rattle.acc_deps.specs.declared.records.View.{View}
 use Rattle.acc_deps.specs.Deps.{AreDeps, deps_has}
 use Rattle.acc_txn.specs.declared.parts.BodyParts.{BodyParts}
 use Rattle.acc_message.specs.declared.message.Message.{Message}
@@ -42,26 +45,37 @@ BodiesAreBegun cluster items = (m : Message) (body : BodyParts) → Sending item
 abbrev pub HomesAreOne : Cluster → List Item → Type 0
 HomesAreOne cluster items = (m : Message) → Sending items m → is_node (from_of m) ≡ true → from_of m ≡ home_of (id_of m) (ballot_of m)
 
--- the dependencies that a message or a note names
-abbrev pub deps_named : Message → Option (List ShardDeps)
-deps_named (PreAccept from to id ballot body) = None
-deps_named (PreAcceptOk from to id ballot vote deps) = Some deps
-deps_named (Accept from to id ballot body t deps) = Some deps
-deps_named (AcceptOk from to id ballot deps) = Some deps
-deps_named (Commit from to id ballot body t deps) = Some deps
-deps_named (CommitOk from to id ballot) = None
-deps_named (Stable from to id ballot body t deps) = Some deps
-deps_named (ReadOk from to id ballot answer) = None
-deps_named (Apply from to id ballot body t deps outcome) = Some deps
-deps_named (Recover from to id ballot body) = None
-deps_named (RecoverOk from to id ballot view) = Some view.vote_deps
-deps_named (Nack from to id ballot promised) = None
-deps_named (Decided from to id ballot t deps) = Some deps
-deps_named (Inform from to id ballot outcome) = None
+-- the sets of dependencies that a record has, and that a message names
+abbrev pub deps_accepted : Option Accepted → List (List ShardDeps)
+deps_accepted None = []
+deps_accepted (Some a) = a.deps ∷ []
 
--- they are sets, as those of the records in a view
+abbrev pub deps_settled : Option Settled → List (List ShardDeps)
+deps_settled None = []
+deps_settled (Some s) = s.deps ∷ []
+
+abbrev pub deps_in_view : View → List (List ShardDeps)
+deps_in_view view = view.vote_deps ∷ deps_accepted view.accepted ++ deps_accepted view.committed ++ deps_settled view.stable
+
+abbrev pub deps_named : Message → List (List ShardDeps)
+deps_named (PreAccept from to id ballot body) = []
+deps_named (PreAcceptOk from to id ballot vote deps) = deps ∷ []
+deps_named (Accept from to id ballot body t deps) = deps ∷ []
+deps_named (AcceptOk from to id ballot deps) = deps ∷ []
+deps_named (Commit from to id ballot body t deps) = deps ∷ []
+deps_named (CommitOk from to id ballot) = []
+deps_named (Stable from to id ballot body t deps) = deps ∷ []
+deps_named (ReadOk from to id ballot answer) = []
+deps_named (Apply from to id ballot body t deps outcome) = deps ∷ []
+deps_named (Recover from to id ballot body) = []
+deps_named (RecoverOk from to id ballot view) = deps_in_view view
+deps_named (Nack from to id ballot promised) = []
+deps_named (Decided from to id ballot t deps) = deps ∷ []
+deps_named (Inform from to id ballot outcome) = []
+
+-- they are sets: each shard once, in order, and its transactions rising
 pub record DepsAreSets (items : List Item) : Type 0 where
-  pub messages : (m : Message) (deps : List ShardDeps) → Sending items m → deps_named m ≡ Some deps → AreDeps deps
+  pub messages : (m : Message) → Sending items m → AllByRecursion AreDeps (deps_named m)
   pub decisions : (x : TxnId) (t : Stamp) (path : Path) (deps : List ShardDeps) → Noting items (DecideNote x t path deps) → AreDeps deps
 
 -- ---- stages
