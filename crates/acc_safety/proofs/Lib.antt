@@ -1,0 +1,10 @@
+pub mod SentFacts
+pub mod DrawFacts
+pub mod ReplayFacts
+pub mod PlaceFacts
+pub mod BegunFacts
+pub mod PlaceOrder
+pub mod StoreSent
+pub mod NodeMoved
+pub mod NodeSent
+pub mod Bridge
