@@ -94,10 +94,16 @@ fn quoted(behind_quote: &[u8]) -> (Lexeme<'_>, usize)
     ensures len { result.1 ≡ 1 + quoted_len false behind_quote.now }
     ensures within { result.1 ≤ 1 + length behind_quote.now }
 {
-    let Extent { reach, len, closed } = quoted_extent(behind_quote);
+    let Extent {
+        reach,
+        len,
+        plain,
+        closed,
+    } = quoted_extent(behind_quote);
     let text = QuotedText {
         behind_quote,
         len: closed.then_some(len),
+        plain,
     };
     (Lexeme::Quoted(text), 1 + reach)
 }
