@@ -19,6 +19,7 @@ pub mod Lexical
 pub mod Saying
 pub mod Sound
 pub mod Bodies
+pub mod NoTexts
 pub mod Answering
 pub mod Following
 pub mod FollowText
