@@ -170,7 +170,7 @@ module _ (texts : Bool) where
       (λ value. then_value (where_key texts true uses name) pairs _ (λ key. then_mark texts pairs _ (nothing _) (codes ";")) (where_key_follows texts true uses name))
       (expression_follows lets))
       (codes "=")) (codes "v")) (codes "set"))
-      table_follows texts
+      (table_follows texts)
 
   removal_follows : (uses : Uses) → Follows 1 pairs (removal texts uses)
   unfolding removal

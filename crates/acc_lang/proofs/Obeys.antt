@@ -22,9 +22,9 @@ use Rattle.acc_txn.specs.declared.parts.Update.TheVariants.{Set, Delete}
 use Rattle.acc_txn.specs.declared.parts.BodyParts.{BodyParts}
 use Rattle.acc_txn.specs.declared.error.BodyError.{BodyError}
 use Rattle.acc_txn.specs.declared.error.BodyError.TheVariants.{TooMany, UnboundName, TwiceBound, NoKey, BadWord, BadShape, BadText}
-use Rattle.acc_txn.specs.Words.{is_reserved, is_lower_word, is_name, is_key, is_value_text}
+use Rattle.acc_txn.specs.Words.{is_reserved, is_lower_word, is_name, is_key, is_text_value}
 use Rattle.acc_txn.specs.Uses.{selected_keys, updated_key, read_keys, written_keys, with_keys, footprint_of}
-use Rattle.acc_txn.specs.Rules.{is_many, is_long, condition_has, update_has, some_expression, selected_names, has_too_many, has_unbound_name, has_name_twice, has_no_key, has_bad_name, has_bad_key, has_bad_shape, term_is_bad_text, has_bad_term, has_bad_text, IsBody}
+use Rattle.acc_txn.specs.Rules.{is_many, is_long, condition_has, update_has, some_expression, selected_names, has_too_many, has_unbound_name, has_name_twice, has_no_key, has_bad_name, has_bad_key, has_bad_shape, is_bad_text, mentions_bad_text, IsBody}
 use Rattle.acc_lang.specs.Reading.{key_written}
 use Rattle.acc_lang.proofs.Fits.{ThisCondition, IsFreeWord, IsFitKey, IsFitLet, IsFitSelect, IsFitTerm, IsFitPart, IsFitSum, IsFitCondition, IsFitUpdate, IsFitBody, AreNamed, Uses, after, InTurn, at_end, with_let, with_update, uses_after_select}
 use Rattle.acc_lang.proofs.Counts.{used_keeps, with_keys_keeps, with_keys_some, lets_uses, updates_uses, all_uses}
@@ -56,7 +56,7 @@ pub record Obeys (parts : BodyParts) : Type 0 where
   pub well_named : has_bad_name parts.lets ≡ false
   pub well_keyed : has_bad_key parts ≡ false
   pub shaped : has_bad_shape parts ≡ false
-  pub valued : has_bad_text parts ≡ false
+  pub valued : some_expression mentions_bad_text parts ≡ false
 
 first_none : (b : Bool) (error : BodyError) (others : Option BodyError) → is_none (cond b (Some error) others) ≡ true → (b ≡ false) × (is_none others ≡ true)
 first_none true error others is = cc
@@ -71,7 +71,7 @@ obeys parts is =
     let worded = first_none (has_bad_name parts.lets || has_bad_key parts) BadWord _ keyed.1 in
     let words = neither (has_bad_name parts.lets) (has_bad_key parts) worded.0 in
     let shaped = first_none (has_bad_shape parts) BadShape _ worded.1 in
-    let valued = first_none (has_bad_text parts) BadText None shaped.1 in
+    let valued = first_none (some_expression mentions_bad_text parts) BadText None shaped.1 in
     record {
       few = few.0;
       bound = bound.0;
@@ -164,51 +164,51 @@ select_fits uses (Get key) few keys room =
     let k = neither (not (is_key key)) false keys in
     key_fits false uses key (not_false (is_key key) k.0) room
 
-term_fits : (t : Term) → term_is_bad_text t ≡ false → IsFitTerm t
+term_fits : (t : Term) → is_bad_text t ≡ false → IsFitTerm t
 term_fits (Number number) good = tt
 term_fits (Name name) good = tt
 term_fits Null good = tt
 term_fits (Text text) good =
-    let p = each_of (nat_le (length text) 255 && list_all is_plain text) (is_utf8 text) (not_false (is_value_text text) good) in
+    let p = each_of (nat_le (length text) 255 && list_all is_plain text) (is_utf8 text) (not_false (is_text_value text) good) in
     p.0
 
-parts_fit : (so_far parts : List Part) → has_bad_term parts ≡ false → InTurn at_end IsFitPart so_far parts
+parts_fit : (so_far parts : List Part) → mentions_bad_text parts ≡ false → InTurn at_end IsFitPart so_far parts
 parts_fit so_far [] good = tt
 parts_fit so_far (part ∷ parts) good =
-    let g = neither (term_is_bad_text part.term) (has_bad_term parts) good in
+    let g = neither (is_bad_text part.term) (mentions_bad_text parts) good in
     (term_fits part.term g.0, parts_fit (at_end so_far part) parts g.1)
 
-sum_fits : (sum : List Part) → is_long sum ≡ false → has_bad_term sum ≡ false → IsFitSum sum
+sum_fits : (sum : List Part) → is_long sum ≡ false → mentions_bad_text sum ≡ false → IsFitSum sum
 sum_fits sum short good = record { few = at_most (length sum) short; terms = parts_fit [] sum good }
 
-guard_fits : (c : Condition) → condition_has is_long c ≡ false → condition_has has_bad_term c ≡ false → IsFitCondition c
+guard_fits : (c : Condition) → condition_has is_long c ≡ false → condition_has mentions_bad_text c ≡ false → IsFitCondition c
 guard_fits (Compare op left right) short good =
     let s = neither (is_long left) (is_long right) short in
-    let g = neither (has_bad_term left) (has_bad_term right) good in
+    let g = neither (mentions_bad_text left) (mentions_bad_text right) good in
     (sum_fits left s.0 g.0, sum_fits right s.1 g.1)
 guard_fits (IsNull name) short good = tt
 guard_fits (IsNotNull name) short good = tt
 
-pub guards_fit : (guards so_far : List Condition) → list_any (condition_has is_long) guards ≡ false → list_any (condition_has has_bad_term) guards ≡ false
+pub guards_fit : (guards so_far : List Condition) → list_any (condition_has is_long) guards ≡ false → list_any (condition_has mentions_bad_text) guards ≡ false
     → InTurn at_end ThisCondition so_far guards
 guards_fit [] so_far short good = tt
 guards_fit (c ∷ guards) so_far short good =
     let s = neither (condition_has is_long c) _ short in
-    let g = neither (condition_has has_bad_term c) _ good in
+    let g = neither (condition_has mentions_bad_text c) _ good in
     (guard_fits c s.0 g.0, guards_fit guards (so_far ++ c ∷ []) s.1 g.1)
 
-update_fits : (so_far : List Update × Uses) (u : Update) → is_key (updated_key u) ≡ true → update_has is_long u ≡ false → update_has has_bad_term u ≡ false
+update_fits : (so_far : List Update × Uses) (u : Update) → is_key (updated_key u) ≡ true → update_has is_long u ≡ false → update_has mentions_bad_text u ≡ false
     → length (used so_far.1 (key_written u) true) ≤ 16 → IsFitUpdate so_far u
 update_fits so_far (Set key value) good short valued room = (key_fits true so_far.1 key good room, sum_fits value short valued)
 update_fits so_far (Delete key) good short valued room = key_fits true so_far.1 key good room
 
 pub updates_fit : (updates so_far : List Update) (uses : Uses) → list_any (λ u. not (is_key (updated_key u))) updates ≡ false → list_any (update_has is_long) updates ≡ false
-    → list_any (update_has has_bad_term) updates ≡ false → length (after with_update (so_far, uses) updates).1 ≤ 16 → InTurn with_update IsFitUpdate (so_far, uses) updates
+    → list_any (update_has mentions_bad_text) updates ≡ false → length (after with_update (so_far, uses) updates).1 ≤ 16 → InTurn with_update IsFitUpdate (so_far, uses) updates
 updates_fit [] so_far uses keys short valued room = tt
 updates_fit (u ∷ updates) so_far uses keys short valued room =
     let k = neither (not (is_key (updated_key u))) _ keys in
     let s = neither (update_has is_long u) _ short in
-    let v = neither (update_has has_bad_term u) _ valued in
+    let v = neither (update_has mentions_bad_text u) _ valued in
     let more = with_keys_keeps true (map updated_key updates) (used uses (key_written u) true) in
     let all = ap length (updates_uses updates (so_far ++ u ∷ []) (used uses (key_written u) true)) in (
       update_fits (so_far, uses) u (not_false (is_key (updated_key u)) k.0) s.0 v.0 (omega arith),
@@ -258,7 +258,7 @@ fits_from_rules parts body =
     let m2 = neither _ (is_many (length parts.guards)) m3.0 in
     let m1 = neither (is_many (length parts.lets)) (is_many (length (selected_names parts.select))) m2.0 in
     let long = neither (list_any (condition_has is_long) parts.guards) (list_any (update_has is_long) parts.updates) m4.1 in
-    let valued = neither (list_any (condition_has has_bad_term) parts.guards) (list_any (update_has has_bad_term) parts.updates) o.valued in
+    let valued = neither (list_any (condition_has mentions_bad_text) parts.guards) (list_any (update_has mentions_bad_text) parts.updates) o.valued in
     let k2 = neither _ (list_any (λ update. not (is_key (updated_key update))) parts.updates) o.well_keyed in
     let k1 = neither (list_any (λ l. not (is_key l.key)) parts.lets) (list_any (λ key. not (is_key key)) (selected_keys parts.select)) k2.0 in
     let uses = (after with_let ([], []) parts.lets).1 in

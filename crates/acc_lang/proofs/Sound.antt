@@ -16,9 +16,9 @@ use Rattle.acc_txn.specs.declared.parts.Condition.{Condition}
 use Rattle.acc_txn.specs.declared.parts.Condition.TheVariants.{Compare, IsNull, IsNotNull}
 use Rattle.acc_txn.specs.declared.parts.Update.{Update}
 use Rattle.acc_txn.specs.declared.parts.Update.TheVariants.{Set, Delete}
-use Rattle.acc_txn.specs.Words.{is_lower_word, is_name, is_key, is_value_text}
+use Rattle.acc_txn.specs.Words.{is_lower_word, is_name, is_key, is_text_value}
 use Rattle.acc_txn.specs.Uses.{selected_keys, updated_key}
-use Rattle.acc_txn.specs.Rules.{is_unbound, term_is_unbound, term_is_bad_text, has_bad_term, mentions_unbound, asks_unbound, condition_has, update_has, is_malformed, selects_nothing, selected_names}
+use Rattle.acc_txn.specs.Rules.{is_unbound, term_is_unbound, is_bad_text, mentions_bad_text, mentions_unbound, asks_unbound, condition_has, update_has, is_malformed, selects_nothing, selected_names}
 use Rattle.acc_lang.specs.Faults.{has_form}
 use Rattle.acc_lang.specs.Grammar.{Each, Behind, LetSpelled, NameSpelled, SelectSpelled, TermSpelled, PartSpelled, ExpressionSpelled, operator_mark, ConditionSpelled, UpdateSpelled}
 use Rattle.acc_lang.proofs.Fits.{IsFreeWord, IsFitKey, IsFitLet, IsFitSelect, IsFitTerm, IsFitPart, IsFitSum, IsFitCondition, IsFitUpdate, ThisCondition, Uses, InTurn, at_end, with_let, with_update}
@@ -35,7 +35,7 @@ key_is writes uses key fit lower utf8 =
     let p = and_parts (nat_le 1 (length key.key)) (nat_le (length key.key) 64) fit.form in
     rw (name_is key.table fit.table lower) (rw p.0 (rw p.1 (rw utf8 refl)))
 
-value_is : (text : List ℕ) → has_form false text ≡ true → is_utf8 text ≡ true → is_value_text text ≡ true
+value_is : (text : List ℕ) → has_form false text ≡ true → is_utf8 text ≡ true → is_text_value text ≡ true
 value_is text form utf8 = let p = and_parts (nat_le (length text) 255) (list_all is_plain text) form in rw p.0 (rw p.1 (rw utf8 refl))
 
 pub name_bound : (lets : List Let) (number : ℕ) (from to : List ℕ) → NameSpelled lets number from to → IsUtf8 from → (is_unbound (length lets) number ≡ false) × IsUtf8 to
@@ -48,7 +48,7 @@ name_bound lets number from to spelled utf8 =
 pub record IsSoundSum (lets : ℕ) (sum : List Part) (to : List ℕ) : Type 0 where
   pub mentions : mentions_unbound lets sum ≡ false
   pub shape : is_malformed sum ≡ false
-  pub values : has_bad_term sum ≡ false
+  pub values : mentions_bad_text sum ≡ false
   pub utf8 : IsUtf8 to
 
 -- conditions mention bound names alone, and their sums are well formed
@@ -56,25 +56,25 @@ pub record IsSoundCondition (lets : ℕ) (c : Condition) : Type 0 where
   pub mentions : condition_has (mentions_unbound lets) c ≡ false
   pub asks : asks_unbound lets c ≡ false
   pub shape : condition_has is_malformed c ≡ false
-  pub values : condition_has has_bad_term c ≡ false
+  pub values : condition_has mentions_bad_text c ≡ false
 
 pub record AreSoundConditions (lets : ℕ) (guards : List Condition) : Type 0 where
   pub mentions : list_any (condition_has (mentions_unbound lets)) guards ≡ false
   pub asks : list_any (asks_unbound lets) guards ≡ false
   pub shape : list_any (condition_has is_malformed) guards ≡ false
-  pub values : list_any (condition_has has_bad_term) guards ≡ false
+  pub values : list_any (condition_has mentions_bad_text) guards ≡ false
 
 -- updates write good keys, mention bound names alone, and their sums are well formed
 pub record IsSoundUpdate (lets : ℕ) (u : Update) : Type 0 where
   pub mentions : update_has (mentions_unbound lets) u ≡ false
   pub shape : update_has is_malformed u ≡ false
-  pub values : update_has has_bad_term u ≡ false
+  pub values : update_has mentions_bad_text u ≡ false
   pub key : not (is_key (updated_key u)) ≡ false
 
 pub record AreSoundUpdates (lets : ℕ) (updates : List Update) : Type 0 where
   pub mentions : list_any (update_has (mentions_unbound lets)) updates ≡ false
   pub shape : list_any (update_has is_malformed) updates ≡ false
-  pub values : list_any (update_has has_bad_term) updates ≡ false
+  pub values : list_any (update_has mentions_bad_text) updates ≡ false
   pub keys : list_any (λ u. not (is_key (updated_key u))) updates ≡ false
 
 -- LETs and the select
@@ -130,7 +130,7 @@ select_sound lets uses (Get key) from to spelled fit utf8 =
 
 module _ (texts : Bool) where
   pub term_sound : (lets : List Let) (t : Term) (from to : List ℕ) → TermSpelled texts lets t from to → IsFitTerm t → IsUtf8 from
-      → (term_is_unbound (length lets) t ≡ false) × (term_is_bad_text t ≡ false) × IsUtf8 to
+      → (term_is_unbound (length lets) t ≡ false) × (is_bad_text t ≡ false) × IsUtf8 to
   term_sound lets (Number number) from to spelled fit utf8 = (
     refl,
     refl,
@@ -146,7 +146,7 @@ module _ (texts : Bool) where
       (refl, ap not (value_is t fit a.0.0), a.1)
 
   parts_sound : (lets : List Let) (so_far parts : List Part) (from to : List ℕ) → Each (PartSpelled texts lets) parts from to → InTurn at_end IsFitPart so_far parts → IsUtf8 from
-      → (mentions_unbound (length lets) parts ≡ false) × (has_bad_term parts ≡ false) × IsUtf8 to
+      → (mentions_unbound (length lets) parts ≡ false) × (mentions_bad_text parts ≡ false) × IsUtf8 to
   parts_sound lets so_far [] from to spelled fit utf8 = (refl, refl, subst IsUtf8 spelled utf8)
   parts_sound lets so_far (part ∷ parts) from to spelled fit utf8 =
       let p = spelled.1 in

@@ -1,6 +1,7 @@
 //! The parser.
 ghost use Rattle.std.specs.Prelude.{◌≡◌, true, false, Ok, IfOk, IfErr, MatchResult};
 ghost use Rattle.acc_txn.specs.declared.parts.BodyParts.{BodyParts};
+ghost use Rattle.acc_txn.specs.Rules.{IsBody};
 ghost use Rattle.acc_lang.specs.declared.error.LangError.{LangError};
 ghost use Rattle.acc_lang.specs.Answer.{IsFaultIn, IsPlaced};
 ghost use Rattle.acc_lang.specs.Grammar.{IsTextOf};
@@ -10,7 +11,8 @@ ghost use Rattle.acc_lang.specs.Texts.{has_text_value};
 use crate::error::LangError;
 use crate::fault::ReadError;
 use crate::parser::read;
-use acc_txn::Body;
+use acc_base::OutOfMemory;
+use acc_txn::{Body, BodyParts};
 use std::alloc::Global;
 
 /// The body that the text of a transaction says in version 1 of the language, or the first fault of a text that is none.
@@ -48,8 +50,19 @@ fn read_body(alloc: Global, text: &str, texts: bool) -> Result<Body, LangError>
     ensures fault { IfErr result (IsFaultIn texts text.now) }
 {
     match read(alloc, text.as_bytes(), texts) {
-        Ok(parts) => Ok(Body::new_unchecked(parts)),
+        Ok(parts) => body_of(parts),
         Err(error) => Err(placed(text.len(), error)),
+    }
+}
+
+fn body_of(parts: BodyParts) -> Result<Body, LangError>
+    requires { IsBody parts }
+    ensures body { IfOk result (λ body. body ≡ parts) }
+    ensures memory { IfErr result (λ error. error ≡ LangError.OutOfMemory) }
+{
+    match Body::new_unchecked(parts) {
+        Ok(body) => Ok(body),
+        Err(OutOfMemory) => Err(LangError::OutOfMemory),
     }
 }
 

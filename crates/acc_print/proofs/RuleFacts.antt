@@ -3,8 +3,8 @@ use Rattle.std.proofs.Common.{◌≡◌, Bool, true, false, cond, Option, Some, 
 use Rattle.std.specs.Option.{is_none}
 use Rattle.acc_txn.specs.declared.parts.BodyParts.{BodyParts}
 use Rattle.acc_txn.specs.declared.error.BodyError.{BodyError}
-use Rattle.acc_txn.specs.declared.error.BodyError.TheVariants.{TooMany, UnboundName, TwiceBound, NoKey, BadWord, BadShape}
-use Rattle.acc_txn.specs.Rules.{has_too_many, has_unbound_name, has_name_twice, has_no_key, has_bad_name, has_bad_key, has_bad_shape, IsBody}
+use Rattle.acc_txn.specs.declared.error.BodyError.TheVariants.{TooMany, UnboundName, TwiceBound, NoKey, BadWord, BadShape, BadText}
+use Rattle.acc_txn.specs.Rules.{has_too_many, has_unbound_name, has_name_twice, has_no_key, has_bad_name, has_bad_key, has_bad_shape, some_expression, mentions_bad_text, IsBody}
 use Rattle.std.proofs.lemmas.Bool.{or_parts}
 
 -- the parts break none of the rules
@@ -16,6 +16,7 @@ pub record KeepsRules (parts : BodyParts) : Type 0 where
   pub named : has_bad_name parts.lets ≡ false
   pub well_keyed : has_bad_key parts ≡ false
   pub shaped : has_bad_shape parts ≡ false
+  pub texts : some_expression mentions_bad_text parts ≡ false
 
 -- a refusal that isn't there
 unbroken : (b : Bool) (error : BodyError) (others : Option BodyError) → is_none (cond b (Some error) others) ≡ true → (b ≡ false) × (is_none others ≡ true)
@@ -29,6 +30,7 @@ keeps_rules parts h =
     let once = unbroken (has_name_twice parts.lets) TwiceBound _ bound.1 in
     let keyed = unbroken (has_no_key parts) NoKey _ once.1 in
     let words = unbroken _ BadWord _ keyed.1 in
-    let shaped = unbroken (has_bad_shape parts) BadShape None words.1 in
+    let shaped = unbroken (has_bad_shape parts) BadShape _ words.1 in
+    let texts = unbroken (some_expression mentions_bad_text parts) BadText None shaped.1 in
     let named = or_parts (has_bad_name parts.lets) (has_bad_key parts) words.0 in
-    record { few = few.0; bound = bound.0; bound_once = once.0; keyed = keyed.0; named = named.0; well_keyed = named.1; shaped = shaped.0 }
+    record { few = few.0; bound = bound.0; bound_once = once.0; keyed = keyed.0; named = named.0; well_keyed = named.1; shaped = shaped.0; texts = texts.0 }
