@@ -1,5 +1,5 @@
 -- What is spelled in version 1 has no text value.
-use Rattle.std.proofs.Common.{◌≡◌, ℕ, Bool, true, false, ◌||◌, List, [], ◌∷◌, codes, Result, Ok, Err, IfOk, refl, true≢false, sym}
+use Rattle.std.proofs.Common.{◌≡◌, ℕ, Bool, false, ◌||◌, List, [], ◌∷◌, codes, Result, Ok, Err, IfOk, refl, true≢false, sym}
 use Rattle.std.specs.List.{list_any}
 use Rattle.acc_token.specs.Tokens.{Word}
 use Rattle.acc_txn.specs.declared.parts.Let.{Let}
