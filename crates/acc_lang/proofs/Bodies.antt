@@ -162,10 +162,9 @@ module _ (texts : Bool) where
         bound = none _ _ (none _ _ s.0.bound (none _ _ a.conditions.mentions a.changes.mentions)) a.conditions.asks;
         once = (lets_distinct [] [] parts.lets fit.lets).0;
         keyed = no_keys (read_keys parts) (written_keys parts) keyed;
-        well_named = l.0.names;
-        well_keyed = none _ _ (none _ _ l.0.keys s.0.keys) a.changes.keys;
+        worded = none _ _ l.0.names (none _ _ (none _ _ l.0.keys s.0.keys) a.changes.keys);
         shaped = none _ _ (none _ _ (none _ _ a.conditions.shape a.changes.shape) s.0.shape) a.shape;
-        valued = none _ _ a.conditions.values a.changes.values;
+        texts = none _ _ a.conditions.values a.changes.values;
       }
 
   pub read_sound : (text : List ℕ) (parts : BodyParts) → IsUtf8 text → reading texts text ≡ Ok parts → IsTextOf texts text parts

@@ -1,5 +1,5 @@
 -- What keeps the rules of bodies fits.
-use Rattle.std.proofs.Common.{◌≡◌, ◌≤◌, ◌==◌, ℕ, zero, suc, Bool, true, false, not, ◌||◌, ◌&&◌, cond, List, [], ◌∷◌, ◌++◌, length, map, nat_le, nat_lt, Option, Some, None, is_none, position, refl, sym, ap, ◌∙◌, subst, lt-ltb, arith}
+use Rattle.std.proofs.Common.{◌≡◌, ◌≤◌, ◌==◌, ℕ, zero, suc, Bool, true, false, not, ◌||◌, ◌&&◌, List, [], ◌∷◌, ◌++◌, length, map, nat_le, nat_lt, Some, None, position, refl, sym, ap, ◌∙◌, subst, lt-ltb, arith}
 use Rattle.std.specs.Prelude.{slice_get}
 use Rattle.std.specs.List.{list_any, list_all, prefix_len}
 use Rattle.std.specs.Str.{bytes_eq, is_utf8}
@@ -20,11 +20,10 @@ use Rattle.acc_txn.specs.declared.parts.Condition.TheVariants.{Compare, IsNull, 
 use Rattle.acc_txn.specs.declared.parts.Update.{Update}
 use Rattle.acc_txn.specs.declared.parts.Update.TheVariants.{Set, Delete}
 use Rattle.acc_txn.specs.declared.parts.BodyParts.{BodyParts}
-use Rattle.acc_txn.specs.declared.error.BodyError.{BodyError}
-use Rattle.acc_txn.specs.declared.error.BodyError.TheVariants.{TooMany, UnboundName, TwiceBound, NoKey, BadWord, BadShape, BadText}
 use Rattle.acc_txn.specs.Words.{is_reserved, is_lower_word, is_name, is_key, is_text_value}
 use Rattle.acc_txn.specs.Uses.{selected_keys, updated_key, read_keys, written_keys, with_keys, footprint_of}
-use Rattle.acc_txn.specs.Rules.{is_many, is_long, condition_has, update_has, some_expression, selected_names, has_too_many, has_unbound_name, has_name_twice, has_no_key, has_bad_name, has_bad_key, has_bad_shape, is_bad_text, mentions_bad_text, IsBody}
+use Rattle.acc_txn.specs.Rules.{is_many, is_long, condition_has, update_has, some_expression, selected_names, has_name_twice, has_bad_name, has_bad_key, is_bad_text, mentions_bad_text, IsBody}
+use Rattle.acc_txn.proofs.Keeps.{KeepsRules, IsBody-keeps}
 use Rattle.acc_lang.specs.Reading.{key_written}
 use Rattle.acc_lang.proofs.Fits.{ThisCondition, IsFreeWord, IsFitKey, IsFitLet, IsFitSelect, IsFitTerm, IsFitPart, IsFitSum, IsFitCondition, IsFitUpdate, IsFitBody, AreNamed, Uses, after, InTurn, at_end, with_let, with_update, uses_after_select}
 use Rattle.acc_lang.proofs.Counts.{used_keeps, with_keys_keeps, with_keys_some, lets_uses, updates_uses, all_uses}
@@ -47,45 +46,9 @@ at_most n few = grind arith
 pub not_many : (n : ℕ) → n ≤ 16 → is_many n ≡ false
 not_many n few = grind arith
 
--- none of the rules is broken
-pub record Obeys (parts : BodyParts) : Type 0 where
-  pub few : has_too_many parts ≡ false
-  pub bound : has_unbound_name parts ≡ false
-  pub once : has_name_twice parts.lets ≡ false
-  pub keyed : has_no_key parts ≡ false
-  pub well_named : has_bad_name parts.lets ≡ false
-  pub well_keyed : has_bad_key parts ≡ false
-  pub shaped : has_bad_shape parts ≡ false
-  pub valued : some_expression mentions_bad_text parts ≡ false
-
-first_none : (b : Bool) (error : BodyError) (others : Option BodyError) → is_none (cond b (Some error) others) ≡ true → (b ≡ false) × (is_none others ≡ true)
-first_none true error others is = cc
-first_none false error others is = (refl, is)
-
-pub obeys : (parts : BodyParts) → IsBody parts → Obeys parts
-obeys parts is =
-    let few = first_none (has_too_many parts) TooMany _ is in
-    let bound = first_none (has_unbound_name parts) UnboundName _ few.1 in
-    let once = first_none (has_name_twice parts.lets) TwiceBound _ bound.1 in
-    let keyed = first_none (has_no_key parts) NoKey _ once.1 in
-    let worded = first_none (has_bad_name parts.lets || has_bad_key parts) BadWord _ keyed.1 in
-    let words = neither (has_bad_name parts.lets) (has_bad_key parts) worded.0 in
-    let shaped = first_none (has_bad_shape parts) BadShape _ worded.1 in
-    let valued = first_none (some_expression mentions_bad_text parts) BadText None shaped.1 in
-    record {
-      few = few.0;
-      bound = bound.0;
-      once = once.0;
-      keyed = keyed.0;
-      well_named = words.0;
-      well_keyed = words.1;
-      shaped = shaped.0;
-      valued = valued.0;
-    }
-
--- and then they are parts of a body
-pub is_body : (parts : BodyParts) → Obeys parts → IsBody parts
-is_body parts o = rw o.few (rw o.bound (rw o.once (rw o.keyed (rw o.well_named (rw o.well_keyed (rw o.shaped (rw o.valued refl)))))))
+-- what breaks no rule is the parts of a body
+pub is_body : (parts : BodyParts) → KeepsRules parts → IsBody parts
+is_body parts o = rw o.few (rw o.bound (rw o.once (rw o.keyed (rw o.worded (rw o.shaped (rw o.texts refl))))))
 
 pub name_fits : (name : List ℕ) → is_name name ≡ true → IsFreeWord name
 name_fits name is =
@@ -251,15 +214,16 @@ none_is_zero n some = grind arith
 
 pub fits_from_rules : (parts : BodyParts) → IsBody parts → AreNamed parts.lets × IsFitBody parts
 fits_from_rules parts body =
-    let o = obeys parts body in
+    let o = IsBody-keeps parts body in
+    let w = neither (has_bad_name parts.lets) (has_bad_key parts) o.worded in
     let many = neither _ (is_many (length (footprint_of parts))) o.few in
     let m4 = neither _ (some_expression is_long parts) many.0 in
     let m3 = neither _ (is_many (length parts.updates)) m4.0 in
     let m2 = neither _ (is_many (length parts.guards)) m3.0 in
     let m1 = neither (is_many (length parts.lets)) (is_many (length (selected_names parts.select))) m2.0 in
     let long = neither (list_any (condition_has is_long) parts.guards) (list_any (update_has is_long) parts.updates) m4.1 in
-    let valued = neither (list_any (condition_has mentions_bad_text) parts.guards) (list_any (update_has mentions_bad_text) parts.updates) o.valued in
-    let k2 = neither _ (list_any (λ update. not (is_key (updated_key update))) parts.updates) o.well_keyed in
+    let valued = neither (list_any (condition_has mentions_bad_text) parts.guards) (list_any (update_has mentions_bad_text) parts.updates) o.texts in
+    let k2 = neither _ (list_any (λ update. not (is_key (updated_key update))) parts.updates) w.1 in
     let k1 = neither (list_any (λ l. not (is_key l.key)) parts.lets) (list_any (λ key. not (is_key key)) (selected_keys parts.select)) k2.0 in
     let uses = (after with_let ([], []) parts.lets).1 in
     let others = uses_after_select uses parts.select in
@@ -270,10 +234,10 @@ fits_from_rules parts body =
     let before_select : length uses ≤ 16 =
     (let h = select_keeps uses parts.select in omega arith) in
     let keys : 1 ≤ length (read_keys parts ++ written_keys parts) = some_keys (length (read_keys parts ++ written_keys parts)) o.keyed in (
-      names_lead parts.lets o.well_named o.once,
+      names_lead parts.lets w.0 o.once,
       record {
         few_lets = at_most (length parts.lets) m1.0;
-        lets = lets_fit parts.lets [] [] o.well_named k1.0 (nothing_fresh parts.lets) o.once before_select;
+        lets = lets_fit parts.lets [] [] w.0 k1.0 (nothing_fresh parts.lets) o.once before_select;
         select = select_fits uses parts.select m1.1 k1.1 before_updates;
         few_guards = at_most (length parts.guards) m2.1;
         guards = guards_fit parts.guards [] long.0 valued.0;

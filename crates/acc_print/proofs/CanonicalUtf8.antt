@@ -22,9 +22,9 @@ use Rattle.acc_txn.specs.declared.parts.Update.TheVariants.{Set, Delete}
 use Rattle.acc_txn.specs.declared.parts.BodyParts.{BodyParts}
 use Rattle.acc_txn.specs.Words.{is_name, is_key, is_key_text, is_text_value}
 use Rattle.acc_txn.specs.Uses.{selected_keys, updated_key}
-use Rattle.acc_txn.specs.Rules.{has_bad_name, is_bad_text, mentions_bad_text, condition_has, update_has, IsBody}
+use Rattle.acc_txn.specs.Rules.{has_bad_name, has_bad_key, is_bad_text, mentions_bad_text, condition_has, update_has, IsBody}
 use Rattle.acc_print.specs.Canonical.{quoted, where_text, get_text, let_text, name_of, cell_text, term_text, sign_text, signed_text, sum_text, operator_text, condition_text, set_text, delete_text, update_text, select_text, action_text, canonical_text}
-use Rattle.acc_print.proofs.RuleFacts.{keeps_rules}
+use Rattle.acc_txn.proofs.Keeps.{IsBody-keeps}
 use Rattle.acc_print.proofs.QuotedUtf8.{content-IsUtf8}
 use Rattle.acc_print.proofs.WordUtf8.{name-IsUtf8, key_text-IsUtf8, value-IsUtf8, number-IsUtf8}
 
@@ -201,14 +201,15 @@ module _ (lets : List Let) (named : has_bad_name lets ≡ false) where
 
 pub canonical-IsUtf8 : (parts : BodyParts) → IsBody parts → IsUtf8 (canonical_text parts)
 canonical-IsUtf8 parts h =
-    let kept = keeps_rules parts h in
-    let keyed = or_parts (list_any (λ l. not (is_key l.key)) parts.lets || list_any (λ key. not (is_key key)) (selected_keys parts.select)) _ kept.well_keyed in
+    let kept = IsBody-keeps parts h in
+    let worded = or_parts (has_bad_name parts.lets) (has_bad_key parts) kept.worded in
+    let keyed = or_parts (list_any (λ l. not (is_key l.key)) parts.lets || list_any (λ key. not (is_key key)) (selected_keys parts.select)) _ worded.1 in
     let read = or_parts (list_any (λ l. not (is_key l.key)) parts.lets) _ keyed.0 in
     let texts = or_parts (list_any (condition_has mentions_bad_text) parts.guards) (list_any (update_has mentions_bad_text) parts.updates) kept.texts in
     let lets = flat_map let_text parts.lets in
     let select = select_text parts.lets parts.select in
     let action = action_text parts.lets parts.guards parts.updates in
-    let bound = joined (codes "BEGIN TRANSACTION") lets (written (codes "BEGIN TRANSACTION") refl) (lets-IsUtf8 parts.lets kept.named read.0) in
-    let answered = joined (codes "BEGIN TRANSACTION" ++ lets) select bound (select-IsUtf8 parts.lets kept.named parts.select read.1) in
-    let acted = joined (codes "BEGIN TRANSACTION" ++ lets ++ select) action answered (action-IsUtf8 parts.lets kept.named parts.guards parts.updates keyed.1 texts.0 texts.1) in
+    let bound = joined (codes "BEGIN TRANSACTION") lets (written (codes "BEGIN TRANSACTION") refl) (lets-IsUtf8 parts.lets worded.0 read.0) in
+    let answered = joined (codes "BEGIN TRANSACTION" ++ lets) select bound (select-IsUtf8 parts.lets worded.0 parts.select read.1) in
+    let acted = joined (codes "BEGIN TRANSACTION" ++ lets ++ select) action answered (action-IsUtf8 parts.lets worded.0 parts.guards parts.updates keyed.1 texts.0 texts.1) in
     joined (codes "BEGIN TRANSACTION" ++ lets ++ select ++ action) (codes " COMMIT TRANSACTION") acted (written (codes " COMMIT TRANSACTION") refl)

@@ -12,9 +12,9 @@ use Rattle.acc_txn.specs.declared.parts.Update.{Update}
 use Rattle.acc_txn.specs.declared.parts.BodyParts.{BodyParts}
 use Rattle.acc_txn.specs.Words.{is_name, is_key}
 use Rattle.acc_txn.specs.Uses.{selected_keys}
-use Rattle.acc_txn.specs.Rules.{has_bad_name, is_unbound, selected_names, selects_nothing, condition_has, is_malformed, mentions_unbound, asks_unbound, IsBody}
+use Rattle.acc_txn.specs.Rules.{has_bad_name, has_bad_key, is_unbound, selected_names, selects_nothing, condition_has, is_malformed, mentions_unbound, asks_unbound, IsBody}
 use Rattle.acc_print.specs.Canonical.{get_text, let_text, cell_text, condition_text, update_text, select_text, action_text, canonical_text}
-use Rattle.acc_print.proofs.RuleFacts.{KeepsRules, keeps_rules}
+use Rattle.acc_txn.proofs.Keeps.{KeepsRules, IsBody-keeps}
 use Rattle.acc_roundtrip.specs.Numbers.{has_unsaid_term, IsSaid}
 use Rattle.acc_lang.specs.Grammar.{Spells, Each, Behind, LetSpelled, NameSpelled, SelectSpelled, GuardedSpelled, ActionSpelled, Spelled}
 use Rattle.acc_roundtrip.proofs.TokenFacts.{stops, spaced, letters}
@@ -154,8 +154,9 @@ unfolding token_at token_of after_blanks
 body_spelled texts parts rules said =
     let lets = parts.lets in
     let n = length lets in
-    let named = rules.named in
-    let keyed = or_parts (list_any (λ l. not (is_key l.key)) lets || list_any (λ key. not (is_key key)) (selected_keys parts.select)) _ rules.well_keyed in
+    let worded = or_parts (has_bad_name lets) (has_bad_key parts) rules.worded in
+    let named = worded.0 in
+    let keyed = or_parts (list_any (λ l. not (is_key l.key)) lets || list_any (λ key. not (is_key key)) (selected_keys parts.select)) _ worded.1 in
     let read = or_parts (list_any (λ l. not (is_key l.key)) lets) _ keyed.0 in
     let bound = or_parts _ (list_any (asks_unbound n) parts.guards) rules.bound in
     let mentioned = or_parts (list_any (is_unbound n) (selected_names parts.select)) _ bound.0 in
@@ -195,4 +196,4 @@ canonical_spelled texts parts rules said =
     subst (λ text. Spelled texts text parts)
     (sym (pieces_joined (codes "BEGIN TRANSACTION") (flat_map let_text parts.lets) (select_text parts.lets parts.select)
     (action_text parts.lets parts.guards parts.updates) (codes " COMMIT TRANSACTION")))
-    (body_spelled texts parts (keeps_rules parts rules) said)
+    (body_spelled texts parts (IsBody-keeps parts rules) said)
