@@ -25,3 +25,4 @@ pub mod Following
 pub mod FollowText
 pub mod FollowBody
 pub mod FirstFault
+pub mod Versions

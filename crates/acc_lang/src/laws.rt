@@ -1,5 +1,5 @@
 //! That reading a text is the grammar, in both versions of the language: the flag tells whether text values are allowed.
-ghost use Rattle.std.specs.Prelude.{◌≡◌, ◌-◌, ℕ, Bool, List, length, Ok, Some};
+ghost use Rattle.std.specs.Prelude.{◌≡◌, ◌-◌, ℕ, Bool, true, false, List, length, Ok, Some};
 ghost use Rattle.acc_token.specs.Tokens.{left_at};
 ghost use Rattle.acc_lang.specs.declared.error.LangKind.{LangKind};
 ghost use Rattle.acc_lang.specs.First.{behind_all, Seen};
@@ -21,6 +21,11 @@ pub fn what_is_spelled_is_read()
 /// The parts that are read from a text keep the rules of bodies.
 pub fn what_is_read_is_a_body()
     ensures { (texts : Bool) (text : List ℕ) (parts : BodyParts) → IsUtf8 text → reading texts text ≡ Ok parts → IsTextOf texts text parts }
+{}
+
+/// A text of version 1 is one of version 2, and says the same there.
+pub fn texts_of_version_1_are_of_version_2()
+    ensures { (text : List ℕ) (parts : BodyParts) → IsTextOf false text parts → IsTextOf true text parts }
 {}
 
 /// The first fault is found as soon as its token is seen: no text of the grammar begins with the tokens up to it and with
