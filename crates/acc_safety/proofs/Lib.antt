@@ -8,3 +8,7 @@ pub mod StoreSent
 pub mod NodeMoved
 pub mod NodeSent
 pub mod Bridge
+pub mod Attempted
+pub mod BodiesBegun
+pub mod Frame
+pub mod StoreNotions
