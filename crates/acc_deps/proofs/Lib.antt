@@ -1,3 +1,4 @@
 pub mod ByShard
 mod Merge
 mod ShardMerge
+pub mod Adopted

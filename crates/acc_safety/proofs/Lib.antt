@@ -12,3 +12,5 @@ pub mod Attempted
 pub mod BodiesBegun
 pub mod Frame
 pub mod StoreNotions
+pub mod Prefixes
+pub mod SetsNamed
