@@ -14,3 +14,5 @@ pub mod Frame
 pub mod StoreNotions
 pub mod Prefixes
 pub mod SetsNamed
+pub mod Meetings
+pub mod Polled
