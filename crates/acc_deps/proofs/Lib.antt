@@ -1,4 +1,5 @@
+pub mod Adopted
 pub mod ByShard
 mod Merge
 mod ShardMerge
-pub mod Adopted
+mod Within
