@@ -8,3 +8,11 @@ pub mod StoreSent
 pub mod NodeMoved
 pub mod NodeSent
 pub mod Bridge
+pub mod Attempted
+pub mod BodiesBegun
+pub mod Frame
+pub mod StoreNotions
+pub mod Prefixes
+pub mod SetsNamed
+pub mod Meetings
+pub mod Polled
