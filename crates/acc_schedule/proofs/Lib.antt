@@ -1,5 +1,6 @@
 mod ActorFacts
 pub mod AnswerFacts
+mod ApartFacts
 mod BuiltFacts
 mod ClusterFacts
 mod DocumentFacts

@@ -24,6 +24,7 @@ IsStep count layout Drain = Unit {0}
 
 -- a cluster of nodes with their clocks, transactions with names of their own at its nodes, and steps of these
 pub record IsPlan (plan : Content) : Type 0 where
+  pub version : (1 ≤ plan.version) × (plan.version ≤ 2)
   pub layout : IsLayout plan.topology
   pub nodes : plan.topology.nodes ≡ in_order (ids plan.starts)
   pub nodes_once : length plan.starts ≡ length plan.topology.nodes

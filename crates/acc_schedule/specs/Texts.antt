@@ -27,13 +27,13 @@ abbrev pub at_path : Path → Option (LangKind × ℕ) → Fault
 at_path path None = None
 at_path path (Some (kind, at)) = Some (Bad TextKind (path_text path) (detail_of kind) at)
 
--- the text is in the language
-abbrev pub text_fault : Path → List ℕ → Fault
-text_fault path text = at_path path (reading_fault text)
+-- the text is in the language of the document's version
+abbrev pub text_fault : ℕ → Path → List ℕ → Fault
+text_fault version path text = at_path path (reading_fault text)
 
 abbrev pub no_parts : BodyParts
 no_parts = record { lets = []; select = Nothing; guards = []; updates = [] }
 
 -- the body that it says, which is empty where it says none
-abbrev pub text_body : List ℕ → BodyParts
-text_body text = result_unwrap_or (reading text) no_parts
+abbrev pub text_body : ℕ → List ℕ → BodyParts
+text_body version text = result_unwrap_or (reading text) no_parts

@@ -10,9 +10,14 @@ use acc_lang::{LangError, parse};
 use acc_txn::Body;
 use std::alloc::Global;
 
-/// The body that a text says. The path is that of the text.
-pub(crate) fn body_in(alloc: Global, text: &str, path: &[Part<'_>]) -> Result<Body, PlanError>
-    ensures { Gives (text_fault (map part_text path.now) text.now) (λ body. body ≡ text_body text.now) result }
+/// The body that a text says in a document of this version. The path is that of the text.
+pub(crate) fn body_in(
+    alloc: Global,
+    version: u8,
+    text: &str,
+    path: &[Part<'_>],
+) -> Result<Body, PlanError>
+    ensures { Gives (text_fault version (map part_text path.now) text.now) (λ body. body ≡ text_body version text.now) result }
 {
     match parse(alloc, text) {
         Ok(body) => Ok(body),
