@@ -26,3 +26,4 @@ pub mod FollowText
 pub mod FollowBody
 pub mod FirstFault
 pub mod Versions
+pub mod UsesRead

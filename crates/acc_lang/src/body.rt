@@ -2,6 +2,7 @@
 ghost use Rattle.std.specs.Prelude.{◌≡◌, true, false, Ok, IfOk, IfErr, MatchResult};
 ghost use Rattle.acc_txn.specs.declared.parts.BodyParts.{BodyParts};
 ghost use Rattle.acc_txn.specs.Rules.{IsBody};
+ghost use Rattle.acc_txn.specs.Uses.{footprint_of};
 ghost use Rattle.acc_lang.specs.declared.error.LangError.{LangError};
 ghost use Rattle.acc_lang.specs.Answer.{IsFaultIn, IsPlaced};
 ghost use Rattle.acc_lang.specs.Grammar.{IsTextOf};
@@ -13,6 +14,7 @@ use crate::fault::ReadError;
 use crate::parser::read;
 use acc_base::OutOfMemory;
 use acc_txn::{Body, BodyParts};
+use acc_value::Footprint;
 use std::alloc::Global;
 
 /// The body that the text of a transaction says in version 1 of the language, or the first fault of a text that is none.
@@ -49,18 +51,20 @@ fn read_body(alloc: Global, text: &str, texts: bool) -> Result<Body, LangError>
     ensures sound { IfOk result (λ body. IsTextOf texts text.now body) }
     ensures fault { IfErr result (IsFaultIn texts text.now) }
 {
-    match read(alloc, text.as_bytes(), texts) {
-        Ok(parts) => body_of(parts),
+    let mut uses = Footprint::new(alloc);
+    match read(alloc, text.as_bytes(), texts, &mut uses) {
+        Ok(parts) => body_of(parts, uses),
         Err(error) => Err(placed(text.len(), error)),
     }
 }
 
-fn body_of(parts: BodyParts) -> Result<Body, LangError>
-    requires { IsBody parts }
+fn body_of(parts: BodyParts, uses: Footprint) -> Result<Body, LangError>
+    requires keeps_rules { IsBody parts }
+    requires uses { uses ≡ footprint_of parts }
     ensures body { IfOk result (λ body. body ≡ parts) }
     ensures memory { IfErr result (λ error. error ≡ LangError.OutOfMemory) }
 {
-    match Body::new_unchecked(parts) {
+    match Body::with_uses(parts, uses) {
         Ok(body) => Ok(body),
         Err(OutOfMemory) => Err(LangError::OutOfMemory),
     }

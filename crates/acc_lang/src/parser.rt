@@ -1,5 +1,6 @@
 //! The whole text.
-ghost use Rattle.std.specs.Prelude.{◌≡◌, ◌≤◌, length};
+ghost use Rattle.std.specs.Prelude.{◌≡◌, ◌≤◌, [], true, false, length, IfOk};
+ghost use Rattle.acc_txn.specs.Uses.{selected_keys, written_keys, with_keys, footprint_of};
 ghost use Rattle.acc_lang.specs.Answer.{Gives, Passes, Answers};
 ghost use Rattle.acc_lang.specs.Reading.{guarded as guarded_from, unguarded as unguarded_from, action as action_from, commit_word as commit_word_from, commit as commit_from, finish as finish_from, opening, closing, behind_lets as behind_lets_from, reading};
 
@@ -18,16 +19,22 @@ use acc_value::Footprint;
 use std::alloc::Global;
 
 /// `BEGIN TRANSACTION { let } [ select ] action COMMIT TRANSACTION [ ; ]`, and nothing behind it. `texts` tells whether text
-/// values are allowed.
+/// values are allowed. The keys that the body uses are added to the footprint.
 #[tactic(auto, using(crate::proofs::Taking::fails_on), unfolding(crate::specs::Reading::reading))]
-pub fn read(alloc: Global, text: &[u8], texts: bool) -> Result<BodyParts, ReadError>
-    ensures { Answers result (reading texts text.now) }
+pub fn read(
+    alloc: Global,
+    text: &[u8],
+    texts: bool,
+    uses: &mut Footprint,
+) -> Result<BodyParts, ReadError>
+    requires { uses.old ≡ [] }
+    ensures parts { Answers result (reading texts text.now) }
+    ensures uses { IfOk result (λ parts. uses.new ≡ footprint_of parts) }
 {
     let mut cursor = Cursor::new(text);
-    let mut uses = Footprint::new(alloc);
     open(&mut cursor, texts)?;
-    let lets = lets(alloc, &mut cursor, texts, &mut uses)?;
-    behind_lets(alloc, &mut cursor, texts, &mut uses, lets)
+    let lets = lets(alloc, &mut cursor, texts, uses)?;
+    behind_lets(alloc, &mut cursor, texts, uses, lets)
 }
 
 /// `BEGIN TRANSACTION`
@@ -48,7 +55,9 @@ fn behind_lets(
     lets: Lets,
 ) -> Result<BodyParts, ReadError>
     requires { length lets ≤ 16 }
-    ensures { Answers result (behind_lets_from texts uses.old lets cursor.old.rest.now) }
+    ensures parts { Answers result (behind_lets_from texts uses.old lets cursor.old.rest.now) }
+    ensures lets { IfOk result (λ parts. parts.lets ≡ lets) }
+    ensures uses { IfOk result (λ parts. uses.new ≡ with_keys true (with_keys false uses.old (selected_keys parts.select)) (written_keys parts)) }
 {
     let select = select(alloc, cursor, texts, uses, lets.as_slice())?;
     let (guards, updates) = action(alloc, cursor, texts, uses, lets.as_slice())?;

@@ -4,10 +4,10 @@
 //! - `["text", TEXT, ANSWER]`: the text of a transaction is parsed in version 1 of the language. The answer is `ok` and the
 //!   canonical text of its body, or its fault: the kind's number, ` at ` and the byte where it stands.
 //! - `["text_v2", TEXT, ANSWER]`: the same in version 2.
-//! - `["outcome", TEXT, CELLS, ANSWER]`: the body of such a text is evaluated on cells, a list of `[TABLE, KEY, VALUE]`
-//!   where a value is a number or null. The answer is the verdict, then behind a space the selected values, joined by
-//!   commas, and behind ` / ` the writes, as `TABLE.KEY=VALUE` and joined by commas too. Where there are none of them, their
-//!   sign is left out.
+//! - `["outcome", TEXT, CELLS, ANSWER]`: the body of a text of version 2 is evaluated on cells, a list of `[TABLE, KEY, VALUE]`
+//!   where a value is a number, a text or null. The answer is the verdict, then behind a space the selected values, joined by
+//!   commas, and behind ` / ` the writes, as `TABLE.KEY=VALUE` and joined by commas too, texts in single quotes with two
+//!   quotes for one. Where there are none of them, their sign is left out.
 //! - `["document", TEXT, ANSWER]`: the text of a cluster document is read. The answer is `ok` and the counts of the plan, as
 //!   `ok nodes=1 shards=1 txns=1 steps=2`, or the refusal: `bad`, the kind's number and the path, then the detail where
 //!   it isn't 0, and behind the detail of a transaction's text ` at ` and the byte.
