@@ -1,8 +1,8 @@
 //! The lines of a document that is refused, and of one that is accepted.
-ghost use Rattle.std.specs.Prelude.{◌≡◌, ◌++◌, decimal, IfOk, OnOk};
+ghost use Rattle.std.specs.Prelude.{◌≡◌, ◌++◌, IfOk, OnOk};
 ghost use Rattle.acc_command.specs.Lines.{detail_text, line, number_of, ok_text, refusal_text, IsRefusalOf};
 
-use acc_base::{Bytes, OutOfMemory, Text};
+use acc_base::{Bytes, OutOfMemory, Text, push_number};
 use acc_schedule::{Plan, PlanError, PlanKind};
 use std::alloc::Global;
 
@@ -81,13 +81,5 @@ fn push_detail(text: &mut Vec<u8>, kind: PlanKind, detail: u32, at: u64) -> Resu
         }
         _ => {}
     }
-    Ok(())
-}
-
-fn push_number(text: &mut Vec<u8>, number: u64) -> Result<(), OutOfMemory>
-    ensures { OnOk result (text.new.items ≡ text.old.items ++ decimal number) }
-{
-    let digits = number.to_string(*text.allocator())?;
-    text.extend_from_slice(digits.as_bytes())?;
     Ok(())
 }

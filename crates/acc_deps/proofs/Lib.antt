@@ -1,3 +1,4 @@
+pub mod Adopted
 pub mod ByShard
 mod Merge
 mod ShardMerge

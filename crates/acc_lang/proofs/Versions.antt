@@ -1,5 +1,5 @@
 -- What is spelled in version 1 is spelled in version 2.
-use Rattle.std.proofs.Common.{◌≡◌, ℕ, true, false, List, [], ◌∷◌, codes, true≢false, sym}
+use Rattle.std.proofs.Common.{ℕ, true, false, List, [], ◌∷◌, codes, true≢false, sym}
 use Rattle.acc_token.specs.Tokens.{Word}
 use Rattle.acc_txn.specs.declared.parts.Let.{Let}
 use Rattle.acc_txn.specs.declared.parts.Term.{Term}
@@ -10,7 +10,7 @@ use Rattle.acc_txn.specs.declared.parts.Condition.TheVariants.{Compare, IsNull, 
 use Rattle.acc_txn.specs.declared.parts.Update.{Update}
 use Rattle.acc_txn.specs.declared.parts.Update.TheVariants.{Set, Delete}
 use Rattle.acc_txn.specs.declared.parts.BodyParts.{BodyParts}
-use Rattle.acc_lang.specs.Grammar.{Each, Behind, TermSpelled, PartSpelled, ExpressionSpelled, ConditionSpelled, UpdateSpelled, ActionSpelled, Spelled, IsTextOf}
+use Rattle.acc_lang.specs.Grammar.{Each, Behind, TermSpelled, PartSpelled, ExpressionSpelled, ConditionSpelled, UpdateSpelled, ActionSpelled, IsTextOf}
 
 term_both : (lets : List Let) (t : Term) (from to : List ℕ) → TermSpelled false lets t from to → TermSpelled true lets t from to
 term_both lets (Number number) from to spelled = spelled

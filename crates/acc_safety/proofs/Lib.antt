@@ -1,6 +1,5 @@
 pub mod SentFacts
 pub mod DrawFacts
-pub mod ReplayFacts
 pub mod PlaceFacts
 pub mod BegunFacts
 pub mod PlaceOrder
@@ -8,3 +7,13 @@ pub mod StoreSent
 pub mod NodeMoved
 pub mod NodeSent
 pub mod Bridge
+pub mod Attempted
+pub mod BodiesBegun
+pub mod Frame
+pub mod StoreNotions
+pub mod Prefixes
+pub mod SetsNamed
+pub mod Meetings
+pub mod Polled
+pub mod Replays
+pub mod BegunBefore

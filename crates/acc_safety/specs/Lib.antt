@@ -14,3 +14,4 @@ pub mod Polls
 pub mod Roots
 pub mod StoreFactStatements
 pub mod Statements
+pub mod Attempted
