@@ -14,7 +14,7 @@ use Rattle.acc_txn.specs.declared.parts.BodyParts.{BodyParts}
 use Rattle.acc_txn.specs.Rules.{condition_has, update_has}
 use Rattle.acc_lang.specs.declared.error.LangError.{LangError}
 use Rattle.acc_lang.specs.Texts.{is_text_term, has_text_term, has_text_value}
-use Rattle.acc_lang.specs.Grammar.{Each, Behind, TermSpelled, PartSpelled, ExpressionSpelled, ConditionSpelled, UpdateSpelled, ActionSpelled, IsTextOf}
+use Rattle.acc_lang.specs.Grammar.{Each, Behind, TermSpelled, PartSpelled, ExpressionSpelled, ConditionSpelled, UpdateSpelled, ActionSpelled, IsTextOf, Spelled}
 
 none : (a b : Bool) → a ≡ false → b ≡ false → (a || b) ≡ false
 none a b left right = rw left right
@@ -61,9 +61,9 @@ action_none lets (guard ∷ guards) (u ∷ updates) from to spelled =
     (none _ _ (guard_none lets guard spelled.5.0 spelled.0 spelled.5.2) (guards_none lets guards spelled.0 spelled.1 spelled.6))
     (none _ _ (update_none lets u spelled.7.0 spelled.2 spelled.7.2) (updates_none lets updates spelled.2 spelled.3 spelled.8))
 
-no_text : (text : List ℕ) (parts : BodyParts) → IsTextOf false text parts → has_text_value parts ≡ false
-no_text text parts is = action_none parts.lets parts.guards parts.updates is.0.action_place is.0.commit_place is.0.action
+pub no_text : (text : List ℕ) (parts : BodyParts) → Spelled false text parts → has_text_value parts ≡ false
+no_text text parts is = action_none parts.lets parts.guards parts.updates is.action_place is.commit_place is.action
 
 pub no_text_read : (text : List ℕ) (result : Result BodyParts LangError) → IfOk result (λ body. IsTextOf false text body) → IfOk result (λ body. has_text_value body ≡ false)
-no_text_read text (Ok body) is = no_text text body is
+no_text_read text (Ok body) is = no_text text body is.0
 no_text_read text (Err error) is = tt

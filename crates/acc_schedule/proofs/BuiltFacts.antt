@@ -25,7 +25,7 @@ use Rattle.acc_schedule.specs.Nodes.{clock, node_fault as node_rule, nodes_fault
 use Rattle.acc_schedule.specs.Shards.{electorate_fault, end_fault, ids_fault, shard_fault, shards_fault, shards_of}
 use Rattle.acc_schedule.specs.Nodes.{nodes_of}
 use Rattle.acc_schedule.specs.Cluster.{cluster_fault, node_path, placed, shard_path}
-use Rattle.acc_schedule.specs.Texts.{at_path}
+use Rattle.acc_schedule.specs.Texts.{at_path, has_texts}
 use Rattle.acc_schedule.specs.Transactions.{body_fault, home_fault, name_fault, names_of, transaction_fault, transactions_fault}
 use Rattle.acc_schedule.specs.Steps.{Cast, actor_fault, count_fault, node_fault, form_fault, name_fault as begun_fault, no_item, no_step_fault, one_item, operand_path, operands_in, schedule_fault, step_fault, two_items, word_in}
 use Rattle.acc_schedule.specs.Document.{base_fault, cast_of, document_fault, fields_fault, is_node_of, needed_fields, Root, root_fault, root_of, version_fault, version_of}
@@ -143,7 +143,7 @@ home_rule : (is_node : ℕ → Bool) (path : Path) (d : Data) → AreOfRule (hom
 home_rule is_node path d = both _ _ (shape _ path) (named _ path)
 
 body_rule : (version : ℕ) (path : Path) (d : Data) → AreOfRule (body_fault version path d)
-body_rule version path d = both _ _ (both _ _ (shape _ path) (limit _ path)) (text_rule path (reading_fault (text d)))
+body_rule version path d = both _ _ (both _ _ (shape _ path) (limit _ path)) (text_rule path (reading_fault (has_texts version) (text d)))
 
 one_transaction : (version : ℕ) (is_node : ℕ → Bool) (earlier : List (List ℕ)) (place : ℕ) (x : Data) → AreOfRule (transaction_fault version is_node earlier place x)
 one_transaction version is_node earlier place x = both _ _

@@ -11,4 +11,5 @@ mod NameFacts
 mod PathFacts
 mod PlanFacts
 mod ShardFacts
+mod TextFacts
 mod TransactionFacts

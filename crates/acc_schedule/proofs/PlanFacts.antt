@@ -11,18 +11,19 @@ use Rattle.acc_topology.specs.Faults.{ids, nodes_fault as topology_nodes_fault, 
 use Rattle.acc_topology.specs.Sets.{in_order, is_among}
 use Rattle.acc_topology.proofs.Accepted.{given_is_layout}
 use Rattle.acc_topology.proofs.Listed.{length-in_order-take}
+use Rattle.acc_lang.specs.Texts.{has_text_value}
 use Rattle.acc_schedule.specs.declared.error.PlanError.{PlanError}
 use Rattle.acc_schedule.specs.declared.error.PlanKind.TheVariants.{Shape, Limit, Name}
 use Rattle.acc_schedule.specs.Content.{Content}
 use Rattle.acc_base.specs.Faults.{◌then◌, each}
 use Rattle.acc_base.proofs.Faults.{then_none, must_none, each_all, each_from_0}
 use Rattle.acc_schedule.specs.Faults.{bad, Gives, IsOfRule}
-use Rattle.acc_schedule.specs.Fields.{field, items, list_fault}
+use Rattle.acc_schedule.specs.Fields.{field, items, list_fault, text}
 use Rattle.acc_schedule.specs.Paths.{field_path, part_path}
 use Rattle.acc_schedule.specs.Nodes.{clock, clock_fault, node_fault, node_of, nodes_fault, nodes_of}
 use Rattle.acc_schedule.specs.Shards.{electorate_fault, is_end, ids_fault, shard_fault, shards_fault, shards_of, shard_of}
 use Rattle.acc_schedule.specs.Cluster.{cluster_fault, node_path, placed, shard_path}
-use Rattle.acc_schedule.specs.Transactions.{body_fault, home_fault, home_of, homes_of, is_name, is_new, name_fault, name_of, names_of, transaction_fault, transactions_fault}
+use Rattle.acc_schedule.specs.Transactions.{bodies_of, body_fault, body_of, home_fault, home_of, homes_of, is_name, is_new, name_fault, name_of, names_of, transaction_fault, transactions_fault}
 use Rattle.acc_schedule.specs.Steps.{schedule_fault, step_fault, step_of}
 use Rattle.acc_schedule.specs.Document.{base_fault, cast_of, document_fault, fields_fault, is_node_of, layout_of, plan_in, plan_of, print_fault, Root, root_fault, root_of, version_fault, version_of}
 use Rattle.acc_schedule.specs.Plan.{IsPlan, IsStep}
@@ -30,6 +31,7 @@ use Rattle.acc_schedule.proofs.ClusterFacts.{fine_node, no_fault, nodes_fine, no
 use Rattle.acc_schedule.proofs.BuiltFacts.{given_of_rule}
 use Rattle.acc_schedule.proofs.DocumentFacts.{given_behind, given_same}
 use Rattle.acc_schedule.proofs.KeptFacts.{one_of, step_known, within}
+use Rattle.acc_schedule.proofs.TextFacts.{numbers_alone}
 
 -- ---- lists
 
@@ -95,13 +97,14 @@ ends_given (s ∷ ss) h = (h.0, ends_given ss h.1)
 -- ---- transactions
 
 transaction_kept : (version : ℕ) (is_node : ℕ → Bool) (before : List (List ℕ)) (place : ℕ) (d : Data) → transaction_fault version is_node before place d ≡ None
-    → (is_name (name_of d) ≡ true) × (is_new before (name_of d) ≡ true) × (is_node (home_of d) ≡ true)
+    → (is_name (name_of d) ≡ true) × (is_new before (name_of d) ≡ true) × (is_node (home_of d) ≡ true) × (version ≡ 1 → has_text_value (body_of version d) ≡ false)
 transaction_kept version is_node before place d h =
     let parts = then_none _ (body_fault version (part_path (codes "txns") place (codes "text")) (field (codes "text") d)) h in
     let front = then_none _ (home_fault is_node (part_path (codes "txns") place (codes "node")) (field (codes "node") d)) parts.0 in
     let named = then_none _ (name_fault before (part_path (codes "txns") place (codes "name")) (field (codes "name") d)) front.0 in
     let name = and_parts (is_name (name_of d)) (is_new before (name_of d)) (must_none _ (bad Name (part_path (codes "txns") place (codes "name"))) (then_none _ _ named.1).1) in
-    (name.0, name.1, one_of is_node (field (codes "node") d) (must_none _ (bad Name (part_path (codes "txns") place (codes "node"))) (then_none _ _ front.1).1))
+    (name.0, name.1, one_of is_node (field (codes "node") d) (must_none _ (bad Name (part_path (codes "txns") place (codes "node"))) (then_none _ _ front.1).1),
+    λ first. numbers_alone version (part_path (codes "txns") place (codes "text")) (text (field (codes "text") d)) first (then_none _ _ parts.1).1)
 
 -- ---- the whole
 
@@ -111,6 +114,7 @@ record AreTransactions (r : Root) : Type 0 where
   named : AllByRecursion (λ name. IsTrue (is_name name)) (names_of r.txns)
   once : (number : ℕ) → number < length (names_of r.txns) → IsTrue (is_new (take number (names_of r.txns)) (get_or (names_of r.txns) number []))
   known : AllByRecursion (λ home. IsTrue (is_node_of r home)) (homes_of r.txns)
+  numbers : version_of r ≡ 1 → AllByRecursion (λ body. has_text_value body ≡ false) (bodies_of (version_of r) r.txns)
 
 are_transactions : (r : Root) → transactions_fault (version_of r) (is_node_of r) r.txns ≡ None → AreTransactions r
 are_transactions r h =
@@ -128,6 +132,7 @@ are_transactions r h =
           let is : get_or names number [] ≡ name_of x = get_or-map name_of ts number null [] within in
           ap (is_new (take number names)) is ∙ (kept number x (each_from_0 rules ts number null parts.1 within)).1;
       known = each_all rules home_of (λ home. IsTrue (is_node_of r home)) (λ i x e. (kept i x e).2) ts 0 parts.1;
+      numbers = λ first. each_all rules (body_of (version_of r)) (λ body. has_text_value body ≡ false) (λ i x e. (kept i x e).3 first) ts 0 parts.1;
     }
 
 IsPlan-plan_in : (r : Root) → fields_fault r ≡ None → IsPlan (plan_in r)
@@ -156,6 +161,7 @@ IsPlan-plan_in r h =
       few = transactions.few;
       homes_as_many = length-map (items r.txns) home_of ∙ sym (length-map (items r.txns) name_of);
       bodies_as_many = length-map (items r.txns) _ ∙ sym (length-map (items r.txns) name_of);
+      numbers_alone = transactions.numbers;
       named = transactions.named;
       names_once = transactions.once;
       homes_known = transactions.known;
