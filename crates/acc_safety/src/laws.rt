@@ -18,7 +18,8 @@ ghost use Rattle.acc_message.specs.Attempts.{Attempt, majority_everywhere, fast_
 ghost use Rattle.acc_message.specs.Run.{Cluster, clock_start, deeds_of, taken_of, is_node, EachStands, IsHomeOf};
 ghost use Rattle.acc_message.specs.NodeRules.{Act, Deed, attempt_after, attempt_of, node_emits, node_replay};
 ghost use Rattle.acc_message.specs.StoreRules.{store_answer, replay};
-ghost use Rattle.acc_safety.specs.RunLaws.{drawn_of, AreDistinct, WasSent, messages_taken, acts_done};
+ghost use Rattle.acc_safety.specs.RunLaws.{drawn_of, AreDistinct, WasSent, acts_done};
+ghost use Rattle.acc_actor_laws.specs.TakenAlone.{messages_taken};
 ghost use Rattle.acc_safety.specs.Places.{IsIn, StandsAt, IsPast};
 ghost use Rattle.acc_safety.specs.Histories.{EachAnswers, EachEmits, Sending, Noting, Sender};
 ghost use Rattle.acc_safety.specs.StoreSends.{StoreSends};
