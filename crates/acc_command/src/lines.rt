@@ -64,7 +64,7 @@ fn number(kind: PlanKind) -> u64
     kind as u64
 }
 
-// What stands behind the place.
+// What stands behind the path.
 fn push_detail(text: &mut Vec<u8>, kind: PlanKind, detail: u32, at: u64) -> Result<(), OutOfMemory>
     ensures { OnOk result (text.new.items ≡ text.old.items ++ detail_text kind detail at) }
 {
@@ -73,7 +73,7 @@ fn push_detail(text: &mut Vec<u8>, kind: PlanKind, detail: u32, at: u64) -> Resu
             text.extend_from_slice(b" ")?;
             push_number(text, u64::from(detail))?;
         }
-        PlanKind::Text => {
+        PlanKind::Text | PlanKind::Journal | PlanKind::Report => {
             text.extend_from_slice(b" ")?;
             push_number(text, u64::from(detail))?;
             text.extend_from_slice(b" at ")?;

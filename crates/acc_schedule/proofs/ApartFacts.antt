@@ -1,6 +1,6 @@
 -- The rules of a root without one of its fields.
 use Rattle.std.proofs.Common.{◌≡◌, ℕ, Bool, true, false, not, ◌&&◌, ◌||◌, cond, List, [], ◌∷◌, ◌++◌, filter, find, Option, Some, None, is_some, unwrap_or, codes, refl, sym, ap, ◌∙◌, append_assoc}
-use Rattle.std.specs.List.{list_any, list_all}
+use Rattle.std.specs.List.{list_any}
 use Rattle.std.specs.Str.{bytes_eq}
 use Rattle.std.specs.Ordering.{nat_cmp, match_ordering, is_eq}
 use Rattle.std.specs.declared.cmp.Ordering.{Ordering}
@@ -15,7 +15,7 @@ use Rattle.serde_json.specs.Find.{get, get_member, as_object}
 use Rattle.acc_base.specs.Faults.{◌then◌, must}
 use Rattle.acc_base.proofs.Faults.{then_none, must_none}
 use Rattle.acc_schedule.specs.declared.error.PlanKind.TheVariants.{Shape}
-use Rattle.acc_schedule.specs.Faults.{bad, Fault, fault}
+use Rattle.acc_schedule.specs.Faults.{bad, fault}
 use Rattle.acc_schedule.specs.Fields.{field, field_names, has_each, member_names, object_fault, other_fault, other_field}
 use Rattle.acc_schedule.specs.Apart.{members_without, without}
 use Rattle.acc_schedule.specs.Document.{needed_fields, Root, root_fault, root_of}

@@ -1,5 +1,5 @@
 -- Whether the nodes or the shards of a document make no cluster.
-use Rattle.std.proofs.Common.{◌≡◌, ℕ, zero, suc, ◌+◌, ◌<◌, ◌≤◌, ◌&&◌, ◌||◌, ◌⊎◌, Bool, true, false, not, eqb, List, [], ◌∷◌, length, take, get_or, Option, Some, None, option_map, unwrap_or, nat_lt, nat_le, refl, sym, ap, subst, ◌∙◌, arith, add-zero, zero-add, inl, inr}
+use Rattle.std.proofs.Common.{◌≡◌, ℕ, ◌+◌, ◌<◌, ◌≤◌, ◌&&◌, ◌||◌, ◌⊎◌, Bool, true, false, not, eqb, List, [], ◌∷◌, length, take, get_or, Option, Some, None, option_map, unwrap_or, nat_lt, nat_le, refl, sym, ap, subst, ◌∙◌, arith, zero-add, inl, inr}
 use Rattle.std.specs.List.{list_any}
 use Rattle.std.proofs.lemmas.Bool.{cases_lt, lt-ltb, ne_eqb, not-true, true≢false}
 use Rattle.std.proofs.lemmas.List.{take-map}

@@ -1,5 +1,5 @@
 -- The plan of fields that break no rule.
-use Rattle.std.proofs.Common.{◌≡◌, ℕ, zero, suc, ◌<◌, ◌≤◌, List, [], ◌∷◌, length, take, map, get_or, Bool, true, false, None, Result, Ok, Err, IfOk, IfErr, All, IsTrue, codes, refl, sym, ap, subst, ◌∙◌, arith, zero-add}
+use Rattle.std.proofs.Common.{◌≡◌, ℕ, zero, suc, ◌<◌, ◌≤◌, List, [], ◌∷◌, length, take, map, get_or, Bool, true, false, None, Result, Ok, Err, IfOk, IfErr, All, IsTrue, codes, refl, sym, ap, subst, ◌∙◌, arith}
 use Rattle.std.specs.List.{AllByRecursion}
 use Rattle.std.proofs.lemmas.Bool.{and_parts, leb-true}
 use Rattle.std.proofs.lemmas.List.{length-map, get_or-map, take_all}
@@ -15,7 +15,7 @@ use Rattle.acc_lang.specs.Texts.{has_text_value}
 use Rattle.acc_schedule.specs.declared.error.PlanError.{PlanError}
 use Rattle.acc_schedule.specs.declared.error.PlanKind.TheVariants.{Shape, Limit, Name}
 use Rattle.acc_schedule.specs.Content.{Content}
-use Rattle.acc_base.specs.Faults.{◌then◌, each}
+use Rattle.acc_base.specs.Faults.{each}
 use Rattle.acc_base.proofs.Faults.{then_none, must_none, each_all, each_from_0}
 use Rattle.acc_schedule.specs.Faults.{bad, Gives, IsOfRule}
 use Rattle.acc_schedule.specs.Fields.{field, items, list_fault, text}
@@ -102,9 +102,12 @@ transaction_kept version is_node before place d h =
     let parts = then_none _ (body_fault version (part_path (codes "txns") place (codes "text")) (field (codes "text") d)) h in
     let front = then_none _ (home_fault is_node (part_path (codes "txns") place (codes "node")) (field (codes "node") d)) parts.0 in
     let named = then_none _ (name_fault before (part_path (codes "txns") place (codes "name")) (field (codes "name") d)) front.0 in
-    let name = and_parts (is_name (name_of d)) (is_new before (name_of d)) (must_none _ (bad Name (part_path (codes "txns") place (codes "name"))) (then_none _ _ named.1).1) in
-    (name.0, name.1, one_of is_node (field (codes "node") d) (must_none _ (bad Name (part_path (codes "txns") place (codes "node"))) (then_none _ _ front.1).1),
-    λ first. numbers_alone version (part_path (codes "txns") place (codes "text")) (text (field (codes "text") d)) first (then_none _ _ parts.1).1)
+    let name = and_parts (is_name (name_of d)) (is_new before (name_of d)) (must_none _ (bad Name (part_path (codes "txns") place (codes "name"))) (then_none _ _ named.1).1) in (
+      name.0,
+      name.1,
+      one_of is_node (field (codes "node") d) (must_none _ (bad Name (part_path (codes "txns") place (codes "node"))) (then_none _ _ front.1).1),
+      λ first. numbers_alone version (part_path (codes "txns") place (codes "text")) (text (field (codes "text") d)) first (then_none _ _ parts.1).1,
+    )
 
 -- ---- the whole
 

@@ -89,4 +89,3 @@ fn text(alloc: Global, actor: Actor) -> Result<Vec<u8>, OutOfMemory>
     }
     Ok(text)
 }
-

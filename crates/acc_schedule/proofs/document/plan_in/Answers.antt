@@ -1,4 +1,4 @@
-use Rattle.std.proofs.Common.{◌≡◌, ℕ, Bool, None, Ok, Err, sym, ap, subst, ◌∙◌}
+use Rattle.std.proofs.Common.{◌≡◌, ℕ, None, Err, sym, ap, subst, ◌∙◌}
 use Rattle.std.proofs.lemmas.Result.{err_from_is_err_and}
 use Rattle.serde_json.specs.View.{view}
 use Rattle.acc_topology.specs.Sets.{in_set}
@@ -8,7 +8,7 @@ use Rattle.acc_schedule.specs.Faults.{Fault, IsFault}
 use Rattle.acc_schedule.specs.Seen.{seen_value}
 use Rattle.acc_schedule.specs.Steps.{Cast, cast_in, schedule_fault, steps_of}
 use Rattle.acc_schedule.specs.Transactions.{bodies_of, transactions_fault}
-use Rattle.acc_schedule.proofs.DocumentFacts.{first_of_five, second_of_five, third_of_five, fourth_of_five, fifth_of_five, none_of_five, same_nodes}
+use Rattle.acc_schedule.proofs.DocumentFacts.{third_of_five, fourth_of_five, fifth_of_five, none_of_five, same_nodes}
 use Rattle.acc_schedule.proofs.PlanFacts.{sound_as}
 use Rattle.acc_schedule.proofs.document.plan_in.Goals as goal
 
@@ -79,17 +79,16 @@ returns c =
     let its_starts = c.starts.view_is ∙ c.in_ok-starts.ensures.1.0 in
     let its_names = c.in_ok-into_names.ensures ∙ c.in_ok-names.ensures.1.0 in
     let its_bodies = c.in_ok-names.ensures.1.2 ∙ ap (λ (v : ℕ). bodies_of v r.txns) c.in_ok-version.ensures.1 in
-    let its_steps = c.in_ok-steps.ensures.1 ∙ ap (λ (x : Cast). steps_of x r.schedule) cast in
-    (
+    let its_steps = c.in_ok-steps.ensures.1 ∙ ap (λ (x : Cast). steps_of x r.schedule) cast in (
       none_of_five (version_fault r.version) (base_fault r) (transactions_fault (version_of r) (is_node_of r) r.txns) (schedule_fault (cast_of r) r.schedule) (print_fault r.print) c.in_ok-version.ensures.0 c.in_ok-starts.ensures.0 fine stepped c.in_ok-print.ensures.0,
       λ i. record {
-      version = c.in_ok-version.ensures.1 i;
-      topology = its_topology i;
-      starts = its_starts i;
-      names = its_names i;
-      homes = c.in_ok-names.ensures.1.1 i;
-      bodies = its_bodies i;
-      steps = its_steps i;
-      print = c.in_ok-print.ensures.1 i;
-    },
+        version = c.in_ok-version.ensures.1 i;
+        topology = its_topology i;
+        starts = its_starts i;
+        names = its_names i;
+        homes = c.in_ok-names.ensures.1.1 i;
+        bodies = its_bodies i;
+        steps = its_steps i;
+        print = c.in_ok-print.ensures.1 i;
+      },
     )

@@ -1,5 +1,4 @@
 use Rattle.std.proofs.Common.{List, ℕ, Bool, cond, codes, None, sym, ap, ◌∙◌}
-use Rattle.std.specs.Str.{bytes_eq}
 use Rattle.serde_json.specs.Find.{get}
 use Rattle.serde_json.specs.View.{view}
 use Rattle.acc_schedule.proofs.ApartFacts.{get-without, same_back}

@@ -1,4 +1,4 @@
-use Rattle.std.proofs.Common.{◌≡◌, ℕ, List, [], ◌∷◌, codes, sym, ap, ◌∙◌}
+use Rattle.std.proofs.Common.{ℕ, List, [], ◌∷◌, codes, sym, ap, ◌∙◌}
 use Rattle.serde_json.specs.View.{view}
 use Rattle.acc_schedule.specs.Document.{root_of}
 use Rattle.acc_schedule.specs.Fields.{object_fault}
