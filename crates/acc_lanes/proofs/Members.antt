@@ -1,8 +1,10 @@
 -- The elements of a list, and the greatest of them.
-use Rattle.std.proofs.Common.{◌≡◌, ℕ, ◌<◌, zero, suc, Bool, true, List, [], ◌∷◌, length, get_or, map, refl, sym, ap, subst, ◌∙◌, arith, ◌⊎◌, inl, inr, ⊎_elim, IsTrue}
-use Rattle.std.specs.List.{Contains, All, filter}
+use Rattle.std.proofs.Common.{◌≡◌, ℕ, ◌<◌, zero, suc, Bool, true, false, ◌||◌, List, [], ◌∷◌, length, get_or, map, refl, sym, ap, subst, ◌∙◌, arith, ◌⊎◌, inl, inr, ⊎_elim, IsTrue}
+use Rattle.std.specs.List.{Contains, All, filter, list_any}
 use Rattle.std.proofs.lemmas.Bool.{true≢false, cond_both}
 use Rattle.std.proofs.lemmas.List.Elements.{Contains-get_or}
+use Rattle.std.proofs.lemmas.List.Folds.{list_any_at}
+use Rattle.acc_lanes.specs.Pairs.{chosen}
 use Rattle.acc_lanes.specs.Greatest.{IsGreatest}
 
 module _ {X : Type 0} where
@@ -60,3 +62,48 @@ module _ {X : Type 0} (le : X → X → Bool) where
   -- it is that of every list with the same elements
   pub greatest_like : (xs ys : List X) (s : X) → ((x : X) → Contains xs x → Contains ys x) → ((x : X) → Contains ys x → Contains xs x) → IsGreatest le xs s → IsGreatest le ys s
   greatest_like xs ys s to from g = greatest_from ys s (to s g.among) (λ x c. of_element (λ y. IsTrue (le y s)) xs x g.above (from x c))
+
+  pub greatest_above : (xs : List X) (s x : X) → IsGreatest le xs s → Contains xs x → le x s ≡ true
+  greatest_above xs s x g c = of_element (λ y. IsTrue (le y s)) xs x g.above c
+
+-- ---- the elements that a mask chooses
+
+module _ {X : Type 0} where
+  pub Contains-chosen : (ms : List Bool) (xs : List X) (i : ℕ) (d : X) → i < length ms → i < length xs → get_or ms i false ≡ true → Contains (chosen ms xs) (get_or xs i d)
+  Contains-chosen [] xs i d p q e = absurd (omega arith)
+  Contains-chosen (m ∷ ms) [] i d p q e = absurd (omega arith)
+  Contains-chosen (true ∷ ms) (x ∷ xs) zero d p q e = (0, omega arith, refl)
+  Contains-chosen (false ∷ ms) (x ∷ xs) zero d p q e = absurd (true≢false (sym e))
+  Contains-chosen (true ∷ ms) (x ∷ xs) (suc i) d p q e = there x (chosen ms xs) (get_or xs i d) (Contains-chosen ms xs i d (omega arith) (omega arith) e)
+  Contains-chosen (false ∷ ms) (x ∷ xs) (suc i) d p q e = Contains-chosen ms xs i d (omega arith) (omega arith) e
+
+  -- where a chosen element stands
+  abbrev pub StandsAt : List Bool → List X → X → ℕ → Type 0
+  StandsAt ms xs x i = (i < length ms) × (i < length xs) × (get_or ms i false ≡ true) × ((d : X) → get_or xs i d ≡ x)
+
+  pub Contains-from_chosen : (ms : List Bool) (xs : List X) (x : X) → Contains (chosen ms xs) x → (i : ℕ) × StandsAt ms xs x i
+  Contains-from_chosen [] xs x c = absurd (in_nothing x c)
+  Contains-from_chosen (m ∷ ms) [] x c = absurd (in_nothing x c)
+  Contains-from_chosen (true ∷ ms) (y ∷ xs) x c =
+      ⊎_elim
+      (λ s. (0, (omega arith, omega arith, refl, λ d. s)))
+      (λ r. let q = Contains-from_chosen ms xs x r in (suc q.0, (omega (arith, q.1.0), omega (arith, q.1.1), q.1.2, q.1.3)))
+      (first_or_rest y (chosen ms xs) x c)
+  Contains-from_chosen (false ∷ ms) (y ∷ xs) x c =
+      let q = Contains-from_chosen ms xs x c in (suc q.0, (omega (arith, q.1.0), omega (arith, q.1.1), q.1.2, q.1.3))
+
+  -- a test that some element passes
+  pub passing : (p : X → Bool) (xs : List X) → list_any p xs ≡ true → (x : X) × Contains xs x × (p x ≡ true)
+  passing p [] e = absurd (true≢false (sym e))
+  passing p (x ∷ xs) e =
+      elim (p x) as (λ b. p x ≡ b → (b || list_any p xs) ≡ true → (y : X) × Contains (x ∷ xs) y × (p y ≡ true)) [
+        | true ↦ λ t _. (x, (0, omega arith, refl), t)
+        | false ↦ λ _ r. let q = passing p xs r in (q.0, there x xs q.0 q.1, q.2)
+      ] refl e
+
+  pub passed : (p : X → Bool) (xs : List X) (x : X) → Contains xs x → p x ≡ true → list_any p xs ≡ true
+  passed p xs x c e = list_any_at p xs c.0 x c.1 (ap p c.2 ∙ e)
+
+  pub nothing_in : (xs : List X) → ((x : X) → Contains xs x → ⊥) → xs ≡ []
+  nothing_in [] f = refl
+  nothing_in (x ∷ xs) f = absurd (f x (0, omega arith, refl))
