@@ -88,11 +88,11 @@ nothing_left [] e = refl
 nothing_left (x ∷ xs) e = absurd (true≢false (sym e ∙ false_from_ne_true (length (x ∷ xs) == 0) (λ h. let z = eqb-true (length (x ∷ xs)) 0 h in omega arith)))
 
 -- what was found so far, with what a block adds
-pub below_more : (c : Columns) (id : TxnId) (bound : Stamp) (before found after : List TxnId) (done front marked : List ℕ) → found ≡ before ++ ids_of c (those_below c bound (others c id done)) → after ≡ found ++ ids_of c marked
-    → marked ≡ those_below c bound (others c id front) → after ≡ before ++ ids_of c (those_below c bound (others c id (done ++ front)))
-below_more c id bound before found after done front marked so_far added is =
+pub below_more : (c : Columns) (id : TxnId) (bound : Stamp) (before found after : List TxnId) (done front : List ℕ) → found ≡ before ++ ids_of c (those_below c bound (others c id done))
+    → after ≡ found ++ ids_of c (those_below c bound (others c id front)) → after ≡ before ++ ids_of c (those_below c bound (others c id (done ++ front)))
+below_more c id bound before found after done front so_far added =
     added
-    ∙ (λ i. so_far i ++ ids_of c (is i))
+    ∙ ap (λ zs. zs ++ ids_of c (those_below c bound (others c id front))) so_far
     ∙ append_assoc before (ids_of c (those_below c bound (others c id done))) (ids_of c (those_below c bound (others c id front)))
     ∙ ap (λ zs. before ++ zs) (sym (below-append c id bound done front))
 

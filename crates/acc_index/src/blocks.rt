@@ -1,4 +1,4 @@
-//! Questions about some places of the columns, which are asked of the lanes in blocks of 64 places.
+//! Blocks of 64 places of the columns, for which the lanes are asked.
 ghost use Rattle.std.specs.Prelude.{◌≡◌, ℕ, ◌+◌, ◌-◌, ◌<◌, ◌≤◌, ◌++◌, false, ◌&&◌, List, length, take, filter, All, OnOk, slice_index_or};
 ghost use Rattle.acc_stamp.specs.declared.stamps.Stamp.{Stamp};
 ghost use Rattle.acc_stamp.specs.declared.stamps.TxnId.{TxnId};
@@ -11,93 +11,24 @@ use crate::columns::Columns;
 use acc_base::OutOfMemory;
 use acc_stamp::{Stamp, TxnId};
 
-const BLOCK: usize = 64;
+pub(crate) const BLOCK: usize = 64;
 
 /// At most 64 places of the columns, from the first of some users on.
 #[derive(Drop)]
-struct Block {
+pub(crate) struct Block {
     /// Where it begins.
-    start: usize,
+    pub start: usize,
     /// How far it reaches: up to the last user in it.
-    width: usize,
+    pub width: usize,
     /// How many of the users are in it.
-    taken: usize,
+    pub taken: usize,
     /// The users in it that are other transactions.
-    mask: [bool; 64],
+    pub mask: [bool; 64],
 }
 
 impl Columns {
-    /// The greatest of some stamp and of those of other transactions at these places.
-    pub fn greatest_of(&self, places: &[usize], id: TxnId, so_far: Option<Stamp>) -> Option<Stamp>
-        requires even { IsEven self.now }
-        requires in_range { InRange self.now places.now }
-        ensures { (earlier : List Stamp) → IsGreatestStamp earlier so_far → IsGreatestStamp (earlier ++ stamps_of self.now (others self.now id places.now)) result }
-    {
-        let mut greatest = so_far;
-        let mut rest = places;
-        while !rest.is_empty() {
-            let block = self.block(rest, id);
-            greatest = later(greatest, self.greatest_in(&block));
-            rest = &rest[block.taken..];
-        }
-        greatest
-    }
-
-    /// Adds the other transactions at these places whose own stamp is smaller than the bound.
-    pub fn collect_below(
-        &self,
-        places: &[usize],
-        id: TxnId,
-        bound: Stamp,
-        found: &mut Vec<TxnId>,
-    ) -> Result<(), OutOfMemory>
-        requires even { IsEven self.now }
-        requires in_range { InRange self.now places.now }
-        ensures { OnOk result (found.new.items ≡ found.old.items ++ ids_of self.now (those_below self.now bound (others self.now id places.now))) }
-    {
-        let mut rest = places;
-        while !rest.is_empty() {
-            let block = self.block(rest, id);
-            let below = self.below_in(&block, bound);
-            self.collect_in(&block, &below, &rest[..block.taken], found)?;
-            rest = &rest[block.taken..];
-        }
-        Ok(())
-    }
-
-    /// Adds the other transactions at these places.
-    pub fn collect_others(
-        &self,
-        places: &[usize],
-        id: TxnId,
-        found: &mut Vec<TxnId>,
-    ) -> Result<(), OutOfMemory>
-        requires even { IsEven self.now }
-        requires in_range { InRange self.now places.now }
-        ensures { OnOk result (found.new.items ≡ found.old.items ++ ids_of self.now (others self.now id places.now)) }
-    {
-        for place in places {
-            if self.is_other(*place, id) {
-                found.push(self.id(*place))?;
-            }
-        }
-        Ok(())
-    }
-
-    /// Adds the transactions at these places.
-    pub fn collect(&self, places: &[usize], found: &mut Vec<TxnId>) -> Result<(), OutOfMemory>
-        requires even { IsEven self.now }
-        requires in_range { InRange self.now places.now }
-        ensures { OnOk result (found.new.items ≡ found.old.items ++ ids_of self.now places.now) }
-    {
-        for place in places {
-            found.push(self.id(*place))?;
-        }
-        Ok(())
-    }
-
-    // The block of the first of these places, and of those behind it that lie in it too.
-    fn block(&self, places: &[usize], id: TxnId) -> Block
+    /// The block of the first of these places, and of those behind it that lie in it too.
+    pub fn block(&self, places: &[usize], id: TxnId) -> Block
         requires even { IsEven self.now }
         requires in_range { InRange self.now places.now }
         requires some { 0 < length places.now }
@@ -126,8 +57,8 @@ impl Columns {
         }
     }
 
-    // The greatest of the stamps that a block's mask tells.
-    fn greatest_in(&self, block: &Block) -> Option<Stamp>
+    /// The greatest of the stamps that a block's mask tells.
+    pub fn greatest_in(&self, block: &Block) -> Option<Stamp>
         requires even { IsEven self.now }
         requires narrow { block.now.width ≤ 64 }
         requires in_range { block.now.start + block.now.width ≤ length self.now.heights.items }
@@ -145,8 +76,8 @@ impl Columns {
         }
     }
 
-    // Tells of each place of a block whether the transaction there has a stamp below the bound.
-    fn below_in(&self, block: &Block, bound: Stamp) -> [bool; 64]
+    /// Tells of each place of a block whether the transaction there has a stamp below the bound.
+    pub fn below_in(&self, block: &Block, bound: Stamp) -> [bool; 64]
         requires even { IsEven self.now }
         requires narrow { block.now.width ≤ 64 }
         requires in_range { block.now.start + block.now.width ≤ length self.now.heights.items }
@@ -163,8 +94,8 @@ impl Columns {
         below
     }
 
-    // Adds the transactions at those of these places in a block that both masks tell.
-    fn collect_in(
+    /// Adds the transactions at those of these places in a block that both masks tell.
+    pub fn collect_in(
         &self,
         block: &Block,
         below: &[bool; 64],
@@ -184,16 +115,5 @@ impl Columns {
             }
         }
         Ok(())
-    }
-}
-
-// The greater of two stamps that may be missing.
-fn later(a: Option<Stamp>, b: Option<Stamp>) -> Option<Stamp>
-    ensures { result ≡ later_of a b }
-{
-    match (a, b) {
-        (None, _) => b,
-        (_, None) => a,
-        (Some(x), Some(y)) => Some(if x < y { y } else { x }),
     }
 }

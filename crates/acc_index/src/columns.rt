@@ -2,7 +2,7 @@
 ghost use Rattle.std.specs.Prelude.{◌≡◌, ◌+◌, ◌<◌, ◌++◌, [], ◌∷◌, not, length, OnOk, OnErr};
 ghost use Rattle.std.specs.Vec.{vec_capacity};
 ghost use Rattle.acc_stamp.specs.Stamp.{id_eq};
-ghost use Rattle.acc_index.specs.Columns.{IsEven, id_at, HasMore};
+ghost use Rattle.acc_index.specs.Columns.{IsEven, stamp_at, id_at, HasMore};
 
 use acc_base::OutOfMemory;
 use acc_stamp::{Stamp, TxnId};
@@ -61,6 +61,19 @@ impl Columns {
             h: self.id_heights[place],
             origin: self.id_origins[place],
         })
+    }
+
+    /// The stamp at a place.
+    #[inline(always)]
+    pub fn stamp(&self, place: usize) -> Stamp
+        requires even { IsEven self.now }
+        requires in_range { place < length self.now.heights.items }
+        ensures { result ≡ stamp_at self.now place }
+    {
+        Stamp {
+            h: self.heights[place],
+            origin: self.origins[place],
+        }
     }
 
     /// Whether another transaction than this one stands at a place.

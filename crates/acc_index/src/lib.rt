@@ -7,6 +7,7 @@ mod columns;
 mod index;
 mod order;
 mod questions;
+mod scan;
 mod users;
 
 pub use acc_base::OutOfMemory;

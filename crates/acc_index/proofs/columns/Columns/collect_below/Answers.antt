@@ -1,12 +1,12 @@
 use Rattle.std.proofs.Common.{◌++◌, take, sym, ap, subst, ◌∙◌}
 use Rattle.acc_index.specs.Places.{InRange}
-use Rattle.acc_index.proofs.Steps.{rest_is, InRange-drop, done_more, below_more, both_told}
+use Rattle.acc_index.proofs.Steps.{rest_is, InRange-drop, done_more, below_more}
 use Rattle.acc_index.proofs.columns.Columns.collect_below.Goals as goal
 
 pub loop-rest-preserved : goal.loop-rest-preserved
 loop-rest-preserved c =
     let rest = c.loop-rest.rest.now in
-    let n = c.block-block.result.taken in
+    let n = c.in_ok-taken.taken in
     let met = c.loop-rest.invariant.so_far in
     let is = rest_is rest n in
     let own = c.args.self.now in
@@ -15,7 +15,6 @@ loop-rest-preserved c =
       so_far = (
         met.0 ++ take n rest,
         ap (λ zs. (met.0 ++ take n rest) ++ zs) is ∙ done_more met.0 rest c.args.places.now n met.1,
-        below_more own c.args.id c.args.bound c.args.found.now.items c.loop-rest.found.items c.collect_in.new.found.items met.0 (take n rest) _ met.2 c.in_ok-collect_in.ensures
-            (both_told own rest c.args.id c.block-block.result c.args.bound c.below_in-below.result c.block-block.ensures c.below_in-below.ensures),
+        below_more own c.args.id c.args.bound c.args.found.now.items c.loop-rest.found.items c.collect_next.new.found.items met.0 (take n rest) met.2 c.in_ok-taken.ensures.found,
       );
     }

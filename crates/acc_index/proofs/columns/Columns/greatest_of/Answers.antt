@@ -13,7 +13,7 @@ loop-rest-init c = record {
 pub loop-rest-preserved : goal.loop-rest-preserved
 loop-rest-preserved c =
     let rest = c.loop-rest.rest.now in
-    let n = c.block-block.result.taken in
+    let n = c.greatest_next-taken.result.0 in
     let met = c.loop-rest.invariant.met in
     let is = rest_is rest n in
     record {
@@ -23,7 +23,7 @@ loop-rest-preserved c =
         ap (λ zs. (met.0 ++ take n rest) ++ zs) is ∙ done_more met.0 rest c.args.places.now n met.1,
         λ earlier g.
             subst (IsGreatestStamp (earlier ++ stamps_of c.args.self.now (others c.args.self.now c.args.id (met.0 ++ take n rest)))) (sym c.later-greatest.ensures)
-            (greatest_more c.args.self.now c.args.id earlier met.0 (take n rest) c.loop-rest.greatest c.greatest_in.result (met.2 earlier g) (c.greatest_in.ensures rest c.args.id c.block-block.ensures)),
+            (greatest_more c.args.self.now c.args.id earlier met.0 (take n rest) c.loop-rest.greatest c.greatest_next-taken.result.1 (met.2 earlier g) c.greatest_next-taken.ensures.greatest),
       );
     }
 
