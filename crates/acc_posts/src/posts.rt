@@ -132,13 +132,22 @@ impl Posts {
         self.room -= 1;
     }
 
-    /// The oldest open message to an actor whose number is at least `from`.
-    pub fn next(&mut self, actor: u32, from: u64) -> Option<Post>
+    /// The oldest open message to an actor.
+    pub fn next_for(&mut self, actor: u32) -> Option<Post>
         ensures same { self.new ≡ self.old }
-        ensures next { MatchOption result (HasNone self.old.sent actor from) (IsNext self.old.sent actor from) }
+        ensures next { MatchOption result (HasNone self.old.sent actor 0) (IsNext self.old.sent actor 0) }
     {
         self.skip(lane_of(actor));
-        self.find(actor, from)
+        self.find(actor, 0)
+    }
+
+    /// The oldest open message to an actor that has a greater number.
+    pub fn next_after(&mut self, actor: u32, number: u64) -> Option<Post>
+        ensures same { self.new ≡ self.old }
+        ensures next { MatchOption result (HasNone self.old.sent actor (number + 1)) (IsNext self.old.sent actor (number + 1)) }
+    {
+        self.skip(lane_of(actor));
+        self.find_after(actor, number)
     }
 
     // Moves the first message of a lane past those that aren't open.
@@ -168,6 +177,15 @@ impl Posts {
             return first;
         }
         first.max(self.links[place - 1])
+    }
+
+    fn find_after(&self, actor: u32, number: u64) -> Option<Post>
+        ensures { MatchOption result (HasNone self.now.sent actor (number + 1)) (IsNext self.now.sent actor (number + 1)) }
+    {
+        if number >= self.postings.len() as u64 {
+            return None;
+        }
+        self.find(actor, number + 1)
     }
 
     fn find(&self, actor: u32, from: u64) -> Option<Post>
