@@ -1,0 +1,11 @@
+//! The tape: one list of items that all threads enter, each through a seat of its own.
+#![tactic(auto)]
+
+mod board;
+mod content;
+mod error;
+mod posted;
+
+pub use acc_posts::Post;
+pub use error::{PlaceError, TapeError};
+pub use posted::Posted;
