@@ -1,3 +1,7 @@
-pub mod Messages
 pub mod Kept
+pub mod Lists
+pub mod Messages
 pub mod Refusals
+pub mod Rule
+pub mod Seats
+pub mod Turn

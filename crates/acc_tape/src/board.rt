@@ -6,6 +6,7 @@ ghost use Rattle.acc_tape.specs.declared.error.PlaceError.TheVariants.{NoPlace};
 ghost use Rattle.acc_tape.specs.Messages.{IsOldest, HasNone, messages_from};
 ghost use Rattle.acc_tape.specs.Kept.{after_taking, after_messages};
 ghost use Rattle.acc_tape.specs.Refusals.{Refuses};
+ghost use Rattle.acc_tape.specs.Turn.{IsWithin};
 
 use crate::content::{Content, Limits};
 use crate::error::{PlaceError, TapeError};
@@ -24,6 +25,8 @@ pub struct Board<E: Posted> {
     reserved: u64,
     reserved_weight: u64,
     limits: Limits,
+    // The actor for which the first seat is split next.
+    named: u32,
     posts: Posts,
 }
 
@@ -36,14 +39,14 @@ impl<E: Posted> Model for Board<E> {
 
     ghost Value = { Content E };
 
-    ghost view = { λ b. record { items = map arc_value b.items.items; reserved = b.reserved; reserved_weight = b.reserved_weight; limits = b.limits } };
+    ghost view = { λ b. record { items = map arc_value b.items.items; reserved = b.reserved; reserved_weight = b.reserved_weight; limits = b.limits; named = b.named } };
 
     ghost invariant = { λ b. IsKept E.took E.sent_to E.is_lost E.bytes (map arc_value b.items.items) b.weight b.reserved b.reserved_weight b.limits (vec_capacity b.items) b.posts };
 }
 
 impl<E: Posted> Board<E> {
     pub fn new(alloc: Global, limits: Limits) -> Result<Board<E>, OutOfMemory>
-        ensures { IfOk result (λ board. board ≡ record { items = []; reserved = 0; reserved_weight = 0; limits = limits }) }
+        ensures { IfOk result (λ board. board ≡ record { items = []; reserved = 0; reserved_weight = 0; limits = limits; named = 0 }) }
     {
         Ok(Board {
             items: Vec::new(alloc),
@@ -51,6 +54,7 @@ impl<E: Posted> Board<E> {
             reserved: 0,
             reserved_weight: 0,
             limits,
+            named: 0,
             posts: Posts::new(alloc)?,
         })
     }
@@ -58,8 +62,8 @@ impl<E: Posted> Board<E> {
     /// Reserves an item and so many bytes, so that entering it takes no memory. Otherwise all is as before.
     pub fn reserve(&mut self, weight: u64) -> Result<(), TapeError>
         ensures ok { OnOk result (self.new ≡ record self.old { reserved = self.old.reserved + 1; reserved_weight = self.old.reserved_weight + weight }) }
-        ensures fits { OnOk result ((length self.new.items + self.new.reserved ≤ self.new.limits.items) × (sum_by E.bytes self.new.items + self.new.reserved_weight ≤ self.new.limits.weight)) }
         ensures err { OnErr result (self.new ≡ self.old) }
+        ensures within { IsWithin E.bytes self.new }
         ensures cause { IfErr result (Refuses self.old.limits (length self.old.items + self.old.reserved) (sum_by E.bytes self.old.items + self.old.reserved_weight) weight) }
     {
         let Limits {
@@ -87,10 +91,19 @@ impl<E: Posted> Board<E> {
         Ok(())
     }
 
+    /// Names the actor for which a seat is split next.
+    pub fn name(&mut self, actor: u32)
+        ensures named { self.new ≡ record self.old { named = actor } }
+        ensures within { IsWithin E.bytes self.new }
+    {
+        self.named = actor;
+    }
+
     /// Gives up a reservation.
     pub fn release(&mut self, weight: u64)
         requires { (0 < self.old.reserved) × (weight ≤ self.old.reserved_weight) }
-        ensures { self.new ≡ record self.old { reserved = self.old.reserved - 1; reserved_weight = self.old.reserved_weight - weight } }
+        ensures released { self.new ≡ record self.old { reserved = self.old.reserved - 1; reserved_weight = self.old.reserved_weight - weight } }
+        ensures within { IsWithin E.bytes self.new }
     {
         self.posts.release(weight, 1);
         self.reserved -= 1;
@@ -102,6 +115,7 @@ impl<E: Posted> Board<E> {
         requires reserved { (0 < self.old.reserved) × (weight ≤ self.old.reserved_weight) }
         requires bytes { (bytes ≡ E.bytes (arc_value item)) × (bytes ≤ weight) }
         ensures entered { self.new ≡ record self.old { items = self.old.items ++ arc_value item ∷ []; reserved = self.old.reserved - 1; reserved_weight = self.old.reserved_weight - weight } }
+        ensures within { IsWithin E.bytes self.new }
         ensures place { result ≡ length self.old.items }
     {
         let place = self.items.len() as u64;
@@ -119,6 +133,7 @@ impl<E: Posted> Board<E> {
     pub fn fetch(&self, place: u64) -> Result<Arc<E>, PlaceError>
         ensures ok { IfOk result (λ item. slice_get self.now.items place ≡ Some (arc_value item)) }
         ensures cause { IfErr result (λ error. error ≡ NoPlace → length self.now.items ≤ place) }
+        ensures within { IsWithin E.bytes self.now }
     {
         if place >= self.items.len() as u64 {
             return Err(PlaceError::NoPlace);
@@ -129,6 +144,7 @@ impl<E: Posted> Board<E> {
     /// The oldest message that waits for an actor.
     pub fn next_for(&mut self, actor: u32) -> Option<Post>
         ensures same { self.new ≡ self.old }
+        ensures within { IsWithin E.bytes self.new }
         ensures next { MatchOption result (HasNone E.took E.sent_to E.is_lost self.old.items actor 0) (IsOldest E.took E.sent_to E.is_lost self.old.items actor 0) }
     {
         self.posts.next_for(actor)
@@ -137,6 +153,7 @@ impl<E: Posted> Board<E> {
     /// The oldest message that waits for an actor and has a greater number.
     pub fn next_after(&mut self, actor: u32, number: u64) -> Option<Post>
         ensures same { self.new ≡ self.old }
+        ensures within { IsWithin E.bytes self.new }
         ensures next { MatchOption result (HasNone E.took E.sent_to E.is_lost self.old.items actor (number + 1)) (IsOldest E.took E.sent_to E.is_lost self.old.items actor (number + 1)) }
     {
         self.posts.next_after(actor, number)
@@ -152,6 +169,7 @@ impl<E: Posted> Board<E> {
             reserved: _,
             reserved_weight: _,
             limits: _,
+            named: _,
             posts: _,
         } = self;
         items

@@ -8,10 +8,12 @@ pub struct Limits {
     pub weight: u64,
 }
 
-/// The items, the number and the sum of all reserved weights, and the limits. No value of it is made.
+/// The items, the number and the sum of all reserved weights, the limits, and the actor for which a seat is split next. No
+/// value of it is made.
 pub struct Content<E> {
     pub items: LinkedList<E>,
     pub reserved: u64,
     pub reserved_weight: u64,
     pub limits: Limits,
+    pub named: u32,
 }

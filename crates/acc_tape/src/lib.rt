@@ -4,8 +4,14 @@
 mod board;
 mod content;
 mod error;
+mod law;
 mod posted;
+mod seat;
+mod tape;
+mod view;
 
 pub use acc_posts::Post;
 pub use error::{PlaceError, TapeError};
 pub use posted::Posted;
+pub use seat::{Seat, Seats};
+pub use tape::Tape;
