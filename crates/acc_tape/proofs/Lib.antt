@@ -1,4 +1,4 @@
-pub mod Calls
+pub mod Visits
 pub mod Joining
 pub mod Keeps
 pub mod Mailing

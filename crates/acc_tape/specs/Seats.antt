@@ -1,5 +1,5 @@
 -- Seats as contracts see them.
-use Rattle.std.specs.Prelude.{◌≡◌, ℕ, ◌+◌, ◌≤◌, List, length, sum, sum_by}
+use Rattle.std.specs.Prelude.{◌≡◌, ℕ, ◌+◌, ◌≤◌, List, [], ◌∷◌, ◌++◌, length, sum, sum_by}
 use mathlib.Core.List.{IsPrefix}
 use Rattle.atomic_table.specs.Seated.{TableId}
 use Rattle.acc_tape.specs.declared.content.Limits.{Limits}
@@ -31,3 +31,7 @@ pub record Turns {E : Type 0} (actor_of bytes : E → ℕ) (old new : SeatView E
   pub within_weight : sum_by bytes new.seen + new.out_weight ≤ new.tape.limits.weight
   pub counted : length new.held ≤ new.out_count
   pub weighed : sum new.held ≤ new.out_weight
+
+-- the list ends with the item, which stands at this place
+abbrev pub EndsWith : {E : Type 0} → List E → ℕ → E → Type 0
+EndsWith {E} seen place item = (before : List E) × (seen ≡ before ++ item ∷ []) × (place ≡ length before)

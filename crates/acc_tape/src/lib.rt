@@ -2,7 +2,9 @@
 #![tactic(auto)]
 
 mod board;
+mod calls;
 mod content;
+mod entered;
 mod error;
 mod law;
 mod posted;
@@ -11,6 +13,7 @@ mod tape;
 mod view;
 
 pub use acc_posts::Post;
+pub use entered::Entered;
 pub use error::{PlaceError, TapeError};
 pub use posted::Posted;
 pub use seat::{Seat, Seats};

@@ -1,27 +1,19 @@
 //! The tape.
-ghost use Rattle.std.specs.Prelude.{◌≡◌, ◌≢◌, true, ℕ, ◌+◌, ◌-◌, ◌<◌, ◌≤◌, [], ◌∷◌, ◌++◌, length, sum, sum_by, None, Some, Contains, slice_get, IfOk, IfErr, OnOk, OnErr, MatchOption};
-ghost use Rattle.std.specs.Arc.{arc_value};
-ghost use Rattle.acc_tape.specs.declared.error.PlaceError.TheVariants.{NoPlace};
+ghost use Rattle.std.specs.Prelude.{◌≡◌, ℕ, true, [], ◌∷◌, None, Some, IfOk};
 ghost use Rattle.acc_tape.specs.declared.content.Content.{Content};
-ghost use Rattle.acc_tape.specs.Lists.{without};
-ghost use Rattle.acc_tape.specs.Messages.{HasNone, IsOldest};
-ghost use Rattle.acc_tape.specs.Refusals.{Refuses};
-ghost use Rattle.acc_tape.specs.Seats.{Turns};
 ghost use Rattle.acc_tape.specs.Turn.{IsResting, CanLeave, Learns, waiting, turning, left};
 
 use crate::board::Board;
 use crate::content::Limits;
-use crate::error::{PlaceError, TapeError};
 use crate::law::{Draw, Law, Leave, Look};
 use crate::posted::Posted;
 use crate::seat::{Seat, Token};
 use crate::view::View;
 use acc_base::OutOfMemory;
-use acc_posts::Post;
 use atomic_table::{Refused, Table};
 use std::alloc::Global;
 use std::marker::Model;
-use std::sync::{Arc, Wait};
+use std::sync::Wait;
 use std::thread::yield_now;
 
 // The words of the table: the next ticket, and the ticket that is served.
@@ -34,7 +26,7 @@ const MOST_TICKETS: u64 = 1 << 62;
 /// One list of items, which grows at its end. Threads take turns with it, in the order in which they came.
 #[derive(Drop)]
 pub struct Tape<E: Posted> {
-    table: Table<Board<E>, View<E>, Limits, Law<E>, Global>,
+    pub(crate) table: Table<Board<E>, View<E>, Limits, Law<E>, Global>,
 }
 
 impl<E: Posted> Model for Tape<E> {
@@ -103,7 +95,7 @@ impl<E: Posted> Tape<E> {
     }
 
     // Waits for the turn.
-    fn begin<R: Wait>(&self, rt: &R, token: &mut Token<E>)
+    pub(crate) fn begin<R: Wait>(&self, rt: &R, token: &mut Token<E>)
         requires tape { (token.old.table_id ≡ self.now.table) × (token.old.me.0.limits ≡ self.now.limits) }
         requires rests { IsResting token.old.me }
         ensures tape { token.new.table_id ≡ token.old.table_id }
@@ -114,37 +106,12 @@ impl<E: Posted> Tape<E> {
     }
 
     // Ends the turn.
-    fn leave(&self, token: &mut Token<E>)
+    pub(crate) fn leave(&self, token: &mut Token<E>)
         requires tape { token.old.table_id ≡ self.now.table }
         requires turn { CanLeave E.actor_of token.old.me }
         ensures tape { token.new.table_id ≡ token.old.table_id }
         ensures left { token.new.me ≡ left E.actor_of token.old.me }
     {
         self.table.shared.fetch_add::<Leave>(token, SERVED, 1);
-    }
-
-    /// Reserves an item and so many bytes for a seat with an actor, so that entering it can't be refused. Full tells which
-    /// limit it is, and its number. After a refusal nothing more is reserved.
-    pub fn reserve<R: Wait>(
-        &self,
-        rt: &R,
-        seat: &mut Seat<E>,
-        weight: u64,
-    ) -> Result<(), TapeError>
-        requires tape { seat.old.tape ≡ self.now }
-        requires actor { seat.old.actor ≢ 0 }
-        ensures turn { Turns E.actor_of E.bytes seat.old seat.new }
-        ensures same { (seat.new.mine ≡ seat.old.mine) × (seat.new.made ≡ seat.old.made) }
-        ensures ok { OnOk result (seat.new.held ≡ seat.old.held ++ weight ∷ []) }
-        ensures err { OnErr result (seat.new.held ≡ seat.old.held) }
-        ensures cause { IfErr result (Refuses self.now.limits (length seat.new.seen + seat.new.out_count) (sum_by E.bytes seat.new.seen + seat.new.out_weight) weight) }
-    {
-        self.begin(rt, &mut seat.token);
-        let outcome = seat
-            .token
-            .slot_mut(&self.table.shared, 0)
-            .reserve(weight);
-        self.leave(&mut seat.token);
-        outcome
     }
 }

@@ -62,6 +62,9 @@ module _ {E : Type 0} (actor_of bytes : E → ℕ) where
         first = λ z. h ∙ rests.first z;
       }
 
+  pub still_may : (v : View E) (x now : Content E) → IsResting (v, []) → now ≡ x → MayLeave actor_of v.actor v.held x now
+  still_may v x now rests is = same_may v x now rests (ap (λ (c : Content E). c.items) is) (ap (λ (c : Content E). c.reserved) is) (ap (λ (c : Content E). c.reserved_weight) is) (ap (λ (c : Content E). c.limits) is)
+
   pub more_may : (v : View E) (x now : Content E) (w : ℕ) → v.actor ≢ 0 → now ≡ record x { reserved = x.reserved + 1; reserved_weight = x.reserved_weight + w } → (MayLeave actor_of v.actor v.held x now) × (held_after v.held x now ≡ v.held ++ w ∷ [])
   more_may v x now w nz is =
       let r : now.reserved ≡ x.reserved + 1 = ap (λ (c : Content E). c.reserved) is in
@@ -184,3 +187,14 @@ module _ {E : Type 0} (actor_of bytes : E → ℕ) where
       let o = opened m.0 m1 turn x value in
       let e = closed m.0 m1 x now o m2 left' in
       (rests_after m.0 x now m2 rests.is_live may e, after m.0 x now table table' m2 old o.2 may within is same e)
+
+  -- a reservation given up, and an item entered
+  pub releases : (m : M) (x now : Content E) (w : ℕ) → IsResting m → Learns actor_of m.0 x → Contains m.0.held w → now ≡ record x { reserved = x.reserved - 1; reserved_weight = x.reserved_weight - w } → (MayLeave actor_of m.0.actor m.0.held x now) × (held_after m.0.held x now ≡ without w m.0.held)
+  releases m x now w rests learns holds is = less_may m.0 x now w [] (bare m rests) learns holds (λ item in'. absurd (in_none item in')) (is ∙ (λ k. record x { items = sym (append-nil x.items) k; reserved = x.reserved - 1; reserved_weight = x.reserved_weight - w }))
+
+  pub enters : (m : M) (x now : Content E) (w : ℕ) (item : E) → IsResting m → Learns actor_of m.0 x → Contains m.0.held w → actor_of item ≡ m.0.actor → now ≡ record x { items = x.items ++ item ∷ []; reserved = x.reserved - 1; reserved_weight = x.reserved_weight - w }
+      → (MayLeave actor_of m.0.actor m.0.held x now) × (held_after m.0.held x now ≡ without w m.0.held)
+  enters m x now w item rests learns holds own is = less_may m.0 x now w (item ∷ []) (bare m rests) learns holds (λ y in'. ap actor_of (in_one item y in') ∙ own) is
+
+  pub holds_of : (m : M) (table : TableId) (old : SeatView E) (w : ℕ) → seat_view table m.0 ≡ old → Contains old.held w → Contains m.0.held w
+  holds_of m table old w is holds = subst (λ (s : SeatView E). Contains s.held w) (sym is) holds
