@@ -1,6 +1,7 @@
 -- What a call on the tape may leave in the slot, and what its seat knows then.
-use Rattle.std.proofs.Common.{◌≡◌, ◌≢◌, ℕ, ◌+◌, ◌-◌, ◌<◌, ◌≤◌, ◌==◌, true, List, [], ◌∷◌, ◌++◌, length, sum, None, Some, Contains, Result, Ok, Err, OnOk, OnErr, refl, sym, ap, ◌∙◌, subst, arith, length-append, append-nil}
+use Rattle.std.proofs.Common.{◌≡◌, ◌≢◌, ℕ, ◌+◌, ◌-◌, ◌<◌, ◌≤◌, ◌==◌, true, List, [], ◌∷◌, ◌++◌, length, sum, None, Some, Contains, Result, Ok, Err, OnOk, OnErr, All, get_or, refl, sym, ap, ◌∙◌, subst, arith, length-append, append-nil}
 use Rattle.std.specs.Prelude.{sum_by}
+use Rattle.std.proofs.Math.Seq.{get_or-append_seam}
 use Rattle.std.proofs.lemmas.Bool.{cond_below, cond_above}
 use Rattle.std.proofs.lemmas.List.Elements.{filter-append}
 use Rattle.std.proofs.lemmas.List.Sums.{sum_by_push}
@@ -10,9 +11,10 @@ use Rattle.atomic_table.specs.Seated.{TableId}
 use Rattle.acc_tape.specs.declared.content.Content.{Content}
 use Rattle.acc_tape.specs.declared.content.Limits.{Limits}
 use Rattle.acc_tape.specs.declared.view.View.{View}
+use Rattle.acc_tape.specs.declared.view.Gone.{Gone}
 use Rattle.acc_tape.specs.Lists.{without, items_of}
 use Rattle.acc_tape.specs.Seats.{SeatView, Turns}
-use Rattle.acc_tape.specs.Turn.{IsResting, Learns, MayLeave, CanLeave, IsWithin, waiting, turning, left, view_after, held_after, taken_of, now_of, seat_view}
+use Rattle.acc_tape.specs.Turn.{IsResting, Learns, MayLeave, CanLeave, IsWithin, waiting, turning, left, view_after, held_after, taken_of, now_of, seat_view, with_joined}
 use Rattle.acc_tape.proofs.Weights.{prefix_longer, in_none, in_one, without_one, item_of_actor}
 
 -- the weights of a seat after one more, one less, and neither
@@ -198,3 +200,18 @@ module _ {E : Type 0} (actor_of bytes : E → ℕ) where
 
   pub holds_of : (m : M) (table : TableId) (old : SeatView E) (w : ℕ) → seat_view table m.0 ≡ old → Contains old.held w → Contains m.0.held w
   holds_of m table old w is holds = subst (λ (s : SeatView E). Contains s.held w) (sym is) holds
+
+  -- the slot names an actor, and nothing else changes
+  pub stays_named : (m : M) (x now : Content E) (actor : ℕ) → IsResting m → now ≡ record x { named = actor } → MayLeave actor_of m.0.actor m.0.held x now
+  stays_named m x now actor rests is = same_may m.0 x now (bare m rests) (ap (λ (c : Content E). c.items) is) (ap (λ (c : Content E). c.reserved) is) (ap (λ (c : Content E). c.reserved_weight) is) (ap (λ (c : Content E). c.limits) is)
+
+  -- the first seat rests, however many were joined to it
+  pub joined_rests : (m : M) (gone : List (Gone E)) (m' : M) → m' ≡ with_joined m gone → IsResting m → IsResting (m'.0, [])
+  joined_rests m gone m' is rests = subst (λ (n : M). IsResting (n.0, [])) (sym is) record { is_live = rests.is_live; no_ticket = rests.no_ticket; no_turn = rests.no_turn; no_slot = refl; first = rests.first }
+
+-- a fact of all values holds of the one that comes next
+pub of_next : {X : Type 0} (P : X → Type 0) (all before left after : List X) (x : X) → before ++ left ≡ all → left ≡ x ∷ after → All P all → P x
+of_next P all before left after x is next holds =
+    let e : all ≡ before ++ x ∷ after = sym is ∙ ap (λ l. before ++ l) next in
+    subst P (ap (λ l. get_or l (length before) x) e ∙ get_or-append_seam before x after x)
+        (holds (length before) x (let n = ap length e ∙ length-append before (x ∷ after) in omega arith))

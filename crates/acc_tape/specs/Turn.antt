@@ -5,6 +5,7 @@ use Rattle.atomic_table.specs.Table.{Me, Step}
 use Rattle.acc_tape.specs.declared.content.Limits.{Limits}
 use Rattle.acc_tape.specs.declared.content.Content.{Content}
 use Rattle.acc_tape.specs.declared.view.View.{View}
+use Rattle.acc_tape.specs.declared.view.Gone.{Gone}
 use Rattle.acc_tape.specs.Lists.{without, items_of}
 use Rattle.atomic_table.specs.Seated.{TableId}
 use Rattle.acc_tape.specs.Seats.{SeatView}
@@ -90,3 +91,10 @@ module _ {E : Type 0} (actor_of : E → ℕ) where
 -- a seat as contracts see it
 abbrev pub seat_view : {E : Type 0} → TableId → View E → SeatView E
 seat_view table v = record { tape = record { table = table; limits = v.limits }; actor = v.actor; seen = v.seen; mine = v.mine; held = v.held; out_count = v.out_count; out_weight = v.out_weight; made = v.made }
+
+-- a seat that is joined to the first one, and the first one after some were
+abbrev pub gone_seat : {E : Type 0} → SeatView E → Gone E
+gone_seat s = record { actor = s.actor; seen = s.seen; mine = s.mine }
+
+abbrev pub with_joined : {E : Type 0} → Me (Content E) (View E) → List (Gone E) → Me (Content E) (View E)
+with_joined m gone = (record m.0 { joined = m.0.joined ++ gone }, m.1)

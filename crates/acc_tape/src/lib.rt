@@ -9,6 +9,7 @@ mod error;
 mod law;
 mod posted;
 mod seat;
+mod seating;
 mod tape;
 mod view;
 
