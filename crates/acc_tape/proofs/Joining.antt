@@ -1,21 +1,20 @@
 -- Seats are joined to the first one, which keeps the rule. When all are, the slot is at home.
-use Rattle.std.proofs.Common.{◌≡◌, ◌≢◌, ℕ, ◌+◌, ◌<◌, ◌≤◌, true, false, List, [], ◌∷◌, ◌++◌, length, sum, set, None, Some, Contains, refl, sym, ap, ◌∙◌, subst, arith, inl, inr, ◌⊎◌, ⊎_elim, length-append, append-nil}
+use Rattle.std.proofs.Common.{◌≡◌, ◌≢◌, ℕ, ◌+◌, true, false, List, [], ◌∷◌, ◌++◌, length, sum, set, None, Some, Contains, refl, sym, ap, ◌∙◌, subst, arith, inl, inr, ◌⊎◌, ⊎_elim, length-append}
 use Rattle.std.specs.Prelude.{sum_by}
 use Rattle.std.proofs.lemmas.List.Elements.{Contains-append_left, Contains-append_right, Contains-append_cases}
 use mathlib.Core.Option.{some, some-injective}
-use mathlib.Core.List.{IsPrefix}
 use mathlib.Core.Logic.{dite}
 use native.Mathlib.Decide.{ℕ_discrete}
 use lib.ListN.{get_elem?}
 use Rattle.atomic_table.specs.Table.{State, Joins}
-use Rattle.atomic_table.proofs.Lists.{at_set, set_here, set_else}
+use Rattle.atomic_table.proofs.Lists.{at_set, set_else}
 use Rattle.acc_tape.specs.declared.content.Limits.{Limits}
 use Rattle.acc_tape.specs.declared.content.Content.{Content}
 use Rattle.acc_tape.specs.declared.view.View.{View}
 use Rattle.acc_tape.specs.declared.view.Gone.{Gone}
 use Rattle.acc_tape.specs.Turn.{IsResting}
 use Rattle.acc_tape.specs.Rule.{Holds, Sits, Left, SlotIs, IsSpent, one_if, joiner, gone_of, spent_view}
-use Rattle.acc_tape.proofs.Weights.{at_place, sum_set, sum_at, in_one}
+use Rattle.acc_tape.proofs.Weights.{sum_set, sum_at, in_one}
 
 module _ {E : Type 0} (actor_of : E → ℕ) (limits : Limits) where
   abbrev T : Type 0
@@ -85,9 +84,9 @@ module _ {E : Type 0} (actor_of : E → ℕ) (limits : Limits) where
     place_of P here gone_there others j x is = ⊎_elim
         (λ (t : (j ≡ other) × (spent_view ≡ x)). subst (λ (y : ℕ × View E). P y.0 y.1) (λ k. (sym t.0 k, t.1 k)) gone_there)
         (λ (t : (j ≢ other) × (get_elem? (set s.views id u) j ≡ some x)). ⊎_elim
-            (λ (r : (j ≡ id) × (u ≡ x)). subst (λ (y : ℕ × View E). P y.0 y.1) (λ k. (sym r.0 k, r.1 k)) here)
-            (λ (r : (j ≢ id) × (get_elem? s.views j ≡ some x)). others j x r.0 t.0 r.1)
-            (at_set s.views id j u x t.1))
+        (λ (r : (j ≡ id) × (u ≡ x)). subst (λ (y : ℕ × View E). P y.0 y.1) (λ k. (sym r.0 k, r.1 k)) here)
+        (λ (r : (j ≢ id) × (get_elem? s.views j ≡ some x)). others j x r.0 t.0 r.1)
+        (at_set s.views id j u x t.1))
         (at_set (set s.views id u) other j spent_view x is)
 
     stands_still : (j : ℕ) (x : View E) → j ≢ id → j ≢ other → get_elem? s.views j ≡ some x → get_elem? views j ≡ some x
@@ -116,10 +115,10 @@ module _ {E : Type 0} (actor_of : E → ℕ) (limits : Limits) where
     accounted_now actor is = ⊎_elim
         (λ (g : (g : Gone E) × Contains h.gone g × (g.actor ≡ actor)). inl (g.0, Contains-append_left h.gone (gone_of w ∷ []) g.0 g.1, g.2))
         (λ (x : (x : View E) × (get_elem? s.views (h.seat_of actor) ≡ some x) × (x.is_live ≡ true) × (x.actor ≡ actor)).
-            let same : (k : ℕ) (y : View E) → get_elem? s.views k ≡ some y → h.seat_of actor ≡ k → y.actor ≡ actor = λ k y is e. ap (λ (z : View E). z.actor) (some-injective y x.0 (sym is ∙ ap (λ k. get_elem? s.views k) (sym e) ∙ x.1)) ∙ x.3 in
-            dite (ℕ_discrete (h.seat_of actor) other)
-                (λ e. inl (gone_of w, Contains-append_right h.gone (gone_of w ∷ []) (gone_of w) (0, omega arith, refl), same other w there e))
-                (λ ne. inr (x.0, stands_still (h.seat_of actor) x.0 (λ e. h.no_first actor is (sym (same id v at e) ∙ first)) ne x.1, x.2, x.3)))
+        let same : (k : ℕ) (y : View E) → get_elem? s.views k ≡ some y → h.seat_of actor ≡ k → y.actor ≡ actor = λ k y is e. ap (λ (z : View E). z.actor) (some-injective y x.0 (sym is ∙ ap (λ k. get_elem? s.views k) (sym e) ∙ x.1)) ∙ x.3 in
+        dite (ℕ_discrete (h.seat_of actor) other)
+        (λ e. inl (gone_of w, Contains-append_right h.gone (gone_of w ∷ []) (gone_of w) (0, omega arith, refl), same other w there e))
+        (λ ne. inr (x.0, stands_still (h.seat_of actor) x.0 (λ e. h.no_first actor is (sym (same id v at e) ∙ first)) ne x.1, x.2, x.3)))
         (h.accounted actor is)
 
     pub join_kept : Holds actor_of limits record { words = s.words; homes = s.homes; views = views }
@@ -162,15 +161,15 @@ module _ {E : Type 0} (actor_of : E → ℕ) (limits : Limits) where
     alone : (j : ℕ) (x : View E) → get_elem? s.views j ≡ some x → x.is_live ≡ true → j ≡ id
     alone j x there live = dite (ℕ_discrete j id) (λ e. e)
         (λ ne.
-            let f : View E → ℕ = λ y. one_if y.is_live in
-            let a = sum_set f s.views id v spent_view at in
-            let b = sum_at f (set s.views id spent_view) j x (set_else s.views id j spent_view ne ∙ there) in
-            let o : f v ≡ 1 = ap one_if rests.is_live in
-            let p : f x ≡ 1 = ap one_if live in
-            let k = h.counted in
-            let m = ap length (mine.first first).0 in
-            let g = ap length (mine.first first).1 in
-            absurd (omega arith))
+        let f : View E → ℕ = λ y. one_if y.is_live in
+        let a = sum_set f s.views id v spent_view at in
+        let b = sum_at f (set s.views id spent_view) j x (set_else s.views id j spent_view ne ∙ there) in
+        let o : f v ≡ 1 = ap one_if rests.is_live in
+        let p : f x ≡ 1 = ap one_if live in
+        let k = h.counted in
+        let m = ap length (mine.first first).0 in
+        let g = ap length (mine.first first).1 in
+        absurd (omega arith))
 
     pub home : h.slot ≡ some h.b
     home = from h.slot_is
@@ -191,8 +190,8 @@ module _ {E : Type 0} (actor_of : E → ℕ) (limits : Limits) where
     joined_all item is =
         let made = h.all_made item is in
         ⊎_elim
-            (λ (g : (g : Gone E) × Contains h.gone g × (g.actor ≡ actor_of item)). (g.0, subst (λ l. Contains l g.0) (sym (mine.first first).1) g.1, g.2))
-            (λ (x : (x : View E) × (get_elem? s.views (h.seat_of (actor_of item)) ≡ some x) × (x.is_live ≡ true) × (x.actor ≡ actor_of item)).
-                let e = alone (h.seat_of (actor_of item)) x.0 x.1 x.2 in
-                absurd (h.no_first (actor_of item) made (sym x.3 ∙ ap (λ (y : View E). y.actor) (sym (some-injective v x.0 (sym at ∙ ap (λ k. get_elem? s.views k) (sym e) ∙ x.1))) ∙ first)))
-            (h.accounted (actor_of item) made)
+        (λ (g : (g : Gone E) × Contains h.gone g × (g.actor ≡ actor_of item)). (g.0, subst (λ l. Contains l g.0) (sym (mine.first first).1) g.1, g.2))
+        (λ (x : (x : View E) × (get_elem? s.views (h.seat_of (actor_of item)) ≡ some x) × (x.is_live ≡ true) × (x.actor ≡ actor_of item)).
+        let e = alone (h.seat_of (actor_of item)) x.0 x.1 x.2 in
+        absurd (h.no_first (actor_of item) made (sym x.3 ∙ ap (λ (y : View E). y.actor) (sym (some-injective v x.0 (sym at ∙ ap (λ k. get_elem? s.views k) (sym e) ∙ x.1))) ∙ first)))
+        (h.accounted (actor_of item) made)

@@ -1,8 +1,7 @@
 -- A step of one seat keeps the rule.
-use Rattle.std.proofs.Common.{◌≡◌, ◌≢◌, ℕ, ◌+◌, ◌<◌, ◌≤◌, true, false, List, [], ◌∷◌, ◌++◌, length, sum, set, None, Some, Contains, refl, sym, ap, ◌∙◌, subst, arith, inl, inr, ◌⊎◌, ⊎_elim}
-use Rattle.std.specs.Prelude.{sum_by}
+use Rattle.std.proofs.Common.{◌≡◌, ◌≢◌, ℕ, ◌+◌, ◌<◌, ◌≤◌, true, false, List, [], ◌∷◌, ◌++◌, length, sum, set, Some, Contains, sym, ap, ◌∙◌, subst, arith, inl, inr, ◌⊎◌, ⊎_elim}
 use Rattle.std.proofs.lemmas.List.Elements.{Contains-append_cases}
-use mathlib.Core.Option.{Option, none, some, some-injective, some-ne-none}
+use mathlib.Core.Option.{Option, none, some, some-injective}
 use mathlib.Core.List.{IsPrefix}
 use lib.ListN.{get_elem?}
 use Rattle.atomic_table.specs.Table.{State}
@@ -121,10 +120,10 @@ module _ {E : Type 0} (actor_of : E → ℕ) (limits : Limits) where
     accounted_now actor is = ⊎_elim
         (λ (x : (g : Gone E) × Contains h.gone g × (g.actor ≡ actor)). inl x)
         (λ (x : (u : View E) × (get_elem? s.views (h.seat_of actor) ≡ some u) × (u.is_live ≡ true) × (u.actor ≡ actor)). inr (dite (ℕ_discrete (h.seat_of actor) id)
-            (λ here.
-                let same : v ≡ x.0 = some-injective v x.0 (sym at ∙ ap (λ k. get_elem? s.views k) (sym here) ∙ x.1) in
-                (w, ap (λ k. get_elem? views k) here ∙ set_here s.views id w (at_place s.views id v at).0, c.is_live, c.same_actor ∙ ap (λ (y : View E). y.actor) same ∙ x.3))
-            (λ there. (x.0, set_else s.views id (h.seat_of actor) w there ∙ x.1, x.2, x.3))))
+        (λ here.
+        let same : v ≡ x.0 = some-injective v x.0 (sym at ∙ ap (λ k. get_elem? s.views k) (sym here) ∙ x.1) in
+        (w, ap (λ k. get_elem? views k) here ∙ set_here s.views id w (at_place s.views id v at).0, c.is_live, c.same_actor ∙ ap (λ (y : View E). y.actor) same ∙ x.3))
+        (λ there. (x.0, set_else s.views id (h.seat_of actor) w there ∙ x.1, x.2, x.3))))
         (h.accounted actor is)
 
     pub kept : (words : List ℕ) (homes : List (Option (Content E))) → words ≡ ticket ∷ serving ∷ [] → homes ≡ slot ∷ [] → Holds actor_of limits record { words = words; homes = homes; views = views }

@@ -1,4 +1,5 @@
 pub mod Visits
+pub mod Closing
 pub mod Joining
 pub mod Keeps
 pub mod Mailing

@@ -1,17 +1,17 @@
 -- The index of messages is that of the items, also after one more.
-use Rattle.std.proofs.Common.{◌≡◌, ◌≢◌, ℕ, zero, suc, ◌+◌, ◌-◌, ◌<◌, ◌≤◌, ◌==◌, ◌&&◌, ◌||◌, not, Bool, true, false, cond, List, [], ◌∷◌, ◌++◌, length, Option, None, Some, MatchOption, get_or, set, take, refl, sym, ap, ◌∙◌, subst, arith, length-append, append-nil, append_assoc, eq-eqb, ne_eqb, add_assoc, nat_lt}
+use Rattle.std.proofs.Common.{◌≡◌, ℕ, zero, suc, ◌+◌, ◌-◌, ◌<◌, ◌≤◌, ◌==◌, ◌&&◌, ◌||◌, not, Bool, true, false, List, [], ◌∷◌, ◌++◌, length, Option, None, Some, MatchOption, get_or, take, refl, sym, ap, ◌∙◌, arith, length-append, append-nil, append_assoc, eq-eqb, ne_eqb}
 use Rattle.std.specs.Prelude.{slice_get, sum_by}
 use Rattle.std.specs.List.{list_any}
 use Rattle.std.proofs.Math.Bool.{or-false}
 use Rattle.std.proofs.Math.ListN.{length-set}
 use Rattle.std.proofs.lemmas.List.Folds.{list_any-append}
-use Rattle.std.proofs.lemmas.Option.{slice_get_within, get_or_from_slice_get, slice_get-get_or}
+use Rattle.std.proofs.lemmas.Option.{slice_get_within, slice_get-get_or}
 use Rattle.std.proofs.lemmas.Bool.{cond_below, cond_above}
 use mathlib.Core.Logic.{dite}
-use native.Mathlib.Decide.{dec_lt, ℕ_discrete}
+use native.Mathlib.Decide.{dec_lt}
 use Rattle.acc_posts.specs.declared.posting.Posting.{Posting}
 use Rattle.acc_posts.specs.declared.posting.Post.{Post}
-use Rattle.acc_posts.specs.Mail.{Mail, posting_at, nothing, taken, early_after, IsOpenTo, IsNext as IsNextOf, HasNone as HasNoneOf}
+use Rattle.acc_posts.specs.Mail.{Mail, posting_at, nothing, taken, IsOpenTo, IsNext as IsNextOf, HasNone as HasNoneOf}
 use Rattle.acc_tape.specs.Messages.{is_number, messages_from, messages_of, is_taken, IsWaiting, HasNone, IsOldest}
 use Rattle.std.proofs.lemmas.List.Sums.{sum_by-cons, sum_by_push}
 use Rattle.acc_tape.specs.declared.content.Limits.{Limits}
@@ -44,7 +44,7 @@ pub messages_from-snoc : (place index : ℕ) (lost : Bool) (xs : List ℕ) (x : 
 messages_from-snoc place index lost [] x = ap (λ (i : ℕ). record { to = x; place = place; index = i; is_open = not lost } ∷ []) (omega arith)
 messages_from-snoc place index lost (y ∷ ys) x =
     ap (λ l. record { to = y; place = place; index = index; is_open = not lost } ∷ l)
-        (messages_from-snoc place (index + 1) lost ys x ∙ ap (λ (i : ℕ). messages_from place (index + 1) lost ys ++ record { to = x; place = place; index = i; is_open = not lost } ∷ []) (omega arith))
+    (messages_from-snoc place (index + 1) lost ys x ∙ ap (λ (i : ℕ). messages_from place (index + 1) lost ys ++ record { to = x; place = place; index = i; is_open = not lost } ∷ []) (omega arith))
 
 pub length-messages_from : (place index : ℕ) (lost : Bool) (xs : List ℕ) → length (messages_from place index lost xs) ≡ length xs
 length-messages_from place index lost [] = refl
@@ -66,12 +66,12 @@ notes_one mail place lost tos i to e now is =
     let p : Posting = record { to = to; place = place; index = i; is_open = not lost } in
     let more = take_more tos i to e in
     let all : messages_from place 0 lost (take (i + 1) tos) ≡ ms ++ p ∷ [] =
-        ap (λ l. messages_from place 0 lost l) more.0 ∙ messages_from-snoc place 0 lost (take i tos) to ∙ ap (λ (j : ℕ). ms ++ record { to = to; place = place; index = j; is_open = not lost } ∷ []) (let q = more.1 in omega arith) in
+    ap (λ l. messages_from place 0 lost l) more.0 ∙ messages_from-snoc place 0 lost (take i tos) to ∙ ap (λ (j : ℕ). ms ++ record { to = to; place = place; index = j; is_open = not lost } ∷ []) (let q = more.1 in omega arith) in
     let n : length (mail.sent ++ closed_from (length mail.sent) t ms) ≡ length mail.sent + length ms = length-append mail.sent (closed_from (length mail.sent) t ms) ∙ ap (λ m. length mail.sent + m) (length-closed_from (length mail.sent) t ms) in
     let sent : (mail.sent ++ closed_from (length mail.sent) t ms) ++ closed (t (length (mail.sent ++ closed_from (length mail.sent) t ms))) p ∷ [] ≡ mail.sent ++ closed_from (length mail.sent) t (messages_from place 0 lost (take (i + 1) tos)) =
-        ap (λ m. (mail.sent ++ closed_from (length mail.sent) t ms) ++ closed (t m) p ∷ []) n
-            ∙ append_assoc mail.sent (closed_from (length mail.sent) t ms) (closed (t (length mail.sent + length ms)) p ∷ [])
-            ∙ ap (λ l. mail.sent ++ l) (sym (closed_from-append (length mail.sent) t ms (p ∷ [])) ∙ ap (λ l. closed_from (length mail.sent) t l) (sym all)) in
+    ap (λ m. (mail.sent ++ closed_from (length mail.sent) t ms) ++ closed (t m) p ∷ []) n
+    ∙ append_assoc mail.sent (closed_from (length mail.sent) t ms) (closed (t (length mail.sent + length ms)) p ∷ [])
+    ∙ ap (λ l. mail.sent ++ l) (sym (closed_from-append (length mail.sent) t ms (p ∷ [])) ∙ ap (λ l. closed_from (length mail.sent) t l) (sym all)) in
     let room : mail.room - length ms - 1 ≡ mail.room - length (messages_from place 0 lost (take (i + 1) tos)) = (let l = ap length all ∙ length-append ms (p ∷ []) in omega arith) in
     ap (λ x. noted x to place lost i) is ∙ (λ k. record mail { sent = sent k; room = room k })
 
@@ -116,12 +116,12 @@ module _ {E : Type 0} (took : E → Option ℕ) (sent_to : E → List ℕ) (is_l
   stands place [] n p e = absurd (cc)
   stands place (x ∷ xs) n p e = dite (dec_lt n (length (of_item place x)))
       (λ low. let m = message_from_at place 0 (is_lost x) (sent_to x) n p (sym (slice_get_left (of_item place x) (messages_of sent_to is_lost (place + 1) xs) n low) ∙ e) in
-          let i : p.index ≡ n = m.1 ∙ omega arith in
-          (0, m.0 ∙ omega arith, (x, refl, ap (λ k. slice_get (sent_to x) k) i ∙ m.2, omega arith)))
+      let i : p.index ≡ n = m.1 ∙ omega arith in
+      (0, m.0 ∙ omega arith, (x, refl, ap (λ k. slice_get (sent_to x) k) i ∙ m.2, omega arith)))
       (λ high.
-          let k : n ≡ length (of_item place x) + (n - length (of_item place x)) = omega arith in
-          let r = stands (place + 1) xs (n - length (of_item place x)) p (sym (slice_get_right (of_item place x) (messages_of sent_to is_lost (place + 1) xs) (n - length (of_item place x))) ∙ ap (λ m. slice_get (of_item place x ++ messages_of sent_to is_lost (place + 1) xs) m) (sym k) ∙ e) in
-          (suc r.0, r.1 ∙ omega arith, (r.2.0, r.2.1, r.2.2, (let l = length-messages_from place 0 (is_lost x) (sent_to x) in let q = r.2.3 in let f = count_first r.0 x xs in omega arith))))
+      let k : n ≡ length (of_item place x) + (n - length (of_item place x)) = omega arith in
+      let r = stands (place + 1) xs (n - length (of_item place x)) p (sym (slice_get_right (of_item place x) (messages_of sent_to is_lost (place + 1) xs) (n - length (of_item place x))) ∙ ap (λ m. slice_get (of_item place x ++ messages_of sent_to is_lost (place + 1) xs) m) (sym k) ∙ e) in
+      (suc r.0, r.1 ∙ omega arith, (r.2.0, r.2.1, r.2.2, (let l = length-messages_from place 0 (is_lost x) (sent_to x) in let q = r.2.3 in let f = count_first r.0 x xs in omega arith))))
 
   -- ---- the index finds what waits
 
@@ -185,12 +185,13 @@ module _ {E : Type 0} (took : E → Option ℕ) (sent_to : E → List ℕ) (is_l
   takes_one k m t u (p ∷ ps) zero e f =
       let same : u k ≡ true = f k ∙ ap (λ b. t k || b) (eq-eqb m k (omega arith)) ∙ or-true (t k) in
       ap (λ (b : Bool). closed b p ∷ closed_from (k + 1) u ps) same
-          ∙ ap (λ (b : Bool). record { to = p.to; place = p.place; index = p.index; is_open = b } ∷ closed_from (k + 1) u ps) (and-false p.is_open)
-          ∙ ap (λ l. record { to = p.to; place = p.place; index = p.index; is_open = false } ∷ l) (closed_from-same (k + 1) u t ps (λ n low high. f n ∙ ap (λ b. t n || b) (ne_eqb m n (λ is. omega arith)) ∙ or-false (t n)))
+      ∙ ap (λ (b : Bool). record { to = p.to; place = p.place; index = p.index; is_open = b } ∷ closed_from (k + 1) u ps) (and-false p.is_open)
+      ∙ ap (λ l. record { to = p.to; place = p.place; index = p.index; is_open = false } ∷ l) (closed_from-same (k + 1) u t ps (λ n low high. f n ∙ ap (λ b. t n || b) (ne_eqb m n (λ is. omega arith)) ∙ or-false (t n)))
     where
       or-true : (b : Bool) → (b || true) ≡ true
       or-true true = refl
       or-true false = refl
+
       and-false : (b : Bool) → (b && not true) ≡ false
       and-false true = refl
       and-false false = refl
@@ -229,9 +230,9 @@ module _ {E : Type 0} (took : E → Option ℕ) (sent_to : E → List ℕ) (is_l
         let same : (k : ℕ) → length mid.sent ≤ k → list_any (λ m. m == k) mid.early ≡ is_taken took items' k = λ k past. ap (λ l. list_any (λ m. m == k) l) early ∙ a.2 k (omega arith) in record {
           sent =
               (λ k. (sent ∙ a.1) k ++ closed_from-same (length mid.sent) (λ n. list_any (λ m. m == n) mid.early) (is_taken took items') M (λ j low high. same j low) k)
-                  ∙ ap (λ m. closed_from 0 (is_taken took items') (messages_of sent_to is_lost 0 items) ++ closed_from m (is_taken took items') M) (n ∙ omega arith)
-                  ∙ sym (closed_from-append 0 (is_taken took items') (messages_of sent_to is_lost 0 items) M)
-                  ∙ ap (λ l. closed_from 0 (is_taken took items') l) (sym (messages_of-snoc 0 items item ∙ ap (λ m. messages_of sent_to is_lost 0 items ++ of_item m item) (omega arith)));
+              ∙ ap (λ m. closed_from 0 (is_taken took items') (messages_of sent_to is_lost 0 items) ++ closed_from m (is_taken took items') M) (n ∙ omega arith)
+              ∙ sym (closed_from-append 0 (is_taken took items') (messages_of sent_to is_lost 0 items) M)
+              ∙ ap (λ l. closed_from 0 (is_taken took items') l) (sym (messages_of-snoc 0 items item ∙ ap (λ m. messages_of sent_to is_lost 0 items ++ of_item m item) (omega arith)));
           early = λ k past. same k (let l = length-append mid.sent (closed_from (length mid.sent) (λ n. list_any (λ m. m == n) mid.early) M) in omega arith);
         }
 

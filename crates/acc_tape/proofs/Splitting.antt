@@ -1,5 +1,5 @@
 -- A seat is split from the first one, which keeps the rule.
-use Rattle.std.proofs.Common.{◌≡◌, ◌≢◌, ℕ, ◌+◌, ◌<◌, ◌≤◌, ◌==◌, true, false, cond, List, [], ◌∷◌, ◌++◌, length, sum, set, None, Some, Contains, refl, sym, ap, ◌∙◌, subst, arith, inl, inr, ◌⊎◌, ⊎_elim, eq-eqb, ne_eqb, length-append}
+use Rattle.std.proofs.Common.{◌≡◌, ◌≢◌, ℕ, ◌+◌, ◌==◌, true, false, cond, List, [], ◌∷◌, ◌++◌, length, sum, set, None, Some, Contains, refl, sym, ap, ◌∙◌, subst, arith, inl, inr, ◌⊎◌, ⊎_elim, eq-eqb, ne_eqb, length-append}
 use Rattle.std.specs.Prelude.{sum_by}
 use Rattle.std.proofs.lemmas.List.Sums.{sum_by_push}
 use Rattle.std.proofs.lemmas.List.Elements.{Contains-append_left, Contains-append_right, Contains-append_cases}
@@ -15,7 +15,7 @@ use Rattle.acc_tape.specs.declared.content.Content.{Content}
 use Rattle.acc_tape.specs.declared.view.View.{View}
 use Rattle.acc_tape.specs.declared.view.Gone.{Gone}
 use Rattle.acc_tape.specs.Turn.{IsResting}
-use Rattle.acc_tape.specs.Rule.{Holds, Sits, Left, SlotIs, IsSpent, one_if, splitter, newcomer}
+use Rattle.acc_tape.specs.Rule.{Holds, Sits, SlotIs, IsSpent, one_if, splitter, newcomer}
 use Rattle.acc_tape.proofs.Weights.{at_place, before_end, at_end, sum_set, in_one, none_of}
 
 module _ {E : Type 0} (actor_of : E → ℕ) (limits : Limits) where
@@ -110,12 +110,12 @@ module _ {E : Type 0} (actor_of : E → ℕ) (limits : Limits) where
     place_of : (P : ℕ → View E → Type 0) → P id u → ((j : ℕ) (x : View E) → j ≢ id → get_elem? s.views j ≡ some x → P j x) → P new_id w → (j : ℕ) (x : View E) → get_elem? views j ≡ some x → P j x
     place_of P here others new j x there = dite (dec_lt j (length s.views))
         (λ low. ⊎_elim
-            (λ (t : (j ≡ id) × (u ≡ x)). subst (λ (y : ℕ × View E). P y.0 y.1) (λ k. (sym t.0 k, t.1 k)) here)
-            (λ (t : (j ≢ id) × (get_elem? s.views j ≡ some x)). others j x t.0 t.1)
-            (at_set s.views id j u x (sym (before_end (set s.views id u) w j (let l = length-set s.views id u in omega arith)) ∙ there)))
+        (λ (t : (j ≡ id) × (u ≡ x)). subst (λ (y : ℕ × View E). P y.0 y.1) (λ k. (sym t.0 k, t.1 k)) here)
+        (λ (t : (j ≢ id) × (get_elem? s.views j ≡ some x)). others j x t.0 t.1)
+        (at_set s.views id j u x (sym (before_end (set s.views id u) w j (let l = length-set s.views id u in omega arith)) ∙ there)))
         (λ high.
-            let e = at_end (set s.views id u) w j x (let l = length-set s.views id u in omega arith) there in
-            subst (λ (y : ℕ × View E). P y.0 y.1) (λ k. ((sym (e.0 ∙ length-set s.views id u)) k, e.1 k)) new)
+        let e = at_end (set s.views id u) w j x (let l = length-set s.views id u in omega arith) there in
+        subst (λ (y : ℕ × View E). P y.0 y.1) (λ k. ((sym (e.0 ∙ length-set s.views id u)) k, e.1 k)) new)
 
     same_first : (j : ℕ) (x : View E) → get_elem? s.views j ≡ some x → x.is_live ≡ true → x.actor ≡ 0 → j ≡ id
     same_first j x there live z = sym (h.live j x there live).seat ∙ ap h.seat_of (z ∙ sym first) ∙ sit.seat
@@ -142,14 +142,14 @@ module _ {E : Type 0} (actor_of : E → ℕ) (limits : Limits) where
     accounted_now : (actor : ℕ) → Contains made actor → ((g : Gone E) × Contains h.gone g × (g.actor ≡ actor)) ⊎ ((x : View E) × (get_elem? views (seat_of actor) ≡ some x) × (x.is_live ≡ true) × (x.actor ≡ actor))
     accounted_now actor is = ⊎_elim
         (λ (old : Contains h.made actor). ⊎_elim
-            (λ (g : (g : Gone E) × Contains h.gone g × (g.actor ≡ actor)). inl g)
-            (λ (x : (x : View E) × (get_elem? s.views (h.seat_of actor) ≡ some x) × (x.is_live ≡ true) × (x.actor ≡ actor)).
-                let ne : h.seat_of actor ≢ id = λ same. h.no_first actor old (sym x.3 ∙ ap (λ (y : View E). y.actor) (sym (some-injective v x.0 (sym at ∙ ap (λ k. get_elem? s.views k) (sym same) ∙ x.1))) ∙ first) in
-                inr (x.0, ap (λ k. get_elem? views k) (old_seat actor (not_made actor old)) ∙ stands_still (h.seat_of actor) x.0 ne x.1, x.2, x.3))
-            (h.accounted actor old))
+        (λ (g : (g : Gone E) × Contains h.gone g × (g.actor ≡ actor)). inl g)
+        (λ (x : (x : View E) × (get_elem? s.views (h.seat_of actor) ≡ some x) × (x.is_live ≡ true) × (x.actor ≡ actor)).
+        let ne : h.seat_of actor ≢ id = λ same. h.no_first actor old (sym x.3 ∙ ap (λ (y : View E). y.actor) (sym (some-injective v x.0 (sym at ∙ ap (λ k. get_elem? s.views k) (sym same) ∙ x.1))) ∙ first) in
+        inr (x.0, ap (λ k. get_elem? views k) (old_seat actor (not_made actor old)) ∙ stands_still (h.seat_of actor) x.0 ne x.1, x.2, x.3))
+        (h.accounted actor old))
         (λ (new : Contains (v.named ∷ []) actor).
-            let same : actor ≡ v.named = in_one v.named actor new in
-            inr (w, ap (λ b. get_elem? views (cond b new_id (h.seat_of actor))) (eq-eqb actor v.named same) ∙ stands_new, rests.is_live, sym same))
+        let same : actor ≡ v.named = in_one v.named actor new in
+        inr (w, ap (λ b. get_elem? views (cond b new_id (h.seat_of actor))) (eq-eqb actor v.named same) ∙ stands_new, rests.is_live, sym same))
         (Contains-append_cases h.made (v.named ∷ []) actor is)
 
     pub split_kept : Holds actor_of limits record { words = s.words; homes = s.homes; views = views }

@@ -1,23 +1,19 @@
 -- The steps of a turn keep the rule.
-use Rattle.std.proofs.Common.{◌≡◌, ◌≢◌, ℕ, zero, suc, ◌+◌, ◌%◌, ◌<◌, ◌≤◌, ◌==◌, true, false, cond, List, [], ◌∷◌, ◌++◌, length, sum, get_or, set, None, Some, Contains, refl, sym, ap, ◌∙◌, subst, arith, inl, inr, ◌⊎◌, ⊎_elim, eq-eqb, ne_eqb, append-nil}
-use Rattle.std.specs.Prelude.{sum_by}
+use Rattle.std.proofs.Common.{◌≡◌, ◌≢◌, ℕ, zero, suc, ◌+◌, ◌%◌, ◌<◌, ◌==◌, true, false, cond, List, [], ◌∷◌, ◌++◌, length, sum, get_or, set, None, Some, refl, sym, ap, ◌∙◌, subst, arith, inl, inr, eq-eqb, ne_eqb, append-nil}
 use Rattle.std.proofs.lemmas.List.{set-get_or}
 use Rattle.std.proofs.Math.Nat.{mod-eq_of_lt}
 use mathlib.Core.Option.{Option, none, some, some-injective, some-ne-none}
-use mathlib.Core.List.{IsPrefix}
 use mathlib.Core.Logic.{dite}
 use native.Mathlib.Decide.{ℕ_discrete}
 use lib.ListN.{get_elem?}
 use prog.Atomic.{either}
-use Rattle.atomic_table.specs.Table.{State, Step, step, Me, Act, keeps, takes, gives, Valid, carried_after, Allows, stepped, opening}
+use Rattle.atomic_table.specs.Table.{State, step, Me, Act, keeps, takes, gives, Valid, carried_after, Allows, stepped, opening}
 use Rattle.atomic_table.proofs.Lists.{set_again, set_here, set_else, exchanged}
 use Rattle.acc_tape.specs.declared.content.Limits.{Limits}
 use Rattle.acc_tape.specs.declared.content.Content.{Content}
 use Rattle.acc_tape.specs.declared.view.View.{View}
-use Rattle.acc_tape.specs.declared.view.Gone.{Gone}
-use Rattle.acc_tape.specs.Lists.{items_of}
 use Rattle.acc_tape.specs.Turn.{IsResting, Learns, MayLeave, waiting, turning, draws, looks, left, view_after, taken_of, now_of, CanLeave}
-use Rattle.acc_tape.specs.Rule.{Holds, Sits, Left, SlotIs, IsSpent, one_if, first_view}
+use Rattle.acc_tape.specs.Rule.{Holds, Sits, SlotIs, first_view}
 use Rattle.acc_tape.proofs.Weights.{at_place, sum_at, prefix_itself, in_none}
 use Rattle.acc_tape.proofs.Keeps.{Changes, kept}
 
@@ -66,6 +62,7 @@ module _ {E : Type 0} (actor_of : E → ℕ) (limits : Limits) where
     where
       off : true ≡ false → ⊥
       off e = cc
+
       first : Sits actor_of limits empty 0 0 (some empty) [] [] (λ actor. 0) (λ t. 0) 0 (first_view limits)
       first = record {
         limits_are = refl;
@@ -218,33 +215,33 @@ module _ {E : Type 0} (actor_of : E → ℕ) (limits : Limits) where
   draws_ok slots id old m rests low s h count at small =
       let next : get_or s.words 0 0 ≡ h.ticket = next_is s h id m.0 at rests.is_live in
       exchanged (get_or s.words 0 0) old (old + 1) (Can s id 0 m (draws (step slots 0 old (old + 1) none) m))
-          (λ e.
-              let now : old ≡ h.ticket = sym e ∙ next in (
-                waiting m.0 (get_or s.words 0 0),
-                keeps,
-                tt,
-                kept actor_of limits s h id m.0 (waiting m.0 (get_or s.words 0 0)) at rests.is_live h.b (h.ticket + 1) h.serving h.slot (holder' s h id m.0 at rests.is_live)
-                    (drawn s h id m.0 at rests.is_live rests.no_turn (omega arith) (waiting m.0 (get_or s.words 0 0)) (ap (waiting m.0) next))
-                    (set s.words 0 (old + 1)) s.homes (ap (λ l. set l 0 (old + 1)) h.words_are ∙ ap (λ x. (x + 1) ∷ h.serving ∷ []) now) h.homes_are,
-                ((λ is. refl), (λ not. absurd (not e))),
-              ))
-          (λ ne. (m.0, keeps, tt, stays s id 0 m.0 m.1 h at, ((λ is. absurd (ne is)), (λ not. refl))))
+      (λ e.
+      let now : old ≡ h.ticket = sym e ∙ next in (
+        waiting m.0 (get_or s.words 0 0),
+        keeps,
+        tt,
+        kept actor_of limits s h id m.0 (waiting m.0 (get_or s.words 0 0)) at rests.is_live h.b (h.ticket + 1) h.serving h.slot (holder' s h id m.0 at rests.is_live)
+            (drawn s h id m.0 at rests.is_live rests.no_turn (omega arith) (waiting m.0 (get_or s.words 0 0)) (ap (waiting m.0) next))
+            (set s.words 0 (old + 1)) s.homes (ap (λ l. set l 0 (old + 1)) h.words_are ∙ ap (λ x. (x + 1) ∷ h.serving ∷ []) now) h.homes_are,
+        ((λ is. refl), (λ not. absurd (not e))),
+      ))
+      (λ ne. (m.0, keeps, tt, stays s id 0 m.0 m.1 h at, ((λ is. absurd (ne is)), (λ not. refl))))
 
   pub looks_ok : (slots id ticket : ℕ) (m : Me (Content E) (View E)) → m.0.is_live ≡ true → m.0.ticket ≡ Some ticket → m.0.taken ≡ None → m.1 ≡ [] → Allows (Holds actor_of limits) slots id m 1 (λ n. n) (looks actor_of (step slots 1 0 0 none) m)
   looks_ok slots id ticket m is_live mine idle free s h count at small =
       let served = served_is s h id m.0 at is_live in
       dite (ℕ_discrete ticket (get_or s.words 1 0))
-          (λ e.
-              let turn : m.0.ticket ≡ Some h.serving = mine ∙ ap (λ x. Some x) (e ∙ served) in
-              let home = at_home s h id m.0 at is_live idle turn h.slot_is in (
-                turning m.0 h.b,
-                takes 0 h.b,
-                ap (λ l. get_elem? l 0) h.homes_are ∙ ap (λ x. some x) home,
-                kept actor_of limits s h id m.0 (turning m.0 h.b) at is_live h.b h.ticket h.serving none h.holder (taken s h id m.0 at is_live idle turn home)
-                    (set s.words 1 (get_or s.words 1 0)) (set s.homes 0 none) (set-get_or s.words 1 0 ∙ h.words_are) (ap (λ l. set l 0 none) h.homes_are),
-                ((λ is. (h.b, refl, learnt s h id m.0 at is_live)), (λ not. absurd (not (mine ∙ ap (λ x. Some x) e)))),
-              ))
-          (λ ne. (m.0, keeps, tt, stays s id 1 m.0 m.1 h at, ((λ is. absurd (ne (same_number ticket (get_or s.words 1 0) (sym mine ∙ is)))), (λ not. refl))))
+      (λ e.
+      let turn : m.0.ticket ≡ Some h.serving = mine ∙ ap (λ x. Some x) (e ∙ served) in
+      let home = at_home s h id m.0 at is_live idle turn h.slot_is in (
+        turning m.0 h.b,
+        takes 0 h.b,
+        ap (λ l. get_elem? l 0) h.homes_are ∙ ap (λ x. some x) home,
+        kept actor_of limits s h id m.0 (turning m.0 h.b) at is_live h.b h.ticket h.serving none h.holder (taken s h id m.0 at is_live idle turn home)
+            (set s.words 1 (get_or s.words 1 0)) (set s.homes 0 none) (set-get_or s.words 1 0 ∙ h.words_are) (ap (λ l. set l 0 none) h.homes_are),
+        ((λ is. (h.b, refl, learnt s h id m.0 at is_live)), (λ not. absurd (not (mine ∙ ap (λ x. Some x) e)))),
+      ))
+      (λ ne. (m.0, keeps, tt, stays s id 1 m.0 m.1 h at, ((λ is. absurd (ne (same_number ticket (get_or s.words 1 0) (sym mine ∙ is)))), (λ not. refl))))
     where
       same_number : (a b : ℕ) → Some a ≡ Some b → a ≡ b
       same_number a b e = cc
@@ -274,5 +271,5 @@ module _ {E : Type 0} (actor_of : E → ℕ) (limits : Limits) where
       let c = can.1.0 in
       let now = can.1.1 in
       subst (λ (x : List (ℕ × Content E) × Content E). Allows (Holds actor_of limits) slots id (m.0, x.0) 1 (λ n. (n + k) % 18446744073709551616) (λ found after. after ≡ (view_after actor_of m.0 x.1 (now_of x.0), [])))
-          (λ i. (sym can.1.3 i, taken_of (sym can.1.2 i)))
-          (leaves_ok slots id k m.0 c now one can.0 can.1.2 can.1.4)
+      (λ i. (sym can.1.3 i, taken_of (sym can.1.2 i)))
+      (leaves_ok slots id k m.0 c now one can.0 can.1.2 can.1.4)

@@ -1,11 +1,10 @@
 -- What a call on the tape may leave in the slot, and what its seat knows then.
-use Rattle.std.proofs.Common.{◌≡◌, ◌≢◌, ℕ, ◌+◌, ◌-◌, ◌<◌, ◌≤◌, ◌==◌, true, List, [], ◌∷◌, ◌++◌, length, sum, None, Some, Contains, Result, Ok, Err, OnOk, OnErr, All, get_or, refl, sym, ap, ◌∙◌, subst, arith, length-append, append-nil}
+use Rattle.std.proofs.Common.{◌≡◌, ◌≢◌, ℕ, ◌+◌, ◌-◌, ◌<◌, ◌≤◌, ◌==◌, true, List, [], ◌∷◌, ◌++◌, length, sum, Contains, Result, Ok, Err, OnOk, OnErr, All, get_or, refl, sym, ap, ◌∙◌, subst, arith, length-append, append-nil}
 use Rattle.std.specs.Prelude.{sum_by}
 use Rattle.std.proofs.Math.Seq.{get_or-append_seam}
 use Rattle.std.proofs.lemmas.Bool.{cond_below, cond_above}
 use Rattle.std.proofs.lemmas.List.Elements.{filter-append}
 use Rattle.std.proofs.lemmas.List.Sums.{sum_by_push}
-use mathlib.Core.List.{IsPrefix}
 use Rattle.atomic_table.specs.Table.{Me, rest}
 use Rattle.atomic_table.specs.Seated.{TableId}
 use Rattle.acc_tape.specs.declared.content.Content.{Content}
@@ -14,7 +13,7 @@ use Rattle.acc_tape.specs.declared.view.View.{View}
 use Rattle.acc_tape.specs.declared.view.Gone.{Gone}
 use Rattle.acc_tape.specs.Lists.{without, items_of}
 use Rattle.acc_tape.specs.Seats.{SeatView, Turns}
-use Rattle.acc_tape.specs.Turn.{IsResting, Learns, MayLeave, CanLeave, IsWithin, waiting, turning, left, view_after, held_after, taken_of, now_of, seat_view, with_joined}
+use Rattle.acc_tape.specs.Turn.{IsResting, Learns, MayLeave, CanLeave, IsWithin, waiting, turning, left, view_after, held_after, now_of, seat_view, with_joined}
 use Rattle.acc_tape.proofs.Weights.{prefix_longer, in_none, in_one, without_one, item_of_actor}
 
 -- the weights of a seat after one more, one less, and neither
@@ -214,4 +213,4 @@ pub of_next : {X : Type 0} (P : X → Type 0) (all before left after : List X) (
 of_next P all before left after x is next holds =
     let e : all ≡ before ++ x ∷ after = sym is ∙ ap (λ l. before ++ l) next in
     subst P (ap (λ l. get_or l (length before) x) e ∙ get_or-append_seam before x after x)
-        (holds (length before) x (let n = ap length e ∙ length-append before (x ∷ after) in omega arith))
+    (holds (length before) x (let n = ap length e ∙ length-append before (x ∷ after) in omega arith))

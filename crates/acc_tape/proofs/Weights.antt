@@ -1,8 +1,8 @@
 -- Lists read at a place, sums over them, beginnings of lists, and lists without one weight.
-use Rattle.std.proofs.Common.{◌≡◌, ◌≢◌, ℕ, zero, suc, ◌+◌, ◌<◌, ◌≤◌, ◌==◌, Bool, true, false, cond, List, [], ◌∷◌, ◌++◌, length, sum, get_or, set, refl, sym, ap, ◌∙◌, subst, arith, append-nil, append_assoc, Contains, eqb-true, eq-eqb, inl, inr, ◌⊎◌}
-use Rattle.std.specs.Prelude.{sum_by, filter}
+use Rattle.std.proofs.Common.{◌≡◌, ◌≢◌, ℕ, zero, suc, ◌+◌, ◌<◌, ◌≤◌, ◌==◌, true, false, cond, List, [], ◌∷◌, ◌++◌, length, sum, get_or, set, refl, sym, ap, ◌∙◌, subst, arith, append-nil, append_assoc, Contains, eqb-true, eq-eqb}
+use Rattle.std.specs.Prelude.{sum_by}
 use Rattle.std.proofs.lemmas.List.Sums.{sum_by-set, get_or-le-sum_by, sum_by-cons}
-use Rattle.std.proofs.lemmas.List.Elements.{filter-append, Contains-append_cases}
+use Rattle.std.proofs.lemmas.List.Elements.{filter-append}
 use mathlib.Core.Option.{some, some-injective, some-ne-none}
 use mathlib.Core.List.{IsPrefix}
 use lib.ListN.{get_elem?}
@@ -66,7 +66,7 @@ pub without_one : (w : ℕ) (held : List ℕ) → Contains held w → (length (w
 without_one w [] h = absurd (in_none w h)
 without_one w (x ∷ xs) h =
     elim (x == w) as (λ b. (x == w) ≡ b → (length (cond b xs (x ∷ without w xs)) + 1 ≡ length (x ∷ xs)) × (sum (cond b xs (x ∷ without w xs)) + w ≡ sum (x ∷ xs))) [
-      true ↦ (λ e. let same : x ≡ w = eqb-true x w e in let s = sum_by-cons (λ (y : ℕ). y) x xs in (omega arith, omega arith))
+      | true ↦ (λ e. let same : x ≡ w = eqb-true x w e in let s = sum_by-cons (λ (y : ℕ). y) x xs in (omega arith, omega arith))
       | false ↦ (λ e. let r = without_one w xs (later e h) in let s = sum_by-cons (λ (y : ℕ). y) x xs in let t = sum_by-cons (λ (y : ℕ). y) x (without w xs) in let r0 = r.0 in let r1 = r.1 in (omega arith, omega arith))
     ] refl
   where
@@ -75,8 +75,10 @@ without_one w (x ∷ xs) h =
       where
         true_false : true ≡ false → ⊥
         true_false e = cc
+
         eq_true : (a b : ℕ) → a ≡ b → (a == b) ≡ true
         eq_true a b e = grind (arith, nat_tests)
     tail (suc k) low is off = (k, omega arith, is)
+
     later : (x == w) ≡ false → Contains (x ∷ xs) w → Contains xs w
     later off c = tail c.0 c.1 c.2 off

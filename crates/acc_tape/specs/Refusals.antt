@@ -1,6 +1,5 @@
 -- When a reservation is refused.
 use Rattle.std.specs.Prelude.{◌≡◌, ℕ, ◌+◌, ◌<◌, ◌≤◌}
-use Rattle.acc_message.specs.declared.error.Which.{Which}
 use Rattle.acc_message.specs.declared.error.Which.TheVariants.{Document, Items, Bytes}
 use Rattle.acc_tape.specs.declared.error.TapeError.{TapeError}
 use Rattle.acc_tape.specs.declared.error.TapeError.TheVariants.{Full, OutOfMemory}

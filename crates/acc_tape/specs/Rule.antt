@@ -1,5 +1,5 @@
 -- The rule of a tape's table: word 0 is the next ticket, word 1 the ticket that is served, and the slot has what the seats take turns with.
-use Rattle.std.specs.Prelude.{◌≡◌, ◌≢◌, ℕ, ◌+◌, ◌<◌, ◌≤◌, Bool, true, false, cond, List, [], ◌∷◌, ◌++◌, length, sum, sum_by, Option as Option', None, Some, Contains, ◌⊎◌}
+use Rattle.std.specs.Prelude.{◌≡◌, ◌≢◌, ℕ, ◌+◌, ◌<◌, ◌≤◌, Bool, true, false, cond, List, [], ◌∷◌, ◌++◌, length, sum, sum_by, None, Some, Contains, ◌⊎◌}
 use mathlib.Core.List.{IsPrefix}
 use mathlib.Core.Option.{Option, none, some}
 use lib.ListN.{get_elem?}
@@ -78,16 +78,13 @@ module _ {E : Type 0} where
       pub low : ticket ≤ 4611686018427387904
       pub served : serving ≤ ticket
       pub limits_are : b.limits ≡ limits
-
       -- the seats
       pub live : (id : ℕ) (v : View E) → get_elem? s.views id ≡ some v → v.is_live ≡ true → Sits limits b ticket serving slot made gone seat_of holder id v
       pub spent : (id : ℕ) (v : View E) → get_elem? s.views id ≡ some v → v.is_live ≡ false → IsSpent v
-
       -- what they hold is what is reserved, and each that was split is live or was joined
       pub reserved : sum_by (λ v. length v.held) s.views ≡ b.reserved
       pub reserved_weight : sum_by (λ v. sum v.held) s.views ≡ b.reserved_weight
       pub counted : sum_by (λ v. one_if v.is_live) s.views + length gone ≡ length made + 1
-
       -- each item is of an actor for which a seat was split, and that seat is live or was joined
       pub all_made : (item : E) → Contains b.items item → Contains made (actor_of item)
       pub no_first : (actor : ℕ) → Contains made actor → actor ≢ 0

@@ -1,8 +1,7 @@
 -- What a seat knows in the course of a turn.
-use Rattle.std.specs.Prelude.{◌≡◌, ◌≢◌, ℕ, ◌+◌, ◌-◌, ◌<◌, ◌≤◌, true, cond, List, [], ◌∷◌, ◌++◌, length, sum, sum_by, Option, None, Some, Contains, nat_lt}
+use Rattle.std.specs.Prelude.{◌≡◌, ◌≢◌, ℕ, ◌+◌, ◌-◌, ◌≤◌, true, cond, List, [], ◌∷◌, ◌++◌, length, sum, sum_by, Option, None, Some, Contains, nat_lt}
 use mathlib.Core.List.{IsPrefix}
 use Rattle.atomic_table.specs.Table.{Me, Step}
-use Rattle.acc_tape.specs.declared.content.Limits.{Limits}
 use Rattle.acc_tape.specs.declared.content.Content.{Content}
 use Rattle.acc_tape.specs.declared.view.View.{View}
 use Rattle.acc_tape.specs.declared.view.Gone.{Gone}
@@ -14,7 +13,7 @@ use Rattle.acc_tape.specs.Seats.{SeatView}
 abbrev pub held_after : {E : Type 0} → List ℕ → Content E → Content E → List ℕ
 held_after held before now =
     cond (nat_lt before.reserved now.reserved) (held ++ (now.reserved_weight - before.reserved_weight) ∷ [])
-        (cond (nat_lt now.reserved before.reserved) (without (before.reserved_weight - now.reserved_weight) held) held)
+    (cond (nat_lt now.reserved before.reserved) (without (before.reserved_weight - now.reserved_weight) held) held)
 
 module _ {E : Type 0} where
   abbrev pub nothing : Content E

@@ -18,12 +18,7 @@ use std::sync::{Arc, Wait};
 impl<E: Posted> Tape<E> {
     /// Reserves an item and so many bytes for a seat with an actor, so that entering it can't be refused. Full tells which
     /// limit it is, and its number. After a refusal nothing more is reserved.
-    pub fn reserve<R: Wait>(
-        &self,
-        rt: &R,
-        seat: &mut Seat<E>,
-        weight: u64,
-    ) -> Result<(), TapeError>
+    pub fn reserve<R: Wait>(&self, rt: &R, seat: &mut Seat<E>, weight: u64) -> Result<(), TapeError>
         requires tape { seat.old.tape ≡ self.now }
         requires actor { seat.old.actor ≢ 0 }
         ensures turn { Turns E.actor_of E.bytes seat.old seat.new }
@@ -33,10 +28,7 @@ impl<E: Posted> Tape<E> {
         ensures cause { IfErr result (Refuses self.now.limits (length seat.new.seen + seat.new.out_count) (sum_by E.bytes seat.new.seen + seat.new.out_weight) weight) }
     {
         self.begin(rt, &mut seat.token);
-        let outcome = seat
-            .token
-            .slot_mut(&self.table.shared, 0)
-            .reserve(weight);
+        let outcome = seat.token.slot_mut(&self.table.shared, 0).reserve(weight);
         self.leave(&mut seat.token);
         outcome
     }
@@ -50,9 +42,7 @@ impl<E: Posted> Tape<E> {
         ensures held { seat.new.held ≡ without weight seat.old.held }
     {
         self.begin(rt, &mut seat.token);
-        seat.token
-            .slot_mut(&self.table.shared, 0)
-            .release(weight);
+        seat.token.slot_mut(&self.table.shared, 0).release(weight);
         self.leave(&mut seat.token);
     }
 
@@ -92,10 +82,7 @@ impl<E: Posted> Tape<E> {
         ensures cause { IfErr result (λ error. error ≡ NoPlace → length seat.new.seen ≤ place) }
     {
         self.begin(rt, &mut seat.token);
-        let fetched = seat
-            .token
-            .slot_mut(&self.table.shared, 0)
-            .fetch(place);
+        let fetched = seat.token.slot_mut(&self.table.shared, 0).fetch(place);
         self.leave(&mut seat.token);
         fetched
     }
@@ -108,10 +95,7 @@ impl<E: Posted> Tape<E> {
         ensures next { MatchOption result (HasNone E.took E.sent_to E.is_lost seat.new.seen actor 0) (IsOldest E.took E.sent_to E.is_lost seat.new.seen actor 0) }
     {
         self.begin(rt, &mut seat.token);
-        let next = seat
-            .token
-            .slot_mut(&self.table.shared, 0)
-            .next_for(actor);
+        let next = seat.token.slot_mut(&self.table.shared, 0).next_for(actor);
         self.leave(&mut seat.token);
         next
     }

@@ -32,15 +32,9 @@ impl<E: Posted> Tape<E> {
         ensures ok { IsOk result }
     {
         self.begin(rt, &mut first.token);
-        first
-            .token
-            .slot_mut(&self.table.shared, 0)
-            .name(actor);
+        first.token.slot_mut(&self.table.shared, 0).name(actor);
         self.leave(&mut first.token);
-        let token = self
-            .table
-            .shared
-            .split_seat::<Part<E>>(&mut first.token);
+        let token = self.table.shared.split_seat::<Part<E>>(&mut first.token);
         Ok(Seat { token })
     }
 
@@ -78,9 +72,7 @@ impl<E: Posted> Tape<E> {
     {
         for other in others.into_vec() {
             let Seat { token } = other;
-            self.table
-                .shared
-                .join_seat::<Gather<E>>(first, token);
+            self.table.shared.join_seat::<Gather<E>>(first, token);
         }
     }
 }

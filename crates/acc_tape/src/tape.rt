@@ -18,6 +18,7 @@ use std::thread::yield_now;
 
 // The words of the table: the next ticket, and the ticket that is served.
 const NEXT: usize = 0;
+
 const SERVED: usize = 1;
 
 // Where so many tickets were drawn, no more are, since the words would wrap at last. A thread that draws then waits.
@@ -42,11 +43,7 @@ impl<E: Posted> Model for Tape<E> {
 
 impl<E: Posted> Tape<E> {
     /// An empty tape that may hold so many items and bytes, and its first seat.
-    pub fn new(
-        alloc: Global,
-        items: u64,
-        weight: u64,
-    ) -> Result<(Tape<E>, Seat<E>), OutOfMemory>
+    pub fn new(alloc: Global, items: u64, weight: u64) -> Result<(Tape<E>, Seat<E>), OutOfMemory>
         ensures limits { IfOk result (λ made. made.0.limits ≡ record { items = items; weight = weight }) }
         ensures seat { IfOk result (λ made. made.1 ≡ record { tape = made.0; actor = 0; seen = []; mine = []; held = []; out_count = 0; out_weight = 0; made = [] }) }
     {

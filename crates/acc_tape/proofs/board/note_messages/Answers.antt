@@ -1,6 +1,5 @@
-use Rattle.std.proofs.Common.{◌≡◌, ◌+◌, ◌-◌, ◌<◌, ◌≤◌, length, take, min, ap, ◌∙◌, sym, arith}
+use Rattle.std.proofs.Common.{take, ap, ◌∙◌, arith}
 use Rattle.std.proofs.lemmas.List.{length-take}
-use Rattle.acc_tape.specs.Messages.{messages_from}
 use Rattle.acc_tape.proofs.Mailing.{notes_one, length-messages_from}
 use Rattle.acc_tape.proofs.board.note_messages.Goals as goal
 

@@ -1,4 +1,4 @@
-use Rattle.std.proofs.Common.{◌+◌, sym, ap}
+use Rattle.std.proofs.Common.{sym, ap}
 use Rattle.acc_tape.proofs.Mailing.{next_waits}
 use Rattle.acc_tape.proofs.board.Board.next_for.Goals as goal
 

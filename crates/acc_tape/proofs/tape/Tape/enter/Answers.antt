@@ -1,4 +1,4 @@
-use Rattle.std.proofs.Common.{◌≡◌, ap, ◌∙◌, sym}
+use Rattle.std.proofs.Common.{ap, ◌∙◌, sym}
 use Rattle.std.specs.Arc.{arc_value}
 use Rattle.acc_tape.proofs.Visits.{enters, holds_of, learns_of, may_leave, visits}
 use Rattle.acc_tape.proofs.tape.Tape.enter.Goals as goal

@@ -1,4 +1,4 @@
-use Rattle.std.proofs.Common.{◌≡◌, refl, ap, ◌∙◌, sym}
+use Rattle.std.proofs.Common.{refl}
 use Rattle.acc_tape.proofs.Visits.{bare, still_may, learns_of, may_leave}
 use Rattle.acc_tape.proofs.tape.Tape.fetch.Goals as goal
 

@@ -1,4 +1,4 @@
-use Rattle.std.proofs.Common.{◌≡◌, [], ◌<◌, ap, ◌∙◌, sym, map, arith}
+use Rattle.std.proofs.Common.{◌≡◌, [], ap, ◌∙◌, sym, map, arith}
 use Rattle.acc_tape.specs.Turn.{gone_seat}
 use Rattle.acc_tape.proofs.Joining.{joins_ok}
 use Rattle.acc_tape.proofs.Visits.{bare, joined_rests, of_next}

@@ -10,5 +10,5 @@ invariant-loop-other g l = record {
   rest : l.yielded ++ into_iter_items l.other-iterator ≡ l.fn.others;
   tape : l.first.table_id ≡ l.initial.first.table_id;
   id : l.first.id ≡ l.initial.first.id;
-  me : l.first.me ≡ with_joined l.initial.first.me (map gone_seat l.yielded)
+  me : l.first.me ≡ with_joined l.initial.first.me (map gone_seat l.yielded);
 }

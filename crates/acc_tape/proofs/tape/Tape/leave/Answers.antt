@@ -1,4 +1,4 @@
-use Rattle.std.proofs.Common.{◌<◌, ap, ◌∙◌, sym, refl, arith}
+use Rattle.std.proofs.Common.{ap, ◌∙◌, sym, refl, arith}
 use Rattle.acc_tape.proofs.Steps.{leaves_as}
 use Rattle.acc_tape.proofs.tape.Tape.leave.Goals as goal
 

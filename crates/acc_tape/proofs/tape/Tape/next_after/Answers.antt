@@ -1,4 +1,4 @@
-use Rattle.std.proofs.Common.{◌≡◌, ◌+◌, ap, ◌∙◌, sym, subst}
+use Rattle.std.proofs.Common.{ap, ◌∙◌}
 use Rattle.acc_tape.proofs.Visits.{bare, still_may, learns_of, may_leave, visits}
 use Rattle.acc_tape.proofs.tape.Tape.next_after.Goals as goal
 

@@ -1,4 +1,4 @@
-use Rattle.std.proofs.Common.{◌≡◌, ap, ◌∙◌, sym}
+use Rattle.std.proofs.Common.{◌∙◌}
 use Rattle.acc_tape.proofs.Visits.{releases, holds_of, learns_of, may_leave, visits}
 use Rattle.acc_tape.proofs.tape.Tape.release.Goals as goal
 

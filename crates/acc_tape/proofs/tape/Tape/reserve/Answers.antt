@@ -1,5 +1,5 @@
-use Rattle.std.proofs.Common.{◌≡◌, ◌≢◌, ap, ◌∙◌, sym}
-use Rattle.acc_tape.proofs.Visits.{bare, may_leave, visits, reserves, same_mine}
+use Rattle.std.proofs.Common.{◌≢◌, ap, ◌∙◌, sym}
+use Rattle.acc_tape.proofs.Visits.{bare, may_leave, visits, reserves}
 use Rattle.acc_tape.proofs.tape.Tape.reserve.Goals as goal
 
 pub leave-requires-clause-turn : goal.leave-requires-clause-turn

@@ -1,4 +1,4 @@
-use Rattle.std.proofs.Common.{◌≡◌, ◌<◌, ap, ◌∙◌, sym, subst, Contains, List, ℕ, arith}
+use Rattle.std.proofs.Common.{◌≡◌, ap, ◌∙◌, sym, subst, Contains, List, ℕ, arith}
 use Rattle.acc_tape.proofs.Splitting.{splits_ok}
 use Rattle.acc_tape.proofs.Visits.{bare, opened, closed, stays_named, may_leave, visits}
 use Rattle.acc_tape.proofs.tape.Tape.split.Goals as goal

@@ -7,5 +7,5 @@ invariant-loop g l = record {
   is_finite : (goal.iterator-loop g).is_finite l.iterator';
   tape : l.token.table_id ≡ l.initial.token.table_id;
   id : l.token.id ≡ l.initial.token.id;
-  me : l.token.me ≡ l.initial.token.me
+  me : l.token.me ≡ l.initial.token.me;
 }
