@@ -21,10 +21,14 @@ const NEXT: usize = 0;
 
 const SERVED: usize = 1;
 
+// A thread that waits with a ticket holds up all that come behind it until it runs again. So it draws one at once only
+// where no ticket is out, and else looks so many times whether that has come about. Then it draws one in any case.
+const PATIENCE: u32 = 64;
+
 // Where so many tickets were drawn, no more are, since the words would wrap at last. A thread that draws then waits.
 const MOST_TICKETS: u64 = 1 << 62;
 
-/// One list of items, which grows at its end. Threads take turns with it, in the order in which they came.
+/// One list of items, which grows at its end. Threads take turns with it.
 #[derive(Drop)]
 pub struct Tape<E: Posted> {
     pub(crate) table: Table<Board<E>, View<E>, Limits, Law<E>, Global>,
@@ -65,13 +69,18 @@ impl<E: Posted> Tape<E> {
         ensures draws { token.new.me ≡ (waiting token.old.me.0 result, []) }
     {
         let shared = &self.table.shared;
+        let mut looks = 0;
         for _ in rt.forever() {
             let ticket = shared.peek(NEXT);
-            if ticket < MOST_TICKETS
+            let may_draw = looks == PATIENCE || shared.peek(SERVED) == ticket;
+            if may_draw
+                && ticket < MOST_TICKETS
                 && shared.compare_exchange::<Draw>(token, NEXT, ticket, ticket + 1) == ticket
             {
                 return ticket;
             }
+            looks = PATIENCE.min(looks + 1);
+            yield_now();
         }
         unreachable!()
     }

@@ -1,4 +1,4 @@
-use Rattle.std.proofs.Common.{◌≡◌}
+use Rattle.std.proofs.Common.{◌≡◌, ◌≤◌}
 use Rattle.acc_tape.proofs.tape.Tape.draw.Given as goal
 
 abbrev pub invariant-loop : goal.invariant-loop
@@ -8,4 +8,5 @@ invariant-loop g l = record {
   tape : l.token.table_id ≡ l.initial.token.table_id;
   id : l.token.id ≡ l.initial.token.id;
   me : l.token.me ≡ l.initial.token.me;
+  few : l.looks ≤ 64;
 }
