@@ -9,20 +9,20 @@ use mathlib.Core.Logic.{dite}
 use native.Mathlib.Decide.{dec_lt, ℕ_discrete}
 use Rattle.acc_posts.specs.declared.posting.Posting.{Posting}
 use Rattle.acc_posts.specs.Mail.{posting_at, nothing, taken}
-use Rattle.acc_posts.specs.Indexed.{lane_at, Indexed}
+use Rattle.acc_posts.specs.Indexed.{lane_at, AreNowhere, Indexed}
 
 abbrev none : ℕ
 none = 18446744073709551615
 
 -- no messages, and a place of none for each lane
-pub of_nothing : Indexed [] [] (replicate 256 none) (replicate 256 none)
-of_nothing = record {
+pub of_nothing : (sent : List Posting) (links firsts lasts : List ℕ) → sent ≡ [] → links ≡ [] → AreNowhere 1024 firsts → AreNowhere 1024 lasts → Indexed sent links firsts lasts
+of_nothing sent links firsts lasts a b f l = rw (a, b) record {
   linked = refl;
-  first_of_each = length-replicate 256 none;
-  last_of_each = length-replicate 256 none;
+  first_of_each = f.count;
+  last_of_each = l.count;
   link_or_none = λ k h. absurd (omega arith);
-  first_or_none = λ lane h past. get_or-replicate 256 lane none 0 h;
-  last_or_none = λ lane h past. get_or-replicate 256 lane none 0 h;
+  first_or_none = λ lane h past. f.nowhere lane h;
+  last_or_none = λ lane h past. l.nowhere lane h;
   rises = λ k h. absurd (omega arith);
   follows = λ k h. absurd (omega arith);
   between = λ k j h past low. absurd (omega arith);
@@ -32,11 +32,15 @@ of_nothing = record {
   behind = λ j h. absurd (omega arith);
 }
 
-pub of_nothing_as : (sent : List Posting) (links firsts lasts : List ℕ) → sent ≡ [] → links ≡ [] → firsts ≡ replicate 256 none → lasts ≡ replicate 256 none → Indexed sent links firsts lasts
-of_nothing_as sent links firsts lasts a b c d = rw (a, b, c, d) of_nothing
+-- all places of a new list are nowhere
+pub all_nowhere : (lanes : ℕ) (places : List ℕ) → places ≡ replicate lanes none → AreNowhere lanes places
+all_nowhere lanes places is = record {
+  count = ap length is ∙ length-replicate lanes none;
+  nowhere = λ lane low. ap (λ l. get_or l lane 0) is ∙ get_or-replicate lanes lane none 0 low;
+}
 
 -- the first message of a lane may go on to a later one, before which none of the lane is open
-pub moved : {sent : List Posting} {links firsts lasts : List ℕ} → (i : Indexed sent links firsts lasts) → (lane first : ℕ) → lane < 256
+pub moved : {sent : List Posting} {links firsts lasts : List ℕ} → (i : Indexed sent links firsts lasts) → (lane first : ℕ) → lane < 1024
     → (first < length sent → lane_at sent first ≡ lane) → ((j : ℕ) → j < length sent → j < first → lane_at sent j ≡ lane → (posting_at sent j).is_open ≡ false) → (length sent ≤ first → first ≡ none)
     → Indexed sent links (set firsts lane first) lasts
 moved {sent} {links} {firsts} {lasts} i lane first low on_lane passed or_none = record {
@@ -64,7 +68,7 @@ moved {sent} {links} {firsts} {lasts} i lane first low on_lane passed or_none = 
     at_lane : (P : ℕ → Type 0) (l : ℕ) → P first → P (get_or firsts l 0) → P (get_or (set firsts lane first) l 0)
     at_lane P l new old = dite (ℕ_discrete l lane) (λ same. subst (λ m. P (get_or (set firsts lane first) m 0)) (sym same) (subst P (sym here) new)) (λ apart. subst P (sym (there l apart)) old)
 
-    at_starts : (l : ℕ) → l < 256 → Dec (l ≡ lane) → get_or (set firsts lane first) l 0 < length sent → lane_at sent (get_or (set firsts lane first) l 0) ≡ l
+    at_starts : (l : ℕ) → l < 1024 → Dec (l ≡ lane) → get_or (set firsts lane first) l 0 < length sent → lane_at sent (get_or (set firsts lane first) l 0) ≡ l
     at_starts l h (yes same) = subst (λ m. get_or (set firsts lane first) m 0 < length sent → lane_at sent (get_or (set firsts lane first) m 0) ≡ m) (sym same) (subst (λ p. p < length sent → lane_at sent p ≡ lane) (sym here) on_lane)
     at_starts l h (no apart) = subst (λ p. p < length sent → lane_at sent p ≡ l) (sym (there l apart)) (i.starts l h)
 
@@ -80,9 +84,9 @@ module _ (sent : List Posting) (number : ℕ) where
   taken_lane : (k : ℕ) → lane_at (taken number sent) k ≡ lane_at sent k
   taken_lane k = dite (ℕ_discrete k number)
       (λ same. dite (dec_lt k (length sent))
-      (λ low. ap (λ (p : Posting). p.to % 256) (ap (λ m. get_or (set sent number closed) m nothing) same ∙ get_or-set_same sent number closed nothing (subst (λ m. m < length sent) same low)) ∙ ap (λ m. lane_at sent m) (sym same))
+      (λ low. ap (λ (p : Posting). p.to % 1024) (ap (λ m. get_or (set sent number closed) m nothing) same ∙ get_or-set_same sent number closed nothing (subst (λ m. m < length sent) same low)) ∙ ap (λ m. lane_at sent m) (sym same))
       (λ high. ap (λ l. lane_at l k) (past sent number closed (subst (λ m. ¬ (m < length sent)) same high))))
-      (λ apart. ap (λ (p : Posting). p.to % 256) (get_or-set_other sent number k closed nothing apart))
+      (λ apart. ap (λ (p : Posting). p.to % 1024) (get_or-set_other sent number k closed nothing apart))
     where
       past : (l : List Posting) (n : ℕ) (p : Posting) → ¬ (n < length l) → set l n p ≡ l
       past [] n p high = refl
@@ -150,7 +154,7 @@ module _ {sent : List Posting} {links firsts lasts : List ℕ} (i : Indexed sent
   n = length sent
 
   abbrev lane : ℕ
-  lane = p.to % 256
+  lane = p.to % 1024
 
   abbrev last : ℕ
   last = get_or lasts lane 0
@@ -170,7 +174,7 @@ module _ {sent : List Posting} {links firsts lasts : List ℕ} (i : Indexed sent
   abbrev lasts' : List ℕ
   lasts' = set lasts lane n
 
-  in_range : lane < 256
+  in_range : lane < 1024
   in_range = omega arith
 
   more : length sent' ≡ n + 1
@@ -180,10 +184,10 @@ module _ {sent : List Posting} {links firsts lasts : List ℕ} (i : Indexed sent
   old_at k low = get_or-append sent (p ∷ []) nothing k low
 
   old_lane : (k : ℕ) → k < n → lane_at sent' k ≡ lane_at sent k
-  old_lane k low = ap (λ (q : Posting). q.to % 256) (old_at k low)
+  old_lane k low = ap (λ (q : Posting). q.to % 1024) (old_at k low)
 
   new_lane : (k : ℕ) → k ≡ n → lane_at sent' k ≡ lane
-  new_lane k same = ap (λ m. lane_at sent' m) same ∙ ap (λ (q : Posting). q.to % 256) (get_or-append_seam sent p [] nothing)
+  new_lane k same = ap (λ m. lane_at sent' m) same ∙ ap (λ (q : Posting). q.to % 1024) (get_or-append_seam sent p [] nothing)
 
   new_link : (k : ℕ) → k ≡ n → get_or links' k 0 ≡ none
   new_link k same = ap (λ m. get_or links' m 0) same ∙ link_new links last n i.linked
@@ -262,8 +266,8 @@ module _ {sent : List Posting} {links firsts lasts : List ℕ} (i : Indexed sent
     first_of_each = length-set firsts lane first ∙ i.first_of_each;
     last_of_each = length-set lasts lane n ∙ i.last_of_each;
     link_or_none = link_cases (λ k to. length sent' ≤ to → to ≡ none) (λ past. refl) (λ k is low past. absurd (omega (arith, more))) (λ k low else past. i.link_or_none k low (omega (arith, more)));
-    first_or_none = λ l h. first_cases (λ l to. l < 256 → length sent' ≤ to → to ≡ none) (λ h past. absurd (omega (arith, more, first_low))) (λ l apart h past. i.first_or_none l h (omega (arith, more))) l h;
-    last_or_none = λ l h. last_cases (λ l to. l < 256 → length sent' ≤ to → to ≡ none) (λ h past. absurd (omega (arith, more))) (λ l apart h past. i.last_or_none l h (omega (arith, more))) l h;
+    first_or_none = λ l h. first_cases (λ l to. l < 1024 → length sent' ≤ to → to ≡ none) (λ h past. absurd (omega (arith, more, first_low))) (λ l apart h past. i.first_or_none l h (omega (arith, more))) l h;
+    last_or_none = λ l h. last_cases (λ l to. l < 1024 → length sent' ≤ to → to ≡ none) (λ h past. absurd (omega (arith, more))) (λ l apart h past. i.last_or_none l h (omega (arith, more))) l h;
     rises = link_cases (λ k to. k < to) small (λ k is low. low) (λ k low else. i.rises k low);
     follows = link_cases (λ k to. to < length sent' → lane_at sent' to ≡ lane_at sent' k)
         (λ past. absurd (omega (arith, more)))
@@ -274,14 +278,14 @@ module _ {sent : List Posting} {links firsts lasts : List ℕ} (i : Indexed sent
         (λ k is low' past before. ended_between k j is low' past before)
         (λ k low' else past before. apart_between k j low' else past before low)
         k (omega arith) past before;
-    starts = first_cases (λ l to. l < 256 → to < length sent' → lane_at sent' to ≡ l)
+    starts = first_cases (λ l to. l < 1024 → to < length sent' → lane_at sent' to ≡ l)
         (λ h low. first_lane)
         (λ l apart h low. let in' : get_or firsts l 0 < n = dite (dec_lt (get_or firsts l 0) n) (λ h'. h') (λ h'. let e = i.first_or_none l h (omega arith) in absurd (omega (arith, more))) in old_lane (get_or firsts l 0) in' ∙ i.starts l h in');
     before = λ j low. first_cases (λ l to. lane_at sent' j ≡ l → j < to → (posting_at sent' j).is_open ≡ false)
         (λ of earlier. let low' : j < n = omega (arith, first_low) in ap (λ (q : Posting). q.is_open) (old_at j low') ∙ i.before j low' (subst (λ m. j < get_or firsts m 0) (sym of ∙ old_lane j low') (omega (arith, first_before))))
         (λ l apart of earlier. let low' : j < n = dite (ℕ_discrete j n) (λ same. absurd (apart (sym of ∙ new_lane j same))) (λ else. omega (arith, more)) in ap (λ (q : Posting). q.is_open) (old_at j low') ∙ i.before j low' (subst (λ m. j < get_or firsts m 0) (sym of ∙ old_lane j low') earlier))
         (lane_at sent' j) refl;
-    ends = last_cases (λ l to. l < 256 → to < length sent' → lane_at sent' to ≡ l)
+    ends = last_cases (λ l to. l < 1024 → to < length sent' → lane_at sent' to ≡ l)
         (λ h low. new_lane n refl)
         (λ l apart h low. let in' : get_or lasts l 0 < n = dite (dec_lt (get_or lasts l 0) n) (λ h'. h') (λ h'. let e = i.last_or_none l h (omega arith) in absurd (omega (arith, more))) in old_lane (get_or lasts l 0) in' ∙ i.ends l h in');
     behind = λ j low. last_cases (λ l to. lane_at sent' j ≡ l → (j ≤ to) × (to < length sent'))
@@ -296,6 +300,6 @@ module _ {sent : List Posting} {links firsts lasts : List ℕ} (i : Indexed sent
         (lane_at sent' j) refl;
   }
 
-pub joins_as : {sent : List Posting} {links firsts lasts : List ℕ} → (i : Indexed sent links firsts lasts) → (p : Posting) → length sent < none → (sent' : List Posting) (links' firsts' lasts' : List ℕ) (lane : ℕ) → lane ≡ p.to % 256 → sent' ≡ sent ++ p ∷ []
+pub joins_as : {sent : List Posting} {links firsts lasts : List ℕ} → (i : Indexed sent links firsts lasts) → (p : Posting) → length sent < none → (sent' : List Posting) (links' firsts' lasts' : List ℕ) (lane : ℕ) → lane ≡ p.to % 1024 → sent' ≡ sent ++ p ∷ []
     → links' ≡ links_after links (get_or lasts lane 0) (length links) → firsts' ≡ set firsts lane (min (get_or firsts lane 0) (length links)) → lasts' ≡ set lasts lane (length links) → Indexed sent' links' firsts' lasts'
 joins_as i p small sent' links' firsts' lasts' lane is a b c d = rw (a, b, c, d, is, i.linked) (joins i p small)

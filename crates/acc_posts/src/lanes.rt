@@ -1,28 +1,29 @@
-//! Lanes: the messages to actors that have the same last byte. A cluster has fewer than 256 actors, so that each has a lane
-//! of its own.
-ghost use Rattle.std.specs.Prelude.{◌≡◌, ◌%◌, ◌+◌, ◌<◌, [], ◌∷◌, ◌++◌, length, min, IfOk, replicate, nat_lt, if◌then◌else◌, slice_set, slice_index, vec_len, vec_capacity};
+//! Lanes: the messages to actors whose numbers are equal modulo 1024. The actors of a cluster have smaller numbers, so that
+//! each has a lane of its own.
+ghost use Rattle.std.specs.Prelude.{◌≡◌, ◌%◌, ◌+◌, ◌<◌, [], ◌∷◌, ◌++◌, length, min, IfOk, nat_lt, if◌then◌else◌, slice_set, slice_index, vec_len, vec_capacity};
+ghost use Rattle.acc_posts.specs.Indexed.{AreNowhere};
 
 use acc_base::OutOfMemory;
 use std::alloc::Global;
 
 /// How many lanes there are.
-pub(crate) const LANES: usize = 256;
+pub(crate) const LANES: usize = 1024;
 
 /// The place of no message.
 pub(crate) const NOWHERE: usize = usize::MAX;
 
 /// The lane of the messages to an actor.
 pub(crate) fn lane_of(actor: u32) -> usize
-    ensures { result ≡ actor % 256 }
+    ensures { result ≡ actor % 1024 }
 {
     actor as usize % LANES
 }
 
-/// A place for each lane, none of which is that of a message.
-pub(crate) fn no_places(alloc: Global) -> Result<Vec<usize>, OutOfMemory>
-    ensures { IfOk result (λ places. places.items ≡ replicate 256 NOWHERE) }
+/// A place for each of so many lanes, none of which is that of a message.
+pub(crate) fn no_places(alloc: Global, lanes: usize) -> Result<Vec<usize>, OutOfMemory>
+    ensures { IfOk result (λ places. AreNowhere lanes places.items) }
 {
-    Ok(vec![in alloc; NOWHERE; LANES]?)
+    Ok(vec![in alloc; NOWHERE; lanes]?)
 }
 
 // The link of a message leads to a place. Nothing is done for the place of no message.

@@ -3,12 +3,12 @@
 /// A message. Its number, counted from 0, is its place among all messages.
 #[derive(Clone, Copy, Debug, PartialEq, Eq)]
 pub struct Posting {
-    /// The actor to which it goes.
-    pub to: u32,
     /// The place of the item that sent it.
     pub place: u64,
     /// Its place among the messages of that item.
     pub index: u64,
+    /// The actor to which it goes.
+    pub to: u32,
     /// Whether it is still to be taken.
     pub is_open: bool,
 }

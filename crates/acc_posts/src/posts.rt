@@ -4,7 +4,7 @@ ghost use Rattle.std.specs.List.{list_any};
 ghost use Rattle.acc_posts.specs.Mail.{Mail, taken, early_after, IsOpenTo, IsNext, HasNone};
 ghost use Rattle.acc_posts.specs.Indexed.{lane_at};
 
-use crate::lanes::{join_lane, lane_of, no_places};
+use crate::lanes::{LANES, join_lane, lane_of, no_places};
 use crate::posting::{Post, Posting};
 use acc_base::OutOfMemory;
 use std::alloc::Global;
@@ -68,8 +68,8 @@ impl Posts {
         Ok(Posts {
             postings: Vec::new(alloc),
             links: Vec::new(alloc),
-            firsts: no_places(alloc)?,
-            lasts: no_places(alloc)?,
+            firsts: no_places(alloc, LANES)?,
+            lasts: no_places(alloc, LANES)?,
             early: Vec::new(alloc),
             room: 0,
             takings: 0,
@@ -152,7 +152,7 @@ impl Posts {
 
     // Moves the first message of a lane past those that aren't open.
     fn skip(&mut self, lane: usize)
-        requires { lane < 256 }
+        requires { lane < 1024 }
         ensures { self.new ≡ self.old }
     {
         let mut first = self.firsts[lane];
@@ -164,7 +164,7 @@ impl Posts {
 
     // A message of the actor's lane from which on all open ones whose number is at least `from` stand.
     fn start(&self, actor: u32, from: u64) -> usize
-        ensures lane { result < length self.now.sent → lane_at self.now.sent result ≡ actor % 256 }
+        ensures lane { result < length self.now.sent → lane_at self.now.sent result ≡ actor % 1024 }
         ensures before { (number : ℕ) → from ≤ number → number < result → ¬ IsOpenTo self.now.sent actor number }
     {
         let lane = lane_of(actor);
