@@ -10,7 +10,7 @@ use Rattle.acc_txn.specs.declared.outcome.Outcome.{Outcome}
 use Rattle.acc_message.specs.declared.message.Message.{Message}
 use Rattle.acc_message.specs.declared.message.Message.TheVariants.{PreAccept, PreAcceptOk, Accept, AcceptOk, Commit, CommitOk, Stable, ReadOk, Apply, Recover, RecoverOk, Nack, Decided, Inform}
 use Rattle.acc_message.specs.Fields.{ballot_of}
-use Rattle.acc_message.specs.Items.{or_else}
+use Rattle.acc_base.specs.Faults.{or_else}
 use Rattle.acc_message.specs.Taken.{Taken}
 
 abbrev pub greater_ballot : Ballot → Ballot → Ballot

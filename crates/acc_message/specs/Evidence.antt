@@ -31,9 +31,9 @@ abbrev pub supersedes : ℕ → List Taken → TxnId → TxnId → Bool
 supersedes shard history x y =
     accepted_without shard x y (accepted_of history y) || stable_without shard x (stable_of history y)
 
-abbrev pub superseded : Layout → Actor → List Taken → TxnId → BodyParts → Bool
-superseded layout own history x body =
-    list_any (λ (k : Heard). supersedes (shard_of own) history x k.id) (rivals layout (shard_of own) history x body)
+abbrev pub superseded : Layout → Actor → List Taken → List Taken → TxnId → BodyParts → Bool
+superseded layout own past now x body =
+    list_any (λ (k : Heard). supersedes (shard_of own) past x k.id) (rivals layout (shard_of own) now x body)
 
 -- y is older than x and was accepted at a timestamp above that of x
 abbrev pub accepted_above : TxnId → TxnId → Option Accepted → Bool
@@ -44,22 +44,23 @@ accepted_above x y (Some a) = id_lt y x && stamp_lt x.0 a.t
 abbrev pub is_awaited : List Taken → TxnId → TxnId → Bool
 is_awaited history x y = accepted_above x y (accepted_of history y) && is_none (stable_of history y)
 
-abbrev pub awaited : Layout → Actor → List Taken → TxnId → BodyParts → List TxnId
-awaited layout own history x body =
+abbrev pub awaited : Layout → Actor → List Taken → List Taken → TxnId → BodyParts → List TxnId
+awaited layout own past now x body =
     ids_union [] (map (λ (k : Heard). k.id)
-    (filter (λ (k : Heard). is_awaited history x k.id) (rivals layout (shard_of own) history x body)))
+    (filter (λ (k : Heard). is_awaited past x k.id) (rivals layout (shard_of own) now x body)))
 
--- what a Recover of x reveals
-abbrev pub view_of : Layout → Actor → List Taken → TxnId → BodyParts → View
-view_of layout own history x body =
-    let given : Vote = vote_for layout own history x body in
+-- what a Recover of x reveals: the records are those of the past, and the conflicting transactions those that are known with
+-- the Recover itself
+abbrev pub view_of : Layout → Actor → List Taken → List Taken → TxnId → BodyParts → View
+view_of layout own past now x body =
+    let given : Vote = vote_for layout own past now x body in
     record {
       store = own;
       vote = given.vote;
       vote_deps = given.deps;
-      accepted = accepted_of history x;
-      committed = committed_of history x;
-      stable = stable_of history x;
-      superseded = superseded layout own history x body;
-      waits = awaited layout own history x body;
+      accepted = accepted_of past x;
+      committed = committed_of past x;
+      stable = stable_of past x;
+      superseded = superseded layout own past now x body;
+      waits = awaited layout own past now x body;
     }

@@ -1,6 +1,7 @@
 -- The items of a run, newest first, the numbers of its messages, and what each item noted.
 use Rattle.std.specs.Prelude.{ℕ, Bool, true, false, cond, ◌==◌, List, [], ◌∷◌, ◌++◌, Option, None, Some}
 use Rattle.std.specs.List.{list_any, slice_get}
+use Rattle.acc_base.specs.Faults.{or_else}
 use Rattle.acc_stamp.specs.declared.stamps.TxnId.{TxnId}
 use Rattle.acc_stamp.specs.declared.actors.Actor.{Actor}
 use Rattle.acc_stamp.specs.Stamp.{id_eq}
@@ -15,11 +16,6 @@ use Rattle.acc_message.specs.declared.item.Item.TheVariants.{Step, Skipped, Down
 
 abbrev pub same_actor : Actor → Actor → Bool
 same_actor a b = a.0 == b.0
-
--- the first of two options that has a value
-abbrev pub or_else : {T : Type 0} → Option T → Option T → Option T
-or_else None other = other
-or_else (Some x) other = Some x
 
 -- ---- messages and notes
 

@@ -17,7 +17,8 @@ use Rattle.acc_message.specs.declared.note.Note.{Note}
 use Rattle.acc_message.specs.declared.note.Note.TheVariants.{Begin as BeginNote, Recover as RecoverNote, Blocked, Ended, Decide, Outcome as OutcomeNote, Reply as ReplyNote}
 use Rattle.acc_message.specs.declared.entry.Emitted.{Emitted}
 use Rattle.acc_message.specs.Fields.{id_of, top_of}
-use Rattle.acc_message.specs.Items.{or_else, begins, replies}
+use Rattle.acc_base.specs.Faults.{or_else}
+use Rattle.acc_message.specs.Items.{begins, replies}
 use Rattle.acc_message.specs.Attempts.{Attempt}
 use Rattle.acc_message.specs.Coordinator.{silence, Reaction, begun, ask_for_votes, recovering, ask_for_views, reaction, slow_reaction}
 

@@ -14,7 +14,7 @@ use Rattle.acc_txn.specs.declared.parts.BodyParts.{BodyParts}
 use Rattle.acc_message.specs.declared.message.Message.{Message}
 use Rattle.acc_message.specs.declared.message.Message.TheVariants.{PreAccept, PreAcceptOk, Accept, AcceptOk, Commit, CommitOk, Stable, ReadOk, Apply, Recover, RecoverOk, Nack, Decided, Inform}
 use Rattle.acc_message.specs.Fields.{top_of}
-use Rattle.acc_message.specs.Items.{or_else}
+use Rattle.acc_base.specs.Faults.{or_else}
 use Rattle.acc_message.specs.Taken.{Taken, Heard, rivals}
 
 -- a vote: a timestamp, and the transactions that may have to come before
@@ -102,6 +102,6 @@ abbrev pub vote_given : Option Vote → Vote → Vote
 vote_given None made = made
 vote_given (Some earlier) made = earlier
 
--- the vote that is given for x: one that was made is given again
-abbrev pub vote_for : Layout → Actor → List Taken → TxnId → BodyParts → Vote
-vote_for layout own history x body = vote_given (vote_of history x) (new_vote layout own history x body)
+-- the vote that is given for x, with the message that asks for it: one that was made in the past is given again
+abbrev pub vote_for : Layout → Actor → List Taken → List Taken → TxnId → BodyParts → Vote
+vote_for layout own past now x body = vote_given (vote_of past x) (new_vote layout own now x body)

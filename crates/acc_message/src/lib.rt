@@ -23,6 +23,3 @@ pub use items::Items;
 pub use message::{Message, Messages};
 pub use note::{Note, Notes, Path};
 pub use roll::Roll;
-
-#[cfg(test)]
-mod tests;

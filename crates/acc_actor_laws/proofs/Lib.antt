@@ -1,0 +1,9 @@
+pub mod Standing
+pub mod OpeningFacts
+pub mod StoreFacts
+pub mod WaiterFacts
+pub mod QuietFacts
+pub mod PhaseFacts
+pub mod AppliedFacts
+pub mod OpeningOrder
+pub mod TakenAlone

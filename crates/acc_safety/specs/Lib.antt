@@ -1,0 +1,17 @@
+pub mod Decisions
+pub mod Agreement
+pub mod Coverage
+pub mod SerialOutcomes
+pub mod Calm
+pub mod Safe
+pub mod RunLaws
+pub mod Places
+pub mod Valid
+pub mod Histories
+pub mod StoreSends
+pub mod NodeMoves
+pub mod Polls
+pub mod Roots
+pub mod StoreFactStatements
+pub mod Statements
+pub mod Attempted
