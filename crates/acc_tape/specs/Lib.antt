@@ -1,3 +1,4 @@
+pub mod ItemViews
 pub mod Kept
 pub mod Lists
 pub mod Messages

@@ -6,6 +6,7 @@ mod calls;
 mod content;
 mod entered;
 mod error;
+mod item;
 mod law;
 mod posted;
 mod seat;
