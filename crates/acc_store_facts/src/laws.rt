@@ -1,0 +1,1 @@
+//! Facts of every store. Each is the contract of a function that does nothing.
