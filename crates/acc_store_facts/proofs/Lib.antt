@@ -1,3 +1,4 @@
 pub mod Knowing
 pub mod Sent
 pub mod VoteFacts
+pub mod Drawn
