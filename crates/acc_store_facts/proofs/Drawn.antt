@@ -1,29 +1,26 @@
 -- The stamps that a store draws are above all that it met.
-use Rattle.std.proofs.Common.{◌≡◌, ℕ, ◌+◌, ◌<◌, ◌≤◌, Bool, true, false, cond, max, ◌==◌, List, [], ◌∷◌, ◌++◌, Option, None, Some, refl, sym, ◌∙◌, ap, subst, ◌⊎◌, inl, inr, ⊎_elim, arith}
-use Rattle.std.specs.List.{flat_map}
-use Rattle.std.proofs.lemmas.Bool.{cond_both, eq-eqb}
-use Rattle.acc_base.specs.Faults.{or_else}
+use Rattle.std.proofs.Common.{◌≡◌, ℕ, ◌+◌, ◌<◌, ◌≤◌, Bool, true, false, cond, List, [], ◌∷◌, Option, None, Some, refl, sym, ◌∙◌, ap, ◌⊎◌, inl, inr, ⊎_elim, arith}
+use Rattle.std.proofs.lemmas.Bool.{eq-eqb}
 use Rattle.acc_stamp.specs.declared.stamps.Stamp.{Stamp}
 use Rattle.acc_stamp.specs.declared.stamps.TxnId.{TxnId}
 use Rattle.acc_stamp.specs.declared.actors.Actor.{Actor}
 use Rattle.acc_stamp.specs.Actor.{shard_of}
 use Rattle.acc_stamp.specs.Stamp.{id_eq, stamp_lt}
-use Rattle.acc_stamp.proofs.Order.{id_order, stamp_lt-from_h}
+use Rattle.acc_stamp.proofs.Order.{stamp_lt-from_h}
 use Rattle.acc_topology.specs.Layout.{Layout}
 use Rattle.acc_txn.specs.declared.parts.BodyParts.{BodyParts}
 use Rattle.acc_message.specs.declared.message.Message.{Message}
-use Rattle.acc_message.specs.declared.message.Message.TheVariants.{PreAccept, PreAcceptOk, Accept, AcceptOk, Commit, CommitOk, Stable, ReadOk, Apply, Recover, RecoverOk, Nack, Decided, Inform}
-use Rattle.acc_message.specs.Fields.{id_of, ballot_of, top_of, top_of_own}
+use Rattle.acc_message.specs.declared.message.Message.TheVariants.{PreAcceptOk, RecoverOk}
+use Rattle.acc_message.specs.Fields.{id_of, top_of}
 use Rattle.acc_message.specs.Taken.{Taken, taking, rivals, body_known}
-use Rattle.acc_message.specs.VoteRule.{Vote, vote_in, first_vote, vote_of, drawn_as, drawn_in, greatest_drawn, greatest_h, all_below, new_stamp, new_vote, times_in, stamps_of_vote, stamps_of}
+use Rattle.acc_message.specs.VoteRule.{Vote, vote_in, vote_of, drawn_as, drawn_in, greatest_drawn, greatest_h, all_below, new_vote}
 use Rattle.acc_actor_laws.proofs.Standing.{not_none}
 use Rattle.acc_actor_laws.proofs.OpeningFacts.{some_is}
-use Rattle.acc_safety.specs.Places.{IsIn, First, Later, StandsAt, Here, Back, IsPast, Whole, Behind}
+use Rattle.acc_safety.specs.Places.{IsIn, First, Later, IsPast, Whole, Behind}
 use Rattle.acc_safety.specs.Histories.{EachAnswers}
 use Rattle.acc_safety.specs.StoreFactStatements.{VoteMade}
-use Rattle.acc_safety.proofs.PlaceOrder.{only, none_is_in, IsIn-cases, IsIn-append_cases, IsIn-cond_cases}
 use Rattle.acc_store_facts.proofs.Knowing.{Learns, body_known-new}
-use Rattle.acc_store_facts.proofs.VoteFacts.{VotedBy, VoteIs, WasGiven, IsNew, vote_is, MadeIn, made_in, vote_made}
+use Rattle.acc_store_facts.proofs.VoteFacts.{VoteIs, WasGiven, IsNew, vote_is, MadeIn, made_in, vote_made}
 
 -- ---- the greatest h
 
@@ -146,9 +143,9 @@ module _ (layout : Layout) (own : Actor) where
   new_differs x y v w step past each e (IsDrawn origin above over) notx noty same =
       ⊎_elim (λ mine. absurd (notx (ap (λ (s : Stamp). s.origin) (sym mine ∙ same) ∙ origin)))
       (λ drawn.
-        let h : v.vote.h ≤ greatest_h own past = vote_of-below own x v past e drawn.0 in
-        let k : v.vote.h ≡ w.vote.h = ap (λ (s : Stamp). s.h) same in
-        absurd (omega arith))
+      let h : v.vote.h ≤ greatest_h own past = vote_of-below own x v past e drawn.0 in
+      let k : v.vote.h ≡ w.vote.h = ap (λ (s : Stamp). s.h) same in
+      absurd (omega arith))
       (own_or_drawn x v past each e)
 
   pub votes_differ : (x y : TxnId) (v w : Vote) (history : List Taken) → EachAnswers layout own history → vote_of history x ≡ Some v

@@ -9,11 +9,10 @@ use Rattle.acc_topology.specs.Layout.{Layout}
 use Rattle.acc_txn.specs.declared.parts.BodyParts.{BodyParts}
 use Rattle.acc_message.specs.declared.message.Message.{Message}
 use Rattle.acc_message.specs.Fields.{id_of}
-use Rattle.acc_message.specs.Taken.{Taken, taking, Heard, body_in, is_heard, learnt, learnt_from, known, heard_body, body_known}
-use Rattle.acc_message.specs.StoreRules.{store_answer}
+use Rattle.acc_message.specs.Taken.{Taken, Heard, body_in, is_heard, learnt, known, heard_body, body_known}
 use Rattle.acc_actor_laws.proofs.Standing.{not_none}
 use Rattle.acc_actor_laws.proofs.OpeningFacts.{some_is}
-use Rattle.acc_safety.specs.Places.{IsIn, First, Later, StandsAt, Here, Back, IsPast, Whole, Behind}
+use Rattle.acc_safety.specs.Places.{IsIn, First, Later, StandsAt, IsPast, Whole, Behind}
 use Rattle.acc_safety.specs.Histories.{EachAnswers}
 use Rattle.acc_safety.specs.StoreSends.{StoreSends}
 use Rattle.acc_safety.proofs.PlaceOrder.{StandsAt-IsPast}

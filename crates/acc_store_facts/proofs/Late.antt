@@ -1,5 +1,5 @@
 -- A store that hears of a conflicting transaction late votes for it above what it met before.
-use Rattle.std.proofs.Common.{◌≡◌, ℕ, ◌+◌, ◌<◌, ◌≤◌, Bool, true, false, not, ◌&&◌, cond, max, List, [], ◌∷◌, ◌++◌, Option, None, Some, refl, sym, ◌∙◌, ap, subst, ◌⊎◌, inl, inr, ⊎_elim, arith}
+use Rattle.std.proofs.Common.{◌≡◌, ℕ, ◌+◌, ◌≤◌, Bool, true, false, cond, List, [], ◌∷◌, ◌++◌, Option, None, Some, refl, sym, ◌∙◌, ap, subst, ◌⊎◌, ⊎_elim, arith}
 use Rattle.std.specs.List.{list_all, flat_map}
 use Rattle.std.proofs.lemmas.Bool.{and_left, and_right}
 use Rattle.acc_stamp.specs.declared.stamps.Stamp.{Stamp}
@@ -11,20 +11,20 @@ use Rattle.acc_stamp.proofs.Order.{stamp_lt-from_h}
 use Rattle.acc_topology.specs.Layout.{Layout}
 use Rattle.acc_txn.specs.declared.parts.BodyParts.{BodyParts}
 use Rattle.acc_message.specs.declared.message.Message.{Message}
-use Rattle.acc_message.specs.declared.message.Message.TheVariants.{PreAccept, PreAcceptOk, Accept, AcceptOk, Commit, CommitOk, Stable, ReadOk, Apply, Recover, RecoverOk, Nack, Decided, Inform}
-use Rattle.acc_message.specs.Fields.{id_of, ballot_of, top_of, top_of_own}
+use Rattle.acc_message.specs.declared.message.Message.TheVariants.{Accept, Commit, Stable, Apply}
+use Rattle.acc_message.specs.Fields.{top_of}
 use Rattle.acc_message.specs.Shares.{conflict_in}
 use Rattle.acc_message.specs.Taken.{Taken, taking, Heard, rivals, body_known}
-use Rattle.acc_message.specs.VoteRule.{Vote, vote_of, greatest_h, all_below, new_stamp, new_vote, times_in, stamps_of_vote, stamps_of}
+use Rattle.acc_message.specs.VoteRule.{Vote, vote_of, greatest_h, new_vote, times_in, stamps_of_vote, stamps_of}
 use Rattle.acc_actor_laws.proofs.Standing.{not_none}
 use Rattle.acc_actor_laws.proofs.OpeningFacts.{some_is}
 use Rattle.acc_safety.specs.Places.{IsIn, First, Later, StandsAt, IsPast, Whole, Behind, InOrder, IsOlder, IsSame, IsNewer}
 use Rattle.acc_safety.specs.Histories.{EachAnswers}
 use Rattle.acc_safety.specs.StoreFactStatements.{VoteMade}
-use Rattle.acc_safety.proofs.PlaceOrder.{in_order, StandsAt-IsPast, only, none_is_in, IsIn-cases, IsIn-append_cases, IsIn-append_left, IsIn-append_right, IsIn-cond_cases, flat_map-IsIn, IsIn-flat_map, each_at}
-use Rattle.acc_store_facts.proofs.Knowing.{body_known-past, EachAnswers-past, step_answers}
+use Rattle.acc_safety.proofs.PlaceOrder.{in_order, StandsAt-IsPast, only, none_is_in, IsIn-cases, IsIn-append_cases, IsIn-append_left, IsIn-append_right, IsIn-cond_cases, flat_map-IsIn, IsIn-flat_map}
+use Rattle.acc_store_facts.proofs.Knowing.{body_known-past, step_answers}
 use Rattle.acc_store_facts.proofs.VoteFacts.{VoteIs, WasGiven, IsNew, vote_is, vote_of-past, vote_made}
-use Rattle.acc_store_facts.proofs.Drawn.{greatest_h-past, vote_of-below, known-below, own_or_drawn}
+use Rattle.acc_store_facts.proofs.Drawn.{vote_of-below, known-below, own_or_drawn}
 use Rattle.acc_store_facts.proofs.Named.{rival_is_in}
 
 -- ---- the stamps of a transaction stay
@@ -43,12 +43,12 @@ pub stamp_of : (history : List Taken) (x : TxnId) (s : Stamp) → IsIn s (stamps
 stamp_of history x s h =
     ⊎_elim IsOwn
     (λ rest.
-      ⊎_elim
-      (λ times.
-        let from = IsIn-flat_map (λ (step : Taken). times_in x step.message) s history times in
-        IsTime from.source from.there from.within)
-      (λ vote. stamp_of_vote history x s (vote_of history x) refl vote)
-      (IsIn-append_cases s (flat_map (λ (step : Taken). times_in x step.message) history) (stamps_of_vote (vote_of history x)) rest))
+    ⊎_elim
+    (λ times.
+    let from = IsIn-flat_map (λ (step : Taken). times_in x step.message) s history times in
+    IsTime from.source from.there from.within)
+    (λ vote. stamp_of_vote history x s (vote_of history x) refl vote)
+    (IsIn-append_cases s (flat_map (λ (step : Taken). times_in x step.message) history) (stamps_of_vote (vote_of history x)) rest))
     (IsIn-cases s x.0 (flat_map (λ (step : Taken). times_in x step.message) history ++ stamps_of_vote (vote_of history x)) h)
 
 pub own_stamp_is_in : (history : List Taken) (x : TxnId) → IsIn x.0 (stamps_of history x)
@@ -84,8 +84,8 @@ time_if : (x id : TxnId) (s t : Stamp) (n : ℕ) → t.h ≤ n → IsIn s (cond 
 time_if x id s t n below h =
     ⊎_elim
     (λ here.
-      let same : s.h ≡ t.h = ap (λ (z : Stamp). z.h) (only s t here.1) in
-      omega arith)
+    let same : s.h ≡ t.h = ap (λ (z : Stamp). z.h) (only s t here.1) in
+    omega arith)
     (λ other. absurd (none_is_in s other.1))
     (IsIn-cond_cases s (id_eq id x) (t ∷ []) [] h)
 
@@ -130,11 +130,11 @@ module _ (layout : Layout) (own : Actor) where
           let same : s.h ≡ v.vote.h = ap (λ (z : Stamp). z.h) is in
           ⊎_elim
           (λ own_time.
-            let k : v.vote.h ≡ x.0.h = ap (λ (z : Stamp). z.h) own_time in
-            omega (arith, mine))
+          let k : v.vote.h ≡ x.0.h = ap (λ (z : Stamp). z.h) own_time in
+          omega (arith, mine))
           (λ drawn.
-            let k : v.vote.h ≤ greatest_h own history = vote_of-below own x v history e drawn.0 in
-            omega arith)
+          let k : v.vote.h ≤ greatest_h own history = vote_of-below own x v history e drawn.0 in
+          omega arith)
           (votes v e)
 
   -- ---- a late vote

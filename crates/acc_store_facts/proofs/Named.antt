@@ -1,5 +1,5 @@
 -- The known rivals below a bound are just what an answer names.
-use Rattle.std.proofs.Common.{◌≡◌, ℕ, ◌==◌, Bool, true, false, not, ◌&&◌, ◌||◌, cond, List, [], ◌∷◌, Option, Some, map, filter, refl, sym, ◌∙◌, ap, subst}
+use Rattle.std.proofs.Common.{◌≡◌, ℕ, true, false, not, ◌&&◌, cond, List, [], ◌∷◌, Some, map, filter, refl, sym, ◌∙◌, ap}
 use Rattle.std.proofs.lemmas.Bool.{and_from, not_from_false, eq-eqb, false_from_ne_true}
 use Rattle.acc_stamp.specs.declared.stamps.Stamp.{Stamp}
 use Rattle.acc_stamp.specs.declared.stamps.TxnId.{TxnId}
@@ -12,10 +12,9 @@ use Rattle.acc_stamp.proofs.Order.{id_order, eq_itself}
 use Rattle.acc_stamp.proofs.Rising.{is_among-union}
 use Rattle.acc_topology.specs.Layout.{Layout}
 use Rattle.acc_deps.specs.declared.shards.ShardDeps.{ShardDeps}
-use Rattle.acc_deps.specs.Deps.{of_shard, deps_has, deps_of}
+use Rattle.acc_deps.specs.Deps.{deps_has, deps_of}
 use Rattle.acc_deps.proofs.ByShard.{of_shard-of}
 use Rattle.acc_txn.specs.declared.parts.BodyParts.{BodyParts}
-use Rattle.acc_message.specs.declared.message.Message.{Message}
 use Rattle.acc_message.specs.declared.message.Message.TheVariants.{Accept, AcceptOk}
 use Rattle.acc_message.specs.Shares.{conflict_in}
 use Rattle.acc_message.specs.Taken.{Taken, taking, Heard, known, rivals, body_known}

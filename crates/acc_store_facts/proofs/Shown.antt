@@ -1,33 +1,31 @@
 -- What a store accepted or committed is in each later view: of the two kinds of record there is one proof.
 use Rattle.std.proofs.Common.{◌≡◌, Bool, true, false, ◌&&◌, cond, List, [], ◌∷◌, Option, None, Some, refl, sym, ◌∙◌, ap, subst}
 use Rattle.std.specs.List.{list_any}
-use Rattle.std.proofs.lemmas.Bool.{true≢false, and_parts, and_from, cond_both}
+use Rattle.std.proofs.lemmas.Bool.{true≢false, and_from, cond_both}
 use Rattle.acc_base.specs.Faults.{or_else}
-use Rattle.acc_stamp.specs.declared.stamps.Stamp.{Stamp}
 use Rattle.acc_stamp.specs.declared.stamps.TxnId.{TxnId}
 use Rattle.acc_stamp.specs.declared.stamps.Ballot.{Ballot}
 use Rattle.acc_stamp.specs.declared.actors.Actor.{Actor}
 use Rattle.acc_stamp.specs.Stamp.{id_eq, ballot_lt, zero_ballot}
-use Rattle.acc_stamp.proofs.Order.{id_order, ballot_order, eq_itself, le-trans, lt-le-trans, le-lt-trans, asym}
+use Rattle.acc_stamp.proofs.Order.{id_order, ballot_order, eq_itself, le-trans, lt-le-trans, le-lt-trans}
 use Rattle.acc_topology.specs.Layout.{Layout}
 use Rattle.acc_deps.specs.declared.records.Accepted.{Accepted}
 use Rattle.acc_deps.specs.declared.records.View.{View}
 use Rattle.acc_deps.specs.declared.shards.ShardDeps.{ShardDeps}
 use Rattle.acc_txn.specs.declared.parts.BodyParts.{BodyParts}
 use Rattle.acc_message.specs.declared.message.Message.{Message}
-use Rattle.acc_message.specs.declared.message.Message.TheVariants.{PreAccept, PreAcceptOk, Accept, AcceptOk, Commit, CommitOk, Stable, ReadOk, Apply, Recover, RecoverOk, Nack, Decided, Inform}
+use Rattle.acc_message.specs.declared.message.Message.TheVariants.{Accept, AcceptOk, Commit, CommitOk, Recover, RecoverOk}
 use Rattle.acc_message.specs.Fields.{ballot_of}
 use Rattle.acc_message.specs.Taken.{Taken}
-use Rattle.acc_message.specs.BallotRules.{greater_ballot, is_accept_ok, is_commit_ok, is_recover_ok, grants, granted_by, promise_of, accepted_by, accepted_of, committed_by, committed_of}
-use Rattle.acc_message.specs.StoreRules.{store_answer}
+use Rattle.acc_message.specs.BallotRules.{greater_ballot, is_accept_ok, is_commit_ok, is_recover_ok, grants, promise_of, accepted_by, accepted_of, committed_by, committed_of}
 use Rattle.acc_actor_laws.proofs.Standing.{not_none}
 use Rattle.acc_actor_laws.proofs.OpeningFacts.{some_is}
 use Rattle.acc_actor_laws.proofs.StoreFacts.{promise_of-kept, granted_above}
-use Rattle.acc_safety.specs.Places.{IsIn, First, Later, StandsAt, Here, Back, IsPast, Whole, Behind, InOrder, IsOlder, IsSame, IsNewer}
+use Rattle.acc_safety.specs.Places.{IsIn, StandsAt, IsPast, Whole, Behind, InOrder, IsOlder, IsSame, IsNewer}
 use Rattle.acc_safety.specs.Histories.{EachAnswers}
 use Rattle.acc_safety.specs.StoreFactStatements.{HasBetween}
 use Rattle.acc_safety.proofs.PlaceOrder.{in_order, any_from, StandsAt-IsPast}
-use Rattle.acc_store_facts.proofs.Knowing.{EachAnswers-past, step_answers, step_sends}
+use Rattle.acc_store_facts.proofs.Knowing.{step_answers, step_sends}
 use Rattle.acc_store_facts.proofs.Sent.{SentAcceptOk, sent_accept_ok, SentCommitOk, sent_commit_ok, SentView, sent_view}
 
 -- ---- promises
@@ -127,15 +125,15 @@ module _ (by : TxnId → Message → List Message → Option Accepted) (of : Lis
   from_by step past x b (Some new) each is h =
       let g = kind.granted x step.message step.sent new is in
       let above : ballot_lt (ballot_of step.message) (promise_of past x) ≡ false =
-        granted_above layout own past step.message x (subst (λ sent. grants x step.message sent ≡ true) each.0 g.0) in
+      granted_above layout own past step.message x (subst (λ sent. grants x step.message sent ≡ true) each.0 g.0) in
       record {
         found = new;
         found_is = refl;
         from_b =
-          ap (λ z. ballot_lt z b) g.1
-          ∙ le-trans ballot_order b (promise_of past x) (ballot_of step.message)
-          (le-trans ballot_order b h.found.ballot (promise_of past x) h.from_b (record_promised x h.found past h.found_is))
-          above;
+            ap (λ z. ballot_lt z b) g.1
+            ∙ le-trans ballot_order b (promise_of past x) (ballot_of step.message)
+            (le-trans ballot_order b h.found.ballot (promise_of past x) h.from_b (record_promised x h.found past h.found_is))
+            above;
       }
 
   from_stays : (step : Taken) (past : List Taken) (x : TxnId) (b : Ballot) → EachAnswers layout own (step ∷ past)
@@ -168,16 +166,17 @@ module _ (by : TxnId → Message → List Message → Option Accepted) (of : Lis
 view_granted : (f g from to : Actor) (x : TxnId) (above : Ballot) (body : BodyParts) (view : View) (late : Taken)
     → late.message ≡ Recover from to x above body → IsIn (RecoverOk f g x above view) late.sent
     → (grants x late.message late.sent ≡ true) × (ballot_of late.message ≡ above)
-view_granted f g from to x above body view late is sent =
-    (ap (λ m. grants x m late.sent) is
-    ∙ and_from (id_eq x x) (list_any is_recover_ok late.sent) (eq_itself id_order x) (any_from is_recover_ok (RecoverOk f g x above view) late.sent sent refl),
-    ap ballot_of is)
+view_granted f g from to x above body view late is sent = (
+  ap (λ m. grants x m late.sent) is
+      ∙ and_from (id_eq x x) (list_any is_recover_ok late.sent) (eq_itself id_order x) (any_from is_recover_ok (RecoverOk f g x above view) late.sent sent refl),
+  ap ballot_of is,
+)
 
 -- a message of a smaller ballot isn't allowed behind a view
-not_behind : (layout : Layout) (own : Actor) (late : Taken) (past before history : List Taken) (f g : Actor) (x : TxnId) (b above : Ballot) (view : View)
+not_behind : (layout : Layout) (own : Actor) (late : Taken) (past before : List Taken) (f g : Actor) (x : TxnId) (b above : Ballot) (view : View)
     → EachAnswers layout own past → StandsAt late before past → IsIn (RecoverOk f g x above view) late.sent
     → ballot_lt b above ≡ true → ballot_lt b (promise_of past x) ≡ false → ⊥
-not_behind layout own late past before history f g x b above view each at sent smaller allowed =
+not_behind layout own late past before f g x b above view each at sent smaller allowed =
     true≢false (sym (lt-le-trans ballot_order b above (promise_of past x) smaller promised) ∙ allowed)
   where
     s : SentView layout own before late.message x above view
@@ -191,3 +190,80 @@ not_behind layout own late past before history f g x b above view each at sent s
         le-trans ballot_order above (promise_of (late ∷ before) x) (promise_of past x)
         (ap (ballot_lt (promise_of (late ∷ before) x)) (sym granted.1) ∙ granted_promised late before x granted.0)
         (promise_of-past x (late ∷ before) past (StandsAt-IsPast late before past at))
+
+module _ (layout : Layout) (own : Actor) where
+  accepted_now : (step : Taken) (past : List Taken) (f g : Actor) (x : TxnId) (b : Ballot) (deps : List ShardDeps)
+      → SentAcceptOk layout own past step.message x b deps → IsIn (AcceptOk f g x b deps) step.sent → HasFrom (accepted_of (step ∷ past) x) b
+  accepted_now step past f g x b deps s sent =
+      let granted : (id_eq x x && list_any is_accept_ok step.sent) ≡ true =
+      and_from (id_eq x x) (list_any is_accept_ok step.sent) (eq_itself id_order x) (any_from is_accept_ok (AcceptOk f g x b deps) step.sent sent refl) in
+      record {
+        found = record { ballot = b; t = s.t; deps = s.proposed };
+        found_is =
+            ap (λ m. or_else (accepted_by x m step.sent) (accepted_of past x)) s.message_is
+            ∙ ap (λ c. or_else (cond c (Some (record { ballot = b; t = s.t; deps = s.proposed })) None) (accepted_of past x)) granted;
+        from_b = ballot_order.irrefl b;
+      }
+
+  committed_now : (step : Taken) (past : List Taken) (f g : Actor) (x : TxnId) (b : Ballot)
+      → SentCommitOk past step.message x b → IsIn (CommitOk f g x b) step.sent → HasFrom (committed_of (step ∷ past) x) b
+  committed_now step past f g x b s sent =
+      let granted : (id_eq x x && list_any is_commit_ok step.sent) ≡ true =
+      and_from (id_eq x x) (list_any is_commit_ok step.sent) (eq_itself id_order x) (any_from is_commit_ok (CommitOk f g x b) step.sent sent refl) in
+      record {
+        found = record { ballot = b; t = s.t; deps = s.deps };
+        found_is =
+            ap (λ m. or_else (committed_by x m step.sent) (committed_of past x)) s.message_is
+            ∙ ap (λ c. or_else (cond c (Some (record { ballot = b; t = s.t; deps = s.deps })) None) (committed_of past x)) granted;
+        from_b = ballot_order.irrefl b;
+      }
+
+  pub accepted_is_seen : (step late : Taken) (past before history : List Taken) (f g h k : Actor) (x : TxnId) (b above : Ballot) (deps : List ShardDeps) (view : View)
+      → EachAnswers layout own history → StandsAt step past history → IsIn (AcceptOk f g x b deps) step.sent
+      → StandsAt late before history → IsIn (RecoverOk h k x above view) late.sent → ballot_lt b above ≡ true
+      → HasBetween view.accepted b above
+  accepted_is_seen step late past before history f g h k x b above deps view each at sent seen shown smaller =
+      by (in_order step late past before history at seen)
+    where
+      s : SentAcceptOk layout own past step.message x b deps
+      s = sent_accept_ok layout own past step.message f g x b deps (step_sends layout own step past (AcceptOk f g x b deps) (step_answers layout own step past history each at) sent)
+
+      v : SentView layout own before late.message x above view
+      v = sent_view layout own before late.message h k x above view (step_sends layout own late before (RecoverOk h k x above view) (step_answers layout own late before history each seen) shown)
+
+      apart : Accept s.from s.to x b s.body s.t s.proposed ≡ Recover v.from v.to x above v.body → ⊥
+      apart e = cc
+
+      by : InOrder step late past before → HasBetween view.accepted b above
+      by (IsOlder older) =
+          subst (λ o. HasBetween o b above) (sym (ap (λ (w : View). w.accepted) v.view_is))
+          (shown_later accepted_by accepted_of accepted_kind layout own step late past before history x b above each older seen
+          (accepted_now step past f g x b deps s sent) v.allowed)
+      by (IsSame same rest) = absurd (apart (sym s.message_is ∙ ap (λ (d : Taken). d.message) same ∙ v.message_is))
+      by (IsNewer newer) =
+          absurd (not_behind layout own late past before h k x b above view (step_answers layout own step past history each at).1 newer shown smaller s.allowed)
+
+  pub committed_is_seen : (step late : Taken) (past before history : List Taken) (f g h k : Actor) (x : TxnId) (b above : Ballot) (view : View)
+      → EachAnswers layout own history → StandsAt step past history → IsIn (CommitOk f g x b) step.sent
+      → StandsAt late before history → IsIn (RecoverOk h k x above view) late.sent → ballot_lt b above ≡ true
+      → HasBetween view.committed b above
+  committed_is_seen step late past before history f g h k x b above view each at sent seen shown smaller =
+      by (in_order step late past before history at seen)
+    where
+      s : SentCommitOk past step.message x b
+      s = sent_commit_ok layout own past step.message f g x b (step_sends layout own step past (CommitOk f g x b) (step_answers layout own step past history each at) sent)
+
+      v : SentView layout own before late.message x above view
+      v = sent_view layout own before late.message h k x above view (step_sends layout own late before (RecoverOk h k x above view) (step_answers layout own late before history each seen) shown)
+
+      apart : Commit s.from s.to x b s.body s.t s.deps ≡ Recover v.from v.to x above v.body → ⊥
+      apart e = cc
+
+      by : InOrder step late past before → HasBetween view.committed b above
+      by (IsOlder older) =
+          subst (λ o. HasBetween o b above) (sym (ap (λ (w : View). w.committed) v.view_is))
+          (shown_later committed_by committed_of committed_kind layout own step late past before history x b above each older seen
+          (committed_now step past f g x b s sent) v.allowed)
+      by (IsSame same rest) = absurd (apart (sym s.message_is ∙ ap (λ (d : Taken). d.message) same ∙ v.message_is))
+      by (IsNewer newer) =
+          absurd (not_behind layout own late past before h k x b above view (step_answers layout own step past history each at).1 newer shown smaller s.allowed)

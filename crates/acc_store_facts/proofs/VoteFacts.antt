@@ -1,20 +1,14 @@
 -- A store votes once for a transaction, in a step about it: for its own timestamp, or above all that the store met.
-use Rattle.std.proofs.Common.{◌≡◌, ℕ, ◌+◌, ◌<◌, ◌≤◌, Bool, true, false, cond, max, ◌==◌, List, [], ◌∷◌, Option, None, Some, refl, sym, ◌∙◌, ap, subst, ◌⊎◌, inl, inr, ⊎_elim, arith}
-use Rattle.std.proofs.lemmas.Bool.{cond_both, eq-eqb}
+use Rattle.std.proofs.Common.{◌≡◌, List, [], ◌∷◌, Option, None, Some, refl, sym, ◌∙◌, ap}
 use Rattle.acc_base.specs.Faults.{or_else}
-use Rattle.acc_stamp.specs.declared.stamps.Stamp.{Stamp}
 use Rattle.acc_stamp.specs.declared.stamps.TxnId.{TxnId}
 use Rattle.acc_stamp.specs.declared.actors.Actor.{Actor}
-use Rattle.acc_stamp.specs.Actor.{shard_of}
-use Rattle.acc_stamp.specs.Stamp.{id_eq, stamp_lt}
-use Rattle.acc_stamp.proofs.Order.{stamp_lt-from_h}
 use Rattle.acc_topology.specs.Layout.{Layout}
 use Rattle.acc_txn.specs.declared.parts.BodyParts.{BodyParts}
 use Rattle.acc_message.specs.declared.message.Message.{Message}
-use Rattle.acc_message.specs.declared.message.Message.TheVariants.{PreAccept, PreAcceptOk, Accept, AcceptOk, Commit, CommitOk, Stable, ReadOk, Apply, Recover, RecoverOk, Nack, Decided, Inform}
-use Rattle.acc_message.specs.Fields.{id_of, ballot_of, top_of, top_of_own}
-use Rattle.acc_message.specs.Taken.{Taken, taking, rivals, body_known}
-use Rattle.acc_message.specs.VoteRule.{Vote, vote_in, first_vote, vote_of, drawn_as, drawn_in, greatest_drawn, greatest_h, all_below, new_stamp, new_vote, vote_given, vote_for}
+use Rattle.acc_message.specs.Fields.{id_of}
+use Rattle.acc_message.specs.Taken.{Taken, taking, body_known}
+use Rattle.acc_message.specs.VoteRule.{Vote, vote_in, first_vote, vote_of, new_vote, vote_given}
 use Rattle.acc_actor_laws.proofs.Standing.{not_none}
 use Rattle.acc_actor_laws.proofs.OpeningFacts.{some_is}
 use Rattle.acc_safety.specs.Places.{IsIn, First, Later, StandsAt, Here, Back, IsPast, Whole, Behind}
