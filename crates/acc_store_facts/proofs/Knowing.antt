@@ -17,6 +17,7 @@ use Rattle.acc_safety.specs.Histories.{EachAnswers}
 use Rattle.acc_safety.specs.StoreSends.{StoreSends}
 use Rattle.acc_safety.proofs.PlaceOrder.{StandsAt-IsPast}
 use Rattle.acc_safety.proofs.StoreSent.{store_sends}
+use Rattle.acc_safety.proofs.Bridge.{EachAnswers-past}
 
 -- ---- what is heard
 
@@ -95,14 +96,9 @@ pub body_known-past : (x : TxnId) (body : BodyParts) (past history : List Taken)
 body_known-past x body past history e (Whole xs) = e
 body_known-past x body past history e (Behind step xs ys there) = body_known-stays step ys x body (body_known-past x body xs ys e there)
 
-pub EachAnswers-past : (layout : Layout) (own : Actor) (past history : List Taken) → EachAnswers layout own history → IsPast past history
-    → EachAnswers layout own past
-EachAnswers-past layout own past history each (Whole xs) = each
-EachAnswers-past layout own past history each (Behind step xs ys there) = EachAnswers-past layout own xs ys each.1 there
-
 pub step_answers : (layout : Layout) (own : Actor) (step : Taken) (past history : List Taken) → EachAnswers layout own history
     → StandsAt step past history → EachAnswers layout own (step ∷ past)
-step_answers layout own step past history each at = EachAnswers-past layout own (step ∷ past) history each (StandsAt-IsPast step past history at)
+step_answers layout own step past history each at = EachAnswers-past layout own (step ∷ past) history (StandsAt-IsPast step past history at) each
 
 pub step_sends : (layout : Layout) (own : Actor) (step : Taken) (past : List Taken) (m : Message) → EachAnswers layout own (step ∷ past)
     → IsIn m step.sent → StoreSends layout own past step.message m
