@@ -7,3 +7,4 @@ pub mod Late
 pub mod Shown
 pub mod Shards
 pub mod Meetings
+pub mod Polled
