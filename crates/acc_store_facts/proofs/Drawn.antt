@@ -19,8 +19,9 @@ use Rattle.acc_actor_laws.proofs.OpeningFacts.{some_is}
 use Rattle.acc_safety.specs.Places.{IsIn, First, Later, IsPast, Whole, Behind}
 use Rattle.acc_safety.specs.Histories.{EachAnswers}
 use Rattle.acc_safety.specs.StoreFactStatements.{VoteMade}
+use Rattle.acc_safety.proofs.StoreNotions.{votes_are_made}
 use Rattle.acc_store_facts.proofs.Knowing.{Learns, body_known-new}
-use Rattle.acc_store_facts.proofs.VoteFacts.{VoteIs, WasGiven, IsNew, vote_is, MadeIn, made_in, vote_made}
+use Rattle.acc_store_facts.proofs.VoteFacts.{VoteIs, WasGiven, IsNew, vote_is, MadeIn, made_in}
 
 -- ---- the greatest h
 
@@ -122,7 +123,7 @@ module _ (layout : Layout) (own : Actor) where
   own_or_drawn x v history each e = by (stamped made.step made.past x v made.body made.about made.made)
     where
       made : VoteMade layout own history x v
-      made = vote_made layout own x v history each e
+      made = votes_are_made layout own history each x v e
 
       by : Stamped made.past x v → (v.vote ≡ x.0) ⊎ ((v.vote.origin ≡ own.0) × (stamp_lt x.0 v.vote ≡ true))
       by (IsOwn is) = inl is

@@ -22,8 +22,9 @@ use Rattle.acc_safety.specs.Places.{IsIn, First, Later, StandsAt, IsPast, Whole,
 use Rattle.acc_safety.specs.Histories.{EachAnswers}
 use Rattle.acc_safety.specs.StoreFactStatements.{VoteMade}
 use Rattle.acc_safety.proofs.PlaceOrder.{in_order, StandsAt-IsPast, only, none_is_in, IsIn-cases, IsIn-append_cases, IsIn-append_left, IsIn-append_right, IsIn-cond_cases, flat_map-IsIn, IsIn-flat_map}
+use Rattle.acc_safety.proofs.StoreNotions.{votes_are_made}
 use Rattle.acc_store_facts.proofs.Knowing.{body_known-past, step_answers}
-use Rattle.acc_store_facts.proofs.VoteFacts.{VoteIs, WasGiven, IsNew, vote_is, vote_of-past, vote_made}
+use Rattle.acc_store_facts.proofs.VoteFacts.{VoteIs, WasGiven, IsNew, vote_is, vote_of-past}
 use Rattle.acc_store_facts.proofs.Drawn.{vote_of-below, known-below, own_or_drawn}
 use Rattle.acc_store_facts.proofs.Named.{rival_is_in}
 
@@ -102,6 +103,28 @@ taken_top own step history (Later a b rest there) =
     let h : top_of a.message ≤ greatest_h own rest = taken_top own a rest there in
     omega arith
 
+-- ---- what was heard later
+
+unknown_isnt : (y : TxnId) (theirs : BodyParts) (past history : List Taken) → body_known past y ≡ Some theirs → IsPast past history
+    → body_known history y ≡ None → ⊥
+unknown_isnt y theirs past history known there unknown = not_none theirs (sym unknown ∙ body_known-past y theirs past history known there)
+
+-- a step after which a transaction is unknown stands before each one after which it is known
+pub before_heard : (y : TxnId) (theirs : BodyParts) (step late : Taken) (past before history : List Taken) → StandsAt step past history
+    → StandsAt late before history → body_known (step ∷ past) y ≡ None → body_known (late ∷ before) y ≡ Some theirs → StandsAt step past before
+before_heard y theirs step late past before history at there unknown known = by (in_order step late past before history at there)
+  where
+    by : InOrder step late past before → StandsAt step past before
+    by (IsOlder older) = older
+    by (IsSame same rest) =
+        absurd
+        (not_none theirs
+        (sym unknown ∙ ap (λ (d : Taken). body_known (d ∷ past) y) same ∙ ap (λ h. body_known (late ∷ h) y) rest ∙ known))
+    by (IsNewer newer) =
+        absurd (unknown_isnt y theirs (late ∷ before) (step ∷ past) known (Behind step (late ∷ before) past (StandsAt-IsPast late before past newer)) unknown)
+
+-- ---- late votes
+
 not_all : {T : Type 0} (test : T → Bool) (x : T) (xs : List T) → IsIn x xs → test x ≡ false → list_all test xs ≡ false
 not_all test x xs (First a rest) fails = and_left (test a) (list_all test rest) fails
 not_all test x xs (Later a b rest there) fails = and_right (test b) (list_all test rest) (not_all test a rest there fails)
@@ -159,22 +182,16 @@ module _ (layout : Layout) (own : Actor) where
       by (WasGiven was) = own_or_drawn layout own x v past each was
       by (IsNew unvoted voted) = absurd (none_is_in voted.message voted.there)
 
-  -- what a store knows after a step, and what not yet
-  unknown_isnt : (y : TxnId) (theirs : BodyParts) (past history : List Taken) → body_known past y ≡ Some theirs → IsPast past history
-      → body_known history y ≡ None → ⊥
-  unknown_isnt y theirs past history known there unknown =
-      not_none theirs (sym unknown ∙ body_known-past y theirs past history known there)
-
   pub late_votes_above : (step : Taken) (past history : List Taken) (x y : TxnId) (body theirs : BodyParts) (s : Stamp) (v : Vote)
       → EachAnswers layout own history → StandsAt step past history → body_known (step ∷ past) x ≡ Some body → body_known (step ∷ past) y ≡ None
       → IsIn s (stamps_of (step ∷ past) x) → stamp_lt s y.0 ≡ false
       → body_known history y ≡ Some theirs → conflict_in layout (shard_of own) body theirs ≡ true
       → vote_of history y ≡ Some v → stamp_lt s v.vote ≡ true
   late_votes_above step past history x y body theirs s v each at known unknown there over heard conflict voted =
-      by (in_order made.step step made.past past history made.at at)
+      behind (StandsAt-IsPast step past made.past (before_heard y made.body step made.step past made.past history at made.at unknown made.body_is))
     where
       made : VoteMade layout own history y v
-      made = vote_made layout own y v history each voted
+      made = votes_are_made layout own history each y v voted
 
       now : List Taken
       now = taking made.step.message made.past
@@ -198,11 +215,3 @@ module _ (layout : Layout) (own : Actor) where
             conflict = ap (conflict_in layout (shard_of own) body) theirs_is ∙ conflict;
           }))
           knows (stamps_stay (step ∷ past) now x s there q) over
-
-      by : InOrder made.step step made.past past → stamp_lt s v.vote ≡ true
-      by (IsOlder older) =
-          absurd (unknown_isnt y made.body (made.step ∷ made.past) (step ∷ past) made.body_is
-          (Behind step (made.step ∷ made.past) past (StandsAt-IsPast made.step made.past past older)) unknown)
-      by (IsSame same rest) =
-          absurd (not_none made.body (sym unknown ∙ sym (ap (λ (d : Taken). body_known (d ∷ past) y) same) ∙ sym (ap (λ h. body_known (made.step ∷ h) y) rest) ∙ made.body_is))
-      by (IsNewer newer) = behind (StandsAt-IsPast step past made.past newer)

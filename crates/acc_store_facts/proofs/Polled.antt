@@ -100,14 +100,19 @@ module _ (cluster : Cluster) (items : List Item) (h : EachStands cluster items) 
       (each_answers cluster (from_of m) items h a.place.is_store) a.place.at a.place.sent
       (ap (λ z. vote_in z m) (sym a.about) ∙ have m a.is)
 
+  -- the message that a store took in a step
+  pub step_taken : (a : Actor) (step : Taken) (past : List Taken) → StandsAt step past (taken_of cluster a items) → Sending items step.message
+  step_taken a step past at =
+      let s = store_step cluster a items h step past at in
+      Sending-past s.earlier items step.message (IsPast-rest (Step s.entry) s.earlier items (StandsAt-IsPast (Step s.entry) s.earlier items s.at)) s.sending
+
   -- the body by which a store knows a transaction is the begun one
   pub known_is_begun : BodiesAreBegun cluster items → (a : Actor) (x : TxnId) (known body : BodyParts)
       → body_known (taken_of cluster a items) x ≡ Some known → IsBody cluster items x body → known ≡ body
   known_is_begun begun a x known body e is =
       let l = learnt_in x known (taken_of cluster a items) e in
-      let s = store_step cluster a items h l.step l.past l.at in
       some_is known body
-      (sym (subst (λ z. IsBody cluster items z known) l.learns.about (begun l.step.message known (Sending-past s.earlier items l.step.message (IsPast-rest (Step s.entry) s.earlier items (StandsAt-IsPast (Step s.entry) s.earlier items s.at)) s.sending) l.learns.brings)) ∙ is)
+      (sym (subst (λ z. IsBody cluster items z known) l.learns.about (begun l.step.message known (step_taken a l.step l.past l.at) l.learns.brings)) ∙ is)
 
   -- ---- the dependencies of answers
 

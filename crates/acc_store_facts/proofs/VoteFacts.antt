@@ -15,26 +15,11 @@ use Rattle.acc_safety.specs.Places.{IsIn, First, Later, StandsAt, Here, Back, Is
 use Rattle.acc_safety.specs.Histories.{EachAnswers}
 use Rattle.acc_safety.specs.StoreFactStatements.{VoteMade}
 use Rattle.acc_safety.proofs.PlaceOrder.{StandsAt-IsPast}
+use Rattle.acc_safety.proofs.StoreNotions.{VoteSent, first_vote_sent}
 use Rattle.acc_store_facts.proofs.Knowing.{step_answers, step_sends}
 use Rattle.acc_store_facts.proofs.Sent.{SentVote, sent_vote}
 
 -- ---- the vote in what was sent
-
-pub record VotedBy (x : TxnId) (v : Vote) (sent : List Message) : Type 0 where
-  pub message : Message
-  pub there : IsIn message sent
-  pub votes : vote_in x message ≡ Some v
-
-first_by : (x : TxnId) (v : Vote) (m : Message) (ms : List Message) (o : Option Vote) → vote_in x m ≡ o → or_else o (first_vote x ms) ≡ Some v
-    → (first_vote x ms ≡ Some v → VotedBy x v ms) → VotedBy x v (m ∷ ms)
-first_by x v m ms None is e rest =
-    let r = rest e in
-    record { message = r.message; there = Later r.message m ms r.there; votes = r.votes }
-first_by x v m ms (Some w) is e rest = record { message = m; there = First m ms; votes = is ∙ e }
-
-pub first_vote-sent : (x : TxnId) (v : Vote) (ms : List Message) → first_vote x ms ≡ Some v → VotedBy x v ms
-first_vote-sent x v [] e = absurd (not_none v e)
-first_vote-sent x v (m ∷ ms) e = first_by x v m ms (vote_in x m) refl e (first_vote-sent x v ms)
 
 pub first_vote-some : (x : TxnId) (v : Vote) (m : Message) (ms : List Message) → IsIn m ms → vote_in x m ≡ Some v
     → (w : Vote) × (first_vote x ms ≡ Some w)
@@ -57,19 +42,17 @@ vote_of-past x v past history e (Behind step xs ys there) = vote_of-stays step y
 -- the vote that a step brings
 pub data VoteIs (step : Taken) (past : List Taken) (x : TxnId) (v : Vote) : Type 0 where
   WasGiven : vote_of past x ≡ Some v → VoteIs step past x v
-  IsNew : vote_of past x ≡ None → VotedBy x v step.sent → VoteIs step past x v
+  IsNew : vote_of past x ≡ None → VoteSent step.sent x v → VoteIs step past x v
 
 vote_by : (step : Taken) (past : List Taken) (x : TxnId) (v : Vote) (o : Option Vote) → vote_of past x ≡ o
     → or_else o (first_vote x step.sent) ≡ Some v → VoteIs step past x v
-vote_by step past x v None is e = IsNew is (first_vote-sent x v step.sent e)
+vote_by step past x v None is e = IsNew is (first_vote_sent step.sent x v e)
 vote_by step past x v (Some w) is e = WasGiven (is ∙ e)
 
 pub vote_is : (step : Taken) (past : List Taken) (x : TxnId) (v : Vote) → vote_of (step ∷ past) x ≡ Some v → VoteIs step past x v
 vote_is step past x v e = vote_by step past x v (vote_of past x) refl e
 
 module _ (layout : Layout) (own : Actor) where
-  -- ---- where it was made
-
   -- a vote that a step gives anew
   pub record MadeIn (step : Taken) (past : List Taken) (x : TxnId) (v : Vote) : Type 0 where
     pub about : id_of step.message ≡ x
@@ -78,7 +61,7 @@ module _ (layout : Layout) (own : Actor) where
     pub made : v ≡ new_vote layout own (taking step.message past) x body
 
   pub made_in : (step : Taken) (past : List Taken) (x : TxnId) (v : Vote) → EachAnswers layout own (step ∷ past) → vote_of past x ≡ None
-      → VotedBy x v step.sent → MadeIn step past x v
+      → VoteSent step.sent x v → MadeIn step past x v
   made_in step past x v each unvoted voted =
       let s = sent_vote layout own past step.message voted.message x v (step_sends layout own step past voted.message each voted.there) voted.votes in
       record {
@@ -87,37 +70,6 @@ module _ (layout : Layout) (own : Actor) where
         body_is = s.body_is;
         made = s.is ∙ ap (λ o. vote_given o (new_vote layout own (taking step.message past) x s.body)) unvoted;
       }
-
-  pub vote_made : (x : TxnId) (v : Vote) (history : List Taken) → EachAnswers layout own history → vote_of history x ≡ Some v
-      → VoteMade layout own history x v
-  vote_made x v [] each e = absurd (not_none v e)
-  vote_made x v (step ∷ past) each e = by (vote_is step past x v e) (vote_made x v past each.1)
-    where
-      by : VoteIs step past x v → (vote_of past x ≡ Some v → VoteMade layout own past x v) → VoteMade layout own (step ∷ past) x v
-      by (WasGiven was) rest =
-          let r = rest was in
-          record {
-            step = r.step;
-            past = r.past;
-            at = Back r.step step r.past past r.at;
-            unvoted = r.unvoted;
-            about = r.about;
-            body = r.body;
-            body_is = r.body_is;
-            made = r.made;
-          }
-      by (IsNew unvoted voted) rest =
-          let r = made_in step past x v each unvoted voted in
-          record {
-            step = step;
-            past = past;
-            at = Here step past;
-            unvoted = unvoted;
-            about = r.about;
-            body = r.body;
-            body_is = r.body_is;
-            made = r.made;
-          }
 
   -- ---- an answer has the one vote
 
@@ -145,7 +97,7 @@ module _ (layout : Layout) (own : Actor) where
           new
           ∙ ap Some
           (one_made step past x v first.0 (made_in step past x v each was (record { message = m; there = sent; votes = votes }))
-          (made_in step past x first.0 each was (first_vote-sent x first.0 step.sent first.1)))
+          (made_in step past x first.0 each was (first_vote_sent step.sent x first.0 first.1)))
 
   pub votes_once : (step : Taken) (past history : List Taken) (m : Message) (x : TxnId) (v : Vote) → EachAnswers layout own history
       → StandsAt step past history → IsIn m step.sent → vote_in x m ≡ Some v → vote_of history x ≡ Some v
