@@ -1,1 +1,3 @@
 pub mod Unheard
+pub mod Decided
+pub mod FastCovers
