@@ -1,3 +1,5 @@
 pub mod Unheard
 pub mod Decided
 pub mod FastCovers
+pub mod Revealed
+pub mod OwnIsFound

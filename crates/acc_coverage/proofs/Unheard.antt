@@ -183,20 +183,10 @@ module _ (cluster : Cluster) (items : List Item) (h : EachStands cluster items) 
   accept_time : (x : TxnId) (from to : Actor) (b : Ballot) (body : BodyParts) (t : Stamp) (deps : List ShardDeps) → IsIn t (times_in x (Accept from to x b body t deps))
   accept_time x from to b body t deps = subst (λ c. IsIn t (cond c (t ∷ []) [])) (sym (eq_itself id_order x)) (First t [])
 
-  pub accept_unheard : (a : Actor) (shard : ℕ) (x y : TxnId) (body theirs : BodyParts) (b : Ballot) (t : Stamp) (deps : List ShardDeps)
-      → is_node a ≡ false → shard_of a ≡ shard → AreRivals cluster items shard y x theirs body → AcceptedThere a x body b t deps
-      → deps_has deps shard y ≡ false → stamp_lt y.0 t ≡ true → Unheard a x y body t
-  accept_unheard a shard x y body theirs b t deps store in_shard r s lacks below =
-      record {
-        step = s.step;
-        past = s.past;
-        at = s.at;
-        knows = s.knows;
-        unknown = none (body_known (s.step ∷ s.past) y) refl;
-        stamp =
-          time_is_in (s.step ∷ s.past) x t s.step (First s.step s.past)
-          (subst (λ m. IsIn t (times_in x m)) (sym s.message_is) (accept_time x s.from s.to b s.brought t s.proposed));
-      }
+  pub accept_unknown : (a : Actor) (shard : ℕ) (x y : TxnId) (body theirs : BodyParts) (b : Ballot) (t : Stamp) (deps : List ShardDeps)
+      → is_node a ≡ false → shard_of a ≡ shard → AreRivals cluster items shard y x theirs body → (s : AcceptedThere a x body b t deps)
+      → deps_has deps shard y ≡ false → stamp_lt y.0 t ≡ true → body_known (s.step ∷ s.past) y ≡ None
+  accept_unknown a shard x y body theirs b t deps store in_shard r s lacks below = none (body_known (s.step ∷ s.past) y) refl
     where
       none : (o : Option BodyParts) → body_known (s.step ∷ s.past) y ≡ o → o ≡ None
       none None e = refl
@@ -207,3 +197,18 @@ module _ (cluster : Cluster) (items : List Item) (h : EachStands cluster items) 
           (each_answers cluster a items h store) s.at s.message_is s.sent s.knows
           (known_rival a shard x y body theirs known s.step s.past s.at in_shard r e) below)
           ∙ ap (λ n. deps_has deps n y) in_shard ∙ lacks))
+
+  pub accept_unheard : (a : Actor) (shard : ℕ) (x y : TxnId) (body theirs : BodyParts) (b : Ballot) (t : Stamp) (deps : List ShardDeps)
+      → is_node a ≡ false → shard_of a ≡ shard → AreRivals cluster items shard y x theirs body → AcceptedThere a x body b t deps
+      → deps_has deps shard y ≡ false → stamp_lt y.0 t ≡ true → Unheard a x y body t
+  accept_unheard a shard x y body theirs b t deps store in_shard r s lacks below =
+      record {
+        step = s.step;
+        past = s.past;
+        at = s.at;
+        knows = s.knows;
+        unknown = accept_unknown a shard x y body theirs b t deps store in_shard r s lacks below;
+        stamp =
+          time_is_in (s.step ∷ s.past) x t s.step (First s.step s.past)
+          (subst (λ m. IsIn t (times_in x m)) (sym s.message_is) (accept_time x s.from s.to b s.brought t s.proposed));
+      }

@@ -192,7 +192,7 @@ not_behind layout own late past before f g x b above view each at sent smaller a
         (promise_of-past x (late ∷ before) past (StandsAt-IsPast late before past at))
 
 module _ (layout : Layout) (own : Actor) where
-  accepted_now : (step : Taken) (past : List Taken) (f g : Actor) (x : TxnId) (b : Ballot) (deps : List ShardDeps)
+  pub accepted_now : (step : Taken) (past : List Taken) (f g : Actor) (x : TxnId) (b : Ballot) (deps : List ShardDeps)
       → SentAcceptOk layout own past step.message x b deps → IsIn (AcceptOk f g x b deps) step.sent → HasFrom (accepted_of (step ∷ past) x) b
   accepted_now step past f g x b deps s sent =
       let granted : (id_eq x x && list_any is_accept_ok step.sent) ≡ true =
@@ -205,7 +205,7 @@ module _ (layout : Layout) (own : Actor) where
         from_b = ballot_order.irrefl b;
       }
 
-  committed_now : (step : Taken) (past : List Taken) (f g : Actor) (x : TxnId) (b : Ballot)
+  pub committed_now : (step : Taken) (past : List Taken) (f g : Actor) (x : TxnId) (b : Ballot)
       → SentCommitOk past step.message x b → IsIn (CommitOk f g x b) step.sent → HasFrom (committed_of (step ∷ past) x) b
   committed_now step past f g x b s sent =
       let granted : (id_eq x x && list_any is_commit_ok step.sent) ≡ true =

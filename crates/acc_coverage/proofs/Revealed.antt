@@ -1,0 +1,108 @@
+-- What a view reveals of a rival that its store knows.
+use Rattle.std.proofs.Common.{◌≡◌, ℕ, Bool, true, false, not, ◌&&◌, ◌||◌, List, [], ◌∷◌, Option, None, Some, is_none, map, filter, refl, sym, ◌∙◌, ap, subst}
+use Rattle.std.specs.List.{list_any, cons_option}
+use Rattle.std.proofs.lemmas.Bool.{true≢false, and_from, or_left, or_right, not_from_false}
+use Rattle.acc_stamp.specs.declared.stamps.TxnId.{TxnId}
+use Rattle.acc_stamp.specs.declared.stamps.Ballot.{Ballot}
+use Rattle.acc_stamp.specs.declared.actors.Actor.{Actor}
+use Rattle.acc_stamp.specs.Actor.{shard_of}
+use Rattle.acc_stamp.specs.Stamp.{id_eq, id_lt, stamp_lt}
+use Rattle.acc_stamp.specs.Rising.{id_among, ids_union}
+use Rattle.acc_stamp.proofs.Order.{id_order, eq_itself}
+use Rattle.acc_stamp.proofs.Rising.{is_among-union}
+use Rattle.acc_topology.specs.Layout.{Layout}
+use Rattle.acc_deps.specs.declared.records.Accepted.{Accepted}
+use Rattle.acc_deps.specs.declared.records.Settled.{Settled}
+use Rattle.acc_deps.specs.declared.records.View.{View}
+use Rattle.acc_deps.specs.Deps.{deps_has}
+use Rattle.acc_deps.specs.Records.{waits_of}
+use Rattle.acc_txn.specs.declared.parts.BodyParts.{BodyParts}
+use Rattle.acc_message.specs.declared.message.Message.{Message}
+use Rattle.acc_message.specs.declared.message.Message.TheVariants.{PreAccept, PreAcceptOk, Accept, AcceptOk, Commit, CommitOk, Stable, ReadOk, Apply, Recover, RecoverOk, Nack, Decided, Inform}
+use Rattle.acc_message.specs.Fields.{from_of, to_of, id_of, ballot_of}
+use Rattle.acc_message.specs.Taken.{Taken, taking, Heard, rivals}
+use Rattle.acc_message.specs.BallotRules.{is_recover_ok, accepted_of, stable_of}
+use Rattle.acc_message.specs.Evidence.{accepted_without, stable_without, supersedes, accepted_above, is_awaited}
+use Rattle.acc_message.specs.RecoveryDecision.{view_in, views_in}
+use Rattle.acc_safety.specs.Places.{IsIn, First, Later}
+use Rattle.acc_safety.specs.StoreFactStatements.{IsKnownRival}
+use Rattle.acc_safety.proofs.PlaceOrder.{any_from, filter-IsIn, map-IsIn}
+use Rattle.acc_store_facts.proofs.Sent.{SentView}
+use Rattle.acc_store_facts.proofs.Named.{rival_is_in}
+
+-- ---- the view of an answer
+
+pub record HasView (m : Message) : Type 0 where
+  pub view : View
+  pub is : m ≡ RecoverOk (from_of m) (to_of m) (id_of m) (ballot_of m) view
+  pub in_answer : view_in m ≡ Some view
+
+pub has_view : (m : Message) → is_recover_ok m ≡ true → HasView m
+has_view (RecoverOk from to id ballot view) h = record { view = view; is = refl; in_answer = refl }
+has_view (PreAccept from to id ballot body) h = absurd (true≢false (sym h))
+has_view (PreAcceptOk from to id ballot vote deps) h = absurd (true≢false (sym h))
+has_view (Accept from to id ballot body t deps) h = absurd (true≢false (sym h))
+has_view (AcceptOk from to id ballot deps) h = absurd (true≢false (sym h))
+has_view (Commit from to id ballot body t deps) h = absurd (true≢false (sym h))
+has_view (CommitOk from to id ballot) h = absurd (true≢false (sym h))
+has_view (Stable from to id ballot body t deps) h = absurd (true≢false (sym h))
+has_view (ReadOk from to id ballot answer) h = absurd (true≢false (sym h))
+has_view (Apply from to id ballot body t deps outcome) h = absurd (true≢false (sym h))
+has_view (Recover from to id ballot body) h = absurd (true≢false (sym h))
+has_view (Nack from to id ballot promised) h = absurd (true≢false (sym h))
+has_view (Decided from to id ballot t deps) h = absurd (true≢false (sym h))
+has_view (Inform from to id ballot outcome) h = absurd (true≢false (sym h))
+
+later_option : (view : View) (o : Option View) (views : List View) → IsIn view views → IsIn view (cons_option o views)
+later_option view None views h = h
+later_option view (Some v) views h = Later view v views h
+
+pub views_in-IsIn : (view : View) (m : Message) (answers : List Message) → IsIn m answers → view_in m ≡ Some view → IsIn view (views_in answers)
+views_in-IsIn view m answers (First a rest) e = subst (λ o. IsIn view (cons_option o (views_in rest))) (sym e) (First view (views_in rest))
+views_in-IsIn view m answers (Later a b rest there) e = later_option view (view_in b) (views_in rest) (views_in-IsIn view a rest there e)
+
+-- what one view waits for all do
+pub waits_of-has : (x : TxnId) (view : View) (views : List View) → IsIn view views → id_among x view.waits ≡ true → id_among x (waits_of views) ≡ true
+waits_of-has x view views (First a rest) h = is_among-union id_order x (waits_of rest) a.waits ∙ or_right (id_among x (waits_of rest)) (id_among x a.waits) h
+waits_of-has x view views (Later a b rest there) h =
+    is_among-union id_order x (waits_of rest) b.waits ∙ or_left (id_among x (waits_of rest)) (id_among x b.waits) (waits_of-has x a rest there h)
+
+-- ---- a known rival in a view
+
+module _ (layout : Layout) (own : Actor) (past : List Taken) (m : Message) (x y : TxnId) (b : Ballot) (body : BodyParts) (view : View) (s : SentView layout own past m y b view) (r : IsKnownRival layout own (taking m past) x body y s.counting) where
+  pub rival_supersedes : supersedes (shard_of own) past y x ≡ true → view.superseded ≡ true
+  rival_supersedes h =
+      ap (λ (v : View). v.superseded) s.view_is
+      ∙ any_from (λ (k : Heard). supersedes (shard_of own) past y k.id) (record { id = x; body = body }) (rivals layout (shard_of own) (taking m past) y s.counting)
+      (rival_is_in layout own (taking m past) x body y s.counting r) h
+
+  pub rival_is_awaited : is_awaited past y x ≡ true → id_among x view.waits ≡ true
+  rival_is_awaited h =
+      ap (λ (v : View). id_among x v.waits) s.view_is
+      ∙ is_among-union id_order x [] (map (λ (k : Heard). k.id) (filter (λ (k : Heard). is_awaited past y k.id) (rivals layout (shard_of own) (taking m past) y s.counting)))
+      ∙ any_from (λ z. id_eq z x) x (map (λ (k : Heard). k.id) (filter (λ (k : Heard). is_awaited past y k.id) (rivals layout (shard_of own) (taking m past) y s.counting)))
+      (map-IsIn (λ (k : Heard). k.id) (record { id = x; body = body }) (filter (λ (k : Heard). is_awaited past y k.id) (rivals layout (shard_of own) (taking m past) y s.counting))
+      (filter-IsIn (λ (k : Heard). is_awaited past y k.id) (record { id = x; body = body }) (rivals layout (shard_of own) (taking m past) y s.counting)
+      (rival_is_in layout own (taking m past) x body y s.counting r) h))
+      (eq_itself id_order x)
+
+-- ---- when a rival supersedes or is awaited
+
+pub superseded_by_accepted : (shard : ℕ) (past : List Taken) (x y : TxnId) (a : Accepted) → accepted_of past x ≡ Some a → id_lt y x ≡ true
+    → deps_has a.deps shard y ≡ false → supersedes shard past y x ≡ true
+superseded_by_accepted shard past x y a is younger lacks =
+    or_left (accepted_without shard y x (accepted_of past x)) (stable_without shard y (stable_of past x))
+    (ap (accepted_without shard y x) is ∙ and_from (id_lt y x) (not (deps_has a.deps shard y)) younger (not_from_false (deps_has a.deps shard y) lacks))
+
+pub superseded_by_stable : (shard : ℕ) (past : List Taken) (x y : TxnId) (s : Settled) → stable_of past x ≡ Some s → stamp_lt y.0 s.t ≡ true
+    → deps_has s.deps shard y ≡ false → supersedes shard past y x ≡ true
+superseded_by_stable shard past x y s is above lacks =
+    or_right (accepted_without shard y x (accepted_of past x)) (stable_without shard y (stable_of past x))
+    (ap (stable_without shard y) is ∙ and_from (stamp_lt y.0 s.t) (not (deps_has s.deps shard y)) above (not_from_false (deps_has s.deps shard y) lacks))
+
+pub awaited_by_accepted : (past : List Taken) (x y : TxnId) (a : Accepted) → accepted_of past x ≡ Some a → id_lt x y ≡ true → stamp_lt y.0 a.t ≡ true
+    → stable_of past x ≡ None → is_awaited past y x ≡ true
+awaited_by_accepted past x y a is older above unstable =
+    and_from (accepted_above y x (accepted_of past x)) (is_none (stable_of past x))
+    (ap (accepted_above y x) is ∙ and_from (id_lt x y) (stamp_lt y.0 a.t) older above)
+    (ap is_none unstable)
