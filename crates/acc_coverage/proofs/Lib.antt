@@ -3,3 +3,4 @@ pub mod Decided
 pub mod FastCovers
 pub mod Revealed
 pub mod OwnIsFound
+pub mod CommitCovers

@@ -112,3 +112,18 @@ module _ (layout : Layout) (x y : TxnId) (body theirs : BodyParts) (answers more
       let at = fast_and_possible_fast layout (shards_used layout body) (shards_used layout theirs) (plainly x answers) (plainly y more) shard common f m possible in
       meets layout x y (Kept x) (Kept y) answers more shard at.node common.accepted common.exists
       (kept x answers shard at.node at.first) (kept y more shard at.node at.second)
+
+pub turned : (shard : ℕ) (one other : Message → Type 0) (answers more : List Message) → Meeting shard one other answers more → Meeting shard other one more answers
+turned shard one other answers more m =
+    record {
+      store = m.store;
+      of_shard = m.of_shard;
+      first = m.second;
+      second = m.first;
+      first_in = m.second_in;
+      second_in = m.first_in;
+      first_from = m.second_from;
+      second_from = m.first_from;
+      first_is = m.second_is;
+      second_is = m.first_is;
+    }
