@@ -4,3 +4,4 @@ pub mod FastCovers
 pub mod Revealed
 pub mod OwnIsFound
 pub mod CommitCovers
+pub mod Covers

@@ -8,3 +8,4 @@ pub mod Shown
 pub mod Shards
 pub mod Meetings
 pub mod Polled
+pub mod Noted
