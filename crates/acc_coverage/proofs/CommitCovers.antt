@@ -1,6 +1,5 @@
 -- What a majority committed names each rival that is decided at a smaller timestamp.
-use Rattle.std.proofs.Common.{◌≡◌, ℕ, Bool, true, false, ◌||◌, List, [], ◌∷◌, Option, None, Some, refl, sym, ◌∙◌, ap, subst}
-use Rattle.std.specs.List.{list_any}
+use Rattle.std.proofs.Common.{◌≡◌, ℕ, true, false, List, Some, sym, ◌∙◌, ap, subst}
 use Rattle.std.proofs.lemmas.Bool.{true≢false, true_from_ne_false, false_from_ne_true, or_parts}
 use Rattle.acc_stamp.specs.declared.stamps.Stamp.{Stamp}
 use Rattle.acc_stamp.specs.declared.stamps.TxnId.{TxnId}
@@ -9,13 +8,11 @@ use Rattle.acc_stamp.specs.Actor.{shard_of}
 use Rattle.acc_stamp.specs.Stamp.{stamp_lt, zero_ballot}
 use Rattle.acc_stamp.specs.Rising.{id_among}
 use Rattle.acc_stamp.proofs.Order.{stamp_order, asym, le-lt-trans}
-use Rattle.acc_topology.specs.Layout.{IsLayout}
 use Rattle.acc_quorum.specs.Meetings.{InCommon}
 use Rattle.acc_deps.specs.declared.shards.ShardDeps.{ShardDeps}
 use Rattle.acc_deps.specs.declared.records.Settled.{Settled}
 use Rattle.acc_deps.specs.declared.records.View.{View}
-use Rattle.acc_deps.specs.Deps.{AreDeps, deps_has, deps_union}
-use Rattle.acc_deps.specs.Records.{waits_of}
+use Rattle.acc_deps.specs.Deps.{deps_has}
 use Rattle.acc_deps.proofs.ByShard.{deps_has-union}
 use Rattle.acc_txn.specs.declared.parts.BodyParts.{BodyParts}
 use Rattle.acc_message.specs.declared.message.Message.{Message}
@@ -23,15 +20,14 @@ use Rattle.acc_message.specs.declared.message.Message.TheVariants.{Accept}
 use Rattle.acc_message.specs.declared.item.Item.{Item}
 use Rattle.acc_message.specs.Fields.{from_of}
 use Rattle.acc_message.specs.Shares.{shards_used}
-use Rattle.acc_message.specs.Taken.{body_known}
-use Rattle.acc_message.specs.Attempts.{is_preaccept_ok, vote_in_answer, deps_in_answer, union_of}
+use Rattle.acc_message.specs.Attempts.{is_preaccept_ok, deps_in_answer, union_of}
 use Rattle.acc_message.specs.BallotRules.{is_accept_ok, is_recover_ok, stable_of}
 use Rattle.acc_message.specs.RecoveryDecision.{views_in}
 use Rattle.acc_message.specs.Run.{Cluster, taken_of, is_node}
 use Rattle.acc_safety.specs.Places.{IsIn}
 use Rattle.acc_safety.specs.NodeMoves.{IsFree}
 use Rattle.acc_safety.specs.Polls.{IsAnswer, AreAnswers, Meeting, AreRivals}
-use Rattle.acc_safety.specs.Roots.{Root, GreatestOfVotes, GreatestOfViews, Own, CommitRoot, CommittedBy, DecisionRoot, ByCommits}
+use Rattle.acc_safety.specs.Roots.{Root, GreatestOfVotes, GreatestOfViews, Own, CommitRoot, DecisionRoot, ByCommits}
 use Rattle.acc_safety.specs.Statements.{CoveredByCommits}
 use Rattle.acc_safety.specs.Valid.{IsStanding}
 use Rattle.acc_safety.proofs.PlaceOrder.{any_from}
@@ -78,9 +74,10 @@ module _ (cluster : Cluster) (items : List Item) (s : IsStanding cluster items) 
   settled_lacks : deps_has deps shard y ≡ false → (d : Settled) (m : Message) → is_node (from_of m) ≡ false
       → stable_of (taken_of cluster (from_of m) items) x ≡ Some d → stamp_lt x.0 t ≡ true → (d.t ≡ t) × (deps_has d.deps shard y ≡ false)
   settled_lacks lacks d m store stable above =
-      let stood : DecisionRoot cluster items x body d.t d.deps = p.records (from_of m) x body d store r.second_is stable in
-      (p.one_timestamp x body d.t t d.deps deps r.second_is stood decided,
-      ap (λ e. deps_has e shard y) (sym (p.one_set x body t d.t deps d.deps r.second_is decided stood above)) ∙ lacks)
+      let stood : DecisionRoot cluster items x body d.t d.deps = p.records (from_of m) x body d store r.second_is stable in (
+        p.one_timestamp x body d.t t d.deps deps r.second_is stood decided,
+        ap (λ e. deps_has e shard y) (sym (p.one_set x body t d.t deps d.deps r.second_is decided stood above)) ∙ lacks,
+      )
 
   own_is_late : (b : Ballot) (more : List Message) → AreAnswers cluster items y theirs b is_recover_ok more → IsFree cluster.layout y theirs more
       → Meeting shard Any Any root.answers more → deps_has deps shard y ≡ false → stamp_lt y.0 t ≡ true → ⊥
@@ -136,7 +133,7 @@ module _ (cluster : Cluster) (items : List Item) (s : IsStanding cluster items) 
   pub commit_names_smaller : (u : Stamp) → Based cluster items y theirs u → stamp_lt u t ≡ true → deps_has deps shard y ≡ true
   commit_names_smaller u base below =
       let under : stamp_lt y.0 t ≡ true =
-        le-lt-trans stamp_order y.0 u t (based_not_below cluster items s.stands y theirs u shard s.valid.layout r.first_uses base) below in
+      le-lt-trans stamp_order y.0 u t (based_not_below cluster items s.stands y theirs u shard s.valid.layout r.first_uses base) below in
       true_from_ne_false (deps_has deps shard y) (λ lacks. is_late u base lacks under below)
 
 pub covered_by_commits : (cluster : Cluster) (items : List Item) → IsStanding cluster items → Premises cluster items → CoveredByCommits cluster items

@@ -12,7 +12,7 @@ use Rattle.acc_safety.specs.Coverage.{Coverage}
 use Rattle.acc_safety.specs.Polls.{AreRivals}
 use Rattle.acc_safety.specs.Roots.{DecisionRoot, ByFastVotes, ByCommits}
 use Rattle.acc_safety.specs.Valid.{IsStanding}
-use Rattle.acc_store_facts.proofs.Noted.{DecisionNoted, decision_noted}
+use Rattle.acc_store_facts.proofs.Noted.{decision_noted}
 use Rattle.acc_store_facts.proofs.Shards.{are_rivals}
 use Rattle.acc_coverage.specs.Premises.{Premises}
 use Rattle.acc_coverage.proofs.FastCovers.{covered_by_fast}

@@ -1,9 +1,8 @@
 -- What is decided fast names each rival that is decided at a smaller timestamp.
-use Rattle.std.proofs.Common.{◌≡◌, ℕ, Bool, true, false, List, Some, refl, sym, ◌∙◌, ap, subst}
+use Rattle.std.proofs.Common.{◌≡◌, ℕ, true, false, List}
 use Rattle.std.proofs.lemmas.Bool.{true_from_ne_false}
 use Rattle.acc_stamp.specs.declared.stamps.Stamp.{Stamp}
 use Rattle.acc_stamp.specs.declared.stamps.TxnId.{TxnId}
-use Rattle.acc_stamp.specs.Actor.{shard_of}
 use Rattle.acc_stamp.specs.Stamp.{stamp_lt, zero_ballot}
 use Rattle.acc_stamp.proofs.Order.{stamp_order, asym, le-lt-trans}
 use Rattle.acc_topology.specs.Layout.{IsLayout}
@@ -15,10 +14,9 @@ use Rattle.acc_message.specs.declared.message.Message.{Message}
 use Rattle.acc_message.specs.declared.item.Item.{Item}
 use Rattle.acc_message.specs.Fields.{from_of}
 use Rattle.acc_message.specs.Shares.{shards_used}
-use Rattle.acc_message.specs.Attempts.{is_preaccept_ok, vote_in_answer, union_of}
+use Rattle.acc_message.specs.Attempts.{is_preaccept_ok, union_of}
 use Rattle.acc_message.specs.BallotRules.{is_recover_ok}
 use Rattle.acc_message.specs.Run.{Cluster}
-use Rattle.acc_safety.specs.Places.{IsIn}
 use Rattle.acc_safety.specs.Polls.{IsAnswer, AreRivals}
 use Rattle.acc_safety.specs.Roots.{Root, GreatestOfVotes, GreatestOfViews, Own, FastBy}
 use Rattle.acc_safety.specs.Statements.{CoveredByFast}
@@ -27,7 +25,7 @@ use Rattle.acc_store_facts.proofs.Shards.{in_common}
 use Rattle.acc_store_facts.proofs.Meetings.{Any, Kept, fast_meets_majority, fast_meets_fast, fast_meets_possible}
 use Rattle.acc_store_facts.proofs.Polled.{vote_said, preaccept_oks_vote, recover_oks_vote, answer_votes, answer_lacks}
 use Rattle.acc_coverage.specs.Premises.{Premises}
-use Rattle.acc_coverage.proofs.Unheard.{Unheard, vote_unheard}
+use Rattle.acc_coverage.proofs.Unheard.{vote_unheard}
 use Rattle.acc_coverage.proofs.Decided.{Based, OnFast, OnRoot, based, based_not_below, AreUnheard, met_greatest, met_kept}
 
 pub common_shard : (cluster : Cluster) (items : List Item) (shard : ℕ) (x y : TxnId) (body theirs : BodyParts) → IsLayout cluster.layout
@@ -75,7 +73,7 @@ module _ (cluster : Cluster) (items : List Item) (s : IsStanding cluster items) 
   pub names_smaller : (t : Stamp) → Based cluster items y theirs t → stamp_lt t x.0 ≡ true → deps_has (union_of x answers) shard y ≡ true
   names_smaller t base below =
       let under : stamp_lt y.0 x.0 ≡ true =
-        le-lt-trans stamp_order y.0 t x.0 (based_not_below cluster items s.stands y theirs t shard s.valid.layout r.first_uses base) below in
+      le-lt-trans stamp_order y.0 t x.0 (based_not_below cluster items s.stands y theirs t shard s.valid.layout r.first_uses base) below in
       true_from_ne_false (deps_has (union_of x answers) shard y)
       (λ lacks. is_late t base (fast_unheard lacks under) under below)
 

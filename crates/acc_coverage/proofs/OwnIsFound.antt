@@ -1,7 +1,6 @@
 -- A recovery that would propose a transaction at its own timestamp hears a store that accepted a rival above it without it: the
 -- rival supersedes it there, or is awaited. So it doesn't propose it.
-use Rattle.std.proofs.Common.{◌≡◌, ℕ, Bool, true, false, List, [], ◌∷◌, Option, None, Some, refl, sym, ◌∙◌, ap, subst, ◌⊎◌, inl, inr, ⊎_elim}
-use Rattle.std.specs.List.{list_any}
+use Rattle.std.proofs.Common.{◌≡◌, ℕ, true, false, List, [], ◌∷◌, Option, None, Some, refl, sym, ◌∙◌, ap, subst, ◌⊎◌, inl, inr}
 use Rattle.std.proofs.lemmas.Bool.{true≢false, cases_Bool}
 use Rattle.acc_stamp.specs.declared.stamps.Stamp.{Stamp}
 use Rattle.acc_stamp.specs.declared.stamps.TxnId.{TxnId}
@@ -16,7 +15,6 @@ use Rattle.acc_deps.specs.declared.records.Accepted.{Accepted}
 use Rattle.acc_deps.specs.declared.records.Settled.{Settled}
 use Rattle.acc_deps.specs.declared.records.View.{View}
 use Rattle.acc_deps.specs.Deps.{deps_has}
-use Rattle.acc_deps.specs.Records.{waits_of}
 use Rattle.acc_txn.specs.declared.parts.BodyParts.{BodyParts}
 use Rattle.acc_message.specs.declared.message.Message.{Message}
 use Rattle.acc_message.specs.declared.message.Message.TheVariants.{Accept, RecoverOk}
@@ -25,19 +23,16 @@ use Rattle.acc_message.specs.Fields.{from_of, to_of, id_of, ballot_of}
 use Rattle.acc_message.specs.Shares.{conflict_in}
 use Rattle.acc_message.specs.Taken.{Taken, taking, body_known}
 use Rattle.acc_message.specs.BallotRules.{is_recover_ok, accepted_by, accepted_of, stable_of, settled_in}
-use Rattle.acc_message.specs.Evidence.{supersedes, is_awaited}
-use Rattle.acc_message.specs.RecoveryDecision.{views_in}
+use Rattle.acc_message.specs.Evidence.{supersedes}
 use Rattle.acc_message.specs.Run.{Cluster, taken_of, is_node, EachStands}
 use Rattle.acc_base.specs.Faults.{or_else}
 use Rattle.acc_actor_laws.proofs.OpeningFacts.{some_is}
 use Rattle.acc_safety.specs.Places.{IsIn, StandsAt, IsPast, Whole, Behind}
 use Rattle.acc_safety.specs.Histories.{EachAnswers, Sending}
-use Rattle.acc_safety.specs.NodeMoves.{IsFree}
 use Rattle.acc_safety.specs.Polls.{IsBody, IsAnswer, AreRivals}
-use Rattle.acc_safety.specs.Roots.{Proposed, AcceptedBy, CommittedBy, DecisionRoot, ByCommits}
+use Rattle.acc_safety.specs.Roots.{Proposed, AcceptedBy}
 use Rattle.acc_safety.specs.StoreFactStatements.{IsKnownRival}
-use Rattle.acc_safety.specs.Statements.{OneProposal, AcceptedLast}
-use Rattle.acc_safety.proofs.PlaceOrder.{any_from, StandsAt-IsPast, StandsAt-whole}
+use Rattle.acc_safety.proofs.PlaceOrder.{StandsAt-IsPast, StandsAt-whole}
 use Rattle.acc_safety.proofs.Bridge.{each_answers}
 use Rattle.acc_safety.proofs.Frame.{bodies_are_begun, past_of}
 use Rattle.acc_safety.proofs.StoreNotions.{AcceptedIn, accepted_from}
@@ -48,7 +43,7 @@ use Rattle.acc_store_facts.proofs.Shown.{HasFrom, accepted_kind, accepted_now, f
 use Rattle.acc_store_facts.proofs.Polled.{step_taken}
 use Rattle.acc_coverage.specs.Premises.{Premises}
 use Rattle.acc_coverage.proofs.Unheard.{body_there, AcceptedThere}
-use Rattle.acc_coverage.proofs.Revealed.{HasView, has_view, views_in-IsIn, waits_of-has, rival_supersedes, rival_is_awaited, superseded_by_accepted, superseded_by_stable, awaited_by_accepted}
+use Rattle.acc_coverage.proofs.Revealed.{rival_supersedes, rival_is_awaited, superseded_by_accepted, superseded_by_stable, awaited_by_accepted}
 
 pub stable_of-past : (x : TxnId) (s : Settled) (past history : List Taken) → stable_of past x ≡ Some s → IsPast past history → stable_of history x ≡ Some s
 stable_of-past x s past history e (Whole xs) = e
@@ -162,10 +157,10 @@ module _ (cluster : Cluster) (items : List Item) (h : EachStands cluster items) 
           record {
             different = λ e. r.different (sym e);
             known = body_known-past x body (s.step ∷ s.past) (taking v.step.message v.past) s.knows
-              (Behind (record { message = v.step.message; sent = [] }) (s.step ∷ s.past) v.past (StandsAt-IsPast s.step s.past v.past before));
+                (Behind (record { message = v.step.message; sent = [] }) (s.step ∷ s.past) v.past (StandsAt-IsPast s.step s.past v.past before));
             conflict =
-              ap (conflict_in cluster.layout (shard_of a) body) v.counting_is
-              ∙ ap (λ n. conflict_in cluster.layout n body theirs) in_shard ∙ r.conflict_back;
+                ap (conflict_in cluster.layout (shard_of a) body) v.counting_is
+                ∙ ap (λ n. conflict_in cluster.layout n body theirs) in_shard ∙ r.conflict_back;
           }
 
       superseded : supersedes shard v.past y x ≡ true → ⊥

@@ -1,13 +1,13 @@
 -- What a view reveals of a rival that its store knows.
-use Rattle.std.proofs.Common.{◌≡◌, ℕ, Bool, true, false, not, ◌&&◌, ◌||◌, List, [], ◌∷◌, Option, None, Some, is_none, map, filter, refl, sym, ◌∙◌, ap, subst}
-use Rattle.std.specs.List.{list_any, cons_option}
+use Rattle.std.proofs.Common.{◌≡◌, ℕ, true, false, not, List, [], Option, None, Some, is_none, map, filter, refl, sym, ◌∙◌, ap, subst}
+use Rattle.std.specs.List.{cons_option}
 use Rattle.std.proofs.lemmas.Bool.{true≢false, and_from, or_left, or_right, not_from_false}
 use Rattle.acc_stamp.specs.declared.stamps.TxnId.{TxnId}
 use Rattle.acc_stamp.specs.declared.stamps.Ballot.{Ballot}
 use Rattle.acc_stamp.specs.declared.actors.Actor.{Actor}
 use Rattle.acc_stamp.specs.Actor.{shard_of}
 use Rattle.acc_stamp.specs.Stamp.{id_eq, id_lt, stamp_lt}
-use Rattle.acc_stamp.specs.Rising.{id_among, ids_union}
+use Rattle.acc_stamp.specs.Rising.{id_among}
 use Rattle.acc_stamp.proofs.Order.{id_order, eq_itself}
 use Rattle.acc_stamp.proofs.Rising.{is_among-union}
 use Rattle.acc_topology.specs.Layout.{Layout}

@@ -1,18 +1,18 @@
 -- A store that gave an answer about one transaction without naming a rival hadn't heard of the rival, and votes for it above.
-use Rattle.std.proofs.Common.{◌≡◌, ℕ, Bool, true, false, cond, List, [], ◌∷◌, Option, None, Some, refl, sym, ◌∙◌, ap, subst}
+use Rattle.std.proofs.Common.{◌≡◌, ℕ, true, false, cond, List, [], ◌∷◌, Option, None, Some, refl, sym, ◌∙◌, ap, subst}
 use Rattle.std.proofs.lemmas.Bool.{true≢false}
 use Rattle.acc_stamp.specs.declared.stamps.Stamp.{Stamp}
 use Rattle.acc_stamp.specs.declared.stamps.TxnId.{TxnId}
 use Rattle.acc_stamp.specs.declared.stamps.Ballot.{Ballot}
 use Rattle.acc_stamp.specs.declared.actors.Actor.{Actor}
 use Rattle.acc_stamp.specs.Actor.{shard_of}
-use Rattle.acc_stamp.specs.Stamp.{id_eq, stamp_lt}
+use Rattle.acc_stamp.specs.Stamp.{stamp_lt}
 use Rattle.acc_stamp.proofs.Order.{id_order, eq_itself}
 use Rattle.acc_deps.specs.declared.shards.ShardDeps.{ShardDeps}
 use Rattle.acc_deps.specs.Deps.{deps_has}
 use Rattle.acc_txn.specs.declared.parts.BodyParts.{BodyParts}
 use Rattle.acc_message.specs.declared.message.Message.{Message}
-use Rattle.acc_message.specs.declared.message.Message.TheVariants.{PreAccept, PreAcceptOk, Accept, AcceptOk, Commit, CommitOk, Stable, ReadOk, Apply, Recover, RecoverOk, Nack, Decided, Inform}
+use Rattle.acc_message.specs.declared.message.Message.TheVariants.{Accept, AcceptOk}
 use Rattle.acc_message.specs.declared.item.Item.{Item}
 use Rattle.acc_message.specs.Fields.{from_of, to_of, id_of, ballot_of}
 use Rattle.acc_message.specs.Shares.{conflict_in}
@@ -21,12 +21,11 @@ use Rattle.acc_message.specs.VoteRule.{Vote, vote_of, times_in, stamps_of}
 use Rattle.acc_message.specs.Attempts.{deps_in_answer}
 use Rattle.acc_message.specs.BallotRules.{is_accept_ok}
 use Rattle.acc_message.specs.Run.{Cluster, taken_of, is_node, EachStands}
-use Rattle.acc_actor_laws.proofs.OpeningFacts.{some_is}
-use Rattle.acc_safety.specs.Places.{IsIn, First, StandsAt, IsPast}
-use Rattle.acc_safety.specs.Histories.{EachAnswers, Sending}
+use Rattle.acc_safety.specs.Places.{IsIn, First, StandsAt}
+use Rattle.acc_safety.specs.Histories.{Sending}
 use Rattle.acc_safety.specs.Polls.{IsBody, IsAnswer, AreRivals}
 use Rattle.acc_safety.specs.Roots.{Proposed}
-use Rattle.acc_safety.specs.Statements.{BodiesAreBegun, OneProposal}
+use Rattle.acc_safety.specs.Statements.{OneProposal}
 use Rattle.acc_safety.specs.StoreFactStatements.{VoteMade, IsKnownRival}
 use Rattle.acc_safety.proofs.PlaceOrder.{StandsAt-IsPast}
 use Rattle.acc_safety.proofs.Bridge.{each_answers}
@@ -209,6 +208,6 @@ module _ (cluster : Cluster) (items : List Item) (h : EachStands cluster items) 
         knows = s.knows;
         unknown = accept_unknown a shard x y body theirs b t deps store in_shard r s lacks below;
         stamp =
-          time_is_in (s.step ∷ s.past) x t s.step (First s.step s.past)
-          (subst (λ m. IsIn t (times_in x m)) (sym s.message_is) (accept_time x s.from s.to b s.brought t s.proposed));
+            time_is_in (s.step ∷ s.past) x t s.step (First s.step s.past)
+            (subst (λ m. IsIn t (times_in x m)) (sym s.message_is) (accept_time x s.from s.to b s.brought t s.proposed));
       }

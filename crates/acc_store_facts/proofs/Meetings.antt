@@ -1,16 +1,13 @@
 -- Two quorums of answers meet: a store of the shard is the sender of an answer in each.
-use Rattle.std.proofs.Common.{◌≡◌, ℕ, Bool, true, false, ◌&&◌, List, refl, sym, ◌∙◌, ap, subst}
-use Rattle.std.specs.List.{list_any}
+use Rattle.std.proofs.Common.{◌≡◌, ℕ, true, ◌&&◌, List, sym, ◌∙◌, ap}
 use Rattle.std.proofs.lemmas.Bool.{and_parts, eqb-true}
-use Rattle.acc_stamp.specs.declared.stamps.Stamp.{Stamp}
 use Rattle.acc_stamp.specs.declared.stamps.TxnId.{TxnId}
 use Rattle.acc_stamp.specs.declared.actors.Actor.{Actor}
-use Rattle.acc_stamp.specs.Actor.{shard_of, actor_of, actor_eq}
-use Rattle.acc_stamp.specs.Stamp.{stamp_eq}
+use Rattle.acc_stamp.specs.Actor.{actor_of, actor_eq}
 use Rattle.acc_stamp.proofs.Order.{stamp_order}
 use Rattle.acc_topology.specs.Layout.{Layout, HasShard, IsLayout}
 use Rattle.acc_quorum.specs.Answers.{Answer, is_from, has_answered, has_kept}
-use Rattle.acc_quorum.specs.Meetings.{MeetAt, InCommon}
+use Rattle.acc_quorum.specs.Meetings.{InCommon}
 use Rattle.acc_quorum.proofs.Counted.{majorities, fast_and_majority, fast_and_fast, fast_and_possible_fast}
 use Rattle.acc_txn.specs.declared.parts.BodyParts.{BodyParts}
 use Rattle.acc_message.specs.declared.message.Message.{Message}
@@ -19,7 +16,7 @@ use Rattle.acc_message.specs.Shares.{shards_used}
 use Rattle.acc_message.specs.Attempts.{vote_in_answer, plain, plainly, majority_everywhere, fast_everywhere, may_be_fast_everywhere}
 use Rattle.acc_safety.specs.Places.{IsIn}
 use Rattle.acc_safety.specs.Polls.{Meeting}
-use Rattle.acc_safety.proofs.PlaceOrder.{Passing, passing, From, IsIn-map}
+use Rattle.acc_safety.proofs.PlaceOrder.{passing, IsIn-map}
 use Rattle.acc_store_facts.proofs.Shards.{store_in_shard}
 
 -- ---- plain answers and messages

@@ -1,7 +1,5 @@
 -- The notes and decisions of a run are those of its entries.
-use Rattle.std.proofs.Common.{◌≡◌, List, [], ◌∷◌, Contains, refl, sym, ◌∙◌, ap, subst, ⊎_elim}
-use Rattle.acc_stamp.specs.declared.stamps.Stamp.{Stamp}
-use Rattle.acc_stamp.specs.declared.stamps.TxnId.{TxnId}
+use Rattle.std.proofs.Common.{List, [], ◌∷◌, Contains, sym, subst, ⊎_elim}
 use Rattle.acc_message.specs.declared.note.Path.{Path}
 use Rattle.acc_message.specs.declared.note.Note.{Note}
 use Rattle.acc_message.specs.declared.note.Note.TheVariants.{Begin, Recover, Blocked, Ended, Decide, Outcome, Reply}
@@ -9,9 +7,9 @@ use Rattle.acc_message.specs.declared.item.Item.{Item}
 use Rattle.acc_message.specs.declared.item.Item.TheVariants.{Step, Skipped, Down}
 use Rattle.acc_message.specs.Items.{noted_in, notes_of}
 use Rattle.acc_safety.specs.Decisions.{Decision, decisions_in, decisions_of}
-use Rattle.acc_safety.specs.Places.{IsIn, StandsAt, Here, Back}
+use Rattle.acc_safety.specs.Places.{IsIn, Here, Back}
 use Rattle.acc_safety.specs.Histories.{Noting}
-use Rattle.acc_safety.proofs.PlaceOrder.{only, none_is_in, IsIn-append_cases, Contains-IsIn, FromList, IsIn-flat_map}
+use Rattle.acc_safety.proofs.PlaceOrder.{only, none_is_in, IsIn-append_cases, Contains-IsIn, IsIn-flat_map}
 
 noting_back : (item : Item) (earlier : List Item) (note : Note) → Noting earlier note → Noting (item ∷ earlier) note
 noting_back item earlier note n = record { entry = n.entry; earlier = n.earlier; at = Back (Step n.entry) item n.earlier earlier n.at; noted = n.noted }

@@ -1,37 +1,34 @@
 -- What an answer of a poll tells of the store that sent it.
-use Rattle.std.proofs.Common.{◌≡◌, ℕ, Bool, true, false, cond, List, [], ◌∷◌, Option, None, Some, refl, sym, ◌∙◌, ap, subst, ◌⊎◌, inl, inr, ⊎_elim}
+use Rattle.std.proofs.Common.{◌≡◌, ℕ, Bool, true, false, cond, List, [], ◌∷◌, Option, None, Some, refl, sym, ◌∙◌, ap, subst}
 use Rattle.std.specs.List.{AllByRecursion}
-use Rattle.std.proofs.lemmas.Bool.{true≢false, cases_Bool, false_from_ne_true}
-use Rattle.acc_stamp.specs.declared.stamps.Stamp.{Stamp}
+use Rattle.std.proofs.lemmas.Bool.{true≢false, false_from_ne_true}
 use Rattle.acc_stamp.specs.declared.stamps.TxnId.{TxnId}
 use Rattle.acc_stamp.specs.declared.stamps.Ballot.{Ballot}
 use Rattle.acc_stamp.specs.declared.actors.Actor.{Actor}
 use Rattle.acc_stamp.specs.Stamp.{id_eq, stamp_lt}
-use Rattle.acc_stamp.proofs.Order.{stamp_order, id_order, eq_itself, asym}
-use Rattle.acc_topology.specs.Layout.{Layout}
-use Rattle.acc_deps.specs.declared.shards.ShardDeps.{ShardDeps}
+use Rattle.acc_stamp.proofs.Order.{id_order, eq_itself}
 use Rattle.acc_deps.specs.Deps.{AreDeps, deps_has}
 use Rattle.acc_deps.proofs.ByShard.{AreDeps-nil}
 use Rattle.acc_quorum.specs.Answers.{Answer}
 use Rattle.acc_quorum.proofs.Together.{greatest-above, union_of-has, AreDeps-union_of}
 use Rattle.acc_txn.specs.declared.parts.BodyParts.{BodyParts}
 use Rattle.acc_message.specs.declared.message.Message.{Message}
-use Rattle.acc_message.specs.declared.message.Message.TheVariants.{PreAccept, PreAcceptOk, Accept, AcceptOk, Commit, CommitOk, Stable, ReadOk, Apply, Recover, RecoverOk, Nack, Decided, Inform}
+use Rattle.acc_message.specs.declared.message.Message.TheVariants.{PreAcceptOk, AcceptOk, RecoverOk}
 use Rattle.acc_message.specs.declared.item.Item.{Item}
 use Rattle.acc_message.specs.declared.item.Item.TheVariants.{Step}
 use Rattle.acc_message.specs.Fields.{from_of, id_of}
 use Rattle.acc_message.specs.Taken.{Taken, body_known}
 use Rattle.acc_message.specs.VoteRule.{Vote, vote_in, vote_of}
 use Rattle.acc_message.specs.Attempts.{is_preaccept_ok, vote_in_answer, deps_in_answer, plain, plainly, greatest_vote, union_of}
-use Rattle.acc_message.specs.BallotRules.{is_accept_ok, is_recover_ok}
-use Rattle.acc_message.specs.Run.{Cluster, taken_of, is_node, EachStands}
+use Rattle.acc_message.specs.BallotRules.{is_recover_ok}
+use Rattle.acc_message.specs.Run.{Cluster, taken_of, EachStands}
 use Rattle.acc_actor_laws.proofs.Standing.{not_none}
 use Rattle.acc_actor_laws.proofs.OpeningFacts.{some_is}
-use Rattle.acc_safety.specs.Places.{IsIn, First, Later, StandsAt, Here, Back}
-use Rattle.acc_safety.specs.Histories.{EachAnswers, Sending, FromStore}
+use Rattle.acc_safety.specs.Places.{IsIn, StandsAt, Here, Back}
+use Rattle.acc_safety.specs.Histories.{Sending, FromStore}
 use Rattle.acc_safety.specs.Polls.{IsBody, IsAnswer, AreAnswers}
 use Rattle.acc_safety.specs.Statements.{BodiesAreBegun, DepsAreSets}
-use Rattle.acc_safety.proofs.PlaceOrder.{IsIn-Contains, map-IsIn, From, IsIn-map, each_from, StandsAt-IsPast, IsPast-rest}
+use Rattle.acc_safety.proofs.PlaceOrder.{IsIn-Contains, map-IsIn, IsIn-map, each_from, StandsAt-IsPast, IsPast-rest}
 use Rattle.acc_safety.proofs.Bridge.{each_answers, store_step, Sending-past}
 use Rattle.acc_store_facts.proofs.Knowing.{Learns, body_known-new, body_known-stays}
 use Rattle.acc_store_facts.proofs.VoteFacts.{votes_once}
@@ -127,9 +124,9 @@ module _ (cluster : Cluster) (items : List Item) (h : EachStands cluster items) 
   answers_deps sets x body b kind answers are =
       each_from (λ (a : Answer). AreDeps a.deps) (plainly x answers)
       (λ a there.
-        let from = IsIn-map (plain x) a answers there in
-        subst (λ (z : Answer). AreDeps z.deps) (sym from.is)
-        (answer_deps sets from.source (store_sent (from_of from.source) from.source (are from.source from.there).place)))
+      let from = IsIn-map (plain x) a answers there in
+      subst (λ (z : Answer). AreDeps z.deps) (sym from.is)
+      (answer_deps sets from.source (store_sent (from_of from.source) from.source (are from.source from.there).place)))
 
   pub answers_union : DepsAreSets items → (x : TxnId) (body : BodyParts) (b : Ballot) (kind : Message → Bool) (answers : List Message)
       → AreAnswers cluster items x body b kind answers → AreDeps (union_of x answers)
@@ -142,7 +139,7 @@ module _ (cluster : Cluster) (items : List Item) (h : EachStands cluster items) 
   answer_lacks sets x y body b kind answers m shard are there lacks =
       false_from_ne_true (deps_has (deps_in_answer m) shard y)
       (λ has.
-        true≢false
-        (sym (union_of-has (plainly x answers) (plain x m) shard y (answers_deps sets x body b kind answers are)
-        (IsIn-Contains (plain x m) (plainly x answers) (map-IsIn (plain x) m answers there)) has)
-        ∙ lacks))
+      true≢false
+      (sym (union_of-has (plainly x answers) (plain x m) shard y (answers_deps sets x body b kind answers are)
+      (IsIn-Contains (plain x m) (plainly x answers) (map-IsIn (plain x) m answers there)) has)
+      ∙ lacks))

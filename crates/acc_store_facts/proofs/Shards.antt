@@ -1,18 +1,15 @@
 -- The shards of transactions in an accepted layout, and conflicts in them.
-use Rattle.std.proofs.Common.{◌≡◌, ℕ, ◌==◌, ◌<◌, ◌≤◌, ◌%◌, ◌*◌, ◌+◌, Bool, true, false, List, length, map, filter, refl, sym, ◌∙◌, ap, subst, arith}
-use Rattle.std.specs.List.{list_any}
+use Rattle.std.proofs.Common.{◌≡◌, ℕ, ◌==◌, ◌<◌, ◌%◌, ◌*◌, ◌+◌, Bool, true, List, refl, sym, ◌∙◌, subst, arith}
 use Rattle.std.proofs.lemmas.Bool.{eqb-true, eq-eqb}
-use Rattle.acc_stamp.specs.declared.actors.Actor.{Actor}
 use Rattle.acc_stamp.specs.declared.stamps.TxnId.{TxnId}
 use Rattle.acc_stamp.specs.Actor.{shard_of, actor_of}
-use Rattle.acc_topology.specs.Layout.{Layout, HasShard, IsLayout, shard_of as shard_of_bytes}
-use Rattle.acc_topology.specs.Sets.{numbers, is_among, in_order}
+use Rattle.acc_topology.specs.Layout.{Layout, HasShard, IsLayout}
+use Rattle.acc_topology.specs.Sets.{is_among}
 use Rattle.acc_topology.specs.Keys.{shard_of_key, shards_of, share_of}
 use Rattle.acc_topology.proofs.Ends.{shard_of-holds}
 use Rattle.acc_topology.proofs.Listed.{AreSmall, is_among-in_order}
 use Rattle.acc_quorum.specs.Meetings.{InCommon}
 use Rattle.acc_value.specs.declared.key.Key.{Key}
-use Rattle.acc_value.specs.Footprint.{clashes}
 use Rattle.acc_value.proofs.Clash.{clashes-symm, clashes_with}
 use Rattle.acc_txn.specs.declared.parts.BodyParts.{BodyParts}
 use Rattle.acc_txn.specs.Uses.{footprint_of}
@@ -21,7 +18,7 @@ use Rattle.acc_message.specs.Shares.{shards_used, conflict_in}
 use Rattle.acc_message.specs.Run.{Cluster}
 use Rattle.acc_safety.specs.Places.{IsIn}
 use Rattle.acc_safety.specs.Polls.{IsBody, AreRivals}
-use Rattle.acc_safety.proofs.PlaceOrder.{Passing, passing, any_from, From, IsIn-map, map-IsIn, IsIn-filter}
+use Rattle.acc_safety.proofs.PlaceOrder.{passing, any_from, IsIn-map, map-IsIn, IsIn-filter}
 
 -- ---- numbers
 

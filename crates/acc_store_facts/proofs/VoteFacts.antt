@@ -1,5 +1,5 @@
 -- A store votes once for a transaction, in a step about it: for its own timestamp, or above all that the store met.
-use Rattle.std.proofs.Common.{◌≡◌, List, [], ◌∷◌, Option, None, Some, refl, sym, ◌∙◌, ap}
+use Rattle.std.proofs.Common.{◌≡◌, List, ◌∷◌, Option, None, Some, refl, sym, ◌∙◌, ap}
 use Rattle.acc_base.specs.Faults.{or_else}
 use Rattle.acc_stamp.specs.declared.stamps.TxnId.{TxnId}
 use Rattle.acc_stamp.specs.declared.actors.Actor.{Actor}
@@ -9,11 +9,9 @@ use Rattle.acc_message.specs.declared.message.Message.{Message}
 use Rattle.acc_message.specs.Fields.{id_of}
 use Rattle.acc_message.specs.Taken.{Taken, taking, body_known}
 use Rattle.acc_message.specs.VoteRule.{Vote, vote_in, first_vote, vote_of, new_vote, vote_given}
-use Rattle.acc_actor_laws.proofs.Standing.{not_none}
 use Rattle.acc_actor_laws.proofs.OpeningFacts.{some_is}
-use Rattle.acc_safety.specs.Places.{IsIn, First, Later, StandsAt, Here, Back, IsPast, Whole, Behind}
+use Rattle.acc_safety.specs.Places.{IsIn, First, Later, StandsAt, IsPast, Whole, Behind}
 use Rattle.acc_safety.specs.Histories.{EachAnswers}
-use Rattle.acc_safety.specs.StoreFactStatements.{VoteMade}
 use Rattle.acc_safety.proofs.PlaceOrder.{StandsAt-IsPast}
 use Rattle.acc_safety.proofs.StoreNotions.{VoteSent, first_vote_sent}
 use Rattle.acc_store_facts.proofs.Knowing.{step_answers, step_sends}
