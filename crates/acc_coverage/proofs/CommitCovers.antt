@@ -8,7 +8,6 @@ use Rattle.acc_stamp.specs.Actor.{shard_of}
 use Rattle.acc_stamp.specs.Stamp.{stamp_lt, zero_ballot}
 use Rattle.acc_stamp.specs.Rising.{id_among}
 use Rattle.acc_stamp.proofs.Order.{stamp_order, asym, le-lt-trans}
-use Rattle.acc_quorum.specs.Meetings.{InCommon}
 use Rattle.acc_deps.specs.declared.shards.ShardDeps.{ShardDeps}
 use Rattle.acc_deps.specs.declared.records.Settled.{Settled}
 use Rattle.acc_deps.specs.declared.records.View.{View}
@@ -19,41 +18,49 @@ use Rattle.acc_message.specs.declared.message.Message.{Message}
 use Rattle.acc_message.specs.declared.message.Message.TheVariants.{Accept}
 use Rattle.acc_message.specs.declared.item.Item.{Item}
 use Rattle.acc_message.specs.Fields.{from_of}
-use Rattle.acc_message.specs.Shares.{shards_used}
 use Rattle.acc_message.specs.Attempts.{is_preaccept_ok, deps_in_answer, union_of}
 use Rattle.acc_message.specs.BallotRules.{is_accept_ok, is_recover_ok, stable_of}
 use Rattle.acc_message.specs.RecoveryDecision.{views_in}
 use Rattle.acc_message.specs.Run.{Cluster, taken_of, is_node}
 use Rattle.acc_safety.specs.Places.{IsIn}
 use Rattle.acc_safety.specs.NodeMoves.{IsFree}
-use Rattle.acc_safety.specs.Polls.{IsAnswer, AreAnswers, Meeting, AreRivals}
+use Rattle.acc_safety.specs.Polls.{IsAnswer, AreAnswers, Meeting, AreRivals, IsAny, Kept}
 use Rattle.acc_safety.specs.Roots.{Root, GreatestOfVotes, GreatestOfViews, Own, CommitRoot, DecisionRoot, ByCommits}
 use Rattle.acc_safety.specs.Statements.{CoveredByCommits}
 use Rattle.acc_safety.specs.Valid.{IsStanding}
 use Rattle.acc_safety.proofs.PlaceOrder.{any_from}
-use Rattle.acc_store_facts.proofs.Meetings.{Any, Kept, majorities_meet, fast_meets_majority, turned}
+use Rattle.acc_safety.proofs.Meetings.{majorities_meet, fast_meets_majority}
+use Rattle.acc_safety.proofs.SetsNamed.{deps_are_sets}
 use Rattle.acc_store_facts.proofs.Polled.{preaccept_oks_vote, recover_oks_vote, answers_union, answer_lacks}
 use Rattle.acc_coverage.specs.Premises.{Premises}
 use Rattle.acc_coverage.proofs.Unheard.{AcceptedThere, accepted_there, accept_unknown, accept_unheard}
 use Rattle.acc_coverage.proofs.Decided.{Based, OnFast, OnRoot, based, based_not_below, AreUnheard, met_greatest, met_kept}
-use Rattle.acc_coverage.proofs.FastCovers.{common_shard}
 use Rattle.acc_coverage.proofs.Revealed.{HasView, has_view, views_in-IsIn, waits_of-has}
 use Rattle.acc_coverage.proofs.OwnIsFound.{ViewThere, view_there, own_is_found}
 
+turned : (shard : ℕ) (one other : Message → Type 0) (answers more : List Message) → Meeting shard one other answers more → Meeting shard other one more answers
+turned shard one other answers more m =
+    record {
+      store = m.store;
+      of_shard = m.of_shard;
+      first = m.second;
+      second = m.first;
+      first_in = m.second_in;
+      second_in = m.first_in;
+      first_from = m.second_from;
+      second_from = m.first_from;
+      first_is = m.second_is;
+      second_is = m.first_is;
+    }
+
 module _ (cluster : Cluster) (items : List Item) (s : IsStanding cluster items) (p : Premises cluster items) (shard : ℕ) (x y : TxnId) (body theirs : BodyParts) (t : Stamp) (deps : List ShardDeps) (r : AreRivals cluster items shard y x theirs body) (decided : DecisionRoot cluster items x body t deps) (root : CommitRoot cluster items x body t deps) where
-  common : InCommon cluster.layout (shards_used cluster.layout body) (shards_used cluster.layout theirs) shard
-  common = common_shard cluster items shard x y body theirs s.valid.layout r
-
-  common_back : InCommon cluster.layout (shards_used cluster.layout theirs) (shards_used cluster.layout body) shard
-  common_back = record { accepted = common.accepted; exists = common.exists; used = common.used_too; used_too = common.used }
-
   -- what is committed without y was proposed without it, and no store that accepted it named it
   lacking : deps_has deps shard y ≡ false → (deps_has root.proposed shard y ≡ false) × (deps_has (union_of x root.answers) shard y ≡ false)
   lacking lacks =
       or_parts (deps_has root.proposed shard y) (deps_has (union_of x root.answers) shard y)
       (sym (deps_has-union root.proposed (union_of x root.answers) shard y
-      (p.sets.messages (Accept root.accepted.proposal.from root.accepted.proposal.to x root.ballot body t root.proposed) root.accepted.proposal.sending).0
-      (answers_union cluster items s.stands p.sets x body root.ballot is_accept_ok root.answers root.accepted.are))
+      ((deps_are_sets cluster items s.stands).messages (Accept root.accepted.proposal.from root.accepted.proposal.to x root.ballot body t root.proposed) root.accepted.proposal.sending).0
+      (answers_union cluster items s.stands (deps_are_sets cluster items s.stands) x body root.ballot is_accept_ok root.answers root.accepted.are))
       ∙ ap (λ d. deps_has d shard y) (sym root.deps_are) ∙ lacks)
 
   there_accepted : (m : Message) → IsIn m root.answers → AcceptedThere cluster items s.stands (from_of m) x body root.ballot t (deps_in_answer m)
@@ -62,7 +69,7 @@ module _ (cluster : Cluster) (items : List Item) (s : IsStanding cluster items) 
 
   answer_lacking : deps_has deps shard y ≡ false → (m : Message) → IsIn m root.answers → deps_has (deps_in_answer m) shard y ≡ false
   answer_lacking lacks m there =
-      answer_lacks cluster items s.stands p.sets x y body root.ballot is_accept_ok root.answers m shard root.accepted.are there (lacking lacks).1
+      answer_lacks cluster items s.stands (deps_are_sets cluster items s.stands) x y body root.ballot is_accept_ok root.answers m shard root.accepted.are there (lacking lacks).1
 
   accept_all_unheard : deps_has deps shard y ≡ false → stamp_lt y.0 t ≡ true → AreUnheard cluster items s.stands shard x y body theirs r root.answers t
   accept_all_unheard lacks under m there in_shard =
@@ -80,7 +87,7 @@ module _ (cluster : Cluster) (items : List Item) (s : IsStanding cluster items) 
       )
 
   own_is_late : (b : Ballot) (more : List Message) → AreAnswers cluster items y theirs b is_recover_ok more → IsFree cluster.layout y theirs more
-      → Meeting shard Any Any root.answers more → deps_has deps shard y ≡ false → stamp_lt y.0 t ≡ true → ⊥
+      → Meeting shard IsAny IsAny root.answers more → deps_has deps shard y ≡ false → stamp_lt y.0 t ≡ true → ⊥
   own_is_late b more are free m lacks under =
       own_is_found cluster items s.stands p shard x y body theirs r (from_of m.first) root.ballot b t root.proposed (deps_in_answer m.first) root.answers v.view
       a.place.is_store in_shard root.accepted (there_accepted m.first m.first_in)
@@ -112,22 +119,22 @@ module _ (cluster : Cluster) (items : List Item) (s : IsStanding cluster items) 
   root_is_late : (u : Stamp) (ds : List ShardDeps) → Root cluster items y theirs u ds → deps_has deps shard y ≡ false
       → stamp_lt y.0 t ≡ true → stamp_lt u t ≡ true → ⊥
   root_is_late u ds (GreatestOfVotes more are majority proposed) lacks under below =
-      met_greatest cluster items s.stands shard x y body theirs r t Any Any root.answers more zero_ballot is_preaccept_ok preaccept_oks_vote
+      met_greatest cluster items s.stands shard x y body theirs r t IsAny IsAny root.answers more zero_ballot is_preaccept_ok preaccept_oks_vote
       (accept_all_unheard lacks under) are (asym stamp_order y.0 t under)
-      (majorities_meet cluster.layout x y body theirs root.answers more shard common root.accepted.majority majority) below
+      (majorities_meet cluster.layout x y body theirs root.answers more shard s.valid.layout r.second_uses r.first_uses root.accepted.majority majority) below
   root_is_late u ds (GreatestOfViews b more are majority ruled_out) lacks under below =
-      met_greatest cluster items s.stands shard x y body theirs r t Any Any root.answers more b is_recover_ok recover_oks_vote
+      met_greatest cluster items s.stands shard x y body theirs r t IsAny IsAny root.answers more b is_recover_ok recover_oks_vote
       (accept_all_unheard lacks under) are (asym stamp_order y.0 t under)
-      (majorities_meet cluster.layout x y body theirs root.answers more shard common root.accepted.majority majority) below
+      (majorities_meet cluster.layout x y body theirs root.answers more shard s.valid.layout r.second_uses r.first_uses root.accepted.majority majority) below
   root_is_late u ds (Own b more are majority free) lacks under below =
-      own_is_late b more are free (majorities_meet cluster.layout x y body theirs root.answers more shard common root.accepted.majority majority) lacks under
+      own_is_late b more are free (majorities_meet cluster.layout x y body theirs root.answers more shard s.valid.layout r.second_uses r.first_uses root.accepted.majority majority) lacks under
 
   is_late : (u : Stamp) → Based cluster items y theirs u → deps_has deps shard y ≡ false → stamp_lt y.0 t ≡ true → stamp_lt u t ≡ true → ⊥
   is_late u (OnFast more fast own) lacks under below =
-      met_kept cluster items s.stands shard x y body theirs r t Any root.answers more zero_ballot is_preaccept_ok preaccept_oks_vote
+      met_kept cluster items s.stands shard x y body theirs r t IsAny root.answers more zero_ballot is_preaccept_ok preaccept_oks_vote
       (accept_all_unheard lacks under) fast.are under
-      (turned shard (Kept y) Any more root.answers
-      (fast_meets_majority cluster.layout y x theirs body more root.answers shard common_back fast.fast root.accepted.majority))
+      (turned shard (Kept y) IsAny more root.answers
+      (fast_meets_majority cluster.layout y x theirs body more root.answers shard s.valid.layout r.first_uses r.second_uses fast.fast root.accepted.majority))
   is_late u (OnRoot ds base) lacks under below = root_is_late u ds base lacks under below
 
   pub commit_names_smaller : (u : Stamp) → Based cluster items y theirs u → stamp_lt u t ≡ true → deps_has deps shard y ≡ true

@@ -13,7 +13,7 @@ use Rattle.acc_safety.specs.Polls.{AreRivals}
 use Rattle.acc_safety.specs.Roots.{DecisionRoot, ByFastVotes, ByCommits}
 use Rattle.acc_safety.specs.Valid.{IsStanding}
 use Rattle.acc_store_facts.proofs.Noted.{decision_noted}
-use Rattle.acc_store_facts.proofs.Shards.{are_rivals}
+use Rattle.acc_safety.proofs.Meetings.{are_rivals}
 use Rattle.acc_coverage.specs.Premises.{Premises}
 use Rattle.acc_coverage.proofs.FastCovers.{covered_by_fast}
 use Rattle.acc_coverage.proofs.CommitCovers.{covered_by_commits}

@@ -9,7 +9,6 @@ use Rattle.acc_stamp.specs.Stamp.{stamp_lt, zero_ballot}
 use Rattle.acc_stamp.proofs.Order.{stamp_order, asym, lt-le-trans, le-trans}
 use Rattle.acc_topology.specs.Layout.{IsLayout}
 use Rattle.acc_topology.specs.Sets.{is_among}
-use Rattle.acc_quorum.specs.Meetings.{InCommon}
 use Rattle.acc_deps.specs.declared.shards.ShardDeps.{ShardDeps}
 use Rattle.acc_txn.specs.declared.parts.BodyParts.{BodyParts}
 use Rattle.acc_message.specs.declared.message.Message.{Message}
@@ -20,13 +19,12 @@ use Rattle.acc_message.specs.Attempts.{is_preaccept_ok, vote_in_answer, greatest
 use Rattle.acc_message.specs.BallotRules.{is_recover_ok}
 use Rattle.acc_message.specs.Run.{Cluster, taken_of, EachStands}
 use Rattle.acc_safety.specs.Places.{IsIn}
-use Rattle.acc_safety.specs.Polls.{AreAnswers, IsAnswer, Meeting, AreRivals}
+use Rattle.acc_safety.specs.Polls.{AreAnswers, IsAnswer, Meeting, AreRivals, IsAny, Kept}
 use Rattle.acc_safety.specs.Roots.{Root, GreatestOfVotes, GreatestOfViews, Own, FastBy, DecisionRoot, ByFastVotes, ByCommits}
 use Rattle.acc_safety.specs.Statements.{ProposalsHaveRoots, CommitsHaveRoots}
 use Rattle.acc_safety.proofs.Bridge.{each_answers}
 use Rattle.acc_store_facts.proofs.Drawn.{own_or_drawn}
-use Rattle.acc_store_facts.proofs.Shards.{used_exists}
-use Rattle.acc_store_facts.proofs.Meetings.{Any, majorities_meet}
+use Rattle.acc_safety.proofs.Meetings.{majorities_meet}
 use Rattle.acc_store_facts.proofs.Polled.{vote_said, HaveVotes, preaccept_oks_vote, recover_oks_vote, greatest_vote-above, answer_votes}
 use Rattle.acc_coverage.proofs.Unheard.{Unheard, votes_above}
 
@@ -68,11 +66,8 @@ module _ (cluster : Cluster) (items : List Item) (h : EachStands cluster items) 
       le-trans stamp_order y.0 (vote_in_answer m.first) (greatest_vote y answers)
       (voted_not_below y theirs b kind m.first have (are m.first m.first_in)) (greatest_vote-above y answers m.first m.first_in)
     where
-      common : InCommon cluster.layout (shards_used cluster.layout theirs) (shards_used cluster.layout theirs) shard
-      common = record { accepted = is; exists = used_exists cluster.layout theirs shard is used; used = used; used_too = used }
-
-      m : Meeting shard Any Any answers answers
-      m = majorities_meet cluster.layout y y theirs theirs answers answers shard common majority majority
+      m : Meeting shard IsAny IsAny answers answers
+      m = majorities_meet cluster.layout y y theirs theirs answers answers shard is used used majority majority
 
   pub root_not_below : (y : TxnId) (theirs : BodyParts) (t : Stamp) (deps : List ShardDeps) (shard : ℕ) → IsLayout cluster.layout
       → is_among (shards_used cluster.layout theirs) shard ≡ true → Root cluster items y theirs t deps → stamp_lt t y.0 ≡ false
@@ -119,8 +114,8 @@ module _ (cluster : Cluster) (items : List Item) (h : EachStands cluster items) 
   -- nor is a vote for the own timestamp
   pub met_kept : (s : Stamp) (one : Message → Type 0) (answers more : List Message) (b : Ballot) (kind : Message → Bool) → HaveVotes kind
       → AreUnheard answers s → AreAnswers cluster items y theirs b kind more → stamp_lt y.0 s ≡ true
-      → Meeting shard one (λ m. vote_in_answer m ≡ y.0) answers more → ⊥
+      → Meeting shard one (Kept y) answers more → ⊥
   met_kept s one answers more b kind have unheard are below m =
       not_both y.0 s below
       (ap (stamp_lt s) (sym m.second_is)
-      ∙ met_above s one (λ n. vote_in_answer n ≡ y.0) answers more b kind have unheard are (asym stamp_order y.0 s below) m)
+      ∙ met_above s one (Kept y) answers more b kind have unheard are (asym stamp_order y.0 s below) m)

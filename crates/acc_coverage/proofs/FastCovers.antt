@@ -5,45 +5,32 @@ use Rattle.acc_stamp.specs.declared.stamps.Stamp.{Stamp}
 use Rattle.acc_stamp.specs.declared.stamps.TxnId.{TxnId}
 use Rattle.acc_stamp.specs.Stamp.{stamp_lt, zero_ballot}
 use Rattle.acc_stamp.proofs.Order.{stamp_order, asym, le-lt-trans}
-use Rattle.acc_topology.specs.Layout.{IsLayout}
-use Rattle.acc_quorum.specs.Meetings.{InCommon}
 use Rattle.acc_deps.specs.declared.shards.ShardDeps.{ShardDeps}
 use Rattle.acc_deps.specs.Deps.{deps_has}
 use Rattle.acc_txn.specs.declared.parts.BodyParts.{BodyParts}
 use Rattle.acc_message.specs.declared.message.Message.{Message}
 use Rattle.acc_message.specs.declared.item.Item.{Item}
 use Rattle.acc_message.specs.Fields.{from_of}
-use Rattle.acc_message.specs.Shares.{shards_used}
 use Rattle.acc_message.specs.Attempts.{is_preaccept_ok, union_of}
 use Rattle.acc_message.specs.BallotRules.{is_recover_ok}
 use Rattle.acc_message.specs.Run.{Cluster}
-use Rattle.acc_safety.specs.Polls.{IsAnswer, AreRivals}
+use Rattle.acc_safety.specs.Polls.{IsAnswer, AreRivals, IsAny, Kept}
 use Rattle.acc_safety.specs.Roots.{Root, GreatestOfVotes, GreatestOfViews, Own, FastBy}
 use Rattle.acc_safety.specs.Statements.{CoveredByFast}
 use Rattle.acc_safety.specs.Valid.{IsStanding}
-use Rattle.acc_store_facts.proofs.Shards.{in_common}
-use Rattle.acc_store_facts.proofs.Meetings.{Any, Kept, fast_meets_majority, fast_meets_fast, fast_meets_possible}
+use Rattle.acc_safety.proofs.Meetings.{fast_meets_majority, fast_meets_fast, fast_meets_possible_fast}
+use Rattle.acc_safety.proofs.SetsNamed.{deps_are_sets}
 use Rattle.acc_store_facts.proofs.Polled.{vote_said, preaccept_oks_vote, recover_oks_vote, answer_votes, answer_lacks}
 use Rattle.acc_coverage.specs.Premises.{Premises}
 use Rattle.acc_coverage.proofs.Unheard.{vote_unheard}
 use Rattle.acc_coverage.proofs.Decided.{Based, OnFast, OnRoot, based, based_not_below, AreUnheard, met_greatest, met_kept}
 
-pub common_shard : (cluster : Cluster) (items : List Item) (shard : ℕ) (x y : TxnId) (body theirs : BodyParts) → IsLayout cluster.layout
-    → AreRivals cluster items shard y x theirs body
-    → InCommon cluster.layout (shards_used cluster.layout body) (shards_used cluster.layout theirs) shard
-common_shard cluster items shard x y body theirs is r =
-    let c = in_common cluster items shard y x theirs body is r in
-    record { accepted = is; exists = c.exists; used = c.used_too; used_too = c.used }
-
 module _ (cluster : Cluster) (items : List Item) (s : IsStanding cluster items) (p : Premises cluster items) (shard : ℕ) (x y : TxnId) (body theirs : BodyParts) (answers : List Message) (r : AreRivals cluster items shard y x theirs body) (f : FastBy cluster items x body answers) where
-  common : InCommon cluster.layout (shards_used cluster.layout body) (shards_used cluster.layout theirs) shard
-  common = common_shard cluster items shard x y body theirs s.valid.layout r
-
   fast_unheard : deps_has (union_of x answers) shard y ≡ false → stamp_lt y.0 x.0 ≡ true → AreUnheard cluster items s.stands shard x y body theirs r answers x.0
   fast_unheard lacks below m there in_shard =
       vote_unheard cluster items s.stands (from_of m) shard x y body theirs (vote_said m) a.place.is_store in_shard r
       (answer_votes cluster items s.stands x body zero_ballot is_preaccept_ok m preaccept_oks_vote a)
-      (answer_lacks cluster items s.stands p.sets x y body zero_ballot is_preaccept_ok answers m shard f.are there lacks) below
+      (answer_lacks cluster items s.stands (deps_are_sets cluster items s.stands) x y body zero_ballot is_preaccept_ok answers m shard f.are there lacks) below
     where
       a : IsAnswer cluster items x body zero_ballot is_preaccept_ok m
       a = f.are m there
@@ -52,22 +39,22 @@ module _ (cluster : Cluster) (items : List Item) (s : IsStanding cluster items) 
   root_is_late : (t : Stamp) (deps : List ShardDeps) → Root cluster items y theirs t deps → AreUnheard cluster items s.stands shard x y body theirs r answers x.0
       → stamp_lt y.0 x.0 ≡ true → stamp_lt t x.0 ≡ true → ⊥
   root_is_late t deps (GreatestOfVotes more are majority proposed) unheard under below =
-      met_greatest cluster items s.stands shard x y body theirs r x.0 (Kept x) Any answers more zero_ballot is_preaccept_ok preaccept_oks_vote unheard are
+      met_greatest cluster items s.stands shard x y body theirs r x.0 (Kept x) IsAny answers more zero_ballot is_preaccept_ok preaccept_oks_vote unheard are
       (asym stamp_order y.0 x.0 under)
-      (fast_meets_majority cluster.layout x y body theirs answers more shard common f.fast majority) below
+      (fast_meets_majority cluster.layout x y body theirs answers more shard s.valid.layout r.second_uses r.first_uses f.fast majority) below
   root_is_late t deps (GreatestOfViews b more are majority ruled_out) unheard under below =
-      met_greatest cluster items s.stands shard x y body theirs r x.0 (Kept x) Any answers more b is_recover_ok recover_oks_vote unheard are
+      met_greatest cluster items s.stands shard x y body theirs r x.0 (Kept x) IsAny answers more b is_recover_ok recover_oks_vote unheard are
       (asym stamp_order y.0 x.0 under)
-      (fast_meets_majority cluster.layout x y body theirs answers more shard common f.fast majority) below
+      (fast_meets_majority cluster.layout x y body theirs answers more shard s.valid.layout r.second_uses r.first_uses f.fast majority) below
   root_is_late t deps (Own b more are majority free) unheard under below =
       met_kept cluster items s.stands shard x y body theirs r x.0 (Kept x) answers more b is_recover_ok recover_oks_vote unheard are under
-      (fast_meets_possible cluster.layout x y body theirs answers more shard common f.fast majority free.may_be_fast)
+      (fast_meets_possible_fast cluster.layout x y body theirs answers more shard s.valid.layout r.second_uses r.first_uses f.fast majority free.may_be_fast)
 
   is_late : (t : Stamp) → Based cluster items y theirs t → AreUnheard cluster items s.stands shard x y body theirs r answers x.0
       → stamp_lt y.0 x.0 ≡ true → stamp_lt t x.0 ≡ true → ⊥
   is_late t (OnFast more fast own) unheard under below =
       met_kept cluster items s.stands shard x y body theirs r x.0 (Kept x) answers more zero_ballot is_preaccept_ok preaccept_oks_vote unheard fast.are under
-      (fast_meets_fast cluster.layout x y body theirs answers more shard common f.fast fast.fast)
+      (fast_meets_fast cluster.layout x y body theirs answers more shard s.valid.layout r.second_uses r.first_uses f.fast fast.fast)
   is_late t (OnRoot deps root) unheard under below = root_is_late t deps root unheard under below
 
   pub names_smaller : (t : Stamp) → Based cluster items y theirs t → stamp_lt t x.0 ≡ true → deps_has (union_of x answers) shard y ≡ true

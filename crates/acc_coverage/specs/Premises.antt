@@ -2,10 +2,9 @@
 use Rattle.std.specs.Prelude.{List}
 use Rattle.acc_message.specs.declared.item.Item.{Item}
 use Rattle.acc_message.specs.Run.{Cluster}
-use Rattle.acc_safety.specs.Statements.{DepsAreSets, OneProposal, ProposalsHaveRoots, CommitsHaveRoots, DecisionsHaveRoots, RecordsHaveRoots, AcceptedLast, OneTimestamp, OneSetOfDeps}
+use Rattle.acc_safety.specs.Statements.{OneProposal, ProposalsHaveRoots, CommitsHaveRoots, DecisionsHaveRoots, RecordsHaveRoots, AcceptedLast, OneTimestamp, OneSetOfDeps}
 
 pub record Premises (cluster : Cluster) (items : List Item) : Type 0 where
-  pub sets : DepsAreSets items
   pub one_proposal : OneProposal items
   pub proposals : ProposalsHaveRoots cluster items
   pub commits : CommitsHaveRoots cluster items

@@ -5,7 +5,5 @@ pub mod Drawn
 pub mod Named
 pub mod Late
 pub mod Shown
-pub mod Shards
-pub mod Meetings
 pub mod Polled
 pub mod Noted
