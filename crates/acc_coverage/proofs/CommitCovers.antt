@@ -33,10 +33,10 @@ use Rattle.acc_safety.proofs.Meetings.{majorities_meet, fast_meets_majority}
 use Rattle.acc_safety.proofs.SetsNamed.{deps_are_sets}
 use Rattle.acc_store_facts.proofs.Polled.{preaccept_oks_vote, recover_oks_vote, answers_union, answer_lacks}
 use Rattle.acc_coverage.specs.Premises.{Premises}
-use Rattle.acc_coverage.proofs.Unheard.{AcceptedThere, accepted_there, accept_unknown, accept_unheard}
-use Rattle.acc_coverage.proofs.Decided.{Based, OnFast, OnRoot, based, based_not_below, AreUnheard, met_greatest, met_kept}
-use Rattle.acc_coverage.proofs.Revealed.{HasView, has_view, views_in-IsIn, waits_of-has}
-use Rattle.acc_coverage.proofs.OwnIsFound.{ViewThere, view_there, own_is_found}
+use Rattle.acc_store_facts.proofs.Unheard.{AcceptedThere, accepted_there, accept_unknown, accept_unheard}
+use Rattle.acc_store_facts.proofs.Decided.{Based, OnFast, OnRoot, based, based_not_below, AreUnheard, met_greatest, met_kept}
+use Rattle.acc_store_facts.proofs.Revealed.{ViewThere, view_there, HasView, has_view, views_in-IsIn, waits_of-has}
+use Rattle.acc_coverage.proofs.OwnIsFound.{own_is_found}
 
 turned : (shard : ℕ) (one other : Message → Type 0) (answers more : List Message) → Meeting shard one other answers more → Meeting shard other one more answers
 turned shard one other answers more m =

@@ -22,8 +22,8 @@ use Rattle.acc_safety.proofs.Meetings.{fast_meets_majority, fast_meets_fast, fas
 use Rattle.acc_safety.proofs.SetsNamed.{deps_are_sets}
 use Rattle.acc_store_facts.proofs.Polled.{vote_said, preaccept_oks_vote, recover_oks_vote, answer_votes, answer_lacks}
 use Rattle.acc_coverage.specs.Premises.{Premises}
-use Rattle.acc_coverage.proofs.Unheard.{vote_unheard}
-use Rattle.acc_coverage.proofs.Decided.{Based, OnFast, OnRoot, based, based_not_below, AreUnheard, met_greatest, met_kept}
+use Rattle.acc_store_facts.proofs.Unheard.{vote_unheard}
+use Rattle.acc_store_facts.proofs.Decided.{Based, OnFast, OnRoot, based, based_not_below, AreUnheard, met_greatest, met_kept}
 
 module _ (cluster : Cluster) (items : List Item) (s : IsStanding cluster items) (p : Premises cluster items) (shard : ℕ) (x y : TxnId) (body theirs : BodyParts) (answers : List Message) (r : AreRivals cluster items shard y x theirs body) (f : FastBy cluster items x body answers) where
   fast_unheard : deps_has (union_of x answers) shard y ≡ false → stamp_lt y.0 x.0 ≡ true → AreUnheard cluster items s.stands shard x y body theirs r answers x.0

@@ -42,48 +42,12 @@ use Rattle.acc_store_facts.proofs.Late.{before_heard}
 use Rattle.acc_store_facts.proofs.Shown.{HasFrom, accepted_kind, accepted_now, from_past}
 use Rattle.acc_store_facts.proofs.Polled.{step_taken}
 use Rattle.acc_coverage.specs.Premises.{Premises}
-use Rattle.acc_coverage.proofs.Unheard.{body_there, AcceptedThere}
-use Rattle.acc_coverage.proofs.Revealed.{rival_supersedes, rival_is_awaited, superseded_by_accepted, superseded_by_stable, awaited_by_accepted}
+use Rattle.acc_store_facts.proofs.Unheard.{body_there, AcceptedThere}
+use Rattle.acc_store_facts.proofs.Revealed.{ViewThere, view_there, rival_supersedes, rival_is_awaited, superseded_by_accepted, superseded_by_stable, awaited_by_accepted}
 
 pub stable_of-past : (x : TxnId) (s : Settled) (past history : List Taken) → stable_of past x ≡ Some s → IsPast past history → stable_of history x ≡ Some s
 stable_of-past x s past history e (Whole xs) = e
 stable_of-past x s past history e (Behind step xs ys there) = ap (λ o. or_else o (settled_in x step.message)) (stable_of-past x s xs ys e there)
-
--- ---- a view in its store's history
-
-module _ (cluster : Cluster) (items : List Item) (h : EachStands cluster items) where
-  pub record ViewThere (a : Actor) (y : TxnId) (theirs : BodyParts) (b : Ballot) (view : View) : Type 0 where
-    pub step : Taken
-    pub past : List Taken
-    pub at : StandsAt step past (taken_of cluster a items)
-    pub answer : SentView cluster.layout a past step.message y b view
-    pub counting_is : answer.counting ≡ theirs
-
-  pub view_there : (y : TxnId) (theirs : BodyParts) (b : Ballot) (m : Message) (view : View) → IsBody cluster items y theirs
-      → IsAnswer cluster items y theirs b is_recover_ok m → m ≡ RecoverOk (from_of m) (to_of m) (id_of m) (ballot_of m) view
-      → ViewThere (from_of m) y theirs b view
-  view_there y theirs b m view is a m_is =
-      record {
-        step = a.place.step;
-        past = a.place.past;
-        at = a.place.at;
-        answer = s;
-        counting_is = body_there cluster items h (from_of m) a.place.step a.place.past y s.counting theirs a.place.at s.known is;
-      }
-    where
-      sent : IsIn (RecoverOk (from_of m) (to_of m) y b view) a.place.step.sent
-      sent =
-          subst (λ z. IsIn z a.place.step.sent)
-          (m_is ∙ ap (λ z. RecoverOk (from_of m) (to_of m) z (ballot_of m) view) a.about ∙ ap (λ z. RecoverOk (from_of m) (to_of m) y z view) a.of_ballot)
-          a.place.sent
-
-      s : SentView cluster.layout (from_of m) a.place.past a.place.step.message y b view
-      s =
-          sent_view cluster.layout (from_of m) a.place.past a.place.step.message (from_of m) (to_of m) y b view
-          (step_sends cluster.layout (from_of m) a.place.step a.place.past (RecoverOk (from_of m) (to_of m) y b view)
-          (step_answers cluster.layout (from_of m) a.place.step a.place.past (taken_of cluster (from_of m) items)
-          (each_answers cluster (from_of m) items h a.place.is_store) a.place.at)
-          sent)
 
 -- ---- the accepted record that the store has then
 

@@ -7,3 +7,6 @@ pub mod Late
 pub mod Shown
 pub mod Polled
 pub mod Noted
+pub mod Unheard
+pub mod Decided
+pub mod Revealed

@@ -26,7 +26,7 @@ use Rattle.acc_safety.proofs.Bridge.{each_answers}
 use Rattle.acc_store_facts.proofs.Drawn.{own_or_drawn}
 use Rattle.acc_safety.proofs.Meetings.{majorities_meet}
 use Rattle.acc_store_facts.proofs.Polled.{vote_said, HaveVotes, preaccept_oks_vote, recover_oks_vote, greatest_vote-above, answer_votes}
-use Rattle.acc_coverage.proofs.Unheard.{Unheard, votes_above}
+use Rattle.acc_store_facts.proofs.Unheard.{Unheard, votes_above}
 
 -- ---- what is below doesn't go above
 

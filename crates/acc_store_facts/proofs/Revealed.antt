@@ -24,10 +24,16 @@ use Rattle.acc_message.specs.Taken.{Taken, taking, Heard, rivals}
 use Rattle.acc_message.specs.BallotRules.{is_recover_ok, accepted_of, stable_of}
 use Rattle.acc_message.specs.Evidence.{accepted_without, stable_without, supersedes, accepted_above, is_awaited}
 use Rattle.acc_message.specs.RecoveryDecision.{view_in, views_in}
-use Rattle.acc_safety.specs.Places.{IsIn, First, Later}
+use Rattle.acc_message.specs.declared.item.Item.{Item}
+use Rattle.acc_message.specs.Run.{Cluster, taken_of, EachStands}
+use Rattle.acc_safety.specs.Places.{IsIn, First, Later, StandsAt}
+use Rattle.acc_safety.specs.Polls.{IsBody, IsAnswer}
+use Rattle.acc_safety.proofs.Bridge.{each_answers}
 use Rattle.acc_safety.specs.StoreFactStatements.{IsKnownRival}
 use Rattle.acc_safety.proofs.PlaceOrder.{any_from, filter-IsIn, map-IsIn}
-use Rattle.acc_store_facts.proofs.Sent.{SentView}
+use Rattle.acc_store_facts.proofs.Knowing.{step_answers, step_sends}
+use Rattle.acc_store_facts.proofs.Sent.{SentView, sent_view}
+use Rattle.acc_store_facts.proofs.Unheard.{body_there}
 use Rattle.acc_store_facts.proofs.Named.{rival_is_in}
 
 -- ---- the view of an answer
@@ -106,3 +112,39 @@ awaited_by_accepted past x y a is older above unstable =
     and_from (accepted_above y x (accepted_of past x)) (is_none (stable_of past x))
     (ap (accepted_above y x) is ∙ and_from (id_lt x y) (stamp_lt y.0 a.t) older above)
     (ap is_none unstable)
+
+-- ---- a view in its store's history
+
+module _ (cluster : Cluster) (items : List Item) (h : EachStands cluster items) where
+  pub record ViewThere (a : Actor) (y : TxnId) (theirs : BodyParts) (b : Ballot) (view : View) : Type 0 where
+    pub step : Taken
+    pub past : List Taken
+    pub at : StandsAt step past (taken_of cluster a items)
+    pub answer : SentView cluster.layout a past step.message y b view
+    pub counting_is : answer.counting ≡ theirs
+
+  pub view_there : (y : TxnId) (theirs : BodyParts) (b : Ballot) (m : Message) (view : View) → IsBody cluster items y theirs
+      → IsAnswer cluster items y theirs b is_recover_ok m → m ≡ RecoverOk (from_of m) (to_of m) (id_of m) (ballot_of m) view
+      → ViewThere (from_of m) y theirs b view
+  view_there y theirs b m view is a m_is =
+      record {
+        step = a.place.step;
+        past = a.place.past;
+        at = a.place.at;
+        answer = s;
+        counting_is = body_there cluster items h (from_of m) a.place.step a.place.past y s.counting theirs a.place.at s.known is;
+      }
+    where
+      sent : IsIn (RecoverOk (from_of m) (to_of m) y b view) a.place.step.sent
+      sent =
+          subst (λ z. IsIn z a.place.step.sent)
+          (m_is ∙ ap (λ z. RecoverOk (from_of m) (to_of m) z (ballot_of m) view) a.about ∙ ap (λ z. RecoverOk (from_of m) (to_of m) y z view) a.of_ballot)
+          a.place.sent
+
+      s : SentView cluster.layout (from_of m) a.place.past a.place.step.message y b view
+      s =
+          sent_view cluster.layout (from_of m) a.place.past a.place.step.message (from_of m) (to_of m) y b view
+          (step_sends cluster.layout (from_of m) a.place.step a.place.past (RecoverOk (from_of m) (to_of m) y b view)
+          (step_answers cluster.layout (from_of m) a.place.step a.place.past (taken_of cluster (from_of m) items)
+          (each_answers cluster (from_of m) items h a.place.is_store) a.place.at)
+          sent)
