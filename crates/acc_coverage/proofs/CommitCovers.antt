@@ -1,6 +1,6 @@
 -- What a majority committed names each rival that is decided at a smaller timestamp.
 use Rattle.std.proofs.Common.{◌≡◌, ℕ, true, false, List, Some, sym, ◌∙◌, ap, subst}
-use Rattle.std.proofs.lemmas.Bool.{true≢false, true_from_ne_false, false_from_ne_true, or_parts}
+use Rattle.std.proofs.lemmas.Bool.{true≢false, true_from_ne_false, false_from_ne_true}
 use Rattle.acc_stamp.specs.declared.stamps.Stamp.{Stamp}
 use Rattle.acc_stamp.specs.declared.stamps.TxnId.{TxnId}
 use Rattle.acc_stamp.specs.declared.stamps.Ballot.{Ballot}
@@ -12,10 +12,8 @@ use Rattle.acc_deps.specs.declared.shards.ShardDeps.{ShardDeps}
 use Rattle.acc_deps.specs.declared.records.Settled.{Settled}
 use Rattle.acc_deps.specs.declared.records.View.{View}
 use Rattle.acc_deps.specs.Deps.{deps_has}
-use Rattle.acc_deps.proofs.ByShard.{deps_has-union}
 use Rattle.acc_txn.specs.declared.parts.BodyParts.{BodyParts}
 use Rattle.acc_message.specs.declared.message.Message.{Message}
-use Rattle.acc_message.specs.declared.message.Message.TheVariants.{Accept}
 use Rattle.acc_message.specs.declared.item.Item.{Item}
 use Rattle.acc_message.specs.Fields.{from_of}
 use Rattle.acc_message.specs.Attempts.{is_preaccept_ok, deps_in_answer, union_of}
@@ -30,51 +28,24 @@ use Rattle.acc_safety.specs.Statements.{CoveredByCommits}
 use Rattle.acc_safety.specs.Valid.{IsStanding}
 use Rattle.acc_safety.proofs.PlaceOrder.{any_from}
 use Rattle.acc_safety.proofs.Meetings.{majorities_meet, fast_meets_majority}
-use Rattle.acc_safety.proofs.SetsNamed.{deps_are_sets}
-use Rattle.acc_store_facts.proofs.Polled.{preaccept_oks_vote, recover_oks_vote, answers_union, answer_lacks}
+use Rattle.acc_store_facts.proofs.Polled.{preaccept_oks_vote, recover_oks_vote}
 use Rattle.acc_coverage.specs.Premises.{Premises}
-use Rattle.acc_store_facts.proofs.Unheard.{AcceptedThere, accepted_there, accept_unknown, accept_unheard}
+use Rattle.acc_store_facts.proofs.Unheard.{AcceptedThere, accept_unknown}
 use Rattle.acc_store_facts.proofs.Decided.{Based, OnFast, OnRoot, based, based_not_below, AreUnheard, met_greatest, met_kept}
+use Rattle.acc_store_facts.proofs.Lacking.{turned, there_accepted, answer_lacking, accepts_unheard, root_lacks}
 use Rattle.acc_store_facts.proofs.Revealed.{ViewThere, view_there, HasView, has_view, views_in-IsIn, waits_of-has}
 use Rattle.acc_coverage.proofs.OwnIsFound.{own_is_found}
 
-turned : (shard : ℕ) (one other : Message → Type 0) (answers more : List Message) → Meeting shard one other answers more → Meeting shard other one more answers
-turned shard one other answers more m =
-    record {
-      store = m.store;
-      of_shard = m.of_shard;
-      first = m.second;
-      second = m.first;
-      first_in = m.second_in;
-      second_in = m.first_in;
-      first_from = m.second_from;
-      second_from = m.first_from;
-      first_is = m.second_is;
-      second_is = m.first_is;
-    }
-
 module _ (cluster : Cluster) (items : List Item) (s : IsStanding cluster items) (p : Premises cluster items) (shard : ℕ) (x y : TxnId) (body theirs : BodyParts) (t : Stamp) (deps : List ShardDeps) (r : AreRivals cluster items shard y x theirs body) (decided : DecisionRoot cluster items x body t deps) (root : CommitRoot cluster items x body t deps) where
-  -- what is committed without y was proposed without it, and no store that accepted it named it
+  accepting : (m : Message) → IsIn m root.answers → AcceptedThere cluster items s.stands (from_of m) x body root.ballot t (deps_in_answer m)
+  accepting = there_accepted cluster items s.stands shard x y body theirs r p.one_proposal root.ballot t root.proposed root.answers root.accepted
+
   lacking : deps_has deps shard y ≡ false → (deps_has root.proposed shard y ≡ false) × (deps_has (union_of x root.answers) shard y ≡ false)
-  lacking lacks =
-      or_parts (deps_has root.proposed shard y) (deps_has (union_of x root.answers) shard y)
-      (sym (deps_has-union root.proposed (union_of x root.answers) shard y
-      ((deps_are_sets cluster items s.stands).messages (Accept root.accepted.proposal.from root.accepted.proposal.to x root.ballot body t root.proposed) root.accepted.proposal.sending).0
-      (answers_union cluster items s.stands (deps_are_sets cluster items s.stands) x body root.ballot is_accept_ok root.answers root.accepted.are))
-      ∙ ap (λ d. deps_has d shard y) (sym root.deps_are) ∙ lacks)
-
-  there_accepted : (m : Message) → IsIn m root.answers → AcceptedThere cluster items s.stands (from_of m) x body root.ballot t (deps_in_answer m)
-  there_accepted m there =
-      accepted_there cluster items s.stands p.one_proposal x body root.ballot t root.proposed m r.second_is root.accepted.proposal (root.accepted.are m there)
-
-  answer_lacking : deps_has deps shard y ≡ false → (m : Message) → IsIn m root.answers → deps_has (deps_in_answer m) shard y ≡ false
-  answer_lacking lacks m there =
-      answer_lacks cluster items s.stands (deps_are_sets cluster items s.stands) x y body root.ballot is_accept_ok root.answers m shard root.accepted.are there (lacking lacks).1
+  lacking = root_lacks cluster items s.stands shard x y body theirs r t deps root
 
   accept_all_unheard : deps_has deps shard y ≡ false → stamp_lt y.0 t ≡ true → AreUnheard cluster items s.stands shard x y body theirs r root.answers t
-  accept_all_unheard lacks under m there in_shard =
-      accept_unheard cluster items s.stands (from_of m) shard x y body theirs root.ballot t (deps_in_answer m) (root.accepted.are m there).place.is_store in_shard r
-      (there_accepted m there) (answer_lacking lacks m there) under
+  accept_all_unheard lacks =
+      accepts_unheard cluster items s.stands shard x y body theirs r p.one_proposal root.ballot t root.proposed root.answers root.accepted (lacking lacks).1
 
   -- ---- a decision of y at its own timestamp by a recovery
 
@@ -90,9 +61,9 @@ module _ (cluster : Cluster) (items : List Item) (s : IsStanding cluster items) 
       → Meeting shard IsAny IsAny root.answers more → deps_has deps shard y ≡ false → stamp_lt y.0 t ≡ true → ⊥
   own_is_late b more are free m lacks under =
       own_is_found cluster items s.stands p shard x y body theirs r (from_of m.first) root.ballot b t root.proposed (deps_in_answer m.first) root.answers v.view
-      a.place.is_store in_shard root.accepted (there_accepted m.first m.first_in)
+      a.place.is_store in_shard root.accepted (accepting m.first m.first_in)
       (accept_unknown cluster items s.stands (from_of m.first) shard x y body theirs root.ballot t (deps_in_answer m.first) a.place.is_store in_shard r
-      (there_accepted m.first m.first_in) (answer_lacking lacks m.first m.first_in) under)
+      (accepting m.first m.first_in) (answer_lacking cluster items s.stands shard x y body theirs r p.one_proposal root.ballot t root.proposed root.answers root.accepted (lacking lacks).1 m.first m.first_in) under)
       (subst (λ c. ViewThere cluster items s.stands c y theirs b v.view) (m.second_from ∙ sym m.first_from)
       (view_there cluster items s.stands y theirs b m.second v.view r.first_is (are m.second m.second_in) v.is))
       (lacking lacks).0 under

@@ -1,5 +1,5 @@
 -- What is decided fast names each rival that is decided at a smaller timestamp.
-use Rattle.std.proofs.Common.{◌≡◌, ℕ, true, false, List}
+use Rattle.std.proofs.Common.{◌≡◌, ℕ, true, List}
 use Rattle.std.proofs.lemmas.Bool.{true_from_ne_false}
 use Rattle.acc_stamp.specs.declared.stamps.Stamp.{Stamp}
 use Rattle.acc_stamp.specs.declared.stamps.TxnId.{TxnId}
@@ -10,31 +10,20 @@ use Rattle.acc_deps.specs.Deps.{deps_has}
 use Rattle.acc_txn.specs.declared.parts.BodyParts.{BodyParts}
 use Rattle.acc_message.specs.declared.message.Message.{Message}
 use Rattle.acc_message.specs.declared.item.Item.{Item}
-use Rattle.acc_message.specs.Fields.{from_of}
 use Rattle.acc_message.specs.Attempts.{is_preaccept_ok, union_of}
 use Rattle.acc_message.specs.BallotRules.{is_recover_ok}
 use Rattle.acc_message.specs.Run.{Cluster}
-use Rattle.acc_safety.specs.Polls.{IsAnswer, AreRivals, IsAny, Kept}
+use Rattle.acc_safety.specs.Polls.{AreRivals, IsAny, Kept}
 use Rattle.acc_safety.specs.Roots.{Root, GreatestOfVotes, GreatestOfViews, Own, FastBy}
 use Rattle.acc_safety.specs.Statements.{CoveredByFast}
 use Rattle.acc_safety.specs.Valid.{IsStanding}
 use Rattle.acc_safety.proofs.Meetings.{fast_meets_majority, fast_meets_fast, fast_meets_possible_fast}
-use Rattle.acc_safety.proofs.SetsNamed.{deps_are_sets}
-use Rattle.acc_store_facts.proofs.Polled.{vote_said, preaccept_oks_vote, recover_oks_vote, answer_votes, answer_lacks}
+use Rattle.acc_store_facts.proofs.Polled.{preaccept_oks_vote, recover_oks_vote}
 use Rattle.acc_coverage.specs.Premises.{Premises}
-use Rattle.acc_store_facts.proofs.Unheard.{vote_unheard}
+use Rattle.acc_store_facts.proofs.Lacking.{votes_unheard}
 use Rattle.acc_store_facts.proofs.Decided.{Based, OnFast, OnRoot, based, based_not_below, AreUnheard, met_greatest, met_kept}
 
 module _ (cluster : Cluster) (items : List Item) (s : IsStanding cluster items) (p : Premises cluster items) (shard : ℕ) (x y : TxnId) (body theirs : BodyParts) (answers : List Message) (r : AreRivals cluster items shard y x theirs body) (f : FastBy cluster items x body answers) where
-  fast_unheard : deps_has (union_of x answers) shard y ≡ false → stamp_lt y.0 x.0 ≡ true → AreUnheard cluster items s.stands shard x y body theirs r answers x.0
-  fast_unheard lacks below m there in_shard =
-      vote_unheard cluster items s.stands (from_of m) shard x y body theirs (vote_said m) a.place.is_store in_shard r
-      (answer_votes cluster items s.stands x body zero_ballot is_preaccept_ok m preaccept_oks_vote a)
-      (answer_lacks cluster items s.stands (deps_are_sets cluster items s.stands) x y body zero_ballot is_preaccept_ok answers m shard f.are there lacks) below
-    where
-      a : IsAnswer cluster items x body zero_ballot is_preaccept_ok m
-      a = f.are m there
-
   -- without y no decision of it at a smaller timestamp goes back to anything
   root_is_late : (t : Stamp) (deps : List ShardDeps) → Root cluster items y theirs t deps → AreUnheard cluster items s.stands shard x y body theirs r answers x.0
       → stamp_lt y.0 x.0 ≡ true → stamp_lt t x.0 ≡ true → ⊥
@@ -62,7 +51,7 @@ module _ (cluster : Cluster) (items : List Item) (s : IsStanding cluster items) 
       let under : stamp_lt y.0 x.0 ≡ true =
       le-lt-trans stamp_order y.0 t x.0 (based_not_below cluster items s.stands y theirs t shard s.valid.layout r.first_uses base) below in
       true_from_ne_false (deps_has (union_of x answers) shard y)
-      (λ lacks. is_late t base (fast_unheard lacks under) under below)
+      (λ lacks. is_late t base (votes_unheard cluster items s.stands shard x y body theirs r zero_ballot is_preaccept_ok answers preaccept_oks_vote f.are lacks under) under below)
 
 pub covered_by_fast : (cluster : Cluster) (items : List Item) → IsStanding cluster items → Premises cluster items → CoveredByFast cluster items
 covered_by_fast cluster items s p shard x y body theirs answers t deps r f root below =

@@ -17,33 +17,27 @@ use Rattle.acc_deps.specs.declared.records.View.{View}
 use Rattle.acc_deps.specs.Deps.{deps_has}
 use Rattle.acc_txn.specs.declared.parts.BodyParts.{BodyParts}
 use Rattle.acc_message.specs.declared.message.Message.{Message}
-use Rattle.acc_message.specs.declared.message.Message.TheVariants.{Accept, RecoverOk}
 use Rattle.acc_message.specs.declared.item.Item.{Item}
-use Rattle.acc_message.specs.Fields.{from_of, to_of, id_of, ballot_of}
 use Rattle.acc_message.specs.Shares.{conflict_in}
 use Rattle.acc_message.specs.Taken.{Taken, taking, body_known}
-use Rattle.acc_message.specs.BallotRules.{is_recover_ok, accepted_by, accepted_of, stable_of, settled_in}
+use Rattle.acc_message.specs.BallotRules.{accepted_by, accepted_of, stable_of, settled_in}
 use Rattle.acc_message.specs.Evidence.{supersedes}
 use Rattle.acc_message.specs.Run.{Cluster, taken_of, is_node, EachStands}
 use Rattle.acc_base.specs.Faults.{or_else}
-use Rattle.acc_actor_laws.proofs.OpeningFacts.{some_is}
-use Rattle.acc_safety.specs.Places.{IsIn, StandsAt, IsPast, Whole, Behind}
-use Rattle.acc_safety.specs.Histories.{EachAnswers, Sending}
-use Rattle.acc_safety.specs.Polls.{IsBody, IsAnswer, AreRivals}
+use Rattle.acc_safety.specs.Places.{StandsAt, IsPast, Whole, Behind}
+use Rattle.acc_safety.specs.Histories.{EachAnswers}
+use Rattle.acc_safety.specs.Polls.{IsBody, AreRivals}
 use Rattle.acc_safety.specs.Roots.{Proposed, AcceptedBy}
 use Rattle.acc_safety.specs.StoreFactStatements.{IsKnownRival}
-use Rattle.acc_safety.proofs.PlaceOrder.{StandsAt-IsPast, StandsAt-whole}
+use Rattle.acc_safety.proofs.PlaceOrder.{StandsAt-IsPast}
 use Rattle.acc_safety.proofs.Bridge.{each_answers}
-use Rattle.acc_safety.proofs.Frame.{bodies_are_begun, past_of}
-use Rattle.acc_safety.proofs.StoreNotions.{AcceptedIn, accepted_from}
-use Rattle.acc_store_facts.proofs.Knowing.{body_known-past, step_answers, step_sends}
-use Rattle.acc_store_facts.proofs.Sent.{SentView, sent_view}
+use Rattle.acc_safety.proofs.Frame.{past_of}
+use Rattle.acc_store_facts.proofs.Knowing.{body_known-past, step_answers}
 use Rattle.acc_store_facts.proofs.Late.{before_heard}
 use Rattle.acc_store_facts.proofs.Shown.{HasFrom, accepted_kind, accepted_now, from_past}
-use Rattle.acc_store_facts.proofs.Polled.{step_taken}
 use Rattle.acc_coverage.specs.Premises.{Premises}
-use Rattle.acc_store_facts.proofs.Unheard.{body_there, AcceptedThere}
-use Rattle.acc_store_facts.proofs.Revealed.{ViewThere, view_there, rival_supersedes, rival_is_awaited, superseded_by_accepted, superseded_by_stable, awaited_by_accepted}
+use Rattle.acc_store_facts.proofs.Unheard.{AcceptedThere, proposed_there}
+use Rattle.acc_store_facts.proofs.Revealed.{ViewThere, rival_supersedes, rival_is_awaited, superseded_by_accepted, superseded_by_stable, awaited_by_accepted}
 
 pub stable_of-past : (x : TxnId) (s : Settled) (past history : List Taken) → stable_of past x ≡ Some s → IsPast past history → stable_of history x ≡ Some s
 stable_of-past x s past history e (Whole xs) = e
@@ -58,24 +52,8 @@ module _ (cluster : Cluster) (items : List Item) (h : EachStands cluster items) 
       → accepted_of past x ≡ Some found → ballot_lt found.ballot b ≡ false → (found.t ≡ t) × (found.deps ≡ proposed)
   record_same a x body b t proposed answers past found is accepted within found_is from_b = by (cases_Bool (ballot_lt b found.ballot))
     where
-      i : AcceptedIn past x found
-      i = accepted_from past x found found_is
-
-      sending : Sending items (Accept i.from i.to x found.ballot i.body found.t found.deps)
-      sending =
-          subst (λ m. Sending items m) i.message_is
-          (step_taken cluster items h a i.step i.past (StandsAt-whole i.step i.past past (taken_of cluster a items) i.at within))
-
-      body_is : i.body ≡ body
-      body_is = some_is i.body body (sym (bodies_are_begun cluster items h (Accept i.from i.to x found.ballot i.body found.t found.deps) i.body sending refl) ∙ is)
-
       found_proposed : Proposed items x body found.ballot found.t found.deps
-      found_proposed =
-          record {
-            from = i.from;
-            to = i.to;
-            sending = subst (λ z. Sending items (Accept i.from i.to x found.ballot z found.t found.deps)) body_is sending;
-          }
+      found_proposed = proposed_there cluster items h a x body past found is within found_is
 
       by : (ballot_lt b found.ballot ≡ true) ⊎ (ballot_lt b found.ballot ≡ false) → (found.t ≡ t) × (found.deps ≡ proposed)
       by (inl above) = p.accepted_last x body b found.ballot t found.t proposed found.deps answers accepted found_proposed above

@@ -10,3 +10,4 @@ pub mod Noted
 pub mod Unheard
 pub mod Decided
 pub mod Revealed
+pub mod Lacking

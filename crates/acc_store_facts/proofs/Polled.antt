@@ -104,12 +104,15 @@ module _ (cluster : Cluster) (items : List Item) (h : EachStands cluster items) 
       Sending-past s.earlier items step.message (IsPast-rest (Step s.entry) s.earlier items (StandsAt-IsPast (Step s.entry) s.earlier items s.at)) s.sending
 
   -- the body by which a store knows a transaction is the begun one
+  pub known_body : BodiesAreBegun cluster items → (a : Actor) (x : TxnId) (known : BodyParts) → body_known (taken_of cluster a items) x ≡ Some known
+      → IsBody cluster items x known
+  known_body begun a x known e =
+      let l = learnt_in x known (taken_of cluster a items) e in
+      subst (λ z. IsBody cluster items z known) l.learns.about (begun l.step.message known (step_taken a l.step l.past l.at) l.learns.brings)
+
   pub known_is_begun : BodiesAreBegun cluster items → (a : Actor) (x : TxnId) (known body : BodyParts)
       → body_known (taken_of cluster a items) x ≡ Some known → IsBody cluster items x body → known ≡ body
-  known_is_begun begun a x known body e is =
-      let l = learnt_in x known (taken_of cluster a items) e in
-      some_is known body
-      (sym (subst (λ z. IsBody cluster items z known) l.learns.about (begun l.step.message known (step_taken a l.step l.past l.at) l.learns.brings)) ∙ is)
+  known_is_begun begun a x known body e is = some_is known body (sym (known_body begun a x known e) ∙ is)
 
   -- ---- the dependencies of answers
 

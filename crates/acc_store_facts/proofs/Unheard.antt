@@ -9,6 +9,7 @@ use Rattle.acc_stamp.specs.Actor.{shard_of}
 use Rattle.acc_stamp.specs.Stamp.{stamp_lt}
 use Rattle.acc_stamp.proofs.Order.{id_order, eq_itself}
 use Rattle.acc_deps.specs.declared.shards.ShardDeps.{ShardDeps}
+use Rattle.acc_deps.specs.declared.records.Accepted.{Accepted}
 use Rattle.acc_deps.specs.Deps.{deps_has}
 use Rattle.acc_txn.specs.declared.parts.BodyParts.{BodyParts}
 use Rattle.acc_message.specs.declared.message.Message.{Message}
@@ -19,23 +20,24 @@ use Rattle.acc_message.specs.Shares.{conflict_in}
 use Rattle.acc_message.specs.Taken.{Taken, body_known}
 use Rattle.acc_message.specs.VoteRule.{Vote, vote_of, times_in, stamps_of}
 use Rattle.acc_message.specs.Attempts.{deps_in_answer}
-use Rattle.acc_message.specs.BallotRules.{is_accept_ok}
+use Rattle.acc_message.specs.BallotRules.{is_accept_ok, accepted_of}
 use Rattle.acc_message.specs.Run.{Cluster, taken_of, is_node, EachStands}
-use Rattle.acc_safety.specs.Places.{IsIn, First, StandsAt}
+use Rattle.acc_actor_laws.proofs.OpeningFacts.{some_is}
+use Rattle.acc_safety.specs.Places.{IsIn, First, StandsAt, IsPast}
 use Rattle.acc_safety.specs.Histories.{Sending}
 use Rattle.acc_safety.specs.Polls.{IsBody, IsAnswer, AreRivals}
 use Rattle.acc_safety.specs.Roots.{Proposed}
 use Rattle.acc_safety.specs.Statements.{OneProposal}
 use Rattle.acc_safety.specs.StoreFactStatements.{VoteMade, IsKnownRival}
-use Rattle.acc_safety.proofs.PlaceOrder.{StandsAt-IsPast}
+use Rattle.acc_safety.proofs.PlaceOrder.{StandsAt-IsPast, StandsAt-whole}
 use Rattle.acc_safety.proofs.Bridge.{each_answers}
 use Rattle.acc_safety.proofs.Frame.{bodies_are_begun}
-use Rattle.acc_safety.proofs.StoreNotions.{votes_are_made}
+use Rattle.acc_safety.proofs.StoreNotions.{votes_are_made, AcceptedIn, accepted_from}
 use Rattle.acc_store_facts.proofs.Knowing.{body_known-past, step_answers, step_sends}
 use Rattle.acc_store_facts.proofs.Sent.{SentAcceptOk, sent_accept_ok}
 use Rattle.acc_store_facts.proofs.Named.{votes_name_known, accepts_name_known}
 use Rattle.acc_store_facts.proofs.Late.{own_stamp_is_in, time_is_in, late_votes_above}
-use Rattle.acc_store_facts.proofs.Polled.{known_is_begun, step_taken}
+use Rattle.acc_store_facts.proofs.Polled.{known_body, known_is_begun, step_taken}
 
 -- an AcceptOk by its fields
 pub accept_ok_is : (m : Message) → is_accept_ok m ≡ true → m ≡ AcceptOk (from_of m) (to_of m) (id_of m) (ballot_of m) (deps_in_answer m)
@@ -51,6 +53,12 @@ module _ (cluster : Cluster) (items : List Item) (h : EachStands cluster items) 
   body_there a step past x known body at e is =
       known_is_begun cluster items h (bodies_are_begun cluster items h) a x known body
       (body_known-past x known (step ∷ past) (taken_of cluster a items) e (StandsAt-IsPast step past (taken_of cluster a items) at)) is
+
+  pub known_there : (a : Actor) (step : Taken) (past : List Taken) (x : TxnId) (known : BodyParts) → StandsAt step past (taken_of cluster a items)
+      → body_known (step ∷ past) x ≡ Some known → IsBody cluster items x known
+  known_there a step past x known at e =
+      known_body cluster items h (bodies_are_begun cluster items h) a x known
+      (body_known-past x known (step ∷ past) (taken_of cluster a items) e (StandsAt-IsPast step past (taken_of cluster a items) at))
 
   -- after some step of the store x is known and has the stamp, and y isn't known
   pub record Unheard (a : Actor) (x y : TxnId) (body : BodyParts) (s : Stamp) : Type 0 where
@@ -211,3 +219,26 @@ module _ (cluster : Cluster) (items : List Item) (h : EachStands cluster items) 
             time_is_in (s.step ∷ s.past) x t s.step (First s.step s.past)
             (subst (λ m. IsIn t (times_in x m)) (sym s.message_is) (accept_time x s.from s.to b s.brought t s.proposed));
       }
+
+  -- ---- an accepted record
+
+  -- it says what was proposed at its ballot
+  pub proposed_there : (a : Actor) (x : TxnId) (body : BodyParts) (past : List Taken) (found : Accepted) → IsBody cluster items x body
+      → IsPast past (taken_of cluster a items) → accepted_of past x ≡ Some found → Proposed items x body found.ballot found.t found.deps
+  proposed_there a x body past found is within found_is =
+      record {
+        from = i.from;
+        to = i.to;
+        sending =
+          subst (λ z. Sending items (Accept i.from i.to x found.ballot z found.t found.deps))
+          (some_is i.body body (sym (bodies_are_begun cluster items h (Accept i.from i.to x found.ballot i.body found.t found.deps) i.body sending refl) ∙ is))
+          sending;
+      }
+    where
+      i : AcceptedIn past x found
+      i = accepted_from past x found found_is
+
+      sending : Sending items (Accept i.from i.to x found.ballot i.body found.t found.deps)
+      sending =
+          subst (λ m. Sending items m) i.message_is
+          (step_taken cluster items h a i.step i.past (StandsAt-whole i.step i.past past (taken_of cluster a items) i.at within))
