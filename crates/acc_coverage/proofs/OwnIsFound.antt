@@ -34,14 +34,10 @@ use Rattle.acc_safety.proofs.Bridge.{each_answers}
 use Rattle.acc_safety.proofs.Frame.{past_of}
 use Rattle.acc_store_facts.proofs.Knowing.{body_known-past, step_answers}
 use Rattle.acc_store_facts.proofs.Late.{before_heard}
-use Rattle.acc_store_facts.proofs.Shown.{HasFrom, accepted_kind, accepted_now, from_past}
+use Rattle.acc_store_facts.proofs.Shown.{stable_of-past, HasFrom, accepted_kind, accepted_now, from_past}
 use Rattle.acc_coverage.specs.Premises.{Premises}
 use Rattle.acc_store_facts.proofs.Unheard.{AcceptedThere, proposed_there}
 use Rattle.acc_store_facts.proofs.Revealed.{ViewThere, rival_supersedes, rival_is_awaited, superseded_by_accepted, superseded_by_stable, awaited_by_accepted}
-
-pub stable_of-past : (x : TxnId) (s : Settled) (past history : List Taken) → stable_of past x ≡ Some s → IsPast past history → stable_of history x ≡ Some s
-stable_of-past x s past history e (Whole xs) = e
-stable_of-past x s past history e (Behind step xs ys there) = ap (λ o. or_else o (settled_in x step.message)) (stable_of-past x s xs ys e there)
 
 -- ---- the accepted record that the store has then
 

@@ -4,7 +4,7 @@ use Rattle.std.proofs.lemmas.Bool.{true≢false, or_left, or_right}
 use Rattle.acc_stamp.specs.declared.stamps.TxnId.{TxnId}
 use Rattle.acc_stamp.specs.declared.actors.Actor.{Actor}
 use Rattle.acc_stamp.specs.Stamp.{id_eq}
-use Rattle.acc_stamp.proofs.Order.{id_order}
+use Rattle.acc_stamp.proofs.Order.{id_order, eq_itself}
 use Rattle.acc_topology.specs.Layout.{Layout}
 use Rattle.acc_txn.specs.declared.parts.BodyParts.{BodyParts}
 use Rattle.acc_message.specs.declared.message.Message.{Message}
@@ -103,3 +103,37 @@ step_answers layout own step past history each at = EachAnswers-past layout own 
 pub step_sends : (layout : Layout) (own : Actor) (step : Taken) (past : List Taken) (m : Message) → EachAnswers layout own (step ∷ past)
     → IsIn m step.sent → StoreSends layout own past step.message m
 step_sends layout own step past m each sent = store_sends layout own past step.message m (subst (IsIn m) each.0 sent)
+
+-- ---- each is heard once
+
+-- no other one has its id
+abbrev Once : List Heard → Type 0
+Once [] = Unit {0}
+Once (k ∷ heard) = (is_heard k.id heard ≡ false) × Once heard
+
+once_learnt : (b : Bool) (id : TxnId) (o : Option BodyParts) (before : List Heard) → is_heard id before ≡ b → Once before → Once (learnt b id o before)
+once_learnt true id o before is once = once
+once_learnt false id None before is once = once
+once_learnt false id (Some body) before is once = (is, once)
+
+known-once : (history : List Taken) → Once (known history)
+known-once [] = tt
+known-once (step ∷ past) =
+    once_learnt (is_heard (id_of step.message) (known past)) (id_of step.message) (body_in step.message) (known past) refl (known-once past)
+
+heard_first : (k : Heard) (heard : List Heard) → heard_body k.id (k ∷ heard) ≡ Some k.body
+heard_first k heard = ap (λ b. cond b (Some k.body) (heard_body k.id heard)) (eq_itself id_order k.id)
+
+heard_later : (j k : Heard) (heard : List Heard) (b : Bool) → id_eq j.id k.id ≡ b → is_heard j.id heard ≡ false → heard_body k.id heard ≡ Some k.body
+    → heard_body k.id (j ∷ heard) ≡ Some k.body
+heard_later j k heard true is unheard e =
+    absurd (true≢false (sym (heard_body-is_heard k.id heard k.body e) ∙ subst (λ z. is_heard z heard ≡ false) ((id_order.decides j.id k.id).0 is) unheard))
+heard_later j k heard false is unheard e = ap (λ b. cond b (Some j.body) (heard_body k.id heard)) is ∙ e
+
+IsIn-heard_body : (k : Heard) (heard : List Heard) → IsIn k heard → Once heard → heard_body k.id heard ≡ Some k.body
+IsIn-heard_body k heard (First a rest) once = heard_first a rest
+IsIn-heard_body k heard (Later a b rest there) once = heard_later b a rest (id_eq b.id a.id) refl once.0 (IsIn-heard_body a rest there once.1)
+
+-- what is known is known by its body
+pub known_itself : (k : Heard) (history : List Taken) → IsIn k (known history) → body_known history k.id ≡ Some k.body
+known_itself k history there = IsIn-heard_body k (known history) there (known-once history)

@@ -1,5 +1,5 @@
 -- What a view reveals of a rival that its store knows.
-use Rattle.std.proofs.Common.{◌≡◌, ℕ, true, false, not, List, [], Option, None, Some, is_none, map, filter, refl, sym, ◌∙◌, ap, subst}
+use Rattle.std.proofs.Common.{◌≡◌, ℕ, true, false, not, List, [], ◌∷◌, Option, None, Some, is_none, map, filter, refl, sym, ◌∙◌, ap, subst, ⊎_elim}
 use Rattle.std.specs.List.{cons_option}
 use Rattle.std.proofs.lemmas.Bool.{true≢false, and_from, or_left, or_right, not_from_false}
 use Rattle.acc_stamp.specs.declared.stamps.TxnId.{TxnId}
@@ -30,7 +30,9 @@ use Rattle.acc_safety.specs.Places.{IsIn, First, Later, StandsAt}
 use Rattle.acc_safety.specs.Polls.{IsBody, IsAnswer}
 use Rattle.acc_safety.proofs.Bridge.{each_answers}
 use Rattle.acc_safety.specs.StoreFactStatements.{IsKnownRival}
-use Rattle.acc_safety.proofs.PlaceOrder.{any_from, filter-IsIn, map-IsIn}
+use Rattle.acc_safety.proofs.PlaceOrder.{any_from, filter-IsIn, map-IsIn, IsIn-cases}
+use Rattle.acc_actor_laws.proofs.Standing.{not_none}
+use Rattle.acc_actor_laws.proofs.OpeningFacts.{some_is}
 use Rattle.acc_store_facts.proofs.Knowing.{step_answers, step_sends}
 use Rattle.acc_store_facts.proofs.Sent.{SentView, sent_view}
 use Rattle.acc_store_facts.proofs.Unheard.{body_there}
@@ -66,6 +68,32 @@ later_option view (Some v) views h = Later view v views h
 pub views_in-IsIn : (view : View) (m : Message) (answers : List Message) → IsIn m answers → view_in m ≡ Some view → IsIn view (views_in answers)
 views_in-IsIn view m answers (First a rest) e = subst (λ o. IsIn view (cons_option o (views_in rest))) (sym e) (First view (views_in rest))
 views_in-IsIn view m answers (Later a b rest there) e = later_option view (view_in b) (views_in rest) (views_in-IsIn view a rest there e)
+
+-- the answer with a view
+pub record FromAnswer (answers : List Message) (view : View) : Type 0 where
+  pub message : Message
+  pub there : IsIn message answers
+  pub is : message ≡ RecoverOk (from_of message) (to_of message) (id_of message) (ballot_of message) view
+
+view_in-is : (m : Message) (view : View) → view_in m ≡ Some view → m ≡ RecoverOk (from_of m) (to_of m) (id_of m) (ballot_of m) view
+view_in-is (RecoverOk from to id ballot shown) view e = ap (RecoverOk from to id ballot) (some_is shown view e)
+view_in-is _ view e = absurd (not_none view e)
+
+from_by : (view : View) (m : Message) (rest : List Message) (o : Option View) → view_in m ≡ o → IsIn view (cons_option o (views_in rest))
+    → (IsIn view (views_in rest) → FromAnswer rest view) → FromAnswer (m ∷ rest) view
+from_by view m rest None is h more =
+    let f = more h in
+    record { message = f.message; there = Later f.message m rest f.there; is = f.is }
+from_by view m rest (Some v) is h more =
+    ⊎_elim (λ same. record { message = m; there = First m rest; is = view_in-is m view (is ∙ ap Some (sym same)) })
+    (λ later.
+      let f = more later in
+      record { message = f.message; there = Later f.message m rest f.there; is = f.is })
+    (IsIn-cases view v (views_in rest) h)
+
+pub view_from : (answers : List Message) (view : View) → IsIn view (views_in answers) → FromAnswer answers view
+view_from [] view h = elim h [ ]
+view_from (m ∷ rest) view h = from_by view m rest (view_in m) refl h (view_from rest view)
 
 -- what one view waits for all do
 pub waits_of-has : (x : TxnId) (view : View) (views : List View) → IsIn view views → id_among x view.waits ≡ true → id_among x (waits_of views) ≡ true

@@ -10,6 +10,7 @@ use Rattle.acc_stamp.specs.Stamp.{id_eq, ballot_lt, zero_ballot}
 use Rattle.acc_stamp.proofs.Order.{id_order, ballot_order, eq_itself, le-trans, lt-le-trans, le-lt-trans}
 use Rattle.acc_topology.specs.Layout.{Layout}
 use Rattle.acc_deps.specs.declared.records.Accepted.{Accepted}
+use Rattle.acc_deps.specs.declared.records.Settled.{Settled}
 use Rattle.acc_deps.specs.declared.records.View.{View}
 use Rattle.acc_deps.specs.declared.shards.ShardDeps.{ShardDeps}
 use Rattle.acc_txn.specs.declared.parts.BodyParts.{BodyParts}
@@ -17,7 +18,7 @@ use Rattle.acc_message.specs.declared.message.Message.{Message}
 use Rattle.acc_message.specs.declared.message.Message.TheVariants.{Accept, AcceptOk, Commit, CommitOk, Recover, RecoverOk}
 use Rattle.acc_message.specs.Fields.{ballot_of}
 use Rattle.acc_message.specs.Taken.{Taken}
-use Rattle.acc_message.specs.BallotRules.{greater_ballot, is_accept_ok, is_commit_ok, is_recover_ok, grants, promise_of, accepted_by, accepted_of, committed_by, committed_of}
+use Rattle.acc_message.specs.BallotRules.{greater_ballot, is_accept_ok, is_commit_ok, is_recover_ok, grants, promise_of, accepted_by, accepted_of, committed_by, committed_of, settled_in, stable_of}
 use Rattle.acc_actor_laws.proofs.Standing.{not_none}
 use Rattle.acc_actor_laws.proofs.OpeningFacts.{some_is}
 use Rattle.acc_actor_laws.proofs.StoreFacts.{promise_of-kept, granted_above}
@@ -46,6 +47,13 @@ pub granted_promised : (step : Taken) (past : List Taken) (x : TxnId) → grants
 granted_promised step past x granted =
     ap (λ b. ballot_lt (greater_ballot (promise_of past x) (cond b (ballot_of step.message) zero_ballot)) (ballot_of step.message)) granted
     ∙ greater_ballot-second (promise_of past x) (ballot_of step.message)
+
+-- ---- stable records
+
+-- a stable record stays
+pub stable_of-past : (x : TxnId) (s : Settled) (past history : List Taken) → stable_of past x ≡ Some s → IsPast past history → stable_of history x ≡ Some s
+stable_of-past x s past history e (Whole xs) = e
+stable_of-past x s past history e (Behind step xs ys there) = ap (λ o. or_else o (settled_in x step.message)) (stable_of-past x s xs ys e there)
 
 -- ---- records of one kind
 

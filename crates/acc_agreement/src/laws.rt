@@ -1,0 +1,1 @@
+//! Agreement of every run. Each law is the contract of a function that does nothing.
