@@ -44,8 +44,8 @@ module _ (cluster : Cluster) (items : List Item) (s : IsStanding cluster items) 
   one_committed x body b c t u deps more answers others one other =
       ⊎_elim
       (λ below.
-        let e = p.committed_last x body b c t u deps more answers one other.commit below in
-        (sym e.0, sym e.1))
+      let e = p.committed_last x body b c t u deps more answers one other.commit below in
+      (sym e.0, sym e.1))
       (⊎_elim
       (λ same. p.one_commit x b body body t u deps more one.commit (subst (λ z. Committed items x body z u more) (sym same) other.commit))
       (λ above. p.committed_last x body c b u t more deps others other one.commit above))

@@ -37,11 +37,11 @@ module _ (cluster : Cluster) (items : List Item) (s : IsStanding cluster items) 
   rooted d there =
       let n : DecisionNoted items d = decision_noted items d there in
       let begun : Noting n.noted.earlier (BeginNote d.id) =
-        begun_before cluster items n.noted.earlier n.noted.entry (Decide d.id d.t n.path d.deps) s.stands n.noted.at n.noted.noted refl in
+      begun_before cluster items n.noted.earlier n.noted.entry (Decide d.id d.t n.path d.deps) s.stands n.noted.at n.noted.noted refl in
       let b : BegunBy cluster items d.id =
-        was_begun cluster items d.id s.stands
-        (Noting-past n.noted.earlier items (BeginNote d.id)
-        (IsPast-rest (Step n.noted.entry) n.noted.earlier items (StandsAt-IsPast (Step n.noted.entry) n.noted.earlier items n.noted.at)) begun) in
+      was_begun cluster items d.id s.stands
+      (Noting-past n.noted.earlier items (BeginNote d.id)
+      (IsPast-rest (Step n.noted.entry) n.noted.earlier items (StandsAt-IsPast (Step n.noted.entry) n.noted.earlier items n.noted.at)) begun) in
       record { body = b.body; is = b.is; root = p.decisions d.id b.body n.path d.t d.deps b.is n.noted }
 
   same_time : (a b : Decision) → Rooted a → Rooted b → a.id ≡ b.id → a.t ≡ b.t
@@ -65,7 +65,7 @@ module _ (cluster : Cluster) (items : List Item) (s : IsStanding cluster items) 
       record {
         same = same_time a b one two;
         different = λ apart same.
-          apart
-          (timestamps_differ cluster items s p a.id b.id one.body two.body a.t a.deps b.deps one.is two.is one.root
-          (subst (λ z. DecisionRoot cluster items b.id two.body z b.deps) (sym same) two.root));
+            apart
+            (timestamps_differ cluster items s p a.id b.id one.body two.body a.t a.deps b.deps one.is two.is one.root
+            (subst (λ z. DecisionRoot cluster items b.id two.body z b.deps) (sym same) two.root));
       }

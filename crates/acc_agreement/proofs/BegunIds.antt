@@ -68,9 +68,9 @@ footprint_by parts q (p ∷ uses) is e there = (p, First p uses)
 footprint_by parts q [] is e there =
     ⊎_elim
     (λ reads.
-      absurd (by_read (any_from (key_eq q) q (read_keys parts) reads (key_eq-refl q))))
+    absurd (by_read (any_from (key_eq q) q (read_keys parts) reads (key_eq-refl q))))
     (λ writes.
-      absurd (not_none true (e ∙ ap (λ b. cond b (Some true) (cond (is_read parts q) (Some false) None)) (any_from (key_eq q) q (written_keys parts) writes (key_eq-refl q)))))
+    absurd (not_none true (e ∙ ap (λ b. cond b (Some true) (cond (is_read parts q) (Some false) None)) (any_from (key_eq q) q (written_keys parts) writes (key_eq-refl q)))))
     (IsIn-append_cases q (read_keys parts) (written_keys parts) there)
   where
     some_bool : (b : Bool) → None ≡ cond b (Some true) (Some false) → ⊥
@@ -95,11 +95,12 @@ shards_small layout uses is n h =
 pub uses_some : (layout : Layout) (parts : BodyParts) → IsLayout layout → KeepsRules parts → (shard : ℕ) × (is_among (shards_used layout parts) shard ≡ true)
 uses_some layout parts is h =
     let p = footprint_some parts h in
-    let shard : ℕ = shard_of_key layout p.0.0 in
-    (shard,
-    is_among-in_order (shards_of layout (footprint_of parts)) (shards_small layout (footprint_of parts) is) shard
-    ∙ any_from (λ m. m == shard) shard (shards_of layout (footprint_of parts))
-    (map-IsIn (λ (item : Key × Bool). shard_of_key layout item.0) p.0 (footprint_of parts) p.1) (eq-eqb shard shard refl))
+    let shard : ℕ = shard_of_key layout p.0.0 in (
+      shard,
+      is_among-in_order (shards_of layout (footprint_of parts)) (shards_small layout (footprint_of parts) is) shard
+          ∙ any_from (λ m. m == shard) shard (shards_of layout (footprint_of parts))
+          (map-IsIn (λ (item : Key × Bool). shard_of_key layout item.0) p.0 (footprint_of parts) p.1) (eq-eqb shard shard refl),
+    )
 
 -- a begun body is one of the cluster's
 get-IsIn : (bodies : List BodyParts) (txn : ℕ) (body : BodyParts) → slice_get bodies txn ≡ Some body → IsIn body bodies
@@ -125,8 +126,8 @@ txn_noted x (Down actor) earlier txn e = absurd (not_none txn e)
 txn_noted x (Step e) earlier txn is =
     ⊎_elim
     (λ here.
-      let p = passing (begins x) e.emitted.notes here in
-      record { entry = e; earlier = earlier; at = Here (Step e) earlier; noted = subst (λ n. IsIn n e.emitted.notes) (begins_is x p.element p.passes) p.there })
+    let p = passing (begins x) e.emitted.notes here in
+    record { entry = e; earlier = earlier; at = Here (Step e) earlier; noted = subst (λ n. IsIn n e.emitted.notes) (begins_is x p.element p.passes) p.there })
     (λ not_here. absurd (not_none txn (sym (ap (λ c. cond c (txn_begun e.event) None) not_here) ∙ is)))
     (cases_Bool (list_any (begins x) e.emitted.notes))
 
