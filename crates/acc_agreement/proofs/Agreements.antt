@@ -1,11 +1,9 @@
 -- Agreement of a run: each decision is noted, and goes back to a root.
-use Rattle.std.proofs.Common.{◌≡◌, true, List, Some, Contains, refl, sym, ◌∙◌, ap, subst}
+use Rattle.std.proofs.Common.{◌≡◌, List, Some, Contains, refl, sym, ◌∙◌, subst}
 use Rattle.acc_stamp.specs.declared.stamps.Stamp.{Stamp}
 use Rattle.acc_stamp.specs.declared.stamps.TxnId.{TxnId}
 use Rattle.acc_deps.specs.declared.shards.ShardDeps.{ShardDeps}
 use Rattle.acc_txn.specs.declared.parts.BodyParts.{BodyParts}
-use Rattle.acc_message.specs.declared.note.Path.{Path}
-use Rattle.acc_message.specs.declared.note.Note.{Note}
 use Rattle.acc_message.specs.declared.note.Note.TheVariants.{Begin as BeginNote, Decide}
 use Rattle.acc_message.specs.declared.item.Item.{Item}
 use Rattle.acc_message.specs.declared.item.Item.TheVariants.{Step}
@@ -13,7 +11,7 @@ use Rattle.acc_message.specs.Items.{notes_of}
 use Rattle.acc_message.specs.Run.{Cluster}
 use Rattle.acc_actor_laws.proofs.OpeningFacts.{some_is}
 use Rattle.acc_safety.specs.Decisions.{Decision, decisions_of}
-use Rattle.acc_safety.specs.Agreement.{Agrees, Agreement}
+use Rattle.acc_safety.specs.Agreement.{Agreement}
 use Rattle.acc_safety.specs.Histories.{Noting}
 use Rattle.acc_safety.specs.Polls.{IsBody}
 use Rattle.acc_safety.specs.Roots.{DecisionRoot}

@@ -1,7 +1,7 @@
 -- Of a transaction that was begun: its body, a shard that it uses, and that a node drew its id.
-use Rattle.std.proofs.Common.{◌≡◌, ℕ, zero, suc, ◌==◌, ◌<◌, ◌%◌, ◌*◌, ◌+◌, Bool, true, false, ◌||◌, cond, List, [], ◌∷◌, ◌++◌, length, map, Option, None, Some, is_none, refl, sym, ◌∙◌, ap, subst, ⊎_elim, arith}
-use Rattle.std.specs.List.{AllByRecursion, list_any, slice_get}
-use Rattle.std.proofs.lemmas.Bool.{true≢false, or_left, or_right, eq-eqb, eqb-true, cond-true, cond-false, cases_Bool}
+use Rattle.std.proofs.Common.{◌≡◌, ℕ, zero, suc, ◌==◌, ◌*◌, Bool, true, false, cond, List, [], ◌∷◌, ◌++◌, length, Option, None, Some, is_none, refl, sym, ◌∙◌, ap, subst, ⊎_elim, arith}
+use Rattle.std.specs.List.{list_any, slice_get}
+use Rattle.std.proofs.lemmas.Bool.{true≢false, eq-eqb, eqb-true, cases_Bool}
 use Rattle.acc_base.specs.Faults.{or_else}
 use Rattle.acc_stamp.specs.declared.stamps.TxnId.{TxnId}
 use Rattle.acc_stamp.specs.declared.actors.Actor.{Actor}
@@ -19,7 +19,7 @@ use Rattle.acc_value.specs.Pairs.{find}
 use Rattle.acc_value.proofs.KeyOrder.{key_eq-refl}
 use Rattle.acc_txn.specs.declared.parts.BodyParts.{BodyParts}
 use Rattle.acc_txn.specs.declared.error.BodyError.{BodyError}
-use Rattle.acc_txn.specs.Rules.{IsBody as KeepsRules, has_too_many, has_unbound_name, has_name_twice, has_no_key, refusal_of}
+use Rattle.acc_txn.specs.Rules.{IsBody as KeepsRules, has_too_many, has_unbound_name, has_name_twice, has_no_key}
 use Rattle.acc_txn.specs.Uses.{read_keys, written_keys, footprint_of, is_read, is_updated}
 use Rattle.acc_txn.proofs.UsesFacts.{find-footprint_of}
 use Rattle.acc_message.specs.declared.entry.Emitted.{Emitted}
@@ -29,13 +29,13 @@ use Rattle.acc_message.specs.declared.item.Item.{Item}
 use Rattle.acc_message.specs.declared.item.Item.TheVariants.{Step, Skipped, Down}
 use Rattle.acc_message.specs.Items.{begins, txn_begun, txn_in, txn_of}
 use Rattle.acc_message.specs.Shares.{shards_used}
-use Rattle.acc_message.specs.NodeRules.{Act, Begins, Deed, next_id, clock_events}
+use Rattle.acc_message.specs.NodeRules.{Act, Deed, next_id, clock_events}
 use Rattle.acc_message.specs.Run.{Cluster, clock_start, deeds_of, is_node, EachStands}
 use Rattle.acc_actor_laws.proofs.Standing.{not_none}
 use Rattle.acc_actor_laws.proofs.OpeningFacts.{some_is}
 use Rattle.acc_safety.specs.Decisions.{body_at}
 use Rattle.acc_safety.specs.Places.{IsIn, First, Later, StandsAt, Here, Back}
-use Rattle.acc_safety.specs.Histories.{Noting, NotedBy}
+use Rattle.acc_safety.specs.Histories.{Noting}
 use Rattle.acc_safety.specs.NodeMoves.{NodeNotes, NotesBegin, NotesRecover, NotesDecision, NotesOutcome, NotesReply, NotesTold, NotesBlocked, NotesEnded}
 use Rattle.acc_safety.specs.Polls.{IsBody}
 use Rattle.acc_safety.specs.Valid.{IsValidCluster}
