@@ -1,0 +1,4 @@
+use Rattle.acc_serial.proofs.serial_outcomes.Goals as goal
+
+pub returns : goal.returns
+returns c = ?

@@ -1,0 +1,4 @@
+pub mod Decisions
+pub mod Agreement
+pub mod Coverage
+pub mod SerialOutcomes
