@@ -7,3 +7,7 @@ pub mod Apart
 pub mod Turns
 pub mod Pass
 pub mod StoreChanges
+pub mod Notions
+pub mod SharedMembers
+pub mod Facts
+pub mod StoreReads

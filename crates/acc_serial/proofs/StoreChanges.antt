@@ -51,7 +51,7 @@ each_standing P (s ∷ list) x h k =
 
 -- ---- what a list of changes opens and applies
 
-applied_split : (changes earlier : List Change) (x : TxnId) → AppliedIn (behind changes earlier) x → AppliedIn earlier x ⊎ AppliedIn changes x
+pub applied_split : (changes earlier : List Change) (x : TxnId) → AppliedIn (behind changes earlier) x → AppliedIn earlier x ⊎ AppliedIn changes x
 applied_split [] earlier x h = inl h
 applied_split (c ∷ changes) earlier x h =
     ⊎_elim (λ k. ⊎_elim (λ now. inr (inl now)) inl k) (λ k. inr (inr k)) (applied_split changes (c ∷ earlier) x h)
@@ -64,12 +64,12 @@ opened_by-among c changes x =
     (λ is h. ⊎_elim (λ same. inl (is, (id_order.decides c.id x).0 same)) inr (or_cases (id_eq c.id x) (id_among x (opened_by changes)) h))
     (λ _ h. inr h)
 
-opened_by-first : (c : Change) (changes : List Change) → c.opens ≡ true → id_among c.id (opened_by (c ∷ changes)) ≡ true
+pub opened_by-first : (c : Change) (changes : List Change) → c.opens ≡ true → id_among c.id (opened_by (c ∷ changes)) ≡ true
 opened_by-first c changes is =
     cond_both c.opens (c.id ∷ opened_by changes) (opened_by changes) (λ ids. id_among c.id ids ≡ true)
     (λ _. or_left (id_eq c.id c.id) _ ((id_order.decides c.id c.id).1 refl)) (λ no. absurd (true≢false (sym is ∙ no)))
 
-opened_by-later : (c : Change) (changes : List Change) (x : TxnId) → id_among x (opened_by changes) ≡ true → id_among x (opened_by (c ∷ changes)) ≡ true
+pub opened_by-later : (c : Change) (changes : List Change) (x : TxnId) → id_among x (opened_by changes) ≡ true → id_among x (opened_by (c ∷ changes)) ≡ true
 opened_by-later c changes x h =
     cond_both c.opens (c.id ∷ opened_by changes) (opened_by changes) (λ ids. id_among x ids ≡ true) (λ _. or_right (id_eq c.id x) _ h) (λ _. h)
 
