@@ -55,7 +55,7 @@ time_is_that (e ∷ decisions) x t all d h is =
     (λ later. time_is_that decisions x t (λ k in' same. all k (Contains-later e decisions k in') same) d later is)
     (Contains-cases e decisions d h))
 
-or_else_cases : {T : Type 0} (a b : Option T) (x : T) → or_else a b ≡ Some x → (a ≡ Some x) ⊎ (b ≡ Some x)
+pub or_else_cases : {T : Type 0} (a b : Option T) (x : T) → or_else a b ≡ Some x → (a ≡ Some x) ⊎ (b ≡ Some x)
 or_else_cases None b x e = inr e
 or_else_cases (Some y) b x e = inl e
 

@@ -11,3 +11,6 @@ pub mod Notions
 pub mod SharedMembers
 pub mod Facts
 pub mod StoreReads
+pub mod Histories
+pub mod StoreRight
+pub mod StoreSends

@@ -58,7 +58,7 @@ module _ (P : Message → Type 0) (own : Actor) (answers : OfAnswers P own) wher
   each_unless_promised x b promised least list h =
       cond_both (ballot_lt least promised) (nack own x b promised) list (AllByRecursion P) (λ _. (answers.nack _ x b promised, tt)) (λ _. h)
 
-  each_unless : (x : TxnId) (b promised least : Ballot) (o : Option Settled) (list : List Message) → AllByRecursion P list
+  pub each_unless : (x : TxnId) (b promised least : Ballot) (o : Option Settled) (list : List Message) → AllByRecursion P list
       → AllByRecursion P (unless_stable own x b o (unless_promised own x b promised least list))
   each_unless x b promised least o list h = each_unless_stable x b o _ (each_unless_promised x b promised least list h)
 
