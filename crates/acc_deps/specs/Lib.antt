@@ -1,1 +1,2 @@
 pub mod Deps
+pub mod Records

@@ -1,18 +1,17 @@
 -- Attempts at a transaction: their phases, the answers that count, and the counts of them.
-use Rattle.std.specs.Prelude.{ℕ, ℤ, Bool, true, false, not, cond, ◌==◌, ◌&&◌, ◌||◌, List, [], ◌∷◌, Option, None, Some, if◌then◌else◌}
+use Rattle.std.specs.Prelude.{ℕ, ℤ, Bool, true, false, not, cond, ◌==◌, ◌&&◌, ◌||◌, List, [], ◌∷◌, Option, None, Some, map}
 use Rattle.std.specs.List.{list_any, list_all}
 use Rattle.acc_stamp.specs.declared.stamps.Stamp.{Stamp}
 use Rattle.acc_stamp.specs.declared.stamps.TxnId.{TxnId}
 use Rattle.acc_stamp.specs.declared.stamps.Ballot.{Ballot}
 use Rattle.acc_stamp.specs.declared.actors.Actor.{Actor}
-use Rattle.acc_stamp.specs.Actor.{actor_of, shard_of}
-use Rattle.acc_stamp.specs.Stamp.{stamp_lt, stamp_eq, zero_stamp}
-use Rattle.acc_topology.specs.Layout.{Layout, shard_at}
-use Rattle.acc_topology.specs.Quorums.{is_majority, is_fast, fast_lost, may_be_fast}
+use Rattle.acc_stamp.specs.Actor.{shard_of}
+use Rattle.acc_stamp.specs.Stamp.{stamp_eq, zero_stamp}
+use Rattle.acc_topology.specs.Layout.{Layout}
 use Rattle.acc_topology.specs.Keys.{shard_of_key}
 use Rattle.acc_deps.specs.declared.shards.ShardDeps.{ShardDeps}
 use Rattle.acc_deps.specs.declared.records.Settled.{Settled}
-use Rattle.acc_deps.specs.Deps.{deps_union}
+use Rattle.acc_quorum.specs.Answers.{Answer, greatest, union_of as all_deps, majority_everywhere as majority_of, fast_everywhere as fast_of, fast_lost_somewhere as fast_lost_of, may_be_fast_everywhere as may_be_fast_of}
 use Rattle.acc_value.specs.declared.key.Key.{Key}
 use Rattle.acc_value.specs.Cells.{cell_of}
 use Rattle.acc_txn.specs.declared.parts.BodyParts.{BodyParts}
@@ -91,47 +90,32 @@ deps_in_answer (AcceptOk from to id ballot deps) = deps
 deps_in_answer (RecoverOk from to id ballot view) = view.vote_deps
 deps_in_answer _ = []
 
-abbrev pub later_stamp : Stamp → Stamp → Stamp
-later_stamp a b = if stamp_lt a b then b else a
+-- as quorums count it: whether it votes for the timestamp of x, for which one, and with which dependencies
+abbrev pub plain : TxnId → Message → Answer
+plain x m = record { store = from_of m; unchanged = stamp_eq (vote_in_answer m) x.0; t = vote_in_answer m; deps = deps_in_answer m }
 
-abbrev pub greatest_vote : List Message → Stamp
-greatest_vote [] = zero_stamp
-greatest_vote (m ∷ answers) = later_stamp (greatest_vote answers) (vote_in_answer m)
+abbrev pub plainly : TxnId → List Message → List Answer
+plainly x answers = map (plain x) answers
 
-abbrev pub union_of : List Message → List ShardDeps
-union_of [] = []
-union_of (m ∷ answers) = deps_union (union_of answers) (deps_in_answer m)
+abbrev pub greatest_vote : TxnId → List Message → Stamp
+greatest_vote x answers = greatest (plainly x answers)
 
--- ---- quorums. A store of a shard is named by its node
+abbrev pub union_of : TxnId → List Message → List ShardDeps
+union_of x answers = all_deps (plainly x answers)
 
-abbrev pub is_from : ℕ → ℕ → Message → Bool
-is_from shard node m = same_actor (from_of m) (actor_of node shard)
+-- ---- quorums, in the shards of a body
 
-abbrev pub has_answered : List Message → ℕ → ℕ → Bool
-has_answered answers shard node = list_any (is_from shard node) answers
-
--- it voted for the transaction's own timestamp, or for another
-abbrev pub kept_stamp : TxnId → List Message → ℕ → ℕ → Bool
-kept_stamp x answers shard node = list_any (λ m. is_from shard node m && stamp_eq (vote_in_answer m) x.0) answers
-
-abbrev pub changed_stamp : TxnId → List Message → ℕ → ℕ → Bool
-changed_stamp x answers shard node = list_any (λ m. is_from shard node m && not (stamp_eq (vote_in_answer m) x.0)) answers
-
-abbrev pub majority_everywhere : Layout → BodyParts → List Message → Bool
-majority_everywhere layout body answers =
-    list_all (λ s. is_majority (shard_at layout s) (has_answered answers s)) (shards_used layout body)
+abbrev pub majority_everywhere : Layout → TxnId → BodyParts → List Message → Bool
+majority_everywhere layout x body answers = majority_of layout (shards_used layout body) (plainly x answers)
 
 abbrev pub fast_everywhere : Layout → TxnId → BodyParts → List Message → Bool
-fast_everywhere layout x body answers =
-    list_all (λ s. is_fast (shard_at layout s) (kept_stamp x answers s)) (shards_used layout body)
+fast_everywhere layout x body answers = fast_of layout (shards_used layout body) (plainly x answers)
 
 abbrev pub fast_lost_somewhere : Layout → TxnId → BodyParts → List Message → Bool
-fast_lost_somewhere layout x body answers =
-    list_any (λ s. fast_lost (shard_at layout s) (changed_stamp x answers s)) (shards_used layout body)
+fast_lost_somewhere layout x body answers = fast_lost_of layout (shards_used layout body) (plainly x answers)
 
 abbrev pub may_be_fast_everywhere : Layout → TxnId → BodyParts → List Message → Bool
-may_be_fast_everywhere layout x body answers =
-    list_all (λ s. may_be_fast (shard_at layout s) (has_answered answers s) (kept_stamp x answers s)) (shards_used layout body)
+may_be_fast_everywhere layout x body answers = may_be_fast_of layout (shards_used layout body) (plainly x answers)
 
 -- ---- reads
 

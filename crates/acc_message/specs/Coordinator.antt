@@ -122,19 +122,19 @@ either false one other a = other a
 -- votes for the transaction's own timestamp that are fast in every shard decide it. Else, with a majority everywhere and
 -- a fast quorum lost somewhere, the greatest vote is proposed
 abbrev pub own_stamp : TxnId → Attempt → Settled
-own_stamp x a = record { t = x.0; deps = union_of a.answers }
+own_stamp x a = record { t = x.0; deps = union_of x a.answers }
 
-abbrev pub highest_vote : Attempt → Settled
-highest_vote a = record { t = greatest_vote a.answers; deps = union_of a.answers }
+abbrev pub highest_vote : TxnId → Attempt → Settled
+highest_vote x a = record { t = greatest_vote x a.answers; deps = union_of x a.answers }
 
 abbrev pub slow_down : Layout → Actor → TxnId → Attempt → Reaction
-slow_down layout own x a = propose layout own x a (highest_vote a)
+slow_down layout own x a = propose layout own x a (highest_vote x a)
 
 abbrev pub after_vote : Layout → Actor → TxnId → Attempt → Reaction
 after_vote layout own x a =
     either (fast_everywhere layout x a.body a.answers)
     (λ a. decide layout own x a Fast (own_stamp x a))
-    (λ a. when (majority_everywhere layout a.body a.answers && fast_lost_somewhere layout x a.body a.answers) (slow_down layout own x) a)
+    (λ a. when (majority_everywhere layout x a.body a.answers && fast_lost_somewhere layout x a.body a.answers) (slow_down layout own x) a)
     a
 
 abbrev pub go : Layout → Actor → TxnId → Attempt → Choice → Reaction
@@ -148,23 +148,23 @@ follow_ruling layout own x a (Blocks by) = block x a by
 
 abbrev pub after_view : Layout → Actor → TxnId → Attempt → Reaction
 after_view layout own x a =
-    when (majority_everywhere layout a.body a.answers)
+    when (majority_everywhere layout x a.body a.answers)
     (λ a. follow_ruling layout own x a (recovery_decision layout x a.body a.answers)) a
 
 -- what is committed has the proposed dependencies with those of all answers
-abbrev pub agreed : Settled → Attempt → Settled
-agreed s a = record { t = s.t; deps = deps_union s.deps (union_of a.answers) }
+abbrev pub agreed : TxnId → Settled → Attempt → Settled
+agreed x s a = record { t = s.t; deps = deps_union s.deps (union_of x a.answers) }
 
 abbrev pub after_accept : Layout → Actor → TxnId → Attempt → Settled → Reaction
 after_accept layout own x a s =
-    when (majority_everywhere layout a.body a.answers) (λ a. commit layout own x a (agreed s a)) a
+    when (majority_everywhere layout x a.body a.answers) (λ a. commit layout own x a (agreed x s a)) a
 
 abbrev pub path_of : Ballot → Path
 path_of b = if ballot_eq b zero_ballot then Slow else Recovered
 
 abbrev pub after_commit : Layout → Actor → TxnId → Attempt → Settled → Reaction
 after_commit layout own x a s =
-    when (majority_everywhere layout a.body a.answers) (λ a. decide layout own x a (path_of a.ballot) s) a
+    when (majority_everywhere layout x a.body a.answers) (λ a. decide layout own x a (path_of a.ballot) s) a
 
 abbrev pub finish_with : Layout → Actor → TxnId → Attempt → Settled → Option Outcome → Reaction
 finish_with layout own x a s None = stay a
@@ -221,9 +221,9 @@ abbrev pub reaction : Layout → Actor → TxnId → Attempt → Message → Rea
 reaction layout own x a m = when (ballot_eq (ballot_of m) a.ballot) (λ a. on_message layout own x a m) a
 
 -- the event slow, in the first phase and with a majority of answers everywhere
-abbrev pub may_slow_down : Layout → Attempt → Phase → Bool
-may_slow_down layout a Voting = majority_everywhere layout a.body a.answers
-may_slow_down layout a _ = false
+abbrev pub may_slow_down : Layout → TxnId → Attempt → Phase → Bool
+may_slow_down layout x a Voting = majority_everywhere layout x a.body a.answers
+may_slow_down layout x a _ = false
 
 abbrev pub slow_reaction : Layout → Actor → TxnId → Attempt → Reaction
-slow_reaction layout own x a = when (may_slow_down layout a a.phase) (slow_down layout own x) a
+slow_reaction layout own x a = when (may_slow_down layout x a a.phase) (slow_down layout own x) a

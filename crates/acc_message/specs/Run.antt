@@ -109,12 +109,12 @@ attempt_at cluster earlier a x =
     attempt_of cluster.layout (node_of a) (clock_start cluster.starts (node_of a)) x (deeds_of cluster a earlier)
 
 -- an attempt at ballot zero that still asks for votes and has a majority of them everywhere
-abbrev pub is_slowable : Layout → Option Attempt → Bool
-is_slowable layout None = false
-is_slowable layout (Some a) = ballot_eq a.ballot zero_ballot && may_slow_down layout a a.phase
+abbrev pub is_slowable : Layout → TxnId → Option Attempt → Bool
+is_slowable layout x None = false
+is_slowable layout x (Some a) = ballot_eq a.ballot zero_ballot && may_slow_down layout x a a.phase
 
 abbrev pub slows_here : Cluster → List Item → Actor → Act → Bool
-slows_here cluster earlier a (Slows x) = is_slowable cluster.layout (attempt_at cluster earlier a x)
+slows_here cluster earlier a (Slows x) = is_slowable cluster.layout x (attempt_at cluster earlier a x)
 slows_here cluster earlier a _ = false
 
 abbrev pub goes_to : Actor → Act → Bool

@@ -27,12 +27,12 @@ use Rattle.acc_message.specs.Items.{sent_of, notes_of}
 use Rattle.acc_message.specs.Shares.{conflict_in}
 use Rattle.acc_message.specs.BallotRules.{settled_in, outcome_in}
 use Rattle.acc_message.specs.Run.{Cluster}
-use Rattle.acc_serial.specs.Decisions.{Decision, decisions_of, body_of}
-use Rattle.acc_serial.specs.Agreement.{Agreement}
-use Rattle.acc_serial.specs.Coverage.{Coverage, Conflict}
+use Rattle.acc_safety.specs.Decisions.{Decision, decisions_of, body_of}
+use Rattle.acc_safety.specs.Agreement.{Agreement}
+use Rattle.acc_safety.specs.Coverage.{Coverage, Conflict}
 use Rattle.acc_serial.proofs.Cell.{Cell}
-use Rattle.acc_serial.proofs.SharedStanding.{not_none}
-use Rattle.acc_serial.proofs.SharedOpening.{some_is}
+use Rattle.acc_actor_laws.proofs.Standing.{not_none}
+use Rattle.acc_actor_laws.proofs.OpeningFacts.{some_is}
 use Rattle.acc_serial.proofs.SharedMembers.{Contains-none, Contains-cases, Contains-first, Contains-later}
 use Rattle.acc_serial.proofs.Notions.{time_among, first_apply, written_at, uses, IsDecision, time_of, IsDecided, HasBody, outcome_first, wrote, Below, IsFramed}
 

@@ -13,7 +13,7 @@ use Rattle.acc_message.specs.declared.message.Message.TheVariants.{PreAccept, Pr
 use Rattle.acc_message.specs.Fields.{id_of}
 use Rattle.acc_message.specs.Taken.{Taken, Heard, is_heard, heard_body, known, learnt, body_in}
 use Rattle.acc_message.specs.BallotRules.{stable_of, kept_outcome, settled_in, outcome_in}
-use Rattle.acc_serial.proofs.SharedStanding.{not_none}
+use Rattle.acc_actor_laws.proofs.Standing.{not_none}
 use Rattle.acc_serial.proofs.Facts.{or_else_cases}
 
 -- what a message says of x is about its own transaction

@@ -1,8 +1,6 @@
 pub mod Cell
 pub mod Latest
 pub mod Timeline
-pub mod SharedStanding
-pub mod SharedOpening
 pub mod Apart
 pub mod Turns
 pub mod Pass

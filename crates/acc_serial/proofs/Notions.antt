@@ -25,8 +25,8 @@ use Rattle.acc_message.specs.Items.{sent_of, notes_of}
 use Rattle.acc_message.specs.Taken.{body_in}
 use Rattle.acc_message.specs.BallotRules.{settled_in, outcome_in}
 use Rattle.acc_message.specs.Run.{Cluster}
-use Rattle.acc_serial.specs.Decisions.{Decision, decisions_of, outcomes_of, is_answered, body_of}
-use Rattle.acc_serial.specs.Coverage.{Conflict}
+use Rattle.acc_safety.specs.Decisions.{Decision, decisions_of, outcomes_of, is_answered, body_of}
+use Rattle.acc_safety.specs.Coverage.{Conflict}
 use Rattle.acc_serial.proofs.Cell.{Cell}
 use Rattle.acc_serial.proofs.Latest.{Writes, IsLatest}
 

@@ -11,8 +11,8 @@ use Rattle.acc_deps.specs.declared.records.Settled.{Settled}
 use Rattle.acc_message.specs.Taken.{Taken}
 use Rattle.acc_message.specs.BallotRules.{stable_of, kept_outcome}
 use Rattle.acc_message.specs.Opening.{comes_first, Standing, is_past, is_ready, Change, Turn, turn_of, with_applied, pass, is_change}
-use Rattle.acc_serial.proofs.SharedStanding.{not_none, Truly}
-use Rattle.acc_serial.proofs.SharedOpening.{all_at, some_is}
+use Rattle.acc_actor_laws.proofs.Standing.{not_none, Truly}
+use Rattle.acc_actor_laws.proofs.OpeningFacts.{all_at, some_is}
 use Rattle.acc_serial.proofs.Apart.{NotStanding, StandApart}
 use Rattle.acc_serial.proofs.Timeline.{AppliedIn, OpenedIn, behind, InTurn, AllInTurn, AppliedIn-behind}
 use Rattle.acc_serial.proofs.Turns.{opens_tells, Applies, applies_tells, opens_from, applied_or_applies, with_change, behind-filter, applied_still, opened_still, applied_now, opened_now, applied_cases, in_turn_still}

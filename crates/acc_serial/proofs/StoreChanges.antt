@@ -12,8 +12,8 @@ use Rattle.acc_base.specs.Faults.{or_else}
 use Rattle.acc_message.specs.Taken.{Taken, known}
 use Rattle.acc_message.specs.BallotRules.{stable_of, kept_outcome, settled_in, outcome_in}
 use Rattle.acc_message.specs.Opening.{IsOpened, Stays, Opens, Standing, stable_ones, in_turn, Change, pass, is_change, opened_by, with_outcome, opened_of, applied_of, changes_of}
-use Rattle.acc_serial.proofs.SharedStanding.{not_none, stands, turns-stands, turns-Truly}
-use Rattle.acc_serial.proofs.SharedOpening.{opened_of-sound}
+use Rattle.acc_actor_laws.proofs.Standing.{not_none, stands, turns-stands, turns-Truly}
+use Rattle.acc_actor_laws.proofs.OpeningFacts.{opened_of-sound}
 use Rattle.acc_serial.proofs.Apart.{turns-apart}
 use Rattle.acc_serial.proofs.Timeline.{AppliedIn, OpenedIn, behind, AllInTurn, AppliedIn-behind, OpenedIn-behind}
 use Rattle.acc_serial.proofs.Pass.{Midway, Covered, Passed, passed}

@@ -37,15 +37,15 @@ use Rattle.acc_message.specs.BallotRules.{stable_of, kept_outcome, settled_in, o
 use Rattle.acc_message.specs.Opening.{Change, writes_in}
 use Rattle.acc_message.specs.StoreRules.{read_here, read_by, read_ok, store_answer}
 use Rattle.acc_message.specs.Run.{Cluster}
-use Rattle.acc_serial.specs.Decisions.{body_of}
+use Rattle.acc_safety.specs.Decisions.{body_of}
 use Rattle.acc_serial.proofs.Cell.{Cell}
 use Rattle.acc_serial.proofs.Latest.{IsLatest, one_latest}
 use Rattle.acc_serial.proofs.Timeline.{AppliedIn, left_by, left_is_latest_below}
 use Rattle.acc_serial.proofs.Pass.{Covered}
 use Rattle.acc_serial.proofs.StoreChanges.{EachCovered, some_value}
 use Rattle.acc_serial.proofs.StoreReads.{Moment, OfAnswers, writes, KeptIsFirst, EachKept, OfReads, OfKnown, each_answer}
-use Rattle.acc_serial.proofs.SharedStanding.{not_none, stable_of-known}
-use Rattle.acc_serial.proofs.SharedOpening.{some_is}
+use Rattle.acc_actor_laws.proofs.Standing.{not_none, stable_of-known}
+use Rattle.acc_actor_laws.proofs.OpeningFacts.{some_is}
 use Rattle.acc_serial.proofs.Notions.{uses, time_of, IsDecision, IsDecided, HasBody, outcome_first, wrote, written_at, Below, IsLatestBelow, Answered, Finished, Reading, RightAnswer, IsRight, IsFramed}
 use Rattle.acc_serial.proofs.Facts.{Premises, time_is, decided_from, own_times, Wrote, wrote_tells, writer_below, below_writer}
 use Rattle.acc_serial.proofs.Histories.{stable_from, kept_from, heard_from, heard_has_body}

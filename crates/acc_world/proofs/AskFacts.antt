@@ -28,8 +28,8 @@ use Rattle.acc_world.specs.declared.ask.Ask.TheVariants.{Begin, Recover, Slow, D
 use Rattle.acc_world.specs.Asks.{home_of_txn, receiver, stepper, event_for, skip_if, slow_skip_in, slow_skip_at, slow_skip, skip_of, emits_if, entry_at, entered, item_for, after_asks}
 use Rattle.acc_world.specs.Schedules.{new_messages, waiting, drained_with, drained}
 use Rattle.acc_world.specs.AskLaws.{IsAskOf, AreAsksOf, IsUp, is_no_down, IsRunWithoutDowns}
-use Rattle.acc_world.proofs.Standing.{not_none}
-use Rattle.acc_world.proofs.BegunFacts.{WasBegun, begun_has, id_was_begun}
+use Rattle.acc_actor_laws.proofs.Standing.{not_none}
+use Rattle.acc_safety.proofs.BegunFacts.{WasBegun, begun_has, id_was_begun}
 
 -- ---- what isn't passed over
 
@@ -42,16 +42,16 @@ not_skipped true skip e = refl
 not_skipped false skip e = absurd (not_none skip (sym e))
 
 -- an attempt whose slow isn't passed over can be slowed down
-slowable : (layout : Layout) (txn : ℕ) (o : Option Attempt) → slow_skip_at layout txn o ≡ None → is_slowable layout o ≡ true
-slowable layout txn None e = absurd (not_none (Unknown txn) (sym e))
-slowable layout txn (Some a) e = by a.phase e
+slowable : (layout : Layout) (txn : ℕ) (x : TxnId) (o : Option Attempt) → slow_skip_at layout txn x o ≡ None → is_slowable layout x o ≡ true
+slowable layout txn x None e = absurd (not_none (Unknown txn) (sym e))
+slowable layout txn x (Some a) e = by a.phase e
   where
     both : (zero_is majority : Bool) → cond zero_is (skip_if (not majority) (NoQuorum txn)) (Some (Unknown txn)) ≡ None → (zero_is && majority) ≡ true
     both true majority k = not_skipped majority (NoQuorum txn) k
     both false majority k = absurd (not_none (Unknown txn) (sym k))
 
-    by : (phase : Phase) → slow_skip_in layout txn a phase ≡ None → (ballot_eq a.ballot zero_ballot && may_slow_down layout a phase) ≡ true
-    by Voting k = both (ballot_eq a.ballot zero_ballot) (majority_everywhere layout a.body a.answers) k
+    by : (phase : Phase) → slow_skip_in layout txn x a phase ≡ None → (ballot_eq a.ballot zero_ballot && may_slow_down layout x a phase) ≡ true
+    by Voting k = both (ballot_eq a.ballot zero_ballot) (majority_everywhere layout x a.body a.answers) k
     by Recovering k = absurd (not_none (Unknown txn) (sym k))
     by (Accepting s) k = absurd (not_none (Unknown txn) (sym k))
     by (Committing s) k = absurd (not_none (Unknown txn) (sym k))
@@ -71,7 +71,7 @@ slow_stands cluster items txn h (Some x) is none =
     let begun : WasBegun cluster items txn = begun_has cluster items txn h (id_was_begun items txn x is) in
     stands_by cluster items (home_of_txn cluster txn) (event_for (Slow txn)) (Slows x) (ap (option_map Slows) is) (
       (begun.home, begun.home_is, ap (λ o. actor_of (unwrap_or o 0) 0) begun.home_is),
-      slowable cluster.layout txn (attempt_at cluster items (home_of_txn cluster txn) x) none,
+      slowable cluster.layout txn x (attempt_at cluster items (home_of_txn cluster txn) x) none,
     )
 
 message_stands : (cluster : Cluster) (items : List Item) (number : ℕ) (o : Option Message) → message_at items number ≡ o

@@ -28,8 +28,8 @@ use Rattle.acc_world.specs.declared.ask.Ask.{Ask}
 use Rattle.acc_world.specs.declared.ask.Ask.TheVariants.{Begin, Recover, Slow, Deliver, Restart}
 use Rattle.acc_world.specs.Asks.{home_of_txn, receiver, stepper, event_for, skip_if, slow_skip_in, slow_skip_at, slow_skip, skip_of, emits_if, entry_at, entered}
 use Rattle.acc_world.specs.AskLaws.{IsAsked}
-use Rattle.acc_world.proofs.Standing.{not_none}
-use Rattle.acc_world.proofs.OpeningFacts.{some_is}
+use Rattle.acc_actor_laws.proofs.Standing.{not_none}
+use Rattle.acc_actor_laws.proofs.OpeningFacts.{some_is}
 
 -- ---- an entry is that of its ask
 
@@ -61,10 +61,10 @@ asked_by cluster earlier step e s ask kept none here is =
 home_is : (cluster : Cluster) (txn : ℕ) (a : Actor) → IsHomeOf cluster txn a → home_of_txn cluster txn ≡ a
 home_is cluster txn a home = ap (λ o. actor_of (unwrap_or o 0) 0) home.1 ∙ sym home.2
 
-not_slow_skip : (layout : Layout) (txn : ℕ) (o : Option Attempt) → is_slowable layout o ≡ true → slow_skip_at layout txn o ≡ None
-not_slow_skip layout txn None h = absurd (true≢false (sym h))
-not_slow_skip layout txn (Some a) h =
-    let parts = and_parts (ballot_eq a.ballot zero_ballot) (may_slow_down layout a a.phase) h in by a.phase parts.0 parts.1
+not_slow_skip : (layout : Layout) (txn : ℕ) (x : TxnId) (o : Option Attempt) → is_slowable layout x o ≡ true → slow_skip_at layout txn x o ≡ None
+not_slow_skip layout txn x None h = absurd (true≢false (sym h))
+not_slow_skip layout txn x (Some a) h =
+    let parts = and_parts (ballot_eq a.ballot zero_ballot) (may_slow_down layout x a a.phase) h in by a.phase parts.0 parts.1
   where
     both : (zero_is majority : Bool) → zero_is ≡ true → majority ≡ true
         → cond zero_is (skip_if (not majority) (NoQuorum txn)) (Some (Unknown txn)) ≡ None
@@ -72,8 +72,8 @@ not_slow_skip layout txn (Some a) h =
     both true false p q = absurd (true≢false (sym q))
     both false majority p q = absurd (true≢false (sym p))
 
-    by : (phase : Phase) → ballot_eq a.ballot zero_ballot ≡ true → may_slow_down layout a phase ≡ true → slow_skip_in layout txn a phase ≡ None
-    by Voting p q = both (ballot_eq a.ballot zero_ballot) (majority_everywhere layout a.body a.answers) p q
+    by : (phase : Phase) → ballot_eq a.ballot zero_ballot ≡ true → may_slow_down layout x a phase ≡ true → slow_skip_in layout txn x a phase ≡ None
+    by Voting p q = both (ballot_eq a.ballot zero_ballot) (majority_everywhere layout x a.body a.answers) p q
     by Recovering p q = absurd (true≢false (sym q))
     by (Accepting s) p q = absurd (true≢false (sym q))
     by (Committing s) p q = absurd (true≢false (sym q))
@@ -83,8 +83,8 @@ slow_is_asked : (cluster : Cluster) (earlier : List Item) (a : Actor) (txn : ℕ
     → IsHomeOf cluster txn a → slows_here cluster earlier a act ≡ true → slow_skip cluster earlier txn o ≡ None
 slow_is_asked cluster earlier a txn act None is home here = absurd (not_none act is)
 slow_is_asked cluster earlier a txn act (Some x) is home here =
-    not_slow_skip cluster.layout txn (attempt_at cluster earlier (home_of_txn cluster txn) x)
-    (ap (λ b. is_slowable cluster.layout (attempt_at cluster earlier b x)) (home_is cluster txn a home)
+    not_slow_skip cluster.layout txn x (attempt_at cluster earlier (home_of_txn cluster txn) x)
+    (ap (λ b. is_slowable cluster.layout x (attempt_at cluster earlier b x)) (home_is cluster txn a home)
     ∙ ap (slows_here cluster earlier a) (some_is (Slows x) act is) ∙ here)
 
 -- the message is there, and goes to the actor

@@ -54,19 +54,19 @@ skip_if true skip = Some skip
 skip_if false skip = None
 
 -- an attempt at ballot zero in its first phase can be slowed down once it has a majority of answers in every shard
-abbrev pub slow_skip_in : Layout → ℕ → Attempt → Phase → Option Skip
-slow_skip_in layout txn a Voting =
-    cond (ballot_eq a.ballot zero_ballot) (skip_if (not (majority_everywhere layout a.body a.answers)) (NoQuorum txn)) (Some (Unknown txn))
-slow_skip_in layout txn a _ = Some (Unknown txn)
+abbrev pub slow_skip_in : Layout → ℕ → TxnId → Attempt → Phase → Option Skip
+slow_skip_in layout txn x a Voting =
+    cond (ballot_eq a.ballot zero_ballot) (skip_if (not (majority_everywhere layout x a.body a.answers)) (NoQuorum txn)) (Some (Unknown txn))
+slow_skip_in layout txn x a _ = Some (Unknown txn)
 
-abbrev pub slow_skip_at : Layout → ℕ → Option Attempt → Option Skip
-slow_skip_at layout txn None = Some (Unknown txn)
-slow_skip_at layout txn (Some a) = slow_skip_in layout txn a a.phase
+abbrev pub slow_skip_at : Layout → ℕ → TxnId → Option Attempt → Option Skip
+slow_skip_at layout txn x None = Some (Unknown txn)
+slow_skip_at layout txn x (Some a) = slow_skip_in layout txn x a a.phase
 
 abbrev pub slow_skip : Cluster → List Item → ℕ → Option TxnId → Option Skip
 slow_skip cluster items txn None = Some (Unknown txn)
 slow_skip cluster items txn (Some x) =
-    slow_skip_at cluster.layout txn (attempt_at cluster items (home_of_txn cluster txn) x)
+    slow_skip_at cluster.layout txn x (attempt_at cluster items (home_of_txn cluster txn) x)
 
 abbrev pub skip_of : Cluster → List Item → Ask → Option Skip
 skip_of cluster items (Begin txn) = skip_if (is_begun items txn) (Begun txn)

@@ -1,23 +1,14 @@
 -- Schedules of asks and drains.
-use Rattle.std.specs.Prelude.{ℕ, zero, suc, Bool, true, false, not, ◌==◌, ◌||◌, List, [], ◌∷◌, ◌++◌, length, filter}
+use Rattle.std.specs.Prelude.{ℕ, zero, suc, Bool, true, false, not, ◌||◌, List, [], ◌∷◌, ◌++◌, length, filter}
 use Rattle.std.specs.List.{list_any, range_with_len}
 use Rattle.acc_topology.specs.Sets.{is_among}
-use Rattle.acc_message.specs.declared.entry.Event.{Event}
-use Rattle.acc_message.specs.declared.entry.Event.TheVariants.{Message as MessageEvent}
 use Rattle.acc_message.specs.declared.item.Item.{Item}
 use Rattle.acc_message.specs.declared.item.Item.TheVariants.{Step, Skipped}
 use Rattle.acc_message.specs.Items.{sent_of, sent_in}
 use Rattle.acc_message.specs.Run.{Cluster}
+use Rattle.acc_safety.specs.Calm.{item_takes}
 use Rattle.acc_world.specs.declared.ask.Ask.TheVariants.{Deliver}
 use Rattle.acc_world.specs.Asks.{item_for}
-
-abbrev pub event_takes : ℕ → Event → Bool
-event_takes number (MessageEvent n) = n == number
-event_takes number _ = false
-
-abbrev pub item_takes : ℕ → Item → Bool
-item_takes number (Step e) = event_takes number e.event
-item_takes number _ = false
 
 -- the message waits: it was neither taken nor dropped
 abbrev pub waits : List Item → List ℕ → ℕ → Bool

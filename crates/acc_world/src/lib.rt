@@ -1,10 +1,7 @@
-//! The cluster as one pure list of items: what may be asked of it, and what holds of every run.
+//! The cluster as one pure list of items: what may be asked of it, and laws of what it is asked.
 #![tactic(auto)]
 
-pub mod actors;
 mod ask;
 pub mod laws;
-pub mod promises;
-pub mod rows;
 
 pub use ask::Ask;

@@ -1,0 +1,9 @@
+pub mod Computed
+pub mod TransferStates
+pub mod Stepped
+pub mod Tested
+pub mod AgreementTested
+pub mod CoverageTested
+pub mod SerialTested
+pub mod CalmTested
+pub mod RowsSafe

@@ -1,0 +1,40 @@
+-- An update of two shards. A vote of the second never comes, and without it a fast quorum there is neither reached nor lost.
+use Rattle.std.specs.Prelude.{List, [], ◌∷◌}
+use Rattle.acc_txn.specs.declared.parts.BodyParts.{BodyParts}
+use Rattle.acc_txn.specs.declared.outcome.Reply.{Reply}
+use Rattle.acc_message.specs.declared.note.Note.{Note}
+use Rattle.acc_message.specs.declared.note.Note.TheVariants.{Begin as BeginNote}
+use Rattle.acc_message.specs.declared.item.Item.{Item}
+use Rattle.acc_message.specs.Run.{Cluster}
+use Rattle.acc_world.specs.declared.ask.Ask.{Ask}
+use Rattle.acc_world.specs.declared.ask.Ask.TheVariants.{Begin, Deliver}
+use Rattle.acc_world.specs.Asks.{after_asks}
+use Rattle.acc_world.specs.Schedules.{drained}
+use Rattle.acc_examples.specs.Clusters.{id, node, last_shard, shard_to, layout, writing_both, m, alice, zoe}
+
+abbrev pub cluster : Cluster
+cluster =
+    record {
+      layout = layout (1 ∷ 2 ∷ 3 ∷ []) (shard_to m (1 ∷ 2 ∷ 3 ∷ []) ∷ last_shard (1 ∷ 2 ∷ 3 ∷ []) ∷ []);
+      starts = node 1 ∷ node 2 ∷ node 3 ∷ [];
+      homes = 1 ∷ [];
+      bodies = writing_both alice 1 zoe 2 ∷ [];
+    }
+
+abbrev pub asks : List Ask
+asks = Begin 0 ∷ Deliver 0 ∷ Deliver 1 ∷ Deliver 2 ∷ Deliver 3 ∷ Deliver 4 ∷ Deliver 5 ∷ []
+
+abbrev pub items : List Item
+items = drained cluster (11 ∷ []) (after_asks cluster 0 asks [])
+
+abbrev pub notes : List Note
+notes =
+    BeginNote (id 1 64)
+    ∷ []
+
+-- the bodies in the order of their outcomes, and their replies
+abbrev pub serially : List BodyParts
+serially = []
+
+abbrev pub replies : List Reply
+replies = []

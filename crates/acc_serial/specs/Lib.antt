@@ -1,4 +1,0 @@
-pub mod Decisions
-pub mod Agreement
-pub mod Coverage
-pub mod SerialOutcomes

@@ -1,5 +1,0 @@
-use Rattle.acc_world.proofs.Stepped.{closed_clients-holds}
-use Rattle.acc_world.proofs.actors.closed_clients.Goals as goal
-
-pub returns : goal.returns
-returns c = closed_clients-holds

@@ -1,5 +1,0 @@
-use Rattle.acc_world.proofs.Stepped.{commit_round-holds}
-use Rattle.acc_world.proofs.actors.commit_round.Goals as goal
-
-pub returns : goal.returns
-returns c = commit_round-holds

@@ -1,5 +1,0 @@
-use Rattle.acc_world.proofs.Stepped.{conflict_by_shard-holds}
-use Rattle.acc_world.proofs.actors.conflict_by_shard.Goals as goal
-
-pub returns : goal.returns
-returns c = conflict_by_shard-holds

@@ -1,5 +1,0 @@
-use Rattle.acc_world.proofs.Stepped.{evidence_bounds-holds}
-use Rattle.acc_world.proofs.actors.evidence_bounds.Goals as goal
-
-pub returns : goal.returns
-returns c = evidence_bounds-holds

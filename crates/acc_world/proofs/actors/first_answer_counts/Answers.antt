@@ -1,5 +1,0 @@
-use Rattle.acc_world.proofs.Stepped.{first_answer_counts-holds}
-use Rattle.acc_world.proofs.actors.first_answer_counts.Goals as goal
-
-pub returns : goal.returns
-returns c = first_answer_counts-holds

@@ -1,5 +1,0 @@
-use Rattle.acc_world.proofs.Stepped.{last_record_counts-holds}
-use Rattle.acc_world.proofs.actors.last_record_counts.Goals as goal
-
-pub returns : goal.returns
-returns c = last_record_counts-holds

@@ -1,5 +1,0 @@
-use Rattle.acc_world.proofs.Stepped.{promises_held-holds}
-use Rattle.acc_world.proofs.actors.promises_held.Goals as goal
-
-pub returns : goal.returns
-returns c = promises_held-holds

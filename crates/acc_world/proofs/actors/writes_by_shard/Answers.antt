@@ -1,5 +1,0 @@
-use Rattle.acc_world.proofs.Stepped.{writes_by_shard-holds}
-use Rattle.acc_world.proofs.actors.writes_by_shard.Goals as goal
-
-pub returns : goal.returns
-returns c = writes_by_shard-holds

@@ -1,5 +1,0 @@
-use Rattle.acc_world.proofs.ReplayFacts.{applied_is}
-use Rattle.acc_world.proofs.laws.applied_is_opened_with_an_outcome.Goals as goal
-
-pub returns : goal.returns
-returns c = applied_is

@@ -1,5 +1,0 @@
-use Rattle.acc_world.proofs.QuietFacts.{nothing_changes}
-use Rattle.acc_world.proofs.laws.only_stable_and_apply_open.Goals as goal
-
-pub returns : goal.returns
-returns c = nothing_changes

@@ -1,5 +1,0 @@
-use Rattle.acc_world.proofs.SentFacts.{messages_were_sent}
-use Rattle.acc_world.proofs.laws.taken_messages_were_sent.Goals as goal
-
-pub returns : goal.returns
-returns c = messages_were_sent

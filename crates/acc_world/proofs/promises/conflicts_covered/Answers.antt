@@ -1,5 +1,0 @@
-use Rattle.acc_world.proofs.CoverageTested.{covered-hold, uncovered-refused}
-use Rattle.acc_world.proofs.promises.conflicts_covered.Goals as goal
-
-pub returns : goal.returns
-returns c = record { holds = covered-hold; fails = uncovered-refused }

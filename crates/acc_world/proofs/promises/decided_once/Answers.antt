@@ -1,5 +1,0 @@
-use Rattle.acc_world.proofs.AgreementTested.{agreeing-hold, disagreeing-refused}
-use Rattle.acc_world.proofs.promises.decided_once.Goals as goal
-
-pub returns : goal.returns
-returns c = record { holds = agreeing-hold; fails = disagreeing-refused }

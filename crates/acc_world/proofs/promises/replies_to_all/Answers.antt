@@ -1,5 +1,0 @@
-use Rattle.acc_world.proofs.CalmTested.{answered_ones-hold, unanswered_ones-refused}
-use Rattle.acc_world.proofs.promises.replies_to_all.Goals as goal
-
-pub returns : goal.returns
-returns c = record { holds = answered_ones-hold; fails = unanswered_ones-refused }
