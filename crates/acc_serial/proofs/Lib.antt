@@ -12,3 +12,7 @@ pub mod StoreReads
 pub mod Histories
 pub mod StoreRight
 pub mod StoreSends
+pub mod SharedMoves
+pub mod SharedBegun
+pub mod Frame
+pub mod FrameSteps
