@@ -16,3 +16,6 @@ pub mod SharedMoves
 pub mod SharedBegun
 pub mod Frame
 pub mod FrameSteps
+pub mod SharedSteps
+pub mod FrameRuns
+pub mod Framed
