@@ -19,3 +19,4 @@ pub mod FrameSteps
 pub mod SharedSteps
 pub mod FrameRuns
 pub mod Framed
+pub mod NodeReads

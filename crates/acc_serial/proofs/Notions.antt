@@ -1,4 +1,5 @@
--- What serial outcomes rest on. All notions are those of a whole run; what a message says is judged at a part of it.
+-- What serial outcomes rest on. All notions are those of a whole run; what a message says is judged by
+-- the notes so far.
 use Rattle.std.proofs.Common.{◌≡◌, ℕ, Bool, true, false, ◌||◌, cond, List, [], ◌∷◌, Option, None, Some, Contains}
 use Rattle.acc_stamp.specs.declared.stamps.Stamp.{Stamp}
 use Rattle.acc_stamp.specs.declared.stamps.TxnId.{TxnId}
@@ -19,6 +20,7 @@ use Rattle.acc_message.specs.declared.answer.ReadAnswer.{ReadAnswer}
 use Rattle.acc_message.specs.declared.answer.ReadAnswer.TheVariants.{Values, Known}
 use Rattle.acc_message.specs.declared.message.Message.{Message}
 use Rattle.acc_message.specs.declared.message.Message.TheVariants.{PreAccept, PreAcceptOk, Accept, AcceptOk, Commit, CommitOk, Stable, ReadOk, Apply, Recover, RecoverOk, Nack, Decided, Inform}
+use Rattle.acc_message.specs.declared.note.Note.{Note}
 use Rattle.acc_message.specs.declared.item.Item.{Item}
 use Rattle.acc_message.specs.Fields.{id_of}
 use Rattle.acc_message.specs.Items.{sent_of, notes_of}
@@ -80,38 +82,42 @@ abbrev pub IsLatestBelow : Cluster → List Item → TxnId → Key → Cell → 
 IsLatestBelow cluster whole x key cell =
     IsLatest (time_of cluster whole) (wrote cluster whole) (λ y. stamp_lt (time_of cluster whole y) (time_of cluster whole x) ≡ true) key cell
 
--- these items note an outcome of x
-abbrev pub Answered : List Item → TxnId → Type 0
-Answered part x = is_answered x (outcomes_of (notes_of part)) ≡ true
+-- these notes tell an outcome of x
+abbrev pub Answered : List Note → TxnId → Type 0
+Answered notes x = is_answered x (outcomes_of notes) ≡ true
 
--- The outcome of x: what its body means on the latest cells below it. By now it is noted, and so are outcomes of those below it.
-pub record Finished (cluster : Cluster) (whole part : List Item) (x : TxnId) (outcome : Outcome) : Type 0 where
+-- An outcome of x: what its body means on the latest cells below it. By now outcomes of those below it are noted.
+pub record Finished (cluster : Cluster) (whole : List Item) (notes : List Note) (x : TxnId) (outcome : Outcome) : Type 0 where
   pub body : BodyParts
   pub body_is : HasBody cluster whole x body
   pub decided : IsDecided cluster whole x
   pub cells : Key → Cell
   pub outcome_is : outcome ≡ outcome_of body cells
   pub latest : (key : Key) → is_read body key ≡ true → IsLatestBelow cluster whole x key (cells key)
-  pub behind : (key : Key) (y : TxnId) → uses body key ≡ true → Below cluster whole (shard_of_key cluster.layout key) y x → Answered part y
-  pub noted : Answered part x
+  pub behind : (key : Key) (y : TxnId) → uses body key ≡ true → Below cluster whole (shard_of_key cluster.layout key) y x → Answered notes y
+
+-- the same, and an outcome of x is noted
+pub record IsOutcome (cluster : Cluster) (whole : List Item) (notes : List Note) (x : TxnId) (outcome : Outcome) : Type 0 where
+  pub finished : Finished cluster whole notes x outcome
+  pub noted : Answered notes x
 
 -- What x reads in a shard: of each key there the latest cell below it. Outcomes of those below it there are noted.
-pub record Reading (cluster : Cluster) (whole part : List Item) (x : TxnId) (shard : ℕ) (cells : List (Key × Cell)) : Type 0 where
+pub record Reading (cluster : Cluster) (whole : List Item) (notes : List Note) (x : TxnId) (shard : ℕ) (cells : List (Key × Cell)) : Type 0 where
   pub decided : IsDecided cluster whole x
   pub latest : (body : BodyParts) (key : Key) → HasBody cluster whole x body → is_read body key ≡ true → shard_of_key cluster.layout key ≡ shard
       → IsLatestBelow cluster whole x key (cell_of cells key)
-  pub behind : (y : TxnId) → Below cluster whole shard y x → Answered part y
+  pub behind : (y : TxnId) → Below cluster whole shard y x → Answered notes y
 
-abbrev pub RightAnswer : Cluster → List Item → List Item → TxnId → ℕ → ReadAnswer → Type 0
-RightAnswer cluster whole part x shard (Values cells) = Reading cluster whole part x shard cells
-RightAnswer cluster whole part x shard (Known outcome) = Finished cluster whole part x outcome
+abbrev pub RightAnswer : Cluster → List Item → List Note → TxnId → ℕ → ReadAnswer → Type 0
+RightAnswer cluster whole notes x shard (Values cells) = Reading cluster whole notes x shard cells
+RightAnswer cluster whole notes x shard (Known outcome) = IsOutcome cluster whole notes x outcome
 
 -- a message brings the right cells or outcome
-abbrev pub IsRight : Cluster → List Item → List Item → Message → Type 0
-IsRight cluster whole part (ReadOk from to id ballot answer) = RightAnswer cluster whole part id (shard_of from) answer
-IsRight cluster whole part (Apply from to id ballot body t deps outcome) = Finished cluster whole part id outcome
-IsRight cluster whole part (Inform from to id ballot outcome) = Finished cluster whole part id outcome
-IsRight cluster whole part _ = Unit {0}
+abbrev pub IsRight : Cluster → List Item → List Note → Message → Type 0
+IsRight cluster whole notes (ReadOk from to id ballot answer) = RightAnswer cluster whole notes id (shard_of from) answer
+IsRight cluster whole notes (Apply from to id ballot body t deps outcome) = IsOutcome cluster whole notes id outcome
+IsRight cluster whole notes (Inform from to id ballot outcome) = IsOutcome cluster whole notes id outcome
+IsRight cluster whole notes _ = Unit {0}
 
 -- a message has the begun body, and a timestamp and dependencies that a decision has
 pub record IsFramed (cluster : Cluster) (part : List Item) (m : Message) : Type 0 where

@@ -30,6 +30,7 @@ use Rattle.acc_txn.proofs.Writes.{find-outcome_of}
 use Rattle.acc_message.specs.declared.answer.ReadAnswer.TheVariants.{Values, Known}
 use Rattle.acc_message.specs.declared.message.Message.{Message}
 use Rattle.acc_message.specs.declared.message.Message.TheVariants.{PreAccept, PreAcceptOk, Accept, AcceptOk, Commit, CommitOk, Stable, ReadOk, Apply, Recover, RecoverOk, Nack, Decided, Inform}
+use Rattle.acc_message.specs.declared.note.Note.{Note}
 use Rattle.acc_message.specs.declared.item.Item.{Item}
 use Rattle.acc_message.specs.Fields.{id_of}
 use Rattle.acc_message.specs.Taken.{Taken, taking, known, heard_body, body_in}
@@ -46,7 +47,7 @@ use Rattle.acc_serial.proofs.StoreChanges.{EachCovered, some_value}
 use Rattle.acc_serial.proofs.StoreReads.{Moment, OfAnswers, writes, KeptIsFirst, EachKept, OfReads, OfKnown, each_answer}
 use Rattle.acc_actor_laws.proofs.Standing.{not_none, stable_of-known}
 use Rattle.acc_actor_laws.proofs.OpeningFacts.{some_is}
-use Rattle.acc_serial.proofs.Notions.{uses, time_of, IsDecision, IsDecided, HasBody, outcome_first, wrote, written_at, Below, IsLatestBelow, Answered, Finished, Reading, RightAnswer, IsRight, IsFramed}
+use Rattle.acc_serial.proofs.Notions.{uses, time_of, IsDecision, IsDecided, HasBody, outcome_first, wrote, written_at, Below, IsLatestBelow, Answered, Finished, IsOutcome, Reading, RightAnswer, IsRight, IsFramed}
 use Rattle.acc_serial.proofs.Facts.{Premises, time_is, decided_from, own_times, Wrote, wrote_tells, writer_below, below_writer}
 use Rattle.acc_serial.proofs.Histories.{stable_from, kept_from, heard_from, heard_has_body}
 
@@ -82,24 +83,24 @@ key_is_read p cells (k ∷ keys) so_far key passes among =
 -- ---- right messages
 
 -- a message that is framed and right, and whose outcome, if it is an Apply, is the first one
-pub record IsSound (cluster : Cluster) (whole part : List Item) (m : Message) : Type 0 where
+pub record IsSound (cluster : Cluster) (whole : List Item) (notes : List Note) (m : Message) : Type 0 where
   pub framed : IsFramed cluster whole m
-  pub right : IsRight cluster whole part m
+  pub right : IsRight cluster whole notes m
   pub first : (x : TxnId) (o : Outcome) → outcome_in x m ≡ Some o → outcome_first cluster whole x ≡ Some o
 
-abbrev pub AllSound : Cluster → List Item → List Item → List Taken → Type 0
-AllSound cluster whole part history = AllByRecursion (λ (step : Taken). IsSound cluster whole part step.message) history
+abbrev pub AllSound : Cluster → List Item → List Note → List Taken → Type 0
+AllSound cluster whole notes history = AllByRecursion (λ (step : Taken). IsSound cluster whole notes step.message) history
 
-pub right_outcome : (cluster : Cluster) (whole part : List Item) (m : Message) (o : Outcome) → IsRight cluster whole part m → outcome_in (id_of m) m ≡ Some o
-    → Finished cluster whole part (id_of m) o
-right_outcome cluster whole part (Apply from to id ballot body t deps outcome) o right e =
-    subst (Finished cluster whole part id) (some_is outcome o (sym (cond-true (id_eq id id) (Some outcome) None ((id_order.decides id id).1 refl)) ∙ e)) right
-right_outcome cluster whole part _ o right e = absurd (not_none o e)
+pub right_outcome : (cluster : Cluster) (whole : List Item) (notes : List Note) (m : Message) (o : Outcome) → IsRight cluster whole notes m → outcome_in (id_of m) m ≡ Some o
+    → IsOutcome cluster whole notes (id_of m) o
+right_outcome cluster whole notes (Apply from to id ballot body t deps outcome) o right e =
+    subst (IsOutcome cluster whole notes id) (some_is outcome o (sym (cond-true (id_eq id id) (Some outcome) None ((id_order.decides id id).1 refl)) ∙ e)) right
+right_outcome cluster whole notes _ o right e = absurd (not_none o e)
 
 module _ (cluster : Cluster) (whole : List Item) (given : Premises cluster whole) where
   -- one transaction has one outcome
-  pub one_outcome : (part other : List Item) (x : TxnId) (o p : Outcome) → Finished cluster whole part x o → Finished cluster whole other x p → o ≡ p
-  one_outcome part other x o p f g =
+  pub one_outcome : (notes other : List Note) (x : TxnId) (o p : Outcome) → Finished cluster whole notes x o → Finished cluster whole other x p → o ≡ p
+  one_outcome notes other x o p f g =
       f.outcome_is ∙ ap (λ b. outcome_of b f.cells) (same_body)
       ∙ outcome_of-agree f.cells g.cells g.body agree ∙ sym g.outcome_is
     where
@@ -112,33 +113,33 @@ module _ (cluster : Cluster) (whole : List Item) (given : Premises cluster whole
           (λ y z c d v w same. own_times cluster whole given y z (wrote_tells cluster whole given y key c v).decided (wrote_tells cluster whole given z key d w).decided same)
           (f.latest key (subst (λ b. is_read b key ≡ true) (sym same_body) read)) (g.latest key read)
 
-  module _ (part : List Item) where
-    history_decided : (history : List Taken) (x : TxnId) (s : Settled) → AllSound cluster whole part history → stable_of history x ≡ Some s
+  module _ (notes : List Note) where
+    history_decided : (history : List Taken) (x : TxnId) (s : Settled) → AllSound cluster whole notes history → stable_of history x ≡ Some s
         → IsDecision cluster whole x s.t s.deps
     history_decided history x s sound =
         stable_from (λ y r. IsDecision cluster whole y r.t r.deps) history x s
-        (each_weaker (λ (step : Taken). IsSound cluster whole part step.message) _ history (λ step h. h.framed.settled) sound)
+        (each_weaker (λ (step : Taken). IsSound cluster whole notes step.message) _ history (λ step h. h.framed.settled) sound)
 
-    history_body : (history : List Taken) (x : TxnId) (body : BodyParts) → AllSound cluster whole part history → heard_body x (known history) ≡ Some body
+    history_body : (history : List Taken) (x : TxnId) (body : BodyParts) → AllSound cluster whole notes history → heard_body x (known history) ≡ Some body
         → HasBody cluster whole x body
     history_body history x body sound =
         heard_from (HasBody cluster whole) history x body
-        (each_weaker (λ (step : Taken). IsSound cluster whole part step.message) _ history (λ step h. h.framed.body) sound)
+        (each_weaker (λ (step : Taken). IsSound cluster whole notes step.message) _ history (λ step h. h.framed.body) sound)
 
-    history_finished : (history : List Taken) (x : TxnId) (o : Outcome) → AllSound cluster whole part history → kept_outcome history x ≡ Some o
-        → Finished cluster whole part x o
+    history_finished : (history : List Taken) (x : TxnId) (o : Outcome) → AllSound cluster whole notes history → kept_outcome history x ≡ Some o
+        → IsOutcome cluster whole notes x o
     history_finished history x o sound =
-        kept_from (Finished cluster whole part) history x o
-        (each_weaker (λ (step : Taken). IsSound cluster whole part step.message) _ history
-        (λ step h r e. right_outcome cluster whole part step.message r h.right e) sound)
+        kept_from (IsOutcome cluster whole notes) history x o
+        (each_weaker (λ (step : Taken). IsSound cluster whole notes step.message) _ history
+        (λ step h r e. right_outcome cluster whole notes step.message r h.right e) sound)
 
-    history_first : (history : List Taken) (x : TxnId) (o : Outcome) → AllSound cluster whole part history → kept_outcome history x ≡ Some o
+    history_first : (history : List Taken) (x : TxnId) (o : Outcome) → AllSound cluster whole notes history → kept_outcome history x ≡ Some o
         → outcome_first cluster whole x ≡ Some o
     history_first history x o sound =
         kept_from (λ y r. outcome_first cluster whole y ≡ Some r) history x o
-        (each_weaker (λ (step : Taken). IsSound cluster whole part step.message) _ history (λ step h r e. h.first (id_of step.message) r e) sound)
+        (each_weaker (λ (step : Taken). IsSound cluster whole notes step.message) _ history (λ step h r e. h.first (id_of step.message) r e) sound)
 
-    covered : (shard : ℕ) (history : List Taken) → AllSound cluster whole part history → Covered shard history (Below cluster whole shard)
+    covered : (shard : ℕ) (history : List Taken) → AllSound cluster whole notes history → Covered shard history (Below cluster whole shard)
     covered shard history sound x y mine stable b = (
         given.coverage shard _ (record { id = x; t = mine.t; deps = mine.deps }) b.first.1 is b.conflict
             (subst (λ t. stamp_lt (time_of cluster whole y) t ≡ true) (time_is cluster whole given x mine.t mine.deps is) b.earlier),
@@ -150,7 +151,7 @@ module _ (cluster : Cluster) (whole : List Item) (given : Premises cluster whole
         is : IsDecision cluster whole x mine.t mine.deps
         is = history_decided history x mine sound stable
 
-    each_covered : (shard : ℕ) (history : List Taken) → AllSound cluster whole part history → EachCovered shard (Below cluster whole shard) history
+    each_covered : (shard : ℕ) (history : List Taken) → AllSound cluster whole notes history → EachCovered shard (Below cluster whole shard) history
     each_covered shard [] sound = tt
     each_covered shard (step ∷ past) sound = (covered shard (step ∷ past) sound, each_covered shard past sound.1)
 
@@ -164,11 +165,11 @@ module _ (cluster : Cluster) (whole : List Item) (given : Premises cluster whole
       abbrev first : TxnId → Option Outcome
       first = outcome_first cluster whole
 
-      each_kept : (history : List Taken) → AllSound cluster whole part history → EachKept cluster.layout own below first history
+      each_kept : (history : List Taken) → AllSound cluster whole notes history → EachKept cluster.layout own below first history
       each_kept [] sound = tt
       each_kept (step ∷ past) sound = ((λ y o e. history_first (step ∷ past) y o sound e), each_kept past sound.1)
 
-      module _ (history : List Taken) (sound : AllSound cluster whole part history) where
+      module _ (history : List Taken) (sound : AllSound cluster whole notes history) where
         -- what is applied writes what its outcome says
         writing : (y : TxnId) (key : Key) → shard_of_key cluster.layout key ≡ shard_of own → is_some (kept_outcome history y) ≡ true
             → find (writes cluster.layout own below first y) key ≡ wrote cluster whole y key
@@ -183,8 +184,8 @@ module _ (cluster : Cluster) (whole : List Item) (given : Premises cluster whole
             o : (o : Outcome) × (kept_outcome history y ≡ Some o)
             o = some_value (kept_outcome history y) has
 
-            f : Finished cluster whole part y o.0
-            f = history_finished history y o.0 sound o.1
+            f : Finished cluster whole notes y o.0
+            f = (history_finished history y o.0 sound o.1).finished
 
             is_first : first y ≡ Some o.0
             is_first = history_first history y o.0 sound o.1
@@ -193,7 +194,7 @@ module _ (cluster : Cluster) (whole : List Item) (given : Premises cluster whole
             updated true is = refl
             updated false is = ap (λ (p : Outcome). find p.writes key) f.outcome_is ∙ find-outcome_of f.body f.cells key is
 
-        noted_applied : (changes : List Change) (x y : TxnId) → Moment below history changes x → below y x → Answered part y
+        noted_applied : (changes : List Change) (x y : TxnId) → Moment below history changes x → below y x → Answered notes y
         noted_applied changes x y m b =
             let o = some_value (kept_outcome history y) (m.within y (m.below_applied y b)) in
             (history_finished history y o.0 sound o.1).noted
@@ -225,18 +226,18 @@ module _ (cluster : Cluster) (whole : List Item) (given : Premises cluster whole
 
         -- what is read at a moment
         read_right : (changes : List Change) (x : TxnId) → Moment below history changes x
-            → RightAnswer cluster whole part x (shard_of own) (read_by cluster.layout (shard_of own) (heard_body x (known history)) (left_by (writes cluster.layout own below first) changes))
+            → RightAnswer cluster whole notes x (shard_of own) (read_by cluster.layout (shard_of own) (heard_body x (known history)) (left_by (writes cluster.layout own below first) changes))
         read_right changes x m =
             let s = some_value (stable_of history x) m.stable in
             let b = heard_has_body x (known history) (stable_of-known history x s.0 s.1) in
-            subst (λ o. RightAnswer cluster whole part x (shard_of own) (read_by cluster.layout (shard_of own) o (left_by (writes cluster.layout own below first) changes))) (sym b.1)
+            subst (λ o. RightAnswer cluster whole notes x (shard_of own) (read_by cluster.layout (shard_of own) o (left_by (writes cluster.layout own below first) changes))) (sym b.1)
             (with_body b.0 (history_body history x b.0 sound b.1) (decided_from cluster whole given x s.0.t s.0.deps (history_decided history x s.0 sound s.1)))
           where
             cells : Key → Cell
             cells = left_by (writes cluster.layout own below first) changes
 
             with_body : (body : BodyParts) → HasBody cluster whole x body → IsDecided cluster whole x
-                → Reading cluster whole part x (shard_of own) (read_here cluster.layout (shard_of own) body (left_by (writes cluster.layout own below first) changes))
+                → Reading cluster whole notes x (shard_of own) (read_here cluster.layout (shard_of own) body (left_by (writes cluster.layout own below first) changes))
             with_body body is decided =
                 record {
                   decided = decided;
@@ -250,10 +251,10 @@ module _ (cluster : Cluster) (whole : List Item) (given : Premises cluster whole
                 }
 
         -- a kept outcome
-        known_right : (x : TxnId) (o : Outcome) → kept_outcome history x ≡ Some o → Finished cluster whole part x o
+        known_right : (x : TxnId) (o : Outcome) → kept_outcome history x ≡ Some o → IsOutcome cluster whole notes x o
         known_right x o e = history_finished history x o sound e
 
-      answers_right : OfAnswers (IsRight cluster whole part) own
+      answers_right : OfAnswers (IsRight cluster whole notes) own
       answers_right =
           record {
             vote = λ to id b vote deps. tt;
@@ -264,10 +265,10 @@ module _ (cluster : Cluster) (whole : List Item) (given : Premises cluster whole
             decided = λ to id b t deps. tt;
           }
 
-      pub store_is_right : (past : List Taken) (m : Message) → AllSound cluster whole part past → IsSound cluster whole part m
-          → AllByRecursion (IsRight cluster whole part) (store_answer cluster.layout own past m)
+      pub store_is_right : (past : List Taken) (m : Message) → AllSound cluster whole notes past → IsSound cluster whole notes m
+          → AllByRecursion (IsRight cluster whole notes) (store_answer cluster.layout own past m)
       store_is_right past m sound taken =
-          each_answer cluster.layout own below first (IsRight cluster whole part) answers_right past m
+          each_answer cluster.layout own below first (IsRight cluster whole notes) answers_right past m
           (each_covered (shard_of own) (taking m past) (taken, sound)) (each_kept (taking m past) (taken, sound))
           (λ changes x b at. read_right past sound changes x at)
           (λ changes x b at. read_right (taking m past) (taken, sound) changes x at)
