@@ -20,3 +20,5 @@ pub mod SharedSteps
 pub mod FrameRuns
 pub mod Framed
 pub mod NodeReads
+pub mod NotesInOrder
+pub mod NodeRight

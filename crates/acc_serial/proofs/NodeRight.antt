@@ -1,0 +1,132 @@
+-- What a node makes of right answers is right, and its notes are in order.
+use Rattle.std.proofs.Common.{◌≡◌, ℕ, Bool, true, false, ◌&&◌, cond, List, [], ◌∷◌, ◌++◌, Option, None, Some, map, refl, sym, ◌∙◌, ap, subst}
+use Rattle.std.specs.List.{AllByRecursion, list_any, flat_map}
+use Rattle.std.proofs.lemmas.Bool.{true≢false, and_parts, cond_both}
+use Rattle.acc_stamp.specs.declared.stamps.TxnId.{TxnId}
+use Rattle.acc_stamp.specs.declared.stamps.Ballot.{Ballot}
+use Rattle.acc_stamp.specs.declared.actors.Actor.{Actor}
+use Rattle.acc_stamp.proofs.Rising.{each_append, each_weaker}
+use Rattle.acc_topology.specs.Layout.{Layout}
+use Rattle.acc_deps.specs.declared.records.Settled.{Settled}
+use Rattle.acc_txn.specs.declared.parts.BodyParts.{BodyParts}
+use Rattle.acc_txn.specs.declared.outcome.Outcome.{Outcome}
+use Rattle.acc_message.specs.declared.message.Message.{Message}
+use Rattle.acc_message.specs.declared.message.Message.TheVariants.{PreAccept, PreAcceptOk, Accept, AcceptOk, Commit, CommitOk, Stable, ReadOk, Apply, Recover, RecoverOk, Nack, Decided, Inform}
+use Rattle.acc_message.specs.declared.note.Note.{Note}
+use Rattle.acc_message.specs.declared.note.Note.TheVariants.{Begin as BeginNote, Recover as RecoverNote, Blocked as BlockedNote, Ended as EndedNote, Decide, Outcome as OutcomeNote, Reply as ReplyNote}
+use Rattle.acc_message.specs.declared.item.Item.{Item}
+use Rattle.acc_message.specs.Fields.{id_of}
+use Rattle.acc_message.specs.Items.{same_actor, begins}
+use Rattle.acc_message.specs.Shares.{stores_used}
+use Rattle.acc_message.specs.Attempts.{Attempt, Phase, Voting, Recovering, Accepting, Committing, Executing, fits, counts, is_read_ok, outcome_from}
+use Rattle.acc_message.specs.Coordinator.{Reaction, to_all, inform, home_node, begun, recovering, with_answer, reaction}
+use Rattle.acc_message.specs.NodeRules.{replied}
+use Rattle.acc_message.specs.Run.{Cluster}
+use Rattle.acc_safety.specs.Decisions.{outcomes_of, is_answered}
+use Rattle.acc_actor_laws.proofs.Standing.{not_none}
+use Rattle.acc_actor_laws.proofs.OpeningFacts.{some_is}
+use Rattle.acc_serial.proofs.Notions.{IsDecision, IsDecided, HasBody, Answered, Finished, IsOutcome, IsRight}
+use Rattle.acc_serial.proofs.Facts.{Premises, decided_from}
+use Rattle.acc_serial.proofs.SharedMoves.{Move, Stays, Proposes, Commits, Decides, Finishes, Blocked, Ends, Heard, Before, Counted}
+use Rattle.acc_serial.proofs.Frame.{IsFramedAttempt, each_map}
+use Rattle.acc_serial.proofs.NodeReads.{IsReadOf, AreReads, outcome_is_right}
+use Rattle.acc_serial.proofs.NotesInOrder.{HasReply, InPlace, InOrder, answered_more, answered_then, answered_now, finished_more, right_more}
+
+module _ (cluster : Cluster) (whole : List Item) (given : Premises cluster whole) where
+  abbrev pub EachRight : List Note → List Message → Type 0
+  EachRight notes ms = AllByRecursion (IsRight cluster whole notes) ms
+
+  -- the answers of an attempt of x that reads are right
+  abbrev pub ReadsRight : List Note → TxnId → Attempt → Type 0
+  ReadsRight notes x a = (s : Settled) → a.phase ≡ Executing s → AreReads cluster whole given notes x a.answers
+
+  pub read_more : (notes more : List Note) (x : TxnId) (m : Message) → IsReadOf cluster whole given notes x m → IsReadOf cluster whole given (notes ++ more) x m
+  read_more notes more x m r = record { about = r.about; reads = r.reads; right = right_more cluster whole notes more m r.right }
+
+  pub reads_more : (notes more : List Note) (x : TxnId) (a : Attempt) → ReadsRight notes x a → ReadsRight (notes ++ more) x a
+  reads_more notes more x a h s is =
+      each_weaker (IsReadOf cluster whole given notes x) (IsReadOf cluster whole given (notes ++ more) x) a.answers (read_more notes more x) (h s is)
+
+  -- an answer more that is right
+  pub heard_right : (notes : List Note) (x : TxnId) (before : Attempt) (m : Message) (a : Attempt) → ReadsRight notes x before → id_of m ≡ x
+      → IsRight cluster whole notes m → Heard cluster.layout before m a → ReadsRight notes x a
+  heard_right notes x before m a reads about right Before s executes = reads s executes
+  heard_right notes x before m a reads about right (Counted is) s executes =
+      (record { about = about; reads = read_ok; right = right }, reads s executes)
+    where
+      fitting : fits before.phase m ≡ true
+      fitting = (and_parts (fits before.phase m) _ (and_parts (fits before.phase m && _) _ is).0).0
+
+      read_ok : is_read_ok m ≡ true
+      read_ok = subst (λ phase. fits phase m ≡ true) executes fitting
+
+-- an attempt to which all of this applies
+pub record IsRightAttempt (cluster : Cluster) (whole : List Item) (given : Premises cluster whole) (notes : List Note) (x : TxnId) (a : Attempt) : Type 0 where
+  pub body : HasBody cluster whole x a.body
+  pub begun : list_any (begins x) notes ≡ true
+  pub decided : (s : Settled) → a.phase ≡ Executing s → IsDecision cluster whole x s.t s.deps
+  pub reads : ReadsRight cluster whole given notes x a
+
+module _ (cluster : Cluster) (whole : List Item) (given : Premises cluster whole) (notes more : List Note) (own : Actor) (x : TxnId) where
+  requests_right : (body : BodyParts) (f : Actor → Message) → ((store : Actor) → IsRight cluster whole (notes ++ more) (f store))
+      → EachRight cluster whole given (notes ++ more) (to_all cluster.layout body f)
+  requests_right body f h = each_map (IsRight cluster whole (notes ++ more)) f (stores_used cluster.layout body) h
+
+  inform_right : (b : Ballot) (o : Outcome) → IsOutcome cluster whole (notes ++ more) x o → EachRight cluster whole given (notes ++ more) (inform own x b o)
+  inform_right b o is =
+      cond_both (same_actor own (home_node x)) [] (Inform own (home_node x) x b o ∷ []) (EachRight cluster whole given (notes ++ more)) (λ _. tt) (λ _. (is, tt))
+
+  -- what a reaction emits, the attempt that it leaves, and its notes, with the reply if the client is open
+  pub record IsRightReaction (is_open : Bool) (r : Reaction) : Type 0 where
+    pub out : EachRight cluster whole given (notes ++ more) r.emitted.out
+    pub next : (a : Attempt) → r.next ≡ Some a → ReadsRight cluster whole given (notes ++ more) x a
+    pub noted : InOrder cluster whole notes (flat_map (replied is_open) r.emitted.notes)
+
+  no_answers : (a : Attempt) (b : Attempt) → b.answers ≡ [] → ◌≡◌ {A = Option Attempt} (Some b) (Some a) → ReadsRight cluster whole given (notes ++ more) x a
+  no_answers a b none e s is =
+      subst (AreReads cluster whole given (notes ++ more) x) (sym none ∙ ap (λ (c : Attempt). c.answers) (some_is b a e)) tt
+
+  outcome_in_order : (is_open : Bool) (o : Outcome) → list_any (begins x) notes ≡ true → Finished cluster whole notes x o
+      → InOrder cluster whole notes (flat_map (replied is_open) (OutcomeNote x o.reply ∷ []))
+  outcome_in_order false o begun f = ((begun, record { outcome = o; reply_is = refl; finished = f }), tt)
+  outcome_in_order true o begun f = (
+      (begun, record { outcome = o; reply_is = refl; finished = f }),
+      ((answered_then notes (OutcomeNote x o.reply ∷ []) x (answered_now x o.reply []),
+          record { outcome = o; reply_is = refl; finished = finished_more cluster whole notes (OutcomeNote x o.reply ∷ []) x o f }), tt),
+  )
+
+  pub move_right : (is_open : Bool) (Now : Attempt → Type 0) → ((a : Attempt) → Now a → IsRightAttempt cluster whole given notes x a)
+      → (r : Reaction) → Move cluster.layout own x Now r → more ≡ flat_map (replied is_open) r.emitted.notes → IsRightReaction is_open r
+  move_right is_open Now now r (Stays a is) made =
+      record {
+        out = tt;
+        next = λ b e. subst (ReadsRight cluster whole given (notes ++ more) x) (some_is a b e) (reads_more cluster whole given notes more x a (now a is).reads);
+        noted = tt;
+      }
+  move_right is_open Now now r (Proposes a s is) made =
+      record { out = requests_right a.body _ (λ store. tt); next = λ b e. no_answers b _ refl e; noted = tt }
+  move_right is_open Now now r (Commits a s is) made =
+      record { out = requests_right a.body _ (λ store. tt); next = λ b e. no_answers b _ refl e; noted = tt }
+  move_right is_open Now now r (Decides a path s is) made =
+      record { out = requests_right a.body _ (λ store. tt); next = λ b e. no_answers b _ refl e; noted = (tt, tt) }
+  move_right is_open Now now r (Finishes a s o is executes found) made =
+      record {
+        out = each_append (IsRight cluster whole (notes ++ more)) (to_all cluster.layout a.body (λ store. Apply own store x a.ballot a.body s.t s.deps o)) (inform own x a.ballot o)
+            (requests_right a.body (λ store. Apply own store x a.ballot a.body s.t s.deps o) (λ store. outcome)) (inform_right a.ballot o outcome);
+        next = λ b e. absurd (not_none b e);
+        noted = outcome_in_order is_open o (now a is).begun finished;
+      }
+    where
+      finished : Finished cluster whole notes x o
+      finished =
+          outcome_is_right cluster whole given notes x a.body a.answers o (now a is).body
+          (decided_from cluster whole given x s.t s.deps ((now a is).decided s executes)) ((now a is).reads s executes) found
+
+      outcome : IsOutcome cluster whole (notes ++ more) x o
+      outcome =
+          record {
+            finished = finished_more cluster whole notes more x o finished;
+            noted = answered_then notes more x (subst (λ list. Answered list x) (sym made) (answered_now x o.reply (cond is_open (ReplyNote x o.reply ∷ []) [] ++ [])));
+          }
+  move_right is_open Now now r (Blocked a by is) made = record { out = tt; next = λ b e. absurd (not_none b e); noted = (tt, tt) }
+  move_right is_open Now now r (Ends a by is) made = record { out = tt; next = λ b e. absurd (not_none b e); noted = (tt, tt) }
