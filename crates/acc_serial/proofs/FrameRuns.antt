@@ -28,7 +28,7 @@ use Rattle.acc_message.specs.declared.item.Item.TheVariants.{Step, Skipped, Down
 use Rattle.acc_message.specs.Fields.{id_of}
 use Rattle.acc_message.specs.Items.{sent_in, sent_of, begins, id_of_txn}
 use Rattle.acc_message.specs.Attempts.{Attempt, Phase, Voting, Recovering, Accepting, Committing, Executing, counts, fits}
-use Rattle.acc_message.specs.Coordinator.{Reaction, begun, recovering, when, reaction, slow_reaction, after_answer, with_answer}
+use Rattle.acc_message.specs.Coordinator.{Reaction, stay, begun, recovering, when, reaction, slow_reaction, after_answer, with_answer}
 use Rattle.acc_message.specs.NodeRules.{Act, Begins, Recovers, Slows, Takes, Restarts, Deed, next_id, next_ballot, attempt_after, attempt_of, is_open, emitted_by, replied, with_reply, on_taking, node_emits}
 use Rattle.acc_message.specs.Run.{Cluster, clock_start, act_of, deeds_of, taken_from, store_emits, is_node, emits_by, attempt_at, StandsOn, EachStands}
 use Rattle.acc_safety.specs.Decisions.{Decision, body_at, body_of, decisions_of}
@@ -57,15 +57,15 @@ fits_no_outcome (Executing s) from to id b o = refl
 counts_no_outcome : (layout : Layout) (a : Attempt) (from to : Actor) (id : TxnId) (b : Ballot) (o : Outcome) → counts layout a (Inform from to id b o) ≡ false
 counts_no_outcome layout a from to id b o = and_left _ _ (and_left _ _ (fits_no_outcome a.phase from to id b o))
 
-told_is_silent : (layout : Layout) (own : Actor) (x : TxnId) (a : Attempt) (from to : Actor) (id : TxnId) (b : Ballot) (o : Outcome)
-    → (reaction layout own x a (Inform from to id b o)).emitted.notes ≡ []
-told_is_silent layout own x a from to id b o = by (ballot_eq b a.ballot)
+pub told_stays : (layout : Layout) (own : Actor) (x : TxnId) (a : Attempt) (from to : Actor) (id : TxnId) (b : Ballot) (o : Outcome)
+    → reaction layout own x a (Inform from to id b o) ≡ stay a
+told_stays layout own x a from to id b o = by (ballot_eq b a.ballot)
   where
-    within : (t : Bool) → t ≡ false → (when t (λ c. after_answer layout own x (with_answer c (Inform from to id b o)) c.phase) a).emitted.notes ≡ []
+    within : (t : Bool) → t ≡ false → when t (λ c. after_answer layout own x (with_answer c (Inform from to id b o)) c.phase) a ≡ stay a
     within true e = absurd (true≢false e)
     within false e = refl
 
-    by : (t : Bool) → (when t (λ c. when (counts layout c (Inform from to id b o)) (λ d. after_answer layout own x (with_answer d (Inform from to id b o)) d.phase) c) a).emitted.notes ≡ []
+    by : (t : Bool) → when t (λ c. when (counts layout c (Inform from to id b o)) (λ d. after_answer layout own x (with_answer d (Inform from to id b o)) d.phase) c) a ≡ stay a
     by false = refl
     by true = within (counts layout a (Inform from to id b o)) (counts_no_outcome layout a from to id b o)
 
@@ -214,7 +214,7 @@ module _ (cluster : Cluster) (earlier : List Item) (e : Entry) (distinct : AreDi
   takes_framed : (m : Message) → Told cluster.layout node start past m → e.emitted ≡ node_emits cluster.layout node start past (Takes m) → IsFramedEntry (Takes m)
   takes_framed m (Outcome_told from to id b o) emitted =
       hears_framed (Inform from to id b o)
-      (λ a is s path n. absurd (no_decision _ _ (sym (told_is_silent cluster.layout (actor_of node 0) id a from to id b o) ∙ n))) tt
+      (λ a is s path n. absurd (no_decision _ _ (sym (ap (λ (r : Reaction). r.emitted.notes) (told_stays cluster.layout (actor_of node 0) id a from to id b o)) ∙ n))) tt
   takes_framed m (Other_told n is) emitted = hears_framed m decides (subst (λ (t : Emitted). EachFramed cluster (Step e ∷ earlier) t.out) (sym is) (out (attempt_of cluster.layout node start (id_of m) past) refl))
     where
       notes_are : (o : Option Attempt) → attempt_of cluster.layout node start (id_of m) past ≡ o

@@ -22,3 +22,5 @@ pub mod Framed
 pub mod NodeReads
 pub mod NotesInOrder
 pub mod NodeRight
+pub mod SerialEntries
+pub mod Parts

@@ -68,7 +68,7 @@ pub record IsRightAttempt (cluster : Cluster) (whole : List Item) (given : Premi
   pub reads : ReadsRight cluster whole given notes x a
 
 module _ (cluster : Cluster) (whole : List Item) (given : Premises cluster whole) (notes more : List Note) (own : Actor) (x : TxnId) where
-  requests_right : (body : BodyParts) (f : Actor → Message) → ((store : Actor) → IsRight cluster whole (notes ++ more) (f store))
+  pub requests_right : (body : BodyParts) (f : Actor → Message) → ((store : Actor) → IsRight cluster whole (notes ++ more) (f store))
       → EachRight cluster whole given (notes ++ more) (to_all cluster.layout body f)
   requests_right body f h = each_map (IsRight cluster whole (notes ++ more)) f (stores_used cluster.layout body) h
 

@@ -57,7 +57,7 @@ distinct_earlier item earlier = distinct_behind (flat_map drawn_in (noted_in ite
 
 -- ---- what has a number was begun
 
-txn_in-begun : (x : TxnId) (item : Item) (n : ℕ) → txn_in x item ≡ Some n → list_any (begins x) (noted_in item) ≡ true
+pub txn_in-begun : (x : TxnId) (item : Item) (n : ℕ) → txn_in x item ≡ Some n → list_any (begins x) (noted_in item) ≡ true
 txn_in-begun x (Step e) n k =
     cond_both (list_any (begins x) e.emitted.notes) (txn_begun e.event) None (λ o. o ≡ Some n → list_any (begins x) e.emitted.notes ≡ true)
     (λ is _. is) (λ _ e. absurd (not_none n e)) k
