@@ -24,3 +24,4 @@ pub mod NotesInOrder
 pub mod NodeRight
 pub mod SerialEntries
 pub mod Parts
+pub mod SerialRuns
