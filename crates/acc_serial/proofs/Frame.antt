@@ -16,6 +16,7 @@ use Rattle.acc_deps.specs.declared.records.Settled.{Settled}
 use Rattle.acc_deps.specs.declared.shards.ShardDeps.{ShardDeps}
 use Rattle.acc_txn.specs.declared.parts.BodyParts.{BodyParts}
 use Rattle.acc_txn.specs.declared.outcome.Outcome.{Outcome}
+use Rattle.acc_base.specs.Faults.{or_else}
 use Rattle.acc_message.specs.declared.message.Message.{Message}
 use Rattle.acc_message.specs.declared.message.Message.TheVariants.{PreAccept, PreAcceptOk, Accept, AcceptOk, Commit, CommitOk, Stable, ReadOk, Apply, Recover, RecoverOk, Nack, Decided, Inform}
 use Rattle.acc_message.specs.declared.note.Path.{Path}
@@ -27,14 +28,14 @@ use Rattle.acc_message.specs.Fields.{id_of}
 use Rattle.acc_message.specs.Items.{notes_of, noted_in, same_actor}
 use Rattle.acc_message.specs.Shares.{stores_used}
 use Rattle.acc_message.specs.Taken.{body_in}
-use Rattle.acc_message.specs.BallotRules.{settled_in}
+use Rattle.acc_message.specs.BallotRules.{settled_in, outcome_in}
 use Rattle.acc_message.specs.Attempts.{Attempt, Phase, Voting, Recovering, Accepting, Committing, Executing}
 use Rattle.acc_message.specs.Coordinator.{Reaction, stay, to_all, inform, home_node, begun, recovering, with_answer}
 use Rattle.acc_message.specs.Run.{Cluster}
 use Rattle.acc_safety.specs.Decisions.{Decision, decisions_in, decisions_of, body_of}
 use Rattle.acc_actor_laws.proofs.Standing.{not_none}
 use Rattle.acc_actor_laws.proofs.OpeningFacts.{some_is}
-use Rattle.acc_serial.proofs.Notions.{IsDecision, HasBody, IsFramed}
+use Rattle.acc_serial.proofs.Notions.{first_apply, IsDecision, HasBody, IsFramed}
 use Rattle.acc_serial.proofs.Histories.{settled_about}
 use Rattle.acc_serial.proofs.SharedMembers.{Contains-first}
 use Rattle.acc_serial.proofs.SharedMoves.{Move, Stays, Proposes, Commits, Decides, Finishes, Blocked, Ends, Heard, Before, Counted}
@@ -98,6 +99,45 @@ module _ (cluster : Cluster) (part : List Item) where
         body = λ other e. subst (HasBody cluster part (id_of m)) (some_is body other (sym is ∙ e)) has;
         settled = λ r e. subst (λ (q : Settled). IsDecision cluster part (id_of m) q.t q.deps) (some_is s r (sym settled ∙ e)) decided;
       }
+
+still_first : (k first more : Option Outcome) (o : Outcome) → (first ≡ Some o → more ≡ Some o) → or_else k first ≡ Some o → or_else k more ≡ Some o
+still_first None first more o h e = h e
+still_first (Some p) first more o h e = e
+
+pub first_apply-more : (ms more : List Message) (x : TxnId) (o : Outcome) → first_apply ms x ≡ Some o → first_apply (ms ++ more) x ≡ Some o
+first_apply-more [] more x o e = absurd (not_none o e)
+first_apply-more (m ∷ ms) more x o e =
+    still_first (outcome_in x m) (first_apply ms x) (first_apply (ms ++ more) x) o (first_apply-more ms more x o) e
+
+
+later_first : (k first : Option Outcome) (o : Outcome) → first ≡ Some o → (p : Outcome) × (or_else k first ≡ Some p)
+later_first None first o e = (o, e)
+later_first (Some p) first o e = (p, refl)
+
+first_apply-later : (ms more : List Message) (x : TxnId) (o : Outcome) → first_apply more x ≡ Some o → (p : Outcome) × (first_apply (ms ++ more) x ≡ Some p)
+first_apply-later [] more x o e = (o, e)
+first_apply-later (m ∷ ms) more x o e =
+    let later = first_apply-later ms more x o e in
+    later_first (outcome_in x m) (first_apply (ms ++ more) x) later.0 later.1
+
+-- x has a body, and where this one has stores, these messages have an Apply about x
+pub record HasApply (cluster : Cluster) (part : List Item) (ms : List Message) (x : TxnId) : Type 0 where
+  pub body : BodyParts
+  pub body_is : HasBody cluster part x body
+  pub sent : (stores_used cluster.layout body ≡ [] → ⊥) → (o : Outcome) × (first_apply ms x ≡ Some o)
+
+module _ (cluster : Cluster) (item : Item) (earlier : List Item) (ms more : List Message) (x : TxnId) where
+  pub has_apply_kept : HasApply cluster earlier ms x → HasApply cluster (item ∷ earlier) (ms ++ more) x
+  has_apply_kept h =
+      record {
+        body = h.body;
+        body_is = body_kept cluster item earlier x h.body h.body_is;
+        sent = λ some. let f = h.sent some in (f.0, first_apply-more ms more x f.0 f.1);
+      }
+
+  pub has_apply_now : HasApply cluster (item ∷ earlier) more x → HasApply cluster (item ∷ earlier) (ms ++ more) x
+  has_apply_now h =
+      record { body = h.body; body_is = h.body_is; sent = λ some. let f = h.sent some in first_apply-later ms more x f.0 f.1 }
 
 pub each_map : {S T : Type 0} (P : T → Type 0) (f : S → T) (xs : List S) → ((x : S) → P (f x)) → AllByRecursion P (map f xs)
 each_map P f [] h = tt

@@ -1,7 +1,8 @@
 -- In every run each message and each attempt is framed.
 use Rattle.std.proofs.Common.{◌≡◌, ℕ, Bool, true, false, cond, List, [], ◌∷◌, ◌++◌, Option, None, Some, Contains, refl, sym, ◌∙◌, ap, subst, ◌⊎◌, inl, inr, ⊎_elim}
 use Rattle.std.specs.List.{AllByRecursion, flat_map, slice_get, list_any}
-use Rattle.std.proofs.lemmas.Bool.{true≢false, and_left, or_left, cond_both}
+use Rattle.std.proofs.lemmas.Bool.{true≢false, false≢true, and_left, or_left, cond_both}
+use Rattle.std.proofs.lemmas.List.Concat.{flat_map-append}
 use Rattle.acc_stamp.specs.declared.stamps.TxnId.{TxnId}
 use Rattle.acc_stamp.specs.declared.stamps.Ballot.{Ballot}
 use Rattle.acc_stamp.specs.declared.actors.Actor.{Actor}
@@ -13,12 +14,13 @@ use Rattle.acc_topology.specs.Layout.{Layout}
 use Rattle.acc_deps.specs.declared.records.Settled.{Settled}
 use Rattle.acc_txn.specs.declared.parts.BodyParts.{BodyParts}
 use Rattle.acc_txn.specs.declared.outcome.Outcome.{Outcome}
+use Rattle.acc_txn.specs.declared.outcome.Reply.{Reply}
 use Rattle.acc_message.specs.declared.answer.ReadAnswer.{ReadAnswer}
 use Rattle.acc_message.specs.declared.message.Message.{Message}
 use Rattle.acc_message.specs.declared.message.Message.TheVariants.{PreAccept, PreAcceptOk, Accept, AcceptOk, Commit, CommitOk, Stable, ReadOk, Apply, Recover, RecoverOk, Nack, Decided, Inform}
 use Rattle.acc_message.specs.declared.note.Path.{Path}
 use Rattle.acc_message.specs.declared.note.Note.{Note}
-use Rattle.acc_message.specs.declared.note.Note.TheVariants.{Begin as BeginNote, Decide}
+use Rattle.acc_message.specs.declared.note.Note.TheVariants.{Begin as BeginNote, Recover as RecoverNote, Blocked as BlockedNote, Ended as EndedNote, Decide, Outcome as OutcomeNote, Reply as ReplyNote}
 use Rattle.acc_message.specs.declared.entry.Emitted.{Emitted}
 use Rattle.acc_message.specs.declared.entry.Entry.{Entry}
 use Rattle.acc_message.specs.declared.entry.Event.{Event}
@@ -31,18 +33,18 @@ use Rattle.acc_message.specs.Attempts.{Attempt, Phase, Voting, Recovering, Accep
 use Rattle.acc_message.specs.Coordinator.{Reaction, stay, begun, recovering, when, reaction, slow_reaction, after_answer, with_answer}
 use Rattle.acc_message.specs.NodeRules.{Act, Begins, Recovers, Slows, Takes, Restarts, Deed, next_id, next_ballot, attempt_after, attempt_of, is_open, emitted_by, replied, with_reply, on_taking, node_emits}
 use Rattle.acc_message.specs.Run.{Cluster, clock_start, act_of, deeds_of, taken_from, store_emits, is_node, emits_by, attempt_at, StandsOn, EachStands}
-use Rattle.acc_safety.specs.Decisions.{Decision, body_at, body_of, decisions_of}
+use Rattle.acc_safety.specs.Decisions.{Decision, body_at, body_of, decisions_of, outcomes_in, outcomes_of, is_answered}
 use Rattle.acc_safety.specs.RunLaws.{drawn_of, AreDistinct}
 use Rattle.acc_actor_laws.proofs.Standing.{not_none}
 use Rattle.acc_actor_laws.proofs.OpeningFacts.{some_is}
-use Rattle.acc_serial.proofs.Notions.{IsDecision, HasBody, IsFramed}
+use Rattle.acc_serial.proofs.Notions.{IsDecision, HasBody, Answered, IsFramed}
 use Rattle.acc_serial.proofs.SharedMembers.{Contains-first}
 use Rattle.acc_serial.proofs.SharedMoves.{Heard, Before, reaction_moves, slow_moves}
 use Rattle.acc_serial.proofs.SharedBegun.{distinct_earlier, begun_number, body_kept, number_of_id}
 use Rattle.acc_serial.proofs.SharedSteps.{ActOf, BeginsAs, RecoversAs, SlowsAs, TakesAs, RestartsAs, act_cases, deeds_cases, about_cases, Told, Outcome_told, Other_told, told}
 use Rattle.acc_serial.proofs.StoreReads.{OfAnswers}
 use Rattle.acc_serial.proofs.StoreSends.{each_sent}
-use Rattle.acc_serial.proofs.Frame.{IsFramedAttempt, decision_now, framed_kept, framed_attempt_kept, framed_answer}
+use Rattle.acc_serial.proofs.Frame.{IsFramedAttempt, decision_now, framed_kept, framed_attempt_kept, framed_answer, HasApply}
 use Rattle.acc_serial.proofs.FrameSteps.{EachFramed, votes_framed, views_framed, IsFramedReaction, Decided_by, move_framed, begun_framed, recovering_framed, heard_framed}
 
 -- ---- a told outcome moves no attempt
@@ -71,6 +73,29 @@ told_stays layout own x a from to id b o = by (ballot_eq b a.ballot)
 
 no_decision : (note : Note) (notes : List Note) → [] ≡ note ∷ notes → ⊥
 no_decision note notes e = cc
+
+-- ---- the reply tells no outcome
+
+reply_alone : (is_open : Bool) (id y : TxnId) (reply : Reply) → is_answered y (outcomes_of (cond is_open (ReplyNote id reply ∷ []) [])) ≡ false
+reply_alone true id y reply = refl
+reply_alone false id y reply = refl
+
+one_replied : (is_open : Bool) (note : Note) → outcomes_of (replied is_open note) ≡ outcomes_in note
+one_replied true (OutcomeNote id reply) = refl
+one_replied false (OutcomeNote id reply) = refl
+one_replied is_open (BeginNote id) = refl
+one_replied is_open (RecoverNote id ballot) = refl
+one_replied is_open (BlockedNote id ballot by) = refl
+one_replied is_open (EndedNote id ballot by) = refl
+one_replied is_open (Decide id t path deps) = refl
+one_replied is_open (ReplyNote id reply) = refl
+
+replied_outcomes : (is_open : Bool) (notes : List Note) → outcomes_of (flat_map (replied is_open) notes) ≡ outcomes_of notes
+replied_outcomes is_open [] = refl
+replied_outcomes is_open (note ∷ notes) =
+    flat_map-append outcomes_in (replied is_open note) (flat_map (replied is_open) notes)
+    ∙ ap (λ list. list ++ outcomes_of (flat_map (replied is_open) notes)) (one_replied is_open note)
+    ∙ ap (λ list. outcomes_in note ++ list) (replied_outcomes is_open notes)
 
 -- ---- answers of stores
 
@@ -129,6 +154,7 @@ module _ (cluster : Cluster) (earlier : List Item) (e : Entry) (distinct : AreDi
   -- what the entry emits, and the attempts that it leaves
   pub record IsFramedEntry (act : Act) : Type 0 where
     pub out : EachFramed cluster (Step e ∷ earlier) (node_emits cluster.layout node start past act).out
+    pub applied : (y : TxnId) → Answered (node_emits cluster.layout node start past act).notes y → HasApply cluster (Step e ∷ earlier) (node_emits cluster.layout node start past act).out y
     pub next : (x : TxnId) (a : Attempt) → attempt_after cluster.layout node start x past (attempt_of cluster.layout node start x past) act ≡ Some a
         → IsFramedAttempt cluster (Step e ∷ earlier) x a
 
@@ -137,6 +163,7 @@ module _ (cluster : Cluster) (earlier : List Item) (e : Entry) (distinct : AreDi
   begins_framed txn body event found emitted =
       record {
         out = votes_framed cluster (Step e ∷ earlier) (actor_of node 0) x body has;
+        applied = λ y h. absurd (false≢true h);
         next = λ y a. cond_both (id_eq x y) (Some (begun body)) (attempt_of cluster.layout node start y past)
             (λ o. o ≡ Some a → IsFramedAttempt cluster (Step e ∷ earlier) y a)
             (λ same is. subst (IsFramedAttempt cluster (Step e ∷ earlier) y) (some_is (begun body) a is)
@@ -158,6 +185,7 @@ module _ (cluster : Cluster) (earlier : List Item) (e : Entry) (distinct : AreDi
   recovers_framed txn x body is found =
       record {
         out = views_framed cluster (Step e ∷ earlier) (actor_of node 0) x (next_ballot node start past) body has;
+        applied = λ y h. absurd (false≢true h);
         next = λ y a. cond_both (id_eq x y) (Some (recovering (next_ballot node start past) body)) (attempt_of cluster.layout node start y past)
             (λ o. o ≡ Some a → IsFramedAttempt cluster (Step e ∷ earlier) y a)
             (λ same k. subst (IsFramedAttempt cluster (Step e ∷ earlier) y) (some_is (recovering (next_ballot node start past) body) a k)
@@ -174,6 +202,7 @@ module _ (cluster : Cluster) (earlier : List Item) (e : Entry) (distinct : AreDi
   slows_framed x emitted =
       record {
         out = out (attempt_of cluster.layout node start x past) refl (ap (λ (m : Emitted). m.notes) emitted);
+        applied = applied (attempt_of cluster.layout node start x past) refl (ap (λ (m : Emitted). m.notes) emitted);
         next = λ y a k. ⊎_elim (still y a) (λ h. by y h.0 a h.1.0 h.1.1 h.1.2)
             (about_cases x y (slow_reaction cluster.layout (actor_of node 0) y) (attempt_of cluster.layout node start y past) a k);
       }
@@ -183,6 +212,13 @@ module _ (cluster : Cluster) (earlier : List Item) (e : Entry) (distinct : AreDi
           → EachFramed cluster (Step e ∷ earlier) (emitted_by (slow_reaction cluster.layout (actor_of node 0) x) o).out
       out None is notes = tt
       out (Some a) is notes = (slow_framed x a is (λ s path k. noted x s path (notes ∙ k))).out
+
+      applied : (o : Option Attempt) → attempt_of cluster.layout node start x past ≡ o
+          → e.emitted.notes ≡ (emitted_by (slow_reaction cluster.layout (actor_of node 0) x) o).notes
+          → (y : TxnId) → Answered (emitted_by (slow_reaction cluster.layout (actor_of node 0) x) o).notes y
+          → HasApply cluster (Step e ∷ earlier) (emitted_by (slow_reaction cluster.layout (actor_of node 0) x) o).out y
+      applied None is notes y h = absurd (false≢true h)
+      applied (Some a) is notes y h = (slow_framed x a is (λ s path k. noted x s path (notes ∙ k))).applied y h
 
       by : (y : TxnId) → x ≡ y → (a b : Attempt) → attempt_of cluster.layout node start y past ≡ Some b
           → (slow_reaction cluster.layout (actor_of node 0) y b).next ≡ Some a → IsFramedAttempt cluster (Step e ∷ earlier) y a
@@ -196,10 +232,13 @@ module _ (cluster : Cluster) (earlier : List Item) (e : Entry) (distinct : AreDi
   hears_framed : (m : Message)
       → ((a : Attempt) → attempt_of cluster.layout node start (id_of m) past ≡ Some a
       → Decided_by cluster (Step e ∷ earlier) (actor_of node 0) (id_of m) (reaction cluster.layout (actor_of node 0) (id_of m) a m))
-      → EachFramed cluster (Step e ∷ earlier) (node_emits cluster.layout node start past (Takes m)).out → IsFramedEntry (Takes m)
-  hears_framed m decides out =
+      → EachFramed cluster (Step e ∷ earlier) (node_emits cluster.layout node start past (Takes m)).out
+      → ((y : TxnId) → Answered (node_emits cluster.layout node start past (Takes m)).notes y → HasApply cluster (Step e ∷ earlier) (node_emits cluster.layout node start past (Takes m)).out y)
+      → IsFramedEntry (Takes m)
+  hears_framed m decides out applied =
       record {
         out = out;
+        applied = applied;
         next = λ y a k. ⊎_elim (still y a) (λ h. by y h.0 a h.1.0 h.1.1 h.1.2)
             (about_cases (id_of m) y (λ b. reaction cluster.layout (actor_of node 0) y b m) (attempt_of cluster.layout node start y past) a k);
       }
@@ -215,7 +254,9 @@ module _ (cluster : Cluster) (earlier : List Item) (e : Entry) (distinct : AreDi
   takes_framed m (Outcome_told from to id b o) emitted =
       hears_framed (Inform from to id b o)
       (λ a is s path n. absurd (no_decision _ _ (sym (ap (λ (r : Reaction). r.emitted.notes) (told_stays cluster.layout (actor_of node 0) id a from to id b o)) ∙ n))) tt
+      (λ y h. absurd (false≢true (sym (reply_alone (is_open id past) id y o.reply) ∙ h)))
   takes_framed m (Other_told n is) emitted = hears_framed m decides (subst (λ (t : Emitted). EachFramed cluster (Step e ∷ earlier) t.out) (sym is) (out (attempt_of cluster.layout node start (id_of m) past) refl))
+      (subst (λ (t : Emitted). (y : TxnId) → Answered t.notes y → HasApply cluster (Step e ∷ earlier) t.out y) (sym is) (applied (attempt_of cluster.layout node start (id_of m) past) refl))
     where
       notes_are : (o : Option Attempt) → attempt_of cluster.layout node start (id_of m) past ≡ o
           → e.emitted.notes ≡ flat_map (replied (is_open (id_of m) past)) (emitted_by (λ a. reaction cluster.layout (actor_of node 0) (id_of m) a m) o).notes
@@ -232,9 +273,17 @@ module _ (cluster : Cluster) (earlier : List Item) (e : Entry) (distinct : AreDi
       out None at = tt
       out (Some a) at = (reaction_framed (id_of m) a m at (decides a at)).out
 
+      applied : (o : Option Attempt) → attempt_of cluster.layout node start (id_of m) past ≡ o → (y : TxnId)
+          → Answered (flat_map (replied (is_open (id_of m) past)) (emitted_by (λ a. reaction cluster.layout (actor_of node 0) (id_of m) a m) o).notes) y
+          → HasApply cluster (Step e ∷ earlier) (emitted_by (λ a. reaction cluster.layout (actor_of node 0) (id_of m) a m) o).out y
+      applied None at y h = absurd (false≢true h)
+      applied (Some a) at y h =
+          (reaction_framed (id_of m) a m at (decides a at)).applied y
+          (ap (is_answered y) (sym (replied_outcomes (is_open (id_of m) past) (reaction cluster.layout (actor_of node 0) (id_of m) a m).emitted.notes)) ∙ h)
+
   pub entry_framed : (event : Event) (act : Act) → ActOf cluster earlier event act → e.event ≡ event → e.emitted ≡ node_emits cluster.layout node start past act → IsFramedEntry act
   entry_framed event act (BeginsAs txn body found) is emitted = begins_framed txn body is found emitted
   entry_framed event act (RecoversAs txn x body of found) is emitted = recovers_framed txn x body of found
   entry_framed event act (SlowsAs txn x of) is emitted = slows_framed x emitted
   entry_framed event act (TakesAs number m at) is emitted = takes_framed m (told cluster.layout node start past m) emitted
-  entry_framed event act (RestartsAs kept) is emitted = record { out = tt; next = λ x a k. absurd (not_none a k) }
+  entry_framed event act (RestartsAs kept) is emitted = record { out = tt; applied = λ y h. absurd (false≢true h); next = λ x a k. absurd (not_none a k) }

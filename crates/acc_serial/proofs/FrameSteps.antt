@@ -1,7 +1,7 @@
 -- What a node emits is framed.
-use Rattle.std.proofs.Common.{◌≡◌, ℕ, Bool, true, false, cond, List, [], ◌∷◌, ◌++◌, Option, None, Some, Contains, map, refl, sym, ◌∙◌, ap, subst}
+use Rattle.std.proofs.Common.{◌≡◌, ℕ, Bool, true, false, cond, List, [], ◌∷◌, ◌++◌, Option, None, Some, Contains, map, refl, sym, ◌∙◌, ap, subst, ⊎_elim}
 use Rattle.std.specs.List.{AllByRecursion, flat_map}
-use Rattle.std.proofs.lemmas.Bool.{cond-true, cond_both}
+use Rattle.std.proofs.lemmas.Bool.{false≢true, or_cases, cond-true, cond_both}
 use Rattle.acc_stamp.specs.declared.stamps.TxnId.{TxnId}
 use Rattle.acc_stamp.specs.declared.stamps.Ballot.{Ballot}
 use Rattle.acc_stamp.specs.declared.actors.Actor.{Actor}
@@ -12,11 +12,12 @@ use Rattle.acc_topology.specs.Layout.{Layout}
 use Rattle.acc_deps.specs.declared.records.Settled.{Settled}
 use Rattle.acc_txn.specs.declared.parts.BodyParts.{BodyParts}
 use Rattle.acc_txn.specs.declared.outcome.Outcome.{Outcome}
+use Rattle.acc_base.specs.Faults.{or_else}
 use Rattle.acc_message.specs.declared.message.Message.{Message}
 use Rattle.acc_message.specs.declared.message.Message.TheVariants.{PreAccept, PreAcceptOk, Accept, AcceptOk, Commit, CommitOk, Stable, ReadOk, Apply, Recover, RecoverOk, Nack, Decided, Inform}
 use Rattle.acc_message.specs.declared.note.Path.{Path}
 use Rattle.acc_message.specs.declared.note.Note.{Note}
-use Rattle.acc_message.specs.declared.note.Note.TheVariants.{Decide}
+use Rattle.acc_message.specs.declared.note.Note.TheVariants.{Decide, Outcome as OutcomeNote}
 use Rattle.acc_message.specs.declared.item.Item.{Item}
 use Rattle.acc_message.specs.Items.{same_actor}
 use Rattle.acc_message.specs.Shares.{stores_used}
@@ -26,9 +27,9 @@ use Rattle.acc_message.specs.Run.{Cluster}
 use Rattle.acc_safety.specs.Decisions.{Decision}
 use Rattle.acc_actor_laws.proofs.Standing.{not_none}
 use Rattle.acc_actor_laws.proofs.OpeningFacts.{some_is}
-use Rattle.acc_serial.proofs.Notions.{IsDecision, HasBody, IsFramed}
+use Rattle.acc_serial.proofs.Notions.{first_apply, IsDecision, HasBody, Answered, IsFramed}
 use Rattle.acc_serial.proofs.SharedMoves.{Move, Stays, Proposes, Commits, Decides, Finishes, Blocked, Ends, Heard, Before, Counted}
-use Rattle.acc_serial.proofs.Frame.{IsFramedAttempt, framed_answer, framed_request, framed_decision, each_map}
+use Rattle.acc_serial.proofs.Frame.{IsFramedAttempt, framed_answer, framed_request, framed_decision, HasApply, each_map}
 
 abbrev pub EachFramed : Cluster → List Item → List Message → Type 0
 EachFramed cluster part ms = AllByRecursion (IsFramed cluster part) ms
@@ -87,11 +88,28 @@ module _ (cluster : Cluster) (part : List Item) (own : Actor) (x : TxnId) where
 
   pub record IsFramedReaction (r : Reaction) : Type 0 where
     pub out : EachFramed cluster part r.emitted.out
+    pub applied : (y : TxnId) → Answered r.emitted.notes y → HasApply cluster part r.emitted.out y
     pub next : (a : Attempt) → r.next ≡ Some a → IsFramedAttempt cluster part x a
 
   -- a Decide that the reaction notes is a decision
   abbrev pub Decided_by : Reaction → Type 0
   Decided_by r = (s : Settled) (path : Path) → r.emitted.notes ≡ Decide x s.t path s.deps ∷ [] → IsDecision cluster part x s.t s.deps
+
+  first_of_stores : (a : Attempt) (s : Settled) (o : Outcome) (stores : List Actor) (more : List Message) → (stores ≡ [] → ⊥)
+      → first_apply (map (λ store. Apply own store x a.ballot a.body s.t s.deps o) stores ++ more) x ≡ Some o
+  first_of_stores a s o [] more some = absurd (some refl)
+  first_of_stores a s o (store ∷ stores) more some =
+      ap (λ (k : Option Outcome). or_else k (first_apply (map (λ store. Apply own store x a.ballot a.body s.t s.deps o) stores ++ more) x))
+      (cond-true (id_eq x x) (Some o) None ((id_order.decides x x).1 refl))
+
+  apply_sent : (a : Attempt) (s : Settled) (o : Outcome) (y : TxnId) → HasBody cluster part x a.body → Answered (OutcomeNote x o.reply ∷ []) y
+      → HasApply cluster part (to_all cluster.layout a.body (λ store. Apply own store x a.ballot a.body s.t s.deps o) ++ inform own x a.ballot o) y
+  apply_sent a s o y has h =
+      subst (HasApply cluster part (to_all cluster.layout a.body (λ store. Apply own store x a.ballot a.body s.t s.deps o) ++ inform own x a.ballot o)) same
+      (record { body = a.body; body_is = has; sent = λ some. (o, first_of_stores a s o (stores_used cluster.layout a.body) (inform own x a.ballot o) some) })
+    where
+      same : x ≡ y
+      same = (id_order.decides x y).0 (⊎_elim (λ is. is) (λ none. absurd (false≢true none)) (or_cases (id_eq x y) false h))
 
   in_new_phase : (a b : Attempt) → a.body ≡ b.body → ((s : Settled) → b.phase ≡ Executing s → IsDecision cluster part x s.t s.deps)
       → IsFramedAttempt cluster part x a → (c : Attempt) → ◌≡◌ {A = Option Attempt} (Some b) (Some c) → IsFramedAttempt cluster part x c
@@ -101,30 +119,34 @@ module _ (cluster : Cluster) (part : List Item) (own : Actor) (x : TxnId) where
   pub move_framed : (Now : Attempt → Type 0) → ((a : Attempt) → Now a → IsFramedAttempt cluster part x a)
       → (r : Reaction) → Move cluster.layout own x Now r → Decided_by r → IsFramedReaction r
   move_framed Now now r (Stays a is) decides =
-      record { out = tt; next = λ c e. subst (IsFramedAttempt cluster part x) (some_is a c e) (now a is) }
+      record { out = tt; applied = λ y h. absurd (false≢true h); next = λ c e. subst (IsFramedAttempt cluster part x) (some_is a c e) (now a is) }
   move_framed Now now r (Proposes a s is) decides =
       record {
         out = ask_framed a.body _ (λ store. framed_request cluster part (Accept own store x a.ballot a.body s.t s.deps) a.body refl refl (now a is).body);
+        applied = λ y h. absurd (false≢true h);
         next = in_new_phase a _ refl (λ r e. absurd (accepting_apart s r e)) (now a is);
       }
   move_framed Now now r (Commits a s is) decides =
       record {
         out = ask_framed a.body _ (λ store. framed_request cluster part (Commit own store x a.ballot a.body s.t s.deps) a.body refl refl (now a is).body);
+        applied = λ y h. absurd (false≢true h);
         next = in_new_phase a _ refl (λ r e. absurd (committing_apart s r e)) (now a is);
       }
   move_framed Now now r (Decides a path s is) decides =
       record {
         out = stable_framed a s (now a is).body (decides s path refl);
+        applied = λ y h. absurd (false≢true h);
         next = in_new_phase a _ refl (λ r e. subst (λ (q : Settled). IsDecision cluster part x q.t q.deps) (executing_same s r e) (decides s path refl)) (now a is);
       }
   move_framed Now now r (Finishes a s o is executes found) decides =
       record {
         out = each_append (IsFramed cluster part) (to_all cluster.layout a.body (λ store. Apply own store x a.ballot a.body s.t s.deps o)) (inform own x a.ballot o)
             (apply_framed a s o (now a is).body ((now a is).decided s executes)) (inform_framed a.ballot o);
+        applied = λ y h. apply_sent a s o y (now a is).body h;
         next = λ c e. absurd (not_none c e);
       }
-  move_framed Now now r (Blocked a by is) decides = record { out = tt; next = λ c e. absurd (not_none c e) }
-  move_framed Now now r (Ends a by is) decides = record { out = tt; next = λ c e. absurd (not_none c e) }
+  move_framed Now now r (Blocked a by is) decides = record { out = tt; applied = λ y h. absurd (false≢true h); next = λ c e. absurd (not_none c e) }
+  move_framed Now now r (Ends a by is) decides = record { out = tt; applied = λ y h. absurd (false≢true h); next = λ c e. absurd (not_none c e) }
 
   -- an attempt that begins, or that takes over
   pub begun_framed : (body : BodyParts) → HasBody cluster part x body → IsFramedAttempt cluster part x (begun body)

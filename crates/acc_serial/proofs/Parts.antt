@@ -27,7 +27,7 @@ use Rattle.acc_serial.proofs.Notions.{first_apply, HasBody, outcome_first}
 use Rattle.acc_serial.proofs.Facts.{or_else_cases}
 use Rattle.acc_serial.proofs.SharedBegun.{body_kept, txn_in-begun}
 use Rattle.acc_serial.proofs.SharedSteps.{ActOf, BeginsAs, RecoversAs, SlowsAs, TakesAs, RestartsAs, act_cases, deeds_cases}
-use Rattle.acc_serial.proofs.Frame.{decision_kept}
+use Rattle.acc_serial.proofs.Frame.{decision_kept, first_apply-more}
 
 -- ---- a part of a run
 
@@ -35,15 +35,6 @@ pub record IsWithin (cluster : Cluster) (whole part : List Item) : Type 0 where
   pub body : (x : TxnId) (body : BodyParts) → HasBody cluster part x body → HasBody cluster whole x body
   pub decision : (d : Decision) → Contains (decisions_of (notes_of part)) d → Contains (decisions_of (notes_of whole)) d
   pub first : (x : TxnId) (o : Outcome) → first_apply (sent_of part) x ≡ Some o → outcome_first cluster whole x ≡ Some o
-
-still_first : (k first more : Option Outcome) (o : Outcome) → (first ≡ Some o → more ≡ Some o) → or_else k first ≡ Some o → or_else k more ≡ Some o
-still_first None first more o h e = h e
-still_first (Some p) first more o h e = e
-
-first_apply-more : (ms more : List Message) (x : TxnId) (o : Outcome) → first_apply ms x ≡ Some o → first_apply (ms ++ more) x ≡ Some o
-first_apply-more [] more x o e = absurd (not_none o e)
-first_apply-more (m ∷ ms) more x o e =
-    still_first (outcome_in x m) (first_apply ms x) (first_apply (ms ++ more) x) o (first_apply-more ms more x o) e
 
 pub within_itself : (cluster : Cluster) (whole : List Item) → IsWithin cluster whole whole
 within_itself cluster whole = record { body = λ x body h. h; decision = λ d h. h; first = λ x o e. e }

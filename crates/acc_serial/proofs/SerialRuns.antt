@@ -31,7 +31,7 @@ use Rattle.acc_serial.proofs.StoreRight.{IsSound, right_outcome, one_outcome, st
 use Rattle.acc_serial.proofs.SharedBegun.{distinct_earlier, begun_by_body}
 use Rattle.acc_serial.proofs.SharedSteps.{ActOf, BeginsAs, RecoversAs, SlowsAs, TakesAs, RestartsAs, act_cases, deeds_cases}
 use Rattle.acc_serial.proofs.Frame.{IsFramedAttempt}
-use Rattle.acc_serial.proofs.Framed.{IsFramedRun, node_emitted, run_framed}
+use Rattle.acc_serial.proofs.Framed.{IsFramedRun, node_emitted, store_is_silent, run_framed}
 use Rattle.acc_serial.proofs.NotesInOrder.{InOrder, right_more, in_order_join}
 use Rattle.acc_serial.proofs.NodeRight.{EachRight, ReadsRight, reads_more, IsRightAttempt}
 use Rattle.acc_serial.proofs.SerialEntries.{IsRightEntry, entry_right}
@@ -128,11 +128,6 @@ module _ (cluster : Cluster) (whole : List Item) (given : Premises cluster whole
     store_right (Begins txn body) taken = tt
     store_right _ taken = tt
 
-    store_is_silent : (act : Act) → (store_emits cluster.layout e.actor (taken_from (deeds_of cluster e.actor earlier)) act).notes ≡ []
-    store_is_silent (Takes m) = refl
-    store_is_silent (Begins txn body) = refl
-    store_is_silent _ = refl
-
     -- what the entry emits
     record Emits (emitted : Emitted) : Type 0 where
       out : EachRight cluster whole given (notes_of earlier ++ emitted.notes) emitted.out
@@ -157,7 +152,7 @@ module _ (cluster : Cluster) (whole : List Item) (given : Premises cluster whole
             (record {
               out = each_weaker (IsRight cluster whole (notes_of earlier)) _ _ (right_more cluster whole (notes_of earlier) _)
                   (store_right s.act (taken_right e.event s.act act_is));
-              noted = subst (InOrder cluster whole (notes_of earlier)) (sym (store_is_silent s.act)) tt;
+              noted = subst (InOrder cluster whole (notes_of earlier)) (sym (store_is_silent cluster.layout e.actor (deeds_of cluster e.actor earlier) s.act)) tt;
             })
         by true node =
             let r = node_right e.actor node refl s.act s.act_is in
