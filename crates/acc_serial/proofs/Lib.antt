@@ -25,3 +25,5 @@ pub mod NodeRight
 pub mod SerialEntries
 pub mod Parts
 pub mod SerialRuns
+pub mod Stores
+pub mod Outcomes

@@ -40,18 +40,18 @@ use Rattle.acc_serial.proofs.Facts.{or_else_cases, used_is_found, Premises}
 
 -- ---- the shards that a body uses
 
-shard_is_small : (layout : Layout) (key : Key) → IsLayout layout → shard_of_key layout key < 16
+pub shard_is_small : (layout : Layout) (key : Key) → IsLayout layout → shard_of_key layout key < 16
 shard_is_small layout key is =
     let held = shard_of-holds layout key.key is.ends in
     omega (arith, held.exists.1, is.few_shards)
 
-shards_are_small : (layout : Layout) (list : List (Key × Bool)) → IsLayout layout → AreSmall (shards_of layout list)
+pub shards_are_small : (layout : Layout) (list : List (Key × Bool)) → IsLayout layout → AreSmall (shards_of layout list)
 shards_are_small layout [] is n h = absurd (false≢true h)
 shards_are_small layout (p ∷ list) is n h =
     ⊎_elim (λ same. subst (λ m. m < 16) (eqb-true (shard_of_key layout p.0) n same) (shard_is_small layout p.0 is))
     (shards_are_small layout list is n) (or_cases (shard_of_key layout p.0 == n) (is_among (shards_of layout list) n) h)
 
-found_shard : (layout : Layout) (list : List (Key × Bool)) (key : Key) (w : Bool) → find list key ≡ Some w → is_among (shards_of layout list) (shard_of_key layout key) ≡ true
+pub found_shard : (layout : Layout) (list : List (Key × Bool)) (key : Key) (w : Bool) → find list key ≡ Some w → is_among (shards_of layout list) (shard_of_key layout key) ≡ true
 found_shard layout [] key w e = absurd (not_none w e)
 found_shard layout (p ∷ list) key w e =
     cond_both (key_eq key p.0) (Some p.1) (find list key) (λ o. o ≡ Some w → is_among (shards_of layout (p ∷ list)) (shard_of_key layout key) ≡ true)
