@@ -27,3 +27,5 @@ pub mod Parts
 pub mod SerialRuns
 pub mod Stores
 pub mod Outcomes
+pub mod InTheirTurn
+pub mod Whole

@@ -46,7 +46,7 @@ pub record IsSerialRun (cluster : Cluster) (whole : List Item) (given : Premises
 module _ (cluster : Cluster) (whole : List Item) (given : Premises cluster whole) where
   -- ---- the first outcome is that of every Apply
 
-  first_is_right : (notes : List Note) (ms : List Message) (x : TxnId) (o : Outcome) → EachRight cluster whole given notes ms → first_apply ms x ≡ Some o
+  pub first_is_right : (notes : List Note) (ms : List Message) (x : TxnId) (o : Outcome) → EachRight cluster whole given notes ms → first_apply ms x ≡ Some o
       → IsOutcome cluster whole notes x o
   first_is_right notes [] x o right e = absurd (not_none o e)
   first_is_right notes (m ∷ ms) x o right e =
