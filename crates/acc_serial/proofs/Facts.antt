@@ -1,5 +1,5 @@
 -- What agreement and coverage say of times, writers and conflicts.
-use Rattle.std.proofs.Common.{◌≡◌, ◌==◌, ℕ, Bool, true, false, ◌||◌, cond, List, [], ◌∷◌, Option, None, Some, Contains, IsTrue, refl, sym, ◌∙◌, ap, subst, ◌⊎◌, inl, inr, ⊎_elim}
+use Rattle.std.proofs.Common.{◌≡◌, ◌==◌, Bool, true, false, ◌||◌, cond, List, [], ◌∷◌, Option, None, Some, Contains, refl, sym, ◌∙◌, ap, subst, ◌⊎◌, inl, inr, ⊎_elim}
 use Rattle.std.specs.List.{AllByRecursion}
 use Rattle.std.proofs.lemmas.Bool.{true≢false, or_from, or_right, cases_Bool, cond_both, cond-true, eq-eqb}
 use Rattle.acc_stamp.specs.declared.stamps.Stamp.{Stamp}
@@ -20,7 +20,7 @@ use Rattle.acc_txn.specs.Uses.{is_read, is_updated, footprint_of}
 use Rattle.acc_txn.proofs.UsesFacts.{find-footprint_of}
 use Rattle.acc_base.specs.Faults.{or_else}
 use Rattle.acc_message.specs.declared.message.Message.{Message}
-use Rattle.acc_message.specs.declared.message.Message.TheVariants.{PreAccept, PreAcceptOk, Accept, AcceptOk, Commit, CommitOk, Stable, ReadOk, Apply, Recover, RecoverOk, Nack, Decided, Inform}
+use Rattle.acc_message.specs.declared.message.Message.TheVariants.{PreAccept, Apply}
 use Rattle.acc_message.specs.declared.item.Item.{Item}
 use Rattle.acc_message.specs.Fields.{id_of}
 use Rattle.acc_message.specs.Items.{sent_of, notes_of}
@@ -29,10 +29,9 @@ use Rattle.acc_message.specs.BallotRules.{settled_in, outcome_in}
 use Rattle.acc_message.specs.Run.{Cluster}
 use Rattle.acc_safety.specs.Decisions.{Decision, decisions_of, body_of}
 use Rattle.acc_safety.specs.Agreement.{Agreement}
-use Rattle.acc_safety.specs.Coverage.{Coverage, Conflict}
+use Rattle.acc_safety.specs.Coverage.{Coverage}
 use Rattle.acc_serial.proofs.Cell.{Cell}
 use Rattle.acc_actor_laws.proofs.Standing.{not_none}
-use Rattle.acc_actor_laws.proofs.OpeningFacts.{some_is}
 use Rattle.acc_serial.proofs.SharedMembers.{Contains-none, Contains-cases, Contains-first, Contains-later}
 use Rattle.acc_serial.proofs.Notions.{time_among, first_apply, written_at, uses, IsDecision, time_of, IsDecided, HasBody, outcome_first, wrote, Below, IsFramed}
 

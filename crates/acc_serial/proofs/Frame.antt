@@ -1,44 +1,26 @@
 -- In a run every message has the begun body, and what is stable or applied is decided.
-use Rattle.std.proofs.Common.{◌≡◌, ◌==◌, ℕ, Bool, true, false, cond, List, [], ◌∷◌, ◌++◌, Option, None, Some, Contains, map, refl, sym, ◌∙◌, ap, subst, ◌⊎◌, inl, inr, ⊎_elim}
-use Rattle.std.specs.List.{AllByRecursion, flat_map, slice_get}
-use Rattle.std.specs.Option.{option_map}
-use Rattle.std.proofs.lemmas.Bool.{true≢false, cond_both, eqb-true}
+use Rattle.std.proofs.Common.{◌≡◌, List, [], ◌∷◌, ◌++◌, Option, None, Some, Contains, map, refl, sym, ◌∙◌, subst}
+use Rattle.std.specs.List.{AllByRecursion}
 use Rattle.std.proofs.lemmas.List.Elements.{Contains-append_left, Contains-append_right}
 use Rattle.std.proofs.lemmas.List.Concat.{flat_map-append}
-use Rattle.acc_stamp.specs.declared.stamps.Stamp.{Stamp}
 use Rattle.acc_stamp.specs.declared.stamps.TxnId.{TxnId}
-use Rattle.acc_stamp.specs.declared.stamps.Ballot.{Ballot}
-use Rattle.acc_stamp.specs.declared.actors.Actor.{Actor}
-use Rattle.acc_stamp.specs.Actor.{actor_of, node_of}
-use Rattle.acc_stamp.proofs.Rising.{each_append, each_weaker}
-use Rattle.acc_topology.specs.Layout.{Layout}
 use Rattle.acc_deps.specs.declared.records.Settled.{Settled}
-use Rattle.acc_deps.specs.declared.shards.ShardDeps.{ShardDeps}
 use Rattle.acc_txn.specs.declared.parts.BodyParts.{BodyParts}
 use Rattle.acc_txn.specs.declared.outcome.Outcome.{Outcome}
 use Rattle.acc_base.specs.Faults.{or_else}
 use Rattle.acc_message.specs.declared.message.Message.{Message}
-use Rattle.acc_message.specs.declared.message.Message.TheVariants.{PreAccept, PreAcceptOk, Accept, AcceptOk, Commit, CommitOk, Stable, ReadOk, Apply, Recover, RecoverOk, Nack, Decided, Inform}
-use Rattle.acc_message.specs.declared.note.Path.{Path}
-use Rattle.acc_message.specs.declared.note.Note.{Note}
-use Rattle.acc_message.specs.declared.note.Note.TheVariants.{Decide, Outcome as OutcomeNote}
-use Rattle.acc_message.specs.declared.entry.Emitted.{Emitted}
 use Rattle.acc_message.specs.declared.item.Item.{Item}
 use Rattle.acc_message.specs.Fields.{id_of}
-use Rattle.acc_message.specs.Items.{notes_of, noted_in, same_actor}
+use Rattle.acc_message.specs.Items.{notes_of, noted_in}
 use Rattle.acc_message.specs.Shares.{stores_used}
 use Rattle.acc_message.specs.Taken.{body_in}
 use Rattle.acc_message.specs.BallotRules.{settled_in, outcome_in}
-use Rattle.acc_message.specs.Attempts.{Attempt, Phase, Voting, Recovering, Accepting, Committing, Executing}
-use Rattle.acc_message.specs.Coordinator.{Reaction, stay, to_all, inform, home_node, begun, recovering, with_answer}
+use Rattle.acc_message.specs.Attempts.{Attempt, Executing}
 use Rattle.acc_message.specs.Run.{Cluster}
-use Rattle.acc_safety.specs.Decisions.{Decision, decisions_in, decisions_of, body_of}
+use Rattle.acc_safety.specs.Decisions.{Decision, decisions_in, decisions_of}
 use Rattle.acc_actor_laws.proofs.Standing.{not_none}
 use Rattle.acc_actor_laws.proofs.OpeningFacts.{some_is}
 use Rattle.acc_serial.proofs.Notions.{first_apply, IsDecision, HasBody, IsFramed}
-use Rattle.acc_serial.proofs.Histories.{settled_about}
-use Rattle.acc_serial.proofs.SharedMembers.{Contains-first}
-use Rattle.acc_serial.proofs.SharedMoves.{Move, Stays, Proposes, Commits, Decides, Finishes, Blocked, Ends, Heard, Before, Counted}
 use Rattle.acc_serial.proofs.SharedBegun.{body_kept}
 
 -- an attempt has the begun body, and once it reads a decision
@@ -108,7 +90,6 @@ pub first_apply-more : (ms more : List Message) (x : TxnId) (o : Outcome) → fi
 first_apply-more [] more x o e = absurd (not_none o e)
 first_apply-more (m ∷ ms) more x o e =
     still_first (outcome_in x m) (first_apply ms x) (first_apply (ms ++ more) x) o (first_apply-more ms more x o) e
-
 
 later_first : (k first : Option Outcome) (o : Outcome) → first ≡ Some o → (p : Outcome) × (or_else k first ≡ Some p)
 later_first None first o e = (o, e)

@@ -1,23 +1,21 @@
 -- In every run each message and each attempt is framed.
-use Rattle.std.proofs.Common.{◌≡◌, ℕ, Bool, true, false, cond, List, [], ◌∷◌, ◌++◌, Option, None, Some, Contains, refl, sym, ◌∙◌, ap, subst, ◌⊎◌, inl, inr, ⊎_elim}
-use Rattle.std.specs.List.{AllByRecursion, flat_map, slice_get, list_any}
+use Rattle.std.proofs.Common.{◌≡◌, ℕ, Bool, true, false, cond, List, [], ◌∷◌, ◌++◌, Option, None, Some, Contains, refl, sym, ◌∙◌, ap, subst, ⊎_elim}
+use Rattle.std.specs.List.{flat_map, slice_get, list_any}
 use Rattle.std.proofs.lemmas.Bool.{true≢false, false≢true, and_left, or_left, cond_both}
 use Rattle.std.proofs.lemmas.List.Concat.{flat_map-append}
 use Rattle.acc_stamp.specs.declared.stamps.TxnId.{TxnId}
 use Rattle.acc_stamp.specs.declared.stamps.Ballot.{Ballot}
 use Rattle.acc_stamp.specs.declared.actors.Actor.{Actor}
-use Rattle.acc_stamp.specs.Actor.{actor_of, node_of}
+use Rattle.acc_stamp.specs.Actor.{actor_of}
 use Rattle.acc_stamp.specs.Stamp.{id_eq, ballot_eq}
 use Rattle.acc_stamp.proofs.Order.{id_order}
-use Rattle.acc_stamp.proofs.Rising.{each_append, each_weaker}
 use Rattle.acc_topology.specs.Layout.{Layout}
 use Rattle.acc_deps.specs.declared.records.Settled.{Settled}
 use Rattle.acc_txn.specs.declared.parts.BodyParts.{BodyParts}
 use Rattle.acc_txn.specs.declared.outcome.Outcome.{Outcome}
 use Rattle.acc_txn.specs.declared.outcome.Reply.{Reply}
-use Rattle.acc_message.specs.declared.answer.ReadAnswer.{ReadAnswer}
 use Rattle.acc_message.specs.declared.message.Message.{Message}
-use Rattle.acc_message.specs.declared.message.Message.TheVariants.{PreAccept, PreAcceptOk, Accept, AcceptOk, Commit, CommitOk, Stable, ReadOk, Apply, Recover, RecoverOk, Nack, Decided, Inform}
+use Rattle.acc_message.specs.declared.message.Message.TheVariants.{PreAcceptOk, AcceptOk, CommitOk, RecoverOk, Nack, Decided, Inform}
 use Rattle.acc_message.specs.declared.note.Path.{Path}
 use Rattle.acc_message.specs.declared.note.Note.{Note}
 use Rattle.acc_message.specs.declared.note.Note.TheVariants.{Begin as BeginNote, Recover as RecoverNote, Blocked as BlockedNote, Ended as EndedNote, Decide, Outcome as OutcomeNote, Reply as ReplyNote}
@@ -26,25 +24,25 @@ use Rattle.acc_message.specs.declared.entry.Entry.{Entry}
 use Rattle.acc_message.specs.declared.entry.Event.{Event}
 use Rattle.acc_message.specs.declared.entry.Event.TheVariants.{Begin as BeginEvent}
 use Rattle.acc_message.specs.declared.item.Item.{Item}
-use Rattle.acc_message.specs.declared.item.Item.TheVariants.{Step, Skipped, Down}
+use Rattle.acc_message.specs.declared.item.Item.TheVariants.{Step}
 use Rattle.acc_message.specs.Fields.{id_of}
-use Rattle.acc_message.specs.Items.{sent_in, sent_of, begins, id_of_txn}
+use Rattle.acc_message.specs.Items.{begins, id_of_txn}
 use Rattle.acc_message.specs.Attempts.{Attempt, Phase, Voting, Recovering, Accepting, Committing, Executing, counts, fits}
 use Rattle.acc_message.specs.Coordinator.{Reaction, stay, begun, recovering, when, reaction, slow_reaction, after_answer, with_answer}
-use Rattle.acc_message.specs.NodeRules.{Act, Begins, Recovers, Slows, Takes, Restarts, Deed, next_id, next_ballot, attempt_after, attempt_of, is_open, emitted_by, replied, with_reply, on_taking, node_emits}
-use Rattle.acc_message.specs.Run.{Cluster, clock_start, act_of, deeds_of, taken_from, store_emits, is_node, emits_by, attempt_at, StandsOn, EachStands}
-use Rattle.acc_safety.specs.Decisions.{Decision, body_at, body_of, decisions_of, outcomes_in, outcomes_of, is_answered}
+use Rattle.acc_message.specs.NodeRules.{Act, Begins, Recovers, Slows, Takes, Deed, next_id, next_ballot, attempt_after, attempt_of, is_open, emitted_by, replied, node_emits}
+use Rattle.acc_message.specs.Run.{Cluster, taken_from, store_emits}
+use Rattle.acc_safety.specs.Decisions.{Decision, body_at, decisions_of, outcomes_in, outcomes_of, is_answered}
 use Rattle.acc_safety.specs.RunLaws.{drawn_of, AreDistinct}
 use Rattle.acc_actor_laws.proofs.Standing.{not_none}
 use Rattle.acc_actor_laws.proofs.OpeningFacts.{some_is}
 use Rattle.acc_serial.proofs.Notions.{IsDecision, HasBody, Answered, IsFramed}
 use Rattle.acc_serial.proofs.SharedMembers.{Contains-first}
-use Rattle.acc_serial.proofs.SharedMoves.{Heard, Before, reaction_moves, slow_moves}
+use Rattle.acc_serial.proofs.SharedMoves.{Heard, reaction_moves, slow_moves}
 use Rattle.acc_serial.proofs.SharedBegun.{distinct_earlier, begun_number, body_kept, number_of_id}
-use Rattle.acc_serial.proofs.SharedSteps.{ActOf, BeginsAs, RecoversAs, SlowsAs, TakesAs, RestartsAs, act_cases, deeds_cases, about_cases, Told, Outcome_told, Other_told, told}
+use Rattle.acc_serial.proofs.SharedSteps.{ActOf, BeginsAs, RecoversAs, SlowsAs, TakesAs, RestartsAs, about_cases, Told, Outcome_told, Other_told, told}
 use Rattle.acc_serial.proofs.StoreReads.{OfAnswers}
 use Rattle.acc_serial.proofs.StoreSends.{each_sent}
-use Rattle.acc_serial.proofs.Frame.{IsFramedAttempt, decision_now, framed_kept, framed_attempt_kept, framed_answer, HasApply}
+use Rattle.acc_serial.proofs.Frame.{IsFramedAttempt, decision_now, framed_attempt_kept, framed_answer, HasApply}
 use Rattle.acc_serial.proofs.FrameSteps.{EachFramed, votes_framed, views_framed, IsFramedReaction, Decided_by, move_framed, begun_framed, recovering_framed, heard_framed}
 
 -- ---- a told outcome moves no attempt
@@ -167,7 +165,7 @@ module _ (cluster : Cluster) (earlier : List Item) (e : Entry) (distinct : AreDi
         next = λ y a. cond_both (id_eq x y) (Some (begun body)) (attempt_of cluster.layout node start y past)
             (λ o. o ≡ Some a → IsFramedAttempt cluster (Step e ∷ earlier) y a)
             (λ same is. subst (IsFramedAttempt cluster (Step e ∷ earlier) y) (some_is (begun body) a is)
-                (begun_framed cluster (Step e ∷ earlier) (actor_of node 0) y body (subst (λ z. HasBody cluster (Step e ∷ earlier) z body) ((id_order.decides x y).0 same) has)))
+            (begun_framed cluster (Step e ∷ earlier) (actor_of node 0) y body (subst (λ z. HasBody cluster (Step e ∷ earlier) z body) ((id_order.decides x y).0 same) has)))
             (λ _ is. still y a is);
       }
     where
@@ -189,7 +187,7 @@ module _ (cluster : Cluster) (earlier : List Item) (e : Entry) (distinct : AreDi
         next = λ y a. cond_both (id_eq x y) (Some (recovering (next_ballot node start past) body)) (attempt_of cluster.layout node start y past)
             (λ o. o ≡ Some a → IsFramedAttempt cluster (Step e ∷ earlier) y a)
             (λ same k. subst (IsFramedAttempt cluster (Step e ∷ earlier) y) (some_is (recovering (next_ballot node start past) body) a k)
-                (recovering_framed cluster (Step e ∷ earlier) (actor_of node 0) y (next_ballot node start past) body (subst (λ z. HasBody cluster (Step e ∷ earlier) z body) ((id_order.decides x y).0 same) has)))
+            (recovering_framed cluster (Step e ∷ earlier) (actor_of node 0) y (next_ballot node start past) body (subst (λ z. HasBody cluster (Step e ∷ earlier) z body) ((id_order.decides x y).0 same) has)))
             (λ _ k. still y a k);
       }
     where
@@ -224,9 +222,9 @@ module _ (cluster : Cluster) (earlier : List Item) (e : Entry) (distinct : AreDi
           → (slow_reaction cluster.layout (actor_of node 0) y b).next ≡ Some a → IsFramedAttempt cluster (Step e ∷ earlier) y a
       by y same a b =
           subst (λ z. attempt_of cluster.layout node start z past ≡ Some b → (slow_reaction cluster.layout (actor_of node 0) z b).next ≡ Some a
-              → IsFramedAttempt cluster (Step e ∷ earlier) z a) same
+          → IsFramedAttempt cluster (Step e ∷ earlier) z a) same
           (λ is k. (slow_framed x b is (λ s path n. noted x s path
-              (ap (λ (m : Emitted). m.notes) emitted ∙ ap (λ o. (emitted_by (slow_reaction cluster.layout (actor_of node 0) x) o).notes) is ∙ n))).next a k)
+          (ap (λ (m : Emitted). m.notes) emitted ∙ ap (λ o. (emitted_by (slow_reaction cluster.layout (actor_of node 0) x) o).notes) is ∙ n))).next a k)
 
   -- a message that an attempt hears
   hears_framed : (m : Message)
@@ -247,7 +245,7 @@ module _ (cluster : Cluster) (earlier : List Item) (e : Entry) (distinct : AreDi
           → (reaction cluster.layout (actor_of node 0) y b m).next ≡ Some a → IsFramedAttempt cluster (Step e ∷ earlier) y a
       by y same a b =
           subst (λ z. attempt_of cluster.layout node start z past ≡ Some b → (reaction cluster.layout (actor_of node 0) z b m).next ≡ Some a
-              → IsFramedAttempt cluster (Step e ∷ earlier) z a) same
+          → IsFramedAttempt cluster (Step e ∷ earlier) z a) same
           (λ is k. (reaction_framed (id_of m) b m is (decides b is)).next a k)
 
   takes_framed : (m : Message) → Told cluster.layout node start past m → e.emitted ≡ node_emits cluster.layout node start past (Takes m) → IsFramedEntry (Takes m)

@@ -1,6 +1,6 @@
 -- What a node emits is framed.
-use Rattle.std.proofs.Common.{◌≡◌, ℕ, Bool, true, false, cond, List, [], ◌∷◌, ◌++◌, Option, None, Some, Contains, map, refl, sym, ◌∙◌, ap, subst, ⊎_elim}
-use Rattle.std.specs.List.{AllByRecursion, flat_map}
+use Rattle.std.proofs.Common.{◌≡◌, false, cond, List, [], ◌∷◌, ◌++◌, Option, None, Some, map, refl, ap, subst, ⊎_elim}
+use Rattle.std.specs.List.{AllByRecursion}
 use Rattle.std.proofs.lemmas.Bool.{false≢true, or_cases, cond-true, cond_both}
 use Rattle.acc_stamp.specs.declared.stamps.TxnId.{TxnId}
 use Rattle.acc_stamp.specs.declared.stamps.Ballot.{Ballot}
@@ -14,17 +14,15 @@ use Rattle.acc_txn.specs.declared.parts.BodyParts.{BodyParts}
 use Rattle.acc_txn.specs.declared.outcome.Outcome.{Outcome}
 use Rattle.acc_base.specs.Faults.{or_else}
 use Rattle.acc_message.specs.declared.message.Message.{Message}
-use Rattle.acc_message.specs.declared.message.Message.TheVariants.{PreAccept, PreAcceptOk, Accept, AcceptOk, Commit, CommitOk, Stable, ReadOk, Apply, Recover, RecoverOk, Nack, Decided, Inform}
+use Rattle.acc_message.specs.declared.message.Message.TheVariants.{PreAccept, Accept, Commit, Stable, Apply, Recover, Inform}
 use Rattle.acc_message.specs.declared.note.Path.{Path}
-use Rattle.acc_message.specs.declared.note.Note.{Note}
 use Rattle.acc_message.specs.declared.note.Note.TheVariants.{Decide, Outcome as OutcomeNote}
 use Rattle.acc_message.specs.declared.item.Item.{Item}
 use Rattle.acc_message.specs.Items.{same_actor}
 use Rattle.acc_message.specs.Shares.{stores_used}
-use Rattle.acc_message.specs.Attempts.{Attempt, Phase, Voting, Recovering, Accepting, Committing, Executing}
-use Rattle.acc_message.specs.Coordinator.{Reaction, stay, to_all, inform, home_node, ask_for_votes, ask_for_views, begun, recovering, with_answer}
+use Rattle.acc_message.specs.Attempts.{Attempt, Voting, Recovering, Accepting, Committing, Executing}
+use Rattle.acc_message.specs.Coordinator.{Reaction, to_all, inform, home_node, ask_for_votes, ask_for_views, begun, recovering}
 use Rattle.acc_message.specs.Run.{Cluster}
-use Rattle.acc_safety.specs.Decisions.{Decision}
 use Rattle.acc_actor_laws.proofs.Standing.{not_none}
 use Rattle.acc_actor_laws.proofs.OpeningFacts.{some_is}
 use Rattle.acc_serial.proofs.Notions.{first_apply, IsDecision, HasBody, Answered, IsFramed}

@@ -1,6 +1,5 @@
 -- In every run each message and each attempt is framed.
-use Rattle.std.proofs.Common.{◌≡◌, ℕ, Bool, true, false, List, [], ◌∷◌, ◌++◌, Option, None, Some, refl, sym, ◌∙◌, ap, subst, ◌⊎◌, ⊎_elim}
-use Rattle.std.specs.List.{AllByRecursion}
+use Rattle.std.proofs.Common.{◌≡◌, Bool, true, false, List, [], ◌∷◌, ◌++◌, Some, refl, sym, ◌∙◌, ap, subst, ◌⊎◌, ⊎_elim}
 use Rattle.std.proofs.lemmas.Bool.{false≢true, or_cases}
 use Rattle.std.proofs.lemmas.List.Concat.{flat_map-append}
 use Rattle.std.proofs.lemmas.List.Folds.{list_any-append}
@@ -92,8 +91,8 @@ module _ (cluster : Cluster) (e : Entry) (earlier : List Item) (distinct : AreDi
       (λ deeds. attempt_of cluster.layout (node_of a) (clock_start cluster.starts (node_of a)) x deeds ≡ Some t → IsFramedAttempt cluster (Step e ∷ earlier) x t)
       (λ k. framed_attempt_kept cluster (Step e) earlier x t (framed.attempts a x t node k))
       (λ act same is k. (entry_framed cluster earlier e distinct (node_of a) (clock_start cluster.starts (node_of a)) (deeds_of cluster a earlier)
-          (λ y b at. framed.attempts a y b node at) e.event act (act_cases cluster earlier e.event act is) refl
-          (node_emitted cluster earlier e s a act node same is)).next x t k)
+      (λ y b at. framed.attempts a y b node at) e.event act (act_cases cluster earlier e.event act is) refl
+      (node_emitted cluster earlier e s a act node same is)).next x t k)
 
   step_framed : IsFramedRun cluster (Step e ∷ earlier)
   step_framed =

@@ -1,5 +1,5 @@
 -- What a store keeps was brought by a message that it took.
-use Rattle.std.proofs.Common.{◌≡◌, Bool, true, false, cond, List, [], ◌∷◌, Option, None, Some, refl, sym, ◌∙◌, ap, subst, ◌⊎◌, inl, inr, ⊎_elim}
+use Rattle.std.proofs.Common.{◌≡◌, Bool, true, false, cond, List, [], ◌∷◌, Option, None, Some, refl, sym, ◌∙◌, subst, ◌⊎◌, inl, inr, ⊎_elim}
 use Rattle.std.specs.List.{AllByRecursion}
 use Rattle.std.proofs.lemmas.Bool.{true≢false, cond-true, or_cases, cond_both}
 use Rattle.acc_stamp.specs.declared.stamps.TxnId.{TxnId}
@@ -9,7 +9,7 @@ use Rattle.acc_deps.specs.declared.records.Settled.{Settled}
 use Rattle.acc_txn.specs.declared.parts.BodyParts.{BodyParts}
 use Rattle.acc_txn.specs.declared.outcome.Outcome.{Outcome}
 use Rattle.acc_message.specs.declared.message.Message.{Message}
-use Rattle.acc_message.specs.declared.message.Message.TheVariants.{PreAccept, PreAcceptOk, Accept, AcceptOk, Commit, CommitOk, Stable, ReadOk, Apply, Recover, RecoverOk, Nack, Decided, Inform}
+use Rattle.acc_message.specs.declared.message.Message.TheVariants.{Stable, Apply}
 use Rattle.acc_message.specs.Fields.{id_of}
 use Rattle.acc_message.specs.Taken.{Taken, Heard, is_heard, heard_body, known, learnt, body_in}
 use Rattle.acc_message.specs.BallotRules.{stable_of, kept_outcome, settled_in, outcome_in}

@@ -1,8 +1,8 @@
 -- The first outcomes are those of a serial run of their bodies.
-use Rattle.std.proofs.Common.{◌≡◌, Bool, true, false, ◌||◌, cond, List, [], ◌∷◌, ◌++◌, Option, None, Some, map, refl, sym, ◌∙◌, ap, subst, ◌⊎◌, inl, inr, ⊎_elim}
+use Rattle.std.proofs.Common.{◌≡◌, true, false, List, [], ◌∷◌, ◌++◌, Option, None, Some, map, refl, sym, ◌∙◌, ap, subst, ◌⊎◌, inl, inr, ⊎_elim}
 use Rattle.std.specs.Prelude.{unwrap_or}
-use Rattle.std.specs.List.{AllByRecursion, list_any, flat_map}
-use Rattle.std.proofs.lemmas.Bool.{true≢false, false≢true, or_left, or_right, or_cases, cases_Bool, cond_both, cond-true}
+use Rattle.std.specs.List.{AllByRecursion}
+use Rattle.std.proofs.lemmas.Bool.{true≢false, false≢true, or_left, or_right, or_cases, cond_both}
 use Rattle.std.proofs.lemmas.List.{append-nil}
 use Rattle.std.proofs.lemmas.List.Concat.{flat_map-append}
 use Rattle.std.proofs.lemmas.List.Folds.{list_any-append}
@@ -14,12 +14,10 @@ use Rattle.acc_value.specs.declared.key.Key.{Key}
 use Rattle.acc_value.specs.Pairs.{find}
 use Rattle.acc_txn.specs.declared.parts.BodyParts.{BodyParts}
 use Rattle.acc_txn.specs.declared.outcome.Outcome.{Outcome}
-use Rattle.acc_txn.specs.declared.outcome.Reply.{Reply}
 use Rattle.acc_txn.specs.Uses.{is_read, is_updated}
 use Rattle.acc_txn.specs.Meaning.{outcome_of}
 use Rattle.acc_txn.specs.Serial.{map_after, replies_from}
 use Rattle.acc_txn.proofs.Agree.{outcome_of-agree}
-use Rattle.acc_txn.proofs.Writes.{find-outcome_of}
 use Rattle.acc_message.specs.declared.note.Note.{Note}
 use Rattle.acc_message.specs.declared.note.Note.TheVariants.{Begin as BeginNote, Outcome as OutcomeNote}
 use Rattle.acc_message.specs.declared.item.Item.{Item}
@@ -28,9 +26,9 @@ use Rattle.acc_message.specs.Run.{Cluster}
 use Rattle.acc_safety.specs.Decisions.{Answered as Answer, outcomes_in, outcomes_of, is_answered, firsts_after, body_of}
 use Rattle.acc_actor_laws.proofs.OpeningFacts.{some_is}
 use Rattle.acc_serial.proofs.Cell.{Cell}
-use Rattle.acc_serial.proofs.Latest.{IsLatest, Unwritten, NoWriter, same_latest, one_latest, latest_more}
-use Rattle.acc_serial.proofs.Notions.{written_at, uses, time_of, IsDecided, HasBody, outcome_first, wrote, Below, Answered, Finished}
-use Rattle.acc_serial.proofs.Facts.{Premises, own_times, Wrote, wrote_tells, writer_below, below_writer}
+use Rattle.acc_serial.proofs.Latest.{IsLatest, Unwritten, same_latest, one_latest, latest_more}
+use Rattle.acc_serial.proofs.Notions.{uses, time_of, HasBody, wrote, Below, Answered, Finished}
+use Rattle.acc_serial.proofs.Facts.{Premises, own_times, wrote_tells, writer_below, below_writer}
 use Rattle.acc_serial.proofs.NotesInOrder.{HasReply, InOrder}
 
 -- ---- outcomes in order
@@ -52,8 +50,8 @@ module _ (cluster : Cluster) (whole : List Item) where
   pub outcomes_in_order : (before notes : List Note) → InOrder cluster whole before notes → OutcomesInOrder cluster whole (outcomes_of before) (outcomes_of notes)
   outcomes_in_order before [] h = tt
   outcomes_in_order before (OutcomeNote x reply ∷ notes) h = (
-      record { before = before; earlier_are = refl; is = h.0.1 },
-      subst (λ list. OutcomesInOrder cluster whole list (outcomes_of notes)) (outcomes_then before (OutcomeNote x reply)) (outcomes_in_order (before ++ OutcomeNote x reply ∷ []) notes h.1),
+    record { before = before; earlier_are = refl; is = h.0.1 },
+    subst (λ list. OutcomesInOrder cluster whole list (outcomes_of notes)) (outcomes_then before (OutcomeNote x reply)) (outcomes_in_order (before ++ OutcomeNote x reply ∷ []) notes h.1),
   )
   outcomes_in_order before (BeginNote x ∷ notes) h =
       subst (λ list. OutcomesInOrder cluster whole list (outcomes_of notes)) (outcomes_then before (BeginNote x) ∙ append-nil (outcomes_of before)) (outcomes_in_order (before ++ BeginNote x ∷ []) notes h.1)
@@ -107,7 +105,7 @@ module _ (cluster : Cluster) (whole : List Item) (given : Premises cluster whole
         or_right (id_eq a.id y) _
         (⊎_elim (λ old. so_far.closed z y body key old has used b)
         (λ same. below_seen key y (subst (λ p. uses p key ≡ true) (some_is body mine.body (sym has ∙ ap (body_of cluster whole) (sym same) ∙ mine.body_is)) used)
-            (subst (Below cluster whole (shard_of_key cluster.layout key) y) (sym same) b))
+        (subst (Below cluster whole (shard_of_key cluster.layout key) y) (sym same) b))
         (seen_cases z h))
 
     -- it was answered before
@@ -134,7 +132,7 @@ module _ (cluster : Cluster) (whole : List Item) (given : Premises cluster whole
           ⊎_elim (λ before. before)
           (λ rest. ⊎_elim (λ same. absurd (not_seen y h (own_times cluster whole given y a.id made.decided mine.decided same)))
           (λ after. absurd (true≢false (sym (so_far.closed y a.id made.body key h made.body_is (or_right (is_read made.body key) _ made.updates)
-              (below_writer cluster whole given y a.id mine.body key c w mine.body_is used mine.decided after)) ∙ new))) rest)
+          (below_writer cluster whole given y a.id mine.body key c w mine.body_is used mine.decided after)) ∙ new))) rest)
           (trichotomy stamp_order (time_of cluster whole y) (time_of cluster whole a.id))
 
       same_cells : (key : Key) → is_read mine.body key ≡ true → cells key ≡ mine.cells key
@@ -144,7 +142,7 @@ module _ (cluster : Cluster) (whole : List Item) (given : Premises cluster whole
           (same_latest (time_of cluster whole) (wrote cluster whole) key (λ y. is_answered y seen ≡ true) (λ y. stamp_lt (time_of cluster whole y) (time_of cluster whole a.id) ≡ true) (cells key)
           (λ y c h w. seen_below key y c (or_left (is_read mine.body key) _ read) h w)
           (λ y c h w. below_seen key y (or_left (is_read mine.body key) _ read)
-              (writer_below cluster whole given y a.id mine.body key c w mine.body_is (or_left (is_read mine.body key) _ read) mine.decided h))
+          (writer_below cluster whole given y a.id mine.body key c w mine.body_is (or_left (is_read mine.body key) _ read) mine.decided h))
           (so_far.latest key))
           (mine.latest key read)
 
@@ -186,7 +184,7 @@ module _ (cluster : Cluster) (whole : List Item) (given : Premises cluster whole
       cond_both (is_answered a.id seen) (firsts_after (a ∷ seen) answers) (a ∷ firsts_after (a ∷ seen) answers) (RunsSerially cluster whole cells)
       (λ old. runs_serially (earlier ++ a ∷ []) (a ∷ seen) cells answers (again earlier seen cells so_far a order.0 old) order.1 answered.1)
       (λ new. first_runs earlier seen cells so_far a order.0 new answered.0 (firsts_after (a ∷ seen) answers)
-          (runs_serially (earlier ++ a ∷ []) (a ∷ seen) (map_after cells order.0.is.finished.body) answers (then_so_far earlier seen cells so_far a order.0 new answered.0) order.1 answered.1))
+      (runs_serially (earlier ++ a ∷ []) (a ∷ seen) (map_after cells order.0.is.finished.body) answers (then_so_far earlier seen cells so_far a order.0 new answered.0) order.1 answered.1))
 
   pub start_so_far : SoFar cluster whole [] [] (λ key. None)
   start_so_far =

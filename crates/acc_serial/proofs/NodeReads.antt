@@ -1,17 +1,14 @@
 -- An outcome that a node finds in right answers is right.
-use Rattle.std.proofs.Common.{◌≡◌, ◌==◌, ◌<◌, ℕ, Bool, true, false, cond, List, [], ◌∷◌, Option, None, Some, IsTrue, map, refl, sym, ◌∙◌, ap, subst, ◌⊎◌, inl, inr, ⊎_elim, arith}
-use Rattle.std.specs.List.{AllByRecursion, list_any, list_all}
-use Rattle.std.proofs.lemmas.Bool.{true≢false, false≢true, and_parts, or_left, or_right, or_cases, cond_both, eqb-true, eq-eqb, cases_Bool}
+use Rattle.std.proofs.Common.{◌≡◌, ◌==◌, ◌<◌, ℕ, Bool, true, false, List, [], ◌∷◌, Option, None, Some, refl, sym, ◌∙◌, ap, subst, ⊎_elim, arith}
+use Rattle.std.specs.List.{AllByRecursion, list_all}
+use Rattle.std.proofs.lemmas.Bool.{true≢false, false≢true, and_parts, or_left, or_right, or_cases, cond_both, eqb-true, eq-eqb}
 use Rattle.acc_stamp.specs.declared.stamps.TxnId.{TxnId}
-use Rattle.acc_stamp.specs.declared.stamps.Ballot.{Ballot}
-use Rattle.acc_stamp.specs.declared.actors.Actor.{Actor}
 use Rattle.acc_stamp.specs.Actor.{shard_of}
 use Rattle.acc_topology.specs.Layout.{Layout, IsLayout}
 use Rattle.acc_topology.specs.Keys.{shard_of_key, shards_of}
-use Rattle.acc_topology.specs.Sets.{is_among, in_order}
+use Rattle.acc_topology.specs.Sets.{is_among}
 use Rattle.acc_topology.proofs.Ends.{shard_of-holds}
 use Rattle.acc_topology.proofs.Listed.{AreSmall, is_among-in_order}
-use Rattle.acc_deps.specs.declared.records.Settled.{Settled}
 use Rattle.acc_value.specs.declared.key.Key.{Key}
 use Rattle.acc_value.specs.Key.{key_eq}
 use Rattle.acc_value.specs.Pairs.{find}
@@ -20,22 +17,20 @@ use Rattle.acc_value.proofs.KeyOrder.{key_eq-true}
 use Rattle.acc_txn.specs.declared.parts.BodyParts.{BodyParts}
 use Rattle.acc_txn.specs.declared.outcome.Outcome.{Outcome}
 use Rattle.acc_txn.specs.Uses.{is_read, footprint_of}
-use Rattle.acc_txn.specs.Meaning.{outcome_of}
 use Rattle.acc_base.specs.Faults.{or_else}
-use Rattle.acc_message.specs.declared.answer.ReadAnswer.{ReadAnswer}
 use Rattle.acc_message.specs.declared.answer.ReadAnswer.TheVariants.{Values, Known}
 use Rattle.acc_message.specs.declared.message.Message.{Message}
-use Rattle.acc_message.specs.declared.message.Message.TheVariants.{PreAccept, PreAcceptOk, Accept, AcceptOk, Commit, CommitOk, Stable, ReadOk, Apply, Recover, RecoverOk, Nack, Decided, Inform}
+use Rattle.acc_message.specs.declared.message.Message.TheVariants.{PreAccept, ReadOk}
 use Rattle.acc_message.specs.declared.note.Note.{Note}
 use Rattle.acc_message.specs.declared.item.Item.{Item}
 use Rattle.acc_message.specs.Fields.{id_of, from_of}
 use Rattle.acc_message.specs.Shares.{shards_used}
-use Rattle.acc_message.specs.Attempts.{Attempt, is_read_ok, known_in, known_among, cell_in, cell_read, has_read, read_everywhere, outcome_if, outcome_from}
+use Rattle.acc_message.specs.Attempts.{is_read_ok, known_in, known_among, cell_in, cell_read, has_read, read_everywhere, outcome_if, outcome_from}
 use Rattle.acc_message.specs.Run.{Cluster}
 use Rattle.acc_actor_laws.proofs.Standing.{not_none}
 use Rattle.acc_actor_laws.proofs.OpeningFacts.{some_is}
 use Rattle.acc_serial.proofs.Cell.{Cell}
-use Rattle.acc_serial.proofs.Notions.{uses, IsDecided, HasBody, Below, IsLatestBelow, Answered, Finished, IsOutcome, Reading, RightAnswer, IsRight}
+use Rattle.acc_serial.proofs.Notions.{uses, IsDecided, HasBody, Below, IsLatestBelow, Answered, Finished, Reading, IsRight}
 use Rattle.acc_serial.proofs.Facts.{or_else_cases, used_is_found, Premises}
 
 -- ---- the shards that a body uses
@@ -116,8 +111,8 @@ module _ (cluster : Cluster) (whole : List Item) (given : Premises cluster whole
       cond_both (shard_of (from_of m) == shard_of_key cluster.layout key) (cell_in key m) (cell_read cluster.layout answers key) (IsLatestBelow cluster whole x key)
       (λ here. subst (IsLatestBelow cluster whole x key) (sym (c.cell_is key)) (c.reading.latest body key has read (sym (eqb-true (shard_of (from_of m)) (shard_of_key cluster.layout key) here))))
       (λ elsewhere. cell_is_latest answers body key are.1 known.1 has read
-          (⊎_elim (λ here. absurd (true≢false (sym here ∙ elsewhere))) (λ later. later)
-          (or_cases (shard_of (from_of m) == shard_of_key cluster.layout key) (has_read answers (shard_of_key cluster.layout key)) answered)))
+      (⊎_elim (λ here. absurd (true≢false (sym here ∙ elsewhere))) (λ later. later)
+      (or_cases (shard_of (from_of m) == shard_of_key cluster.layout key) (has_read answers (shard_of_key cluster.layout key)) answered)))
     where
       known : (known_in m ≡ None) × (known_among answers ≡ None)
       known = none_known m answers none

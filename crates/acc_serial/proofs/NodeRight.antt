@@ -1,36 +1,34 @@
 -- What a node makes of right answers is right, and its notes are in order.
-use Rattle.std.proofs.Common.{◌≡◌, ℕ, Bool, true, false, ◌&&◌, cond, List, [], ◌∷◌, ◌++◌, Option, None, Some, map, refl, sym, ◌∙◌, ap, subst}
+use Rattle.std.proofs.Common.{◌≡◌, Bool, true, false, ◌&&◌, cond, List, [], ◌∷◌, ◌++◌, Option, Some, refl, sym, ◌∙◌, ap, subst}
 use Rattle.std.specs.List.{AllByRecursion, list_any, flat_map}
-use Rattle.std.proofs.lemmas.Bool.{true≢false, and_parts, cond_both}
+use Rattle.std.proofs.lemmas.Bool.{and_parts, cond_both}
 use Rattle.acc_stamp.specs.declared.stamps.TxnId.{TxnId}
 use Rattle.acc_stamp.specs.declared.stamps.Ballot.{Ballot}
 use Rattle.acc_stamp.specs.declared.actors.Actor.{Actor}
 use Rattle.acc_stamp.proofs.Rising.{each_append, each_weaker}
-use Rattle.acc_topology.specs.Layout.{Layout}
 use Rattle.acc_deps.specs.declared.records.Settled.{Settled}
 use Rattle.acc_txn.specs.declared.parts.BodyParts.{BodyParts}
 use Rattle.acc_txn.specs.declared.outcome.Outcome.{Outcome}
 use Rattle.acc_message.specs.declared.message.Message.{Message}
-use Rattle.acc_message.specs.declared.message.Message.TheVariants.{PreAccept, PreAcceptOk, Accept, AcceptOk, Commit, CommitOk, Stable, ReadOk, Apply, Recover, RecoverOk, Nack, Decided, Inform}
+use Rattle.acc_message.specs.declared.message.Message.TheVariants.{Apply, Inform}
 use Rattle.acc_message.specs.declared.note.Note.{Note}
-use Rattle.acc_message.specs.declared.note.Note.TheVariants.{Begin as BeginNote, Recover as RecoverNote, Blocked as BlockedNote, Ended as EndedNote, Decide, Outcome as OutcomeNote, Reply as ReplyNote}
+use Rattle.acc_message.specs.declared.note.Note.TheVariants.{Outcome as OutcomeNote, Reply as ReplyNote}
 use Rattle.acc_message.specs.declared.item.Item.{Item}
 use Rattle.acc_message.specs.Fields.{id_of}
 use Rattle.acc_message.specs.Items.{same_actor, begins}
 use Rattle.acc_message.specs.Shares.{stores_used}
-use Rattle.acc_message.specs.Attempts.{Attempt, Phase, Voting, Recovering, Accepting, Committing, Executing, fits, counts, is_read_ok, outcome_from}
-use Rattle.acc_message.specs.Coordinator.{Reaction, to_all, inform, home_node, begun, recovering, with_answer, reaction}
+use Rattle.acc_message.specs.Attempts.{Attempt, Executing, fits, is_read_ok}
+use Rattle.acc_message.specs.Coordinator.{Reaction, to_all, inform, home_node, begun}
 use Rattle.acc_message.specs.NodeRules.{replied}
 use Rattle.acc_message.specs.Run.{Cluster}
-use Rattle.acc_safety.specs.Decisions.{outcomes_of, is_answered}
 use Rattle.acc_actor_laws.proofs.Standing.{not_none}
 use Rattle.acc_actor_laws.proofs.OpeningFacts.{some_is}
-use Rattle.acc_serial.proofs.Notions.{IsDecision, IsDecided, HasBody, Answered, Finished, IsOutcome, IsRight}
+use Rattle.acc_serial.proofs.Notions.{IsDecision, HasBody, Answered, Finished, IsOutcome, IsRight}
 use Rattle.acc_serial.proofs.Facts.{Premises, decided_from}
 use Rattle.acc_serial.proofs.SharedMoves.{Move, Stays, Proposes, Commits, Decides, Finishes, Blocked, Ends, Heard, Before, Counted}
-use Rattle.acc_serial.proofs.Frame.{IsFramedAttempt, each_map}
+use Rattle.acc_serial.proofs.Frame.{each_map}
 use Rattle.acc_serial.proofs.NodeReads.{IsReadOf, AreReads, outcome_is_right}
-use Rattle.acc_serial.proofs.NotesInOrder.{HasReply, InPlace, InOrder, answered_more, answered_then, answered_now, finished_more, right_more}
+use Rattle.acc_serial.proofs.NotesInOrder.{InOrder, answered_then, answered_now, finished_more, right_more}
 
 module _ (cluster : Cluster) (whole : List Item) (given : Premises cluster whole) where
   abbrev pub EachRight : List Note → List Message → Type 0
@@ -90,9 +88,14 @@ module _ (cluster : Cluster) (whole : List Item) (given : Premises cluster whole
       → InOrder cluster whole notes (flat_map (replied is_open) (OutcomeNote x o.reply ∷ []))
   outcome_in_order false o begun f = ((begun, record { outcome = o; reply_is = refl; finished = f }), tt)
   outcome_in_order true o begun f = (
-      (begun, record { outcome = o; reply_is = refl; finished = f }),
-      ((answered_then notes (OutcomeNote x o.reply ∷ []) x (answered_now x o.reply []),
-          record { outcome = o; reply_is = refl; finished = finished_more cluster whole notes (OutcomeNote x o.reply ∷ []) x o f }), tt),
+    (begun, record { outcome = o; reply_is = refl; finished = f }),
+    (
+      (
+        answered_then notes (OutcomeNote x o.reply ∷ []) x (answered_now x o.reply []),
+        record { outcome = o; reply_is = refl; finished = finished_more cluster whole notes (OutcomeNote x o.reply ∷ []) x o f },
+      ),
+      tt,
+    ),
   )
 
   pub move_right : (is_open : Bool) (Now : Attempt → Type 0) → ((a : Attempt) → Now a → IsRightAttempt cluster whole given notes x a)

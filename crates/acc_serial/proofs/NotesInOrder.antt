@@ -1,7 +1,7 @@
 -- Notes in order: each outcome is right and comes behind its begin, and each reply behind an outcome.
-use Rattle.std.proofs.Common.{◌≡◌, Bool, true, false, ◌||◌, cond, List, [], ◌∷◌, ◌++◌, Option, None, Some, refl, sym, ◌∙◌, ap, subst}
-use Rattle.std.specs.List.{AllByRecursion, list_any, flat_map}
-use Rattle.std.proofs.lemmas.Bool.{true≢false, or_left, or_right}
+use Rattle.std.proofs.Common.{◌≡◌, true, List, [], ◌∷◌, ◌++◌, refl, sym, ◌∙◌, ap, subst}
+use Rattle.std.specs.List.{list_any}
+use Rattle.std.proofs.lemmas.Bool.{or_left, or_right}
 use Rattle.std.proofs.lemmas.List.{append-nil, append_assoc}
 use Rattle.std.proofs.lemmas.List.Concat.{flat_map-append}
 use Rattle.std.proofs.lemmas.List.Folds.{list_any-append}
@@ -11,16 +11,15 @@ use Rattle.acc_stamp.proofs.Order.{id_order}
 use Rattle.acc_txn.specs.declared.outcome.Outcome.{Outcome}
 use Rattle.acc_txn.specs.declared.outcome.Reply.{Reply}
 use Rattle.acc_message.specs.declared.note.Note.{Note}
-use Rattle.acc_message.specs.declared.note.Note.TheVariants.{Begin as BeginNote, Recover as RecoverNote, Blocked, Ended, Decide, Outcome as OutcomeNote, Reply as ReplyNote}
+use Rattle.acc_message.specs.declared.note.Note.TheVariants.{Outcome as OutcomeNote, Reply as ReplyNote}
 use Rattle.acc_message.specs.declared.message.Message.{Message}
-use Rattle.acc_message.specs.declared.message.Message.TheVariants.{PreAccept, PreAcceptOk, Accept, AcceptOk, Commit, CommitOk, Stable, ReadOk, Apply, Recover, RecoverOk, Nack, Decided, Inform}
-use Rattle.acc_message.specs.declared.answer.ReadAnswer.{ReadAnswer}
+use Rattle.acc_message.specs.declared.message.Message.TheVariants.{ReadOk, Apply, Inform}
 use Rattle.acc_message.specs.declared.answer.ReadAnswer.TheVariants.{Values, Known}
 use Rattle.acc_message.specs.declared.item.Item.{Item}
 use Rattle.acc_message.specs.Items.{begins}
 use Rattle.acc_message.specs.Run.{Cluster}
 use Rattle.acc_safety.specs.Decisions.{Answered as Answer, outcomes_in, outcomes_of, is_answered}
-use Rattle.acc_serial.proofs.Notions.{Answered, Finished, IsOutcome, Reading, RightAnswer, IsRight}
+use Rattle.acc_serial.proofs.Notions.{Answered, Finished, IsOutcome, IsRight}
 
 -- the outcome of x has this reply, and is right
 pub record HasReply (cluster : Cluster) (whole : List Item) (before : List Note) (x : TxnId) (reply : Reply) : Type 0 where
@@ -84,8 +83,8 @@ module _ (cluster : Cluster) (whole : List Item) where
       → InOrder cluster whole before (notes ++ more)
   in_order_join before [] more h k = subst (λ list. InOrder cluster whole list more) (append-nil before) k
   in_order_join before (note ∷ notes) more h k = (
-      h.0,
-      in_order_join (before ++ note ∷ []) notes more h.1 (subst (λ list. InOrder cluster whole list more) (sym (append_assoc before (note ∷ []) notes)) k),
+    h.0,
+    in_order_join (before ++ note ∷ []) notes more h.1 (subst (λ list. InOrder cluster whole list more) (sym (append_assoc before (note ∷ []) notes)) k),
   )
 
   -- a note that stands among them

@@ -1,20 +1,19 @@
 -- The outcomes and replies of notes in order.
-use Rattle.std.proofs.Common.{◌≡◌, Bool, true, false, ◌||◌, cond, List, [], ◌∷◌, ◌++◌, Contains, IsTrue, refl, sym, ◌∙◌, ap, subst, ◌⊎◌, inl, inr, ⊎_elim}
-use Rattle.std.specs.List.{AllByRecursion, list_any, flat_map}
+use Rattle.std.proofs.Common.{◌≡◌, true, false, List, [], ◌∷◌, ◌++◌, Contains, refl, sym, ◌∙◌, ap, subst, ⊎_elim}
+use Rattle.std.specs.List.{AllByRecursion, list_any}
 use Rattle.std.proofs.lemmas.Bool.{true≢false, false≢true, or_left, or_right, or_cases, or_from, cases_Bool, cond_both, false_from_ne_true}
-use Rattle.std.proofs.lemmas.List.{append-nil, append_assoc}
-use Rattle.std.proofs.lemmas.List.Concat.{flat_map-append}
+use Rattle.std.proofs.lemmas.List.{append_assoc}
 use Rattle.acc_stamp.specs.declared.stamps.TxnId.{TxnId}
 use Rattle.acc_stamp.specs.Stamp.{id_eq}
 use Rattle.acc_stamp.proofs.Order.{id_order}
 use Rattle.acc_txn.specs.declared.outcome.Outcome.{Outcome}
 use Rattle.acc_txn.specs.declared.outcome.Reply.{Reply}
 use Rattle.acc_message.specs.declared.note.Note.{Note}
-use Rattle.acc_message.specs.declared.note.Note.TheVariants.{Begin as BeginNote, Recover as RecoverNote, Blocked, Ended, Decide, Outcome as OutcomeNote, Reply as ReplyNote}
+use Rattle.acc_message.specs.declared.note.Note.TheVariants.{Begin as BeginNote, Outcome as OutcomeNote, Reply as ReplyNote}
 use Rattle.acc_message.specs.declared.item.Item.{Item}
-use Rattle.acc_message.specs.Items.{begins, replies}
+use Rattle.acc_message.specs.Items.{replies}
 use Rattle.acc_message.specs.Run.{Cluster}
-use Rattle.acc_safety.specs.Decisions.{Answered as Answer, outcomes_in, outcomes_of, replies_in, replies_of, is_answered, firsts_after, first_outcomes}
+use Rattle.acc_safety.specs.Decisions.{Answered as Answer, outcomes_of, replies_of, is_answered, firsts_after, first_outcomes}
 use Rattle.acc_safety.specs.SerialOutcomes.{IsInPlace}
 use Rattle.acc_serial.proofs.Notions.{Answered}
 use Rattle.acc_serial.proofs.Facts.{Premises}
@@ -39,15 +38,15 @@ first_is_answered seen [] x h new = h
 first_is_answered seen (a ∷ answers) x h new =
     cond_both (is_answered a.id seen) (firsts_after (a ∷ seen) answers) (a ∷ firsts_after (a ∷ seen) answers) (λ list. is_answered x list ≡ true)
     (λ old. ⊎_elim
-        (λ same. absurd (true≢false (sym old ∙ ap (λ y. is_answered y seen) ((id_order.decides a.id x).0 same) ∙ new)))
-        (λ later. ⊎_elim (λ same. absurd (true≢false (sym old ∙ ap (λ y. is_answered y seen) ((id_order.decides a.id x).0 same) ∙ new)))
-            (λ other. first_is_answered (a ∷ seen) answers x later (or_from (id_eq a.id x) (is_answered x seen) other new)) (cases_Bool (id_eq a.id x)))
-        (or_cases (id_eq a.id x) (is_answered x answers) h))
+    (λ same. absurd (true≢false (sym old ∙ ap (λ y. is_answered y seen) ((id_order.decides a.id x).0 same) ∙ new)))
+    (λ later. ⊎_elim (λ same. absurd (true≢false (sym old ∙ ap (λ y. is_answered y seen) ((id_order.decides a.id x).0 same) ∙ new)))
+    (λ other. first_is_answered (a ∷ seen) answers x later (or_from (id_eq a.id x) (is_answered x seen) other new)) (cases_Bool (id_eq a.id x)))
+    (or_cases (id_eq a.id x) (is_answered x answers) h))
     (λ _. ⊎_elim (or_left (id_eq a.id x) _)
-        (λ other. or_right (id_eq a.id x) _ (first_is_answered (a ∷ seen) answers x
-            (⊎_elim (λ same. absurd (true≢false (sym same ∙ other))) (λ later. later) (or_cases (id_eq a.id x) (is_answered x answers) h))
-            (or_from (id_eq a.id x) (is_answered x seen) other new)))
-        (cases_Bool (id_eq a.id x)))
+    (λ other. or_right (id_eq a.id x) _ (first_is_answered (a ∷ seen) answers x
+    (⊎_elim (λ same. absurd (true≢false (sym same ∙ other))) (λ later. later) (or_cases (id_eq a.id x) (is_answered x answers) h))
+    (or_from (id_eq a.id x) (is_answered x seen) other new)))
+    (cases_Bool (id_eq a.id x)))
 
 each_first : (P : Answer → Type 0) (seen answers : List Answer) → AllByRecursion P answers → AllByRecursion P (firsts_after seen answers)
 each_first P seen [] each = tt
@@ -76,9 +75,9 @@ module _ (cluster : Cluster) (whole : List Item) (given : Premises cluster whole
       → AllByRecursion (λ (a : Answer). Replies a.id a.reply × Answered (before ++ notes) a.id) (replies_of notes)
   each_reply before [] h = tt
   each_reply before (ReplyNote x reply ∷ notes) h = (
-      ((before, h.0.1), answered_more before (ReplyNote x reply ∷ notes) x h.0.0),
-      subst (λ list. AllByRecursion (λ (a : Answer). Replies a.id a.reply × Answered list a.id) (replies_of notes)) (append_assoc before (ReplyNote x reply ∷ []) notes)
-          (each_reply (before ++ ReplyNote x reply ∷ []) notes h.1),
+    ((before, h.0.1), answered_more before (ReplyNote x reply ∷ notes) x h.0.0),
+    subst (λ list. AllByRecursion (λ (a : Answer). Replies a.id a.reply × Answered list a.id) (replies_of notes)) (append_assoc before (ReplyNote x reply ∷ []) notes)
+        (each_reply (before ++ ReplyNote x reply ∷ []) notes h.1),
   )
   each_reply before (BeginNote x ∷ notes) h =
       subst (λ list. AllByRecursion (λ (a : Answer). Replies a.id a.reply × Answered list a.id) (replies_of notes)) (append_assoc before (BeginNote x ∷ []) notes)
@@ -98,8 +97,8 @@ module _ (cluster : Cluster) (whole : List Item) (given : Premises cluster whole
   the_answer (b ∷ answers) a each answered is =
       ⊎_elim
       (λ here. let same = (id_order.decides b.id a.id).0 here in
-          subst (λ list. Contains list a) (ap (λ c. c ∷ answers)
-          (sym (is_one b a.id a.reply same (one_reply a.id b.reply a.reply (subst (λ y. Replies y b.reply) same each.0) is)))) (Contains-first a answers))
+      subst (λ list. Contains list a) (ap (λ c. c ∷ answers)
+      (sym (is_one b a.id a.reply same (one_reply a.id b.reply a.reply (subst (λ y. Replies y b.reply) same each.0) is)))) (Contains-first a answers))
       (λ later. Contains-later b answers a (the_answer answers a each.1 later is)) (or_cases (id_eq b.id a.id) (is_answered a.id answers) answered)
 
   module _ (notes : List Note) (order : InOrder cluster whole [] notes) where

@@ -1,25 +1,22 @@
 -- What a part of a run has the whole run has too, and what a store took was sent.
-use Rattle.std.proofs.Common.{◌≡◌, ℕ, zero, suc, Bool, true, false, ◌||◌, cond, List, [], ◌∷◌, ◌++◌, Option, None, Some, Contains, refl, sym, ◌∙◌, ap, subst, ◌⊎◌, inl, inr, ⊎_elim}
+use Rattle.std.proofs.Common.{◌≡◌, ℕ, zero, suc, true, List, [], ◌∷◌, Some, Contains, ◌∙◌, subst, ⊎_elim}
 use Rattle.std.specs.List.{AllByRecursion, slice_get, list_any}
-use Rattle.std.proofs.lemmas.Bool.{or_left, or_right, cond_both}
+use Rattle.std.proofs.lemmas.Bool.{or_left, or_right}
 use Rattle.std.proofs.lemmas.List.Folds.{list_any-append}
 use Rattle.acc_stamp.specs.declared.stamps.TxnId.{TxnId}
 use Rattle.acc_stamp.specs.declared.actors.Actor.{Actor}
-use Rattle.acc_stamp.proofs.Rising.{each_append, each_parts}
+use Rattle.acc_stamp.proofs.Rising.{each_parts}
 use Rattle.acc_txn.specs.declared.parts.BodyParts.{BodyParts}
 use Rattle.acc_txn.specs.declared.outcome.Outcome.{Outcome}
-use Rattle.acc_base.specs.Faults.{or_else}
 use Rattle.acc_message.specs.declared.message.Message.{Message}
-use Rattle.acc_message.specs.declared.note.Note.{Note}
 use Rattle.acc_message.specs.declared.entry.Entry.{Entry}
 use Rattle.acc_message.specs.declared.entry.Event.{Event}
 use Rattle.acc_message.specs.declared.item.Item.{Item}
 use Rattle.acc_message.specs.declared.item.Item.TheVariants.{Step, Skipped, Down}
 use Rattle.acc_message.specs.Items.{sent_in, sent_of, noted_in, notes_of, begins, txn_in, txn_of}
 use Rattle.acc_message.specs.Taken.{Taken}
-use Rattle.acc_message.specs.BallotRules.{outcome_in}
-use Rattle.acc_message.specs.NodeRules.{Act, Begins, Recovers, Slows, Takes, Restarts, Deed}
-use Rattle.acc_message.specs.Run.{Cluster, act_of, deeds_of, taken_from, taken_of}
+use Rattle.acc_message.specs.NodeRules.{Act, Deed}
+use Rattle.acc_message.specs.Run.{Cluster, deeds_of, taken_from, taken_of}
 use Rattle.acc_safety.specs.Decisions.{Decision, decisions_of}
 use Rattle.acc_actor_laws.proofs.Standing.{not_none}
 use Rattle.acc_actor_laws.proofs.OpeningFacts.{some_is}

@@ -1,6 +1,6 @@
 -- The pass of a store over its stable transactions changes them in their turn.
-use Rattle.std.proofs.Common.{◌≡◌, ℕ, Bool, true, false, not, ◌&&◌, ◌||◌, cond, List, [], ◌∷◌, Option, None, Some, is_some, refl, sym, ◌∙◌, ap, subst, ◌⊎◌, inl, inr, ⊎_elim, filter}
-use Rattle.std.specs.List.{AllByRecursion, list_all}
+use Rattle.std.proofs.Common.{◌≡◌, ℕ, Bool, true, false, not, List, [], ◌∷◌, Option, None, Some, is_some, refl, sym, ◌∙◌, ap, subst, ◌⊎◌, inl, inr, ⊎_elim, filter}
+use Rattle.std.specs.List.{AllByRecursion}
 use Rattle.std.proofs.lemmas.Bool.{true≢false, or_left, or_right, or_cases, cases_Bool, and_from}
 use Rattle.acc_stamp.specs.declared.stamps.TxnId.{TxnId}
 use Rattle.acc_stamp.specs.Stamp.{id_eq}
@@ -11,11 +11,11 @@ use Rattle.acc_deps.specs.declared.records.Settled.{Settled}
 use Rattle.acc_message.specs.Taken.{Taken}
 use Rattle.acc_message.specs.BallotRules.{stable_of, kept_outcome}
 use Rattle.acc_message.specs.Opening.{comes_first, Standing, is_past, is_ready, Change, Turn, turn_of, with_applied, pass, is_change}
-use Rattle.acc_actor_laws.proofs.Standing.{not_none, Truly}
-use Rattle.acc_actor_laws.proofs.OpeningFacts.{all_at, some_is}
+use Rattle.acc_actor_laws.proofs.Standing.{Truly}
+use Rattle.acc_actor_laws.proofs.OpeningFacts.{all_at}
 use Rattle.acc_serial.proofs.Apart.{NotStanding, StandApart}
 use Rattle.acc_serial.proofs.Timeline.{AppliedIn, OpenedIn, behind, InTurn, AllInTurn, AppliedIn-behind}
-use Rattle.acc_serial.proofs.Turns.{opens_tells, Applies, applies_tells, opens_from, applied_or_applies, with_change, behind-filter, applied_still, opened_still, applied_now, opened_now, applied_cases, in_turn_still}
+use Rattle.acc_serial.proofs.Turns.{opens_tells, Applies, applies_tells, opens_from, applied_or_applies, with_change, behind-filter, applied_still, opened_still, applied_now, applied_cases, in_turn_still}
 
 -- In front of the rest of a pass: what is applied by now, opened before, and applied before is so in the changes up to now,
 -- and of the rest nothing else is applied.
@@ -35,7 +35,6 @@ Covered shard history below =
 module _ (shard : ℕ) (history : List Taken) (below : TxnId → TxnId → Type 0) (covered : Covered shard history below)
     (before applied_before : List TxnId)
     (applied_was_opened : (y : TxnId) → id_among y applied_before ≡ true → id_among y before ≡ true) where
-
   past_applied : (mine : Settled) (b : Bool) (o : Option Settled) → ((s : Settled) → o ≡ Some s → comes_first mine.t s ≡ true)
       → is_past mine.t b o ≡ true → b ≡ true
   past_applied mine b None first h = absurd (true≢false (sym h))
@@ -76,9 +75,12 @@ module _ (shard : ℕ) (history : List Taken) (below : TxnId → TxnId → Type 
       stands_now : turn.change.applies ≡ true → OpenedIn (turn.change ∷ changes) s.id
       stands_now h =
           ⊎_elim (λ was. inr (midway.opened_is s.id was))
-          (λ new. inl (opens_from (id_among s.id before) (is_ready shard history applied s.settled) new
-              (⊎_elim (λ was. absurd (true≢false (sym was ∙ new))) (λ is. is)
-              (or_cases (id_among s.id before) (is_ready shard history applied s.settled) (applies_now h).stands)), refl))
+          (λ new. inl (
+            opens_from (id_among s.id before) (is_ready shard history applied s.settled) new
+                (⊎_elim (λ was. absurd (true≢false (sym was ∙ new))) (λ is. is)
+                (or_cases (id_among s.id before) (is_ready shard history applied s.settled) (applies_now h).stands)),
+            refl,
+          ))
           (cases_Bool (id_among s.id before))
 
       pub turn_in_turn : stable_of history s.id ≡ Some s.settled → InTurn below turn.change changes
@@ -107,8 +109,8 @@ module _ (shard : ℕ) (history : List Taken) (below : TxnId → TxnId → Type 
           → AllByRecursion (λ (r : Standing). AppliedIn (with_change turn.change changes) r.id → id_among r.id applied_before ≡ true) list
       only_next [] apart h = tt
       only_next (r ∷ list) apart h = (
-          (λ k. ⊎_elim h.0 (λ same. absurd (apart.0 (sym same))) (applied_cases turn.change changes r.id k)),
-          only_next list apart.1 h.1,
+        (λ k. ⊎_elim h.0 (λ same. absurd (apart.0 (sym same))) (applied_cases turn.change changes r.id k)),
+        only_next list apart.1 h.1,
       )
 
       pub midway_next : NotStanding s.id rest

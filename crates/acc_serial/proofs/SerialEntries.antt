@@ -1,7 +1,7 @@
 -- What an entry of a node emits is right, and its notes are in order.
-use Rattle.std.proofs.Common.{◌≡◌, ℕ, Bool, true, false, cond, List, [], ◌∷◌, ◌++◌, Option, None, Some, refl, sym, ◌∙◌, ap, subst, ◌⊎◌, inl, inr, ⊎_elim}
-use Rattle.std.specs.List.{AllByRecursion, flat_map, slice_get}
-use Rattle.std.proofs.lemmas.Bool.{true≢false, cond_both}
+use Rattle.std.proofs.Common.{◌≡◌, ℕ, Bool, true, false, cond, List, [], ◌∷◌, ◌++◌, Option, None, Some, refl, sym, ◌∙◌, ap, subst, ⊎_elim}
+use Rattle.std.specs.List.{flat_map}
+use Rattle.std.proofs.lemmas.Bool.{cond_both}
 use Rattle.acc_stamp.specs.declared.stamps.TxnId.{TxnId}
 use Rattle.acc_stamp.specs.declared.stamps.Ballot.{Ballot}
 use Rattle.acc_stamp.specs.declared.actors.Actor.{Actor}
@@ -12,17 +12,16 @@ use Rattle.acc_deps.specs.declared.records.Settled.{Settled}
 use Rattle.acc_txn.specs.declared.parts.BodyParts.{BodyParts}
 use Rattle.acc_txn.specs.declared.outcome.Outcome.{Outcome}
 use Rattle.acc_message.specs.declared.message.Message.{Message}
-use Rattle.acc_message.specs.declared.message.Message.TheVariants.{PreAccept, PreAcceptOk, Accept, AcceptOk, Commit, CommitOk, Stable, ReadOk, Apply, Recover, RecoverOk, Nack, Decided, Inform}
+use Rattle.acc_message.specs.declared.message.Message.TheVariants.{Inform}
 use Rattle.acc_message.specs.declared.note.Note.{Note}
 use Rattle.acc_message.specs.declared.note.Note.TheVariants.{Reply as ReplyNote}
 use Rattle.acc_message.specs.declared.entry.Emitted.{Emitted}
 use Rattle.acc_message.specs.declared.entry.Event.{Event}
 use Rattle.acc_message.specs.declared.item.Item.{Item}
 use Rattle.acc_message.specs.Fields.{id_of}
-use Rattle.acc_message.specs.Items.{sent_of}
-use Rattle.acc_message.specs.Attempts.{Attempt, Phase, Voting, Recovering, Executing}
-use Rattle.acc_message.specs.Coordinator.{Reaction, stay, when, begun, recovering, may_slow_down, slow_down, reaction, slow_reaction}
-use Rattle.acc_message.specs.NodeRules.{Act, Begins, Recovers, Slows, Takes, Restarts, Deed, next_id, next_ballot, attempt_after, attempt_of, is_open, emitted_by, replied, with_reply, on_taking, node_emits}
+use Rattle.acc_message.specs.Attempts.{Attempt, Voting, Recovering, Executing}
+use Rattle.acc_message.specs.Coordinator.{Reaction, when, begun, recovering, may_slow_down, slow_down, reaction, slow_reaction}
+use Rattle.acc_message.specs.NodeRules.{Act, Begins, Recovers, Slows, Takes, Deed, next_id, next_ballot, attempt_after, attempt_of, is_open, emitted_by, replied, with_reply, on_taking, node_emits}
 use Rattle.acc_message.specs.Run.{Cluster}
 use Rattle.acc_actor_laws.proofs.Standing.{not_none}
 use Rattle.acc_actor_laws.proofs.OpeningFacts.{some_is}
@@ -31,7 +30,7 @@ use Rattle.acc_serial.proofs.Facts.{Premises}
 use Rattle.acc_serial.proofs.SharedMoves.{Heard, Before, Counted, reaction_moves, slow_moves}
 use Rattle.acc_serial.proofs.SharedSteps.{ActOf, BeginsAs, RecoversAs, SlowsAs, TakesAs, RestartsAs, about_cases, Told, Outcome_told, Other_told, told}
 use Rattle.acc_serial.proofs.FrameRuns.{told_stays}
-use Rattle.acc_serial.proofs.NotesInOrder.{HasReply, InOrder}
+use Rattle.acc_serial.proofs.NotesInOrder.{InOrder}
 use Rattle.acc_serial.proofs.NodeRight.{EachRight, ReadsRight, reads_more, heard_right, IsRightAttempt, requests_right, IsRightReaction, move_right}
 
 voting_apart : (s : Settled) → Voting ≡ Executing s → ⊥
@@ -121,7 +120,7 @@ module _ (cluster : Cluster) (whole : List Item) (given : Premises cluster whole
           → (slow_reaction cluster.layout (actor_of node 0) y b).next ≡ Some a → ReadsRight cluster whole given (notes ++ more) y a
       by y same a b =
           subst (λ z. attempt_of cluster.layout node start z past ≡ Some b → (slow_reaction cluster.layout (actor_of node 0) z b).next ≡ Some a
-              → ReadsRight cluster whole given (notes ++ more) z a) same
+          → ReadsRight cluster whole given (notes ++ more) z a) same
           (λ is k. (slow_right x b (made ∙ ap (λ o. (emitted_by (slow_reaction cluster.layout (actor_of node 0) x) o).notes) is) is).next a k)
 
   -- ---- a message that an attempt hears
@@ -155,7 +154,7 @@ module _ (cluster : Cluster) (whole : List Item) (given : Premises cluster whole
           → (reaction cluster.layout (actor_of node 0) y b m).next ≡ Some a → ReadsRight cluster whole given (notes ++ more) y a
       by y same a b =
           subst (λ z. attempt_of cluster.layout node start z past ≡ Some b → (reaction cluster.layout (actor_of node 0) z b m).next ≡ Some a
-              → ReadsRight cluster whole given (notes ++ more) z a) same (here a b)
+          → ReadsRight cluster whole given (notes ++ more) z a) same (here a b)
 
   told_right : (from to : Actor) (id : TxnId) (b : Ballot) (o : Outcome) → IsOutcome cluster whole notes id o → IsRightEntry (Takes (Inform from to id b o))
   told_right from to id b o is =

@@ -1,11 +1,10 @@
 -- In every run with agreement and coverage all messages are right, and all notes are in order.
-use Rattle.std.proofs.Common.{◌≡◌, ℕ, Bool, true, false, cond, List, [], ◌∷◌, ◌++◌, Option, None, Some, Contains, refl, sym, ◌∙◌, ap, subst, ◌⊎◌, inl, inr, ⊎_elim}
+use Rattle.std.proofs.Common.{◌≡◌, Bool, true, false, List, [], ◌∷◌, ◌++◌, Option, None, Some, refl, sym, ◌∙◌, ap, subst, ⊎_elim}
 use Rattle.std.specs.List.{AllByRecursion}
 use Rattle.acc_stamp.specs.declared.stamps.TxnId.{TxnId}
 use Rattle.acc_stamp.specs.declared.actors.Actor.{Actor}
 use Rattle.acc_stamp.specs.Actor.{node_of}
 use Rattle.acc_stamp.proofs.Rising.{each_append, each_weaker}
-use Rattle.acc_deps.specs.declared.records.Settled.{Settled}
 use Rattle.acc_txn.specs.declared.outcome.Outcome.{Outcome}
 use Rattle.acc_base.specs.Faults.{or_else}
 use Rattle.acc_message.specs.declared.message.Message.{Message}
@@ -19,23 +18,21 @@ use Rattle.acc_message.specs.Fields.{id_of}
 use Rattle.acc_message.specs.Items.{sent_in, sent_of, noted_in, notes_of}
 use Rattle.acc_message.specs.BallotRules.{outcome_in}
 use Rattle.acc_message.specs.Attempts.{Attempt}
-use Rattle.acc_message.specs.NodeRules.{Act, Begins, Recovers, Slows, Takes, Restarts, Deed, attempt_of, node_emits}
+use Rattle.acc_message.specs.NodeRules.{Act, Begins, Takes, attempt_of}
 use Rattle.acc_message.specs.Run.{Cluster, clock_start, act_of, deeds_of, taken_from, taken_of, store_emits, is_node, emits_by, attempt_at, StandsOn, EachStands}
 use Rattle.acc_safety.specs.RunLaws.{drawn_of, AreDistinct}
 use Rattle.acc_actor_laws.proofs.Standing.{not_none}
-use Rattle.acc_actor_laws.proofs.OpeningFacts.{some_is}
 use Rattle.acc_serial.proofs.Notions.{first_apply, outcome_first, IsOutcome, IsRight, IsFramed}
 use Rattle.acc_serial.proofs.Facts.{Premises, or_else_cases}
 use Rattle.acc_serial.proofs.Histories.{outcome_about}
 use Rattle.acc_serial.proofs.StoreRight.{IsSound, right_outcome, one_outcome, store_is_right}
 use Rattle.acc_serial.proofs.SharedBegun.{distinct_earlier, begun_by_body}
 use Rattle.acc_serial.proofs.SharedSteps.{ActOf, BeginsAs, RecoversAs, SlowsAs, TakesAs, RestartsAs, act_cases, deeds_cases}
-use Rattle.acc_serial.proofs.Frame.{IsFramedAttempt}
 use Rattle.acc_serial.proofs.Framed.{IsFramedRun, node_emitted, store_is_silent, run_framed}
 use Rattle.acc_serial.proofs.NotesInOrder.{InOrder, right_more, in_order_join}
 use Rattle.acc_serial.proofs.NodeRight.{EachRight, ReadsRight, reads_more, IsRightAttempt}
 use Rattle.acc_serial.proofs.SerialEntries.{IsRightEntry, entry_right}
-use Rattle.acc_serial.proofs.Parts.{IsWithin, within_earlier, numbered_is_begun, each_numbered, EachTaken, each_taken}
+use Rattle.acc_serial.proofs.Parts.{IsWithin, within_earlier, numbered_is_begun, each_numbered, each_taken}
 
 -- a part of the run whose messages, reads and notes are right
 pub record IsSerialRun (cluster : Cluster) (whole : List Item) (given : Premises cluster whole) (part : List Item) : Type 0 where
@@ -78,15 +75,15 @@ module _ (cluster : Cluster) (whole : List Item) (given : Premises cluster whole
         → AllByRecursion (IsSound cluster whole (notes_of part)) ms
     sound_each [] have each frames = tt
     sound_each (m ∷ ms) have each frames = (
-        record {
-          framed = record {
-            body = λ body e. within.body (id_of m) body (frames.0.body body e);
-            settled = λ s e. within.decision _ (frames.0.settled s e);
-          };
-          right = each.0;
-          first = λ x o e. first_known m x o each.0 e (have x o (ap (λ k. or_else k (first_apply ms x)) e));
-        },
-        sound_each ms (λ x o e. let f = some_first (outcome_in x m) (first_apply ms x) o e in have x f.0 f.1) each.1 frames.1,
+      record {
+        framed = record {
+          body = λ body e. within.body (id_of m) body (frames.0.body body e);
+          settled = λ s e. within.decision _ (frames.0.settled s e);
+        };
+        right = each.0;
+        first = λ x o e. first_known m x o each.0 e (have x o (ap (λ k. or_else k (first_apply ms x)) e));
+      },
+      sound_each ms (λ x o e. let f = some_first (outcome_in x m) (first_apply ms x) o e in have x f.0 f.1) each.1 frames.1,
     )
 
     all_sound : AllByRecursion (IsSound cluster whole (notes_of part)) (sent_of part)

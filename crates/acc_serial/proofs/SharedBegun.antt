@@ -1,7 +1,7 @@
 -- The number of a begun transaction and its id determine one another.
-use Rattle.std.proofs.Common.{◌≡◌, ℕ, Bool, true, false, ◌||◌, cond, List, [], ◌∷◌, ◌++◌, Option, None, Some, refl, sym, ◌∙◌, ap, subst, ◌⊎◌, inl, inr, ⊎_elim}
+use Rattle.std.proofs.Common.{◌≡◌, ℕ, true, List, [], ◌∷◌, ◌++◌, Option, None, Some, refl, sym, ◌∙◌, ap, ⊎_elim}
 use Rattle.std.specs.List.{list_any, flat_map}
-use Rattle.std.proofs.lemmas.Bool.{true≢false, or_left, or_right, or_cases, cond_both, cond-true, eq-eqb, eqb-true}
+use Rattle.std.proofs.lemmas.Bool.{true≢false, or_left, or_right, or_cases, cond_both, cond-true, eqb-true}
 use Rattle.acc_stamp.specs.declared.stamps.Stamp.{Stamp}
 use Rattle.acc_stamp.specs.declared.stamps.TxnId.{TxnId}
 use Rattle.acc_stamp.specs.Stamp.{stamp_eq, id_eq}
@@ -13,7 +13,7 @@ use Rattle.acc_message.specs.declared.note.Note.{Note}
 use Rattle.acc_message.specs.declared.note.Note.TheVariants.{Begin as BeginNote, Recover as RecoverNote, Blocked, Ended, Decide, Outcome as OutcomeNote, Reply as ReplyNote}
 use Rattle.acc_message.specs.declared.entry.Entry.{Entry}
 use Rattle.acc_message.specs.declared.entry.Event.{Event}
-use Rattle.acc_message.specs.declared.entry.Event.TheVariants.{Begin as BeginEvent, Recover as RecoverEvent, Slow as SlowEvent, Message as MessageEvent, Restart as RestartEvent}
+use Rattle.acc_message.specs.declared.entry.Event.TheVariants.{Begin as BeginEvent, Recover as RecoverEvent}
 use Rattle.acc_message.specs.declared.item.Item.{Item}
 use Rattle.acc_message.specs.declared.item.Item.TheVariants.{Step, Skipped, Down}
 use Rattle.acc_base.specs.Faults.{or_else}
@@ -45,7 +45,7 @@ among_once s [] old distinct h k = true≢false (sym h)
 among_once s (t ∷ new) old distinct h k =
     ⊎_elim
     (λ same. true≢false
-        (sym (is_among-append stamp_eq t new old ∙ or_right (is_among stamp_eq t new) _ (ap (λ u. is_among stamp_eq u old) ((stamp_order.decides t s).0 same) ∙ k)) ∙ distinct.0))
+    (sym (is_among-append stamp_eq t new old ∙ or_right (is_among stamp_eq t new) _ (ap (λ u. is_among stamp_eq u old) ((stamp_order.decides t s).0 same) ∙ k)) ∙ distinct.0))
     (λ later. among_once s new old distinct.1 later k) (or_cases (stamp_eq t s) (is_among stamp_eq s new) h)
 
 distinct_behind : (new old : List Stamp) → AreDistinct (new ++ old) → AreDistinct old

@@ -1,11 +1,11 @@
 -- What an entry takes, and what it makes of an attempt.
-use Rattle.std.proofs.Common.{◌≡◌, ℕ, Bool, true, false, cond, List, [], ◌∷◌, ◌++◌, Option, None, Some, refl, sym, ◌∙◌, ap, subst, ◌⊎◌, inl, inr, ⊎_elim}
-use Rattle.std.specs.List.{slice_get, flat_map}
+use Rattle.std.proofs.Common.{◌≡◌, ℕ, Bool, true, false, List, ◌∷◌, ◌++◌, Option, None, Some, refl, subst, ◌⊎◌, inl, inr}
+use Rattle.std.specs.List.{slice_get}
 use Rattle.std.specs.Option.{option_map}
-use Rattle.std.proofs.lemmas.Bool.{true≢false, cond_both, eqb-true}
+use Rattle.std.proofs.lemmas.Bool.{eqb-true}
 use Rattle.acc_stamp.specs.declared.stamps.TxnId.{TxnId}
 use Rattle.acc_stamp.specs.declared.actors.Actor.{Actor}
-use Rattle.acc_stamp.specs.Actor.{actor_of, node_of}
+use Rattle.acc_stamp.specs.Actor.{actor_of}
 use Rattle.acc_stamp.specs.Stamp.{id_eq}
 use Rattle.acc_stamp.proofs.Order.{id_order}
 use Rattle.acc_topology.specs.Layout.{Layout}
@@ -13,19 +13,18 @@ use Rattle.acc_txn.specs.declared.parts.BodyParts.{BodyParts}
 use Rattle.acc_txn.specs.declared.outcome.Outcome.{Outcome}
 use Rattle.acc_stamp.specs.declared.stamps.Ballot.{Ballot}
 use Rattle.acc_message.specs.declared.message.Message.{Message}
-use Rattle.acc_message.specs.declared.message.Message.TheVariants.{PreAccept, PreAcceptOk, Accept, AcceptOk, Commit, CommitOk, Stable, ReadOk, Apply, Recover, RecoverOk, Nack, Decided, Inform}
-use Rattle.acc_message.specs.declared.entry.Emitted.{Emitted}
+use Rattle.acc_message.specs.declared.message.Message.TheVariants.{PreAccept, Inform}
 use Rattle.acc_message.specs.declared.entry.Entry.{Entry}
 use Rattle.acc_message.specs.declared.entry.Event.{Event}
 use Rattle.acc_message.specs.declared.entry.Event.TheVariants.{Begin as BeginEvent, Recover as RecoverEvent, Slow as SlowEvent, Message as MessageEvent, Restart as RestartEvent}
 use Rattle.acc_message.specs.declared.item.Item.{Item}
-use Rattle.acc_message.specs.declared.item.Item.TheVariants.{Step, Skipped, Down}
+use Rattle.acc_message.specs.declared.item.Item.TheVariants.{Step}
 use Rattle.acc_message.specs.Fields.{id_of}
 use Rattle.acc_message.specs.Items.{same_actor, message_at, id_of_txn}
 use Rattle.acc_message.specs.Attempts.{Attempt}
-use Rattle.acc_message.specs.Coordinator.{Reaction, reaction, slow_reaction}
-use Rattle.acc_message.specs.NodeRules.{Act, Begins, Recovers, Slows, Takes, Restarts, Deed, next_by, where_about, attempt_after, attempt_of, is_open, emitted_by, with_reply, on_taking}
-use Rattle.acc_message.specs.Run.{Cluster, clock_start, recovers, act_of, deed_with, deed_if, deeds_of, attempt_at}
+use Rattle.acc_message.specs.Coordinator.{Reaction, reaction}
+use Rattle.acc_message.specs.NodeRules.{Act, Begins, Recovers, Slows, Takes, Restarts, Deed, next_by, where_about, attempt_of, is_open, emitted_by, with_reply, on_taking}
+use Rattle.acc_message.specs.Run.{Cluster, recovers, act_of, deed_with, deed_if, deeds_of}
 use Rattle.acc_actor_laws.proofs.Standing.{not_none}
 use Rattle.acc_actor_laws.proofs.OpeningFacts.{some_is}
 

@@ -1,5 +1,5 @@
 -- The changes of a store over its whole history: they come in their turn, and tell what is opened and applied.
-use Rattle.std.proofs.Common.{◌≡◌, ℕ, Bool, true, false, ◌&&◌, ◌||◌, cond, List, [], ◌∷◌, Option, None, Some, is_some, refl, sym, ◌∙◌, ap, subst, ◌⊎◌, inl, inr, ⊎_elim, filter}
+use Rattle.std.proofs.Common.{◌≡◌, ℕ, true, List, [], ◌∷◌, Option, None, Some, is_some, refl, sym, ◌∙◌, ap, subst, ◌⊎◌, inl, inr, ⊎_elim, filter}
 use Rattle.std.specs.List.{AllByRecursion}
 use Rattle.std.proofs.lemmas.Bool.{true≢false, or_left, or_right, or_cases, and_parts, and_from, cond_both}
 use Rattle.acc_stamp.specs.declared.stamps.TxnId.{TxnId}
@@ -7,15 +7,14 @@ use Rattle.acc_stamp.specs.Stamp.{id_eq}
 use Rattle.acc_stamp.specs.Rising.{id_among}
 use Rattle.acc_stamp.proofs.Order.{id_order}
 use Rattle.acc_stamp.proofs.Rising.{each_filter, is_among-append, is_among-filter}
-use Rattle.acc_deps.specs.declared.records.Settled.{Settled}
 use Rattle.acc_base.specs.Faults.{or_else}
 use Rattle.acc_message.specs.Taken.{Taken, known}
 use Rattle.acc_message.specs.BallotRules.{stable_of, kept_outcome, settled_in, outcome_in}
-use Rattle.acc_message.specs.Opening.{IsOpened, Stays, Opens, Standing, stable_ones, in_turn, Change, pass, is_change, opened_by, with_outcome, opened_of, applied_of, changes_of}
-use Rattle.acc_actor_laws.proofs.Standing.{not_none, stands, turns-stands, turns-Truly}
+use Rattle.acc_message.specs.Opening.{IsOpened, Stays, Opens, Standing, stable_ones, in_turn, Change, pass, is_change, opened_by, with_outcome, opened_of, changes_of}
+use Rattle.acc_actor_laws.proofs.Standing.{stands, turns-stands, turns-Truly}
 use Rattle.acc_actor_laws.proofs.OpeningFacts.{opened_of-sound}
 use Rattle.acc_serial.proofs.Apart.{turns-apart}
-use Rattle.acc_serial.proofs.Timeline.{AppliedIn, OpenedIn, behind, AllInTurn, AppliedIn-behind, OpenedIn-behind}
+use Rattle.acc_serial.proofs.Timeline.{AppliedIn, OpenedIn, behind, AllInTurn, OpenedIn-behind}
 use Rattle.acc_serial.proofs.Pass.{Midway, Covered, Passed, passed}
 
 -- all changes of a store, the newest first
@@ -164,12 +163,12 @@ module _ (shard : ℕ) (below : TxnId → TxnId → Type 0) (step : Taken) (past
   applied_more y h has =
       ⊎_elim
       (λ now. opened_by-each (λ z. is_some (kept_outcome (step ∷ past) z) ≡ true → AppliedIn (timeline shard (step ∷ past)) z)
-          (changes_of shard step past) y
-          (each_filter (λ (c : Change). c.opens ≡ true → is_some (kept_outcome (step ∷ past) c.id) ≡ true → AppliedIn (timeline shard (step ∷ past)) c.id)
-          is_change made done.opened_now) now has)
+      (changes_of shard step past) y
+      (each_filter (λ (c : Change). c.opens ≡ true → is_some (kept_outcome (step ∷ past) c.id) ≡ true → AppliedIn (timeline shard (step ∷ past)) c.id)
+      is_change made done.opened_now) now has)
       (λ was. let s = some_value (stable_of (step ∷ past) y) (kept_some (stable_of past y) (settled_in y step.message) (told.stable y was)) in
-          each_standing (λ z. id_among z (opened_of shard past) ≡ true → is_some (kept_outcome (step ∷ past) z) ≡ true → AppliedIn (timeline shard (step ∷ past)) z)
-          list y done.opened_before (turns-stands (step ∷ past) y s.0 s.1) was has)
+      each_standing (λ z. id_among z (opened_of shard past) ≡ true → is_some (kept_outcome (step ∷ past) z) ≡ true → AppliedIn (timeline shard (step ∷ past)) z)
+      list y done.opened_before (turns-stands (step ∷ past) y s.0 s.1) was has)
       (split y h)
 
   tells_more : (y : TxnId) → AppliedIn (timeline shard (step ∷ past)) y
@@ -178,8 +177,8 @@ module _ (shard : ℕ) (below : TxnId → TxnId → Type 0) (step : Taken) (past
       ⊎_elim
       (λ was. let t = told.tells y was in (among (inr t.0), kept_some (kept_outcome past y) (outcome_in y step.message) t.1))
       (λ now. let t = applied_tells (opened_of shard past) (λ z. is_some (kept_outcome (step ∷ past) z) ≡ true) (changes_of shard step past) y
-          (each_filter (λ (c : Change). c.applies ≡ true → ((id_among c.id (opened_of shard past) ≡ true) ⊎ (c.opens ≡ true)) × (is_some (kept_outcome (step ∷ past) c.id) ≡ true))
-          is_change made done.truly) now in (among t.0, t.1))
+      (each_filter (λ (c : Change). c.applies ≡ true → ((id_among c.id (opened_of shard past) ≡ true) ⊎ (c.opens ≡ true)) × (is_some (kept_outcome (step ∷ past) c.id) ≡ true))
+      is_change made done.truly) now in (among t.0, t.1))
       (applied_split (changes_of shard step past) (timeline shard past) y h)
     where
       among : (id_among y (opened_by (changes_of shard step past)) ≡ true) ⊎ (id_among y (opened_of shard past) ≡ true)

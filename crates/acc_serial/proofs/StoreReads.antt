@@ -1,5 +1,5 @@
 -- What a store sends: answers without cells, and reads at moments of its changes.
-use Rattle.std.proofs.Common.{◌≡◌, ℕ, Bool, true, false, cond, List, [], ◌∷◌, ◌++◌, Option, None, Some, is_some, map, refl, sym, ◌∙◌, ap, subst, inl, inr, ⊎_elim}
+use Rattle.std.proofs.Common.{◌≡◌, Bool, true, false, cond, List, [], ◌∷◌, Option, None, Some, is_some, map, refl, sym, ◌∙◌, ap, subst, inl, inr}
 use Rattle.std.specs.List.{AllByRecursion}
 use Rattle.std.proofs.lemmas.Bool.{false≢true, or_left, cond_both}
 use Rattle.acc_stamp.specs.declared.stamps.Stamp.{Stamp}
@@ -17,16 +17,15 @@ use Rattle.acc_deps.specs.declared.shards.ShardDeps.{ShardDeps}
 use Rattle.acc_value.specs.declared.key.Key.{Key}
 use Rattle.acc_value.specs.Cells.{applied}
 use Rattle.acc_txn.specs.declared.outcome.Outcome.{Outcome}
-use Rattle.acc_message.specs.declared.answer.ReadAnswer.{ReadAnswer}
-use Rattle.acc_message.specs.declared.answer.ReadAnswer.TheVariants.{Values, Known}
+use Rattle.acc_message.specs.declared.answer.ReadAnswer.TheVariants.{Known}
 use Rattle.acc_message.specs.declared.message.Message.{Message}
-use Rattle.acc_message.specs.declared.message.Message.TheVariants.{PreAccept, PreAcceptOk, Accept, AcceptOk, Commit, CommitOk, Stable, ReadOk, Apply, Recover, RecoverOk, Nack, Decided, Inform}
+use Rattle.acc_message.specs.declared.message.Message.TheVariants.{PreAccept, PreAcceptOk, Accept, AcceptOk, Commit, CommitOk, Stable, Apply, Recover, RecoverOk, Nack, Decided}
 use Rattle.acc_message.specs.Taken.{Taken, taking, known, heard_body}
 use Rattle.acc_message.specs.BallotRules.{promise_of, stable_of, kept_outcome}
 use Rattle.acc_message.specs.Opening.{Change, opened_by, opened_of, is_opened, changes_of, writes_in, written_by, written_by_all, cells_at}
 use Rattle.acc_message.specs.StoreRules.{nack, unless_stable, unless_promised, read_ok, read_by, stable_ballots, opening_of, release, released, kept_or, at_once, store_answer}
 use Rattle.acc_serial.proofs.Cell.{Cell}
-use Rattle.acc_serial.proofs.Timeline.{AppliedIn, OpenedIn, behind, left_by, AllInTurn, AppliedIn-behind, AllInTurn-earlier, below_is_applied}
+use Rattle.acc_serial.proofs.Timeline.{AppliedIn, behind, left_by, AllInTurn, AppliedIn-behind, AllInTurn-earlier, below_is_applied}
 use Rattle.acc_serial.proofs.StoreChanges.{timeline, EachCovered, Told, history_told, opened_by-first, opened_by-later, some_value}
 
 -- A moment at which a store reads for x: what is below x is applied, and x is not. All that is applied by then has an outcome
@@ -152,9 +151,9 @@ module _ (layout : Layout) (own : Actor) (below : TxnId → TxnId → Type 0) (o
     each_opens : (changes : List Change) → AllByRecursion (λ (c : Change). c.opens ≡ true → id_among c.id (opened_by changes) ≡ true) changes
     each_opens [] = tt
     each_opens (c ∷ changes) = (
-        opened_by-first c changes,
-        each_weaker (λ (d : Change). d.opens ≡ true → id_among d.id (opened_by changes) ≡ true) (λ (d : Change). d.opens ≡ true → id_among d.id (opened_by (c ∷ changes)) ≡ true)
-            changes (λ d h is. opened_by-later c changes d.id (h is)) (each_opens changes),
+      opened_by-first c changes,
+      each_weaker (λ (d : Change). d.opens ≡ true → id_among d.id (opened_by changes) ≡ true) (λ (d : Change). d.opens ≡ true → id_among d.id (opened_by (c ∷ changes)) ≡ true)
+          changes (λ d h is. opened_by-later c changes d.id (h is)) (each_opens changes),
     )
 
     opens_are_stable : (step : Taken) (past : List Taken) → EachCovered (shard_of own) below (step ∷ past)
@@ -163,7 +162,7 @@ module _ (layout : Layout) (own : Actor) (below : TxnId → TxnId → Type 0) (o
         each_weaker (λ (c : Change). c.opens ≡ true → id_among c.id (opened_by (changes_of (shard_of own) step past)) ≡ true)
         (λ (c : Change). c.opens ≡ true → is_some (stable_of (step ∷ past) c.id) ≡ true) (changes_of (shard_of own) step past)
         (λ c h is. (history_told (shard_of own) below (step ∷ past) covered).stable c.id
-            (is_among-append id_eq c.id (opened_by (changes_of (shard_of own) step past)) (opened_of (shard_of own) past) ∙ or_left _ _ (h is)))
+        (is_among-append id_eq c.id (opened_by (changes_of (shard_of own) step past)) (opened_of (shard_of own) past) ∙ or_left _ _ (h is)))
         (each_opens (changes_of (shard_of own) step past))
 
     pub each_release : (past : List Taken) (m : Message) → EachCovered (shard_of own) below (taking m past) → EachKept (taking m past)

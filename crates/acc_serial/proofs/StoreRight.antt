@@ -1,20 +1,16 @@
 -- A store that took right messages sends right ones.
-use Rattle.std.proofs.Common.{◌≡◌, ◌==◌, ℕ, Bool, true, false, cond, List, [], ◌∷◌, Option, None, Some, is_some, map, filter, refl, sym, ◌∙◌, ap, subst, ◌⊎◌, inl, inr, ⊎_elim}
+use Rattle.std.proofs.Common.{◌≡◌, ◌==◌, ℕ, Bool, true, false, cond, List, [], ◌∷◌, Option, None, Some, is_some, filter, refl, sym, ◌∙◌, ap, subst, ⊎_elim}
 use Rattle.std.specs.List.{AllByRecursion, fold, list_any}
 use Rattle.std.specs.Prelude.{unwrap_or}
-use Rattle.std.proofs.lemmas.Bool.{true≢false, or_left, or_right, or_cases, cases_Bool, cond_both, cond-true, cond-false, eq-eqb}
-use Rattle.acc_stamp.specs.declared.stamps.Stamp.{Stamp}
+use Rattle.std.proofs.lemmas.Bool.{true≢false, or_left, or_right, or_cases, cond_both, cond-true, eq-eqb}
 use Rattle.acc_stamp.specs.declared.stamps.TxnId.{TxnId}
-use Rattle.acc_stamp.specs.declared.stamps.Ballot.{Ballot}
 use Rattle.acc_stamp.specs.declared.actors.Actor.{Actor}
-use Rattle.acc_stamp.specs.Actor.{shard_of, home_of}
+use Rattle.acc_stamp.specs.Actor.{shard_of}
 use Rattle.acc_stamp.specs.Stamp.{id_eq, stamp_lt}
 use Rattle.acc_stamp.proofs.Order.{id_order}
 use Rattle.acc_stamp.proofs.Rising.{each_weaker}
-use Rattle.acc_topology.specs.Layout.{Layout}
 use Rattle.acc_topology.specs.Keys.{shard_of_key}
 use Rattle.acc_deps.specs.declared.records.Settled.{Settled}
-use Rattle.acc_deps.specs.Deps.{of_shard}
 use Rattle.acc_value.specs.declared.key.Key.{Key}
 use Rattle.acc_value.specs.Key.{key_eq}
 use Rattle.acc_value.specs.Pairs.{find, put}
@@ -27,28 +23,26 @@ use Rattle.acc_txn.specs.Uses.{read_keys, is_read, is_updated}
 use Rattle.acc_txn.specs.Meaning.{outcome_of}
 use Rattle.acc_txn.proofs.Agree.{outcome_of-agree}
 use Rattle.acc_txn.proofs.Writes.{find-outcome_of}
-use Rattle.acc_message.specs.declared.answer.ReadAnswer.TheVariants.{Values, Known}
 use Rattle.acc_message.specs.declared.message.Message.{Message}
-use Rattle.acc_message.specs.declared.message.Message.TheVariants.{PreAccept, PreAcceptOk, Accept, AcceptOk, Commit, CommitOk, Stable, ReadOk, Apply, Recover, RecoverOk, Nack, Decided, Inform}
+use Rattle.acc_message.specs.declared.message.Message.TheVariants.{Apply}
 use Rattle.acc_message.specs.declared.note.Note.{Note}
 use Rattle.acc_message.specs.declared.item.Item.{Item}
 use Rattle.acc_message.specs.Fields.{id_of}
-use Rattle.acc_message.specs.Taken.{Taken, taking, known, heard_body, body_in}
-use Rattle.acc_message.specs.BallotRules.{stable_of, kept_outcome, settled_in, outcome_in}
+use Rattle.acc_message.specs.Taken.{Taken, taking, known, heard_body}
+use Rattle.acc_message.specs.BallotRules.{stable_of, kept_outcome, outcome_in}
 use Rattle.acc_message.specs.Opening.{Change, writes_in}
-use Rattle.acc_message.specs.StoreRules.{read_here, read_by, read_ok, store_answer}
+use Rattle.acc_message.specs.StoreRules.{read_here, read_by, store_answer}
 use Rattle.acc_message.specs.Run.{Cluster}
-use Rattle.acc_safety.specs.Decisions.{body_of}
 use Rattle.acc_serial.proofs.Cell.{Cell}
-use Rattle.acc_serial.proofs.Latest.{IsLatest, one_latest}
-use Rattle.acc_serial.proofs.Timeline.{AppliedIn, left_by, left_is_latest_below}
+use Rattle.acc_serial.proofs.Latest.{one_latest}
+use Rattle.acc_serial.proofs.Timeline.{left_by, left_is_latest_below}
 use Rattle.acc_serial.proofs.Pass.{Covered}
 use Rattle.acc_serial.proofs.StoreChanges.{EachCovered, some_value}
-use Rattle.acc_serial.proofs.StoreReads.{Moment, OfAnswers, writes, KeptIsFirst, EachKept, OfReads, OfKnown, each_answer}
+use Rattle.acc_serial.proofs.StoreReads.{Moment, OfAnswers, writes, EachKept, each_answer}
 use Rattle.acc_actor_laws.proofs.Standing.{not_none, stable_of-known}
 use Rattle.acc_actor_laws.proofs.OpeningFacts.{some_is}
-use Rattle.acc_serial.proofs.Notions.{uses, time_of, IsDecision, IsDecided, HasBody, outcome_first, wrote, written_at, Below, IsLatestBelow, Answered, Finished, IsOutcome, Reading, RightAnswer, IsRight, IsFramed}
-use Rattle.acc_serial.proofs.Facts.{Premises, time_is, decided_from, own_times, Wrote, wrote_tells, writer_below, below_writer}
+use Rattle.acc_serial.proofs.Notions.{time_of, IsDecision, IsDecided, HasBody, outcome_first, wrote, written_at, Below, IsLatestBelow, Answered, Finished, IsOutcome, Reading, RightAnswer, IsRight, IsFramed}
+use Rattle.acc_serial.proofs.Facts.{Premises, time_is, decided_from, own_times, wrote_tells, writer_below, below_writer}
 use Rattle.acc_serial.proofs.Histories.{stable_from, kept_from, heard_from, heard_has_body}
 
 -- ---- the cells that are read
@@ -72,12 +66,12 @@ key_is_read p cells [] so_far key passes among = absurd (true≢false (sym among
 key_is_read p cells (k ∷ keys) so_far key passes among =
     ⊎_elim
     (λ same. cond_both (p k) (k ∷ filter p keys) (filter p keys) (λ list. cell_of (fold (λ list k. put list k (cells k)) so_far list) key ≡ cells key)
-        (λ _. find-put_keys p cells keys (put so_far k (cells k)) key
-            (ap (λ o. unwrap_or o None) (find-put so_far k (cells k) key ∙ cond-true (key_eq key k) (Some (cells k)) (find so_far key) same) ∙ ap cells (sym (key_eq-true key k same))))
-        (λ not_p. absurd (true≢false (sym passes ∙ ap p (key_eq-true key k same) ∙ not_p))))
+    (λ _. find-put_keys p cells keys (put so_far k (cells k)) key
+    (ap (λ o. unwrap_or o None) (find-put so_far k (cells k) key ∙ cond-true (key_eq key k) (Some (cells k)) (find so_far key) same) ∙ ap cells (sym (key_eq-true key k same))))
+    (λ not_p. absurd (true≢false (sym passes ∙ ap p (key_eq-true key k same) ∙ not_p))))
     (λ later. cond_both (p k) (k ∷ filter p keys) (filter p keys) (λ list. cell_of (fold (λ list k. put list k (cells k)) so_far list) key ≡ cells key)
-        (λ _. key_is_read p cells keys (put so_far k (cells k)) key passes later)
-        (λ _. key_is_read p cells keys so_far key passes later))
+    (λ _. key_is_read p cells keys (put so_far k (cells k)) key passes later)
+    (λ _. key_is_read p cells keys so_far key passes later))
     (or_cases (key_eq key k) (list_any (key_eq key) keys) among)
 
 -- ---- right messages
@@ -141,11 +135,11 @@ module _ (cluster : Cluster) (whole : List Item) (given : Premises cluster whole
 
     covered : (shard : ℕ) (history : List Taken) → AllSound cluster whole notes history → Covered shard history (Below cluster whole shard)
     covered shard history sound x y mine stable b = (
-        given.coverage shard _ (record { id = x; t = mine.t; deps = mine.deps }) b.first.1 is b.conflict
-            (subst (λ t. stamp_lt (time_of cluster whole y) t ≡ true) (time_is cluster whole given x mine.t mine.deps is) b.earlier),
-        (λ theirs e.
-            ap (λ t. stamp_lt t mine.t) (sym (time_is cluster whole given y theirs.t theirs.deps (history_decided history y theirs sound e)))
-            ∙ ap (stamp_lt (time_of cluster whole y)) (sym (time_is cluster whole given x mine.t mine.deps is)) ∙ b.earlier),
+      given.coverage shard _ (record { id = x; t = mine.t; deps = mine.deps }) b.first.1 is b.conflict
+          (subst (λ t. stamp_lt (time_of cluster whole y) t ≡ true) (time_is cluster whole given x mine.t mine.deps is) b.earlier),
+      (λ theirs e.
+          ap (λ t. stamp_lt t mine.t) (sym (time_is cluster whole given y theirs.t theirs.deps (history_decided history y theirs sound e)))
+          ∙ ap (stamp_lt (time_of cluster whole y)) (sym (time_is cluster whole given x mine.t mine.deps is)) ∙ b.earlier),
     )
       where
         is : IsDecision cluster whole x mine.t mine.deps

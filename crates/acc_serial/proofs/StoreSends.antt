@@ -1,5 +1,5 @@
 -- What a store sends are answers.
-use Rattle.std.proofs.Common.{◌≡◌, Bool, true, false, cond, List, [], ◌∷◌, Option, None, Some, map}
+use Rattle.std.proofs.Common.{List, [], ◌∷◌, map}
 use Rattle.std.specs.List.{AllByRecursion}
 use Rattle.std.proofs.lemmas.Bool.{cond_both}
 use Rattle.acc_stamp.specs.declared.stamps.TxnId.{TxnId}
@@ -12,11 +12,11 @@ use Rattle.acc_topology.specs.Layout.{Layout}
 use Rattle.acc_value.specs.declared.key.Key.{Key}
 use Rattle.acc_message.specs.declared.answer.ReadAnswer.{ReadAnswer}
 use Rattle.acc_message.specs.declared.message.Message.{Message}
-use Rattle.acc_message.specs.declared.message.Message.TheVariants.{PreAccept, PreAcceptOk, Accept, AcceptOk, Commit, CommitOk, Stable, ReadOk, Apply, Recover, RecoverOk, Nack, Decided, Inform}
+use Rattle.acc_message.specs.declared.message.Message.TheVariants.{PreAccept, Accept, Commit, Stable, Apply, Recover}
 use Rattle.acc_message.specs.Taken.{Taken, taking, known, heard_body}
-use Rattle.acc_message.specs.BallotRules.{promise_of, stable_of, kept_outcome}
+use Rattle.acc_message.specs.BallotRules.{promise_of, stable_of}
 use Rattle.acc_message.specs.Opening.{Change, is_opened, changes_of, written_by, cells_at}
-use Rattle.acc_message.specs.StoreRules.{nack, unless_stable, unless_promised, read_ok, read_by, stable_ballots, opening_of, release, released, kept_or, at_once, store_answer}
+use Rattle.acc_message.specs.StoreRules.{read_ok, read_by, stable_ballots, opening_of, release, released, at_once, store_answer}
 use Rattle.acc_serial.proofs.Cell.{Cell}
 use Rattle.acc_serial.proofs.StoreReads.{OfAnswers, each_unless}
 

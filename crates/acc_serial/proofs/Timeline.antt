@@ -1,5 +1,5 @@
 -- The changes of one store over all its steps, the newest first, and the cells that they leave.
-use Rattle.std.proofs.Common.{◌≡◌, Bool, true, false, cond, List, [], ◌∷◌, ◌++◌, Option, None, Some, refl, sym, ◌∙◌, ap, subst, ◌⊎◌, inl, inr, ⊎_elim}
+use Rattle.std.proofs.Common.{◌≡◌, Bool, true, false, cond, List, [], ◌∷◌, Option, None, Some, refl, sym, ◌∙◌, subst, ◌⊎◌, inl, inr, ⊎_elim}
 use Rattle.std.specs.Prelude.{unwrap_or}
 use Rattle.std.proofs.lemmas.Bool.{true≢false, cases_Bool}
 use Rattle.acc_stamp.specs.declared.stamps.Stamp.{Stamp}
@@ -11,7 +11,7 @@ use Rattle.acc_value.specs.Pairs.{find}
 use Rattle.acc_value.specs.Cells.{applied}
 use Rattle.acc_message.specs.Opening.{Change}
 use Rattle.acc_serial.proofs.Cell.{Cell}
-use Rattle.acc_serial.proofs.Latest.{Writes, IsLatest, Unwritten, Written, NoWriter, same_latest, latest_more}
+use Rattle.acc_serial.proofs.Latest.{Writes, IsLatest, Unwritten, same_latest, latest_more}
 
 -- some change applied the transaction
 abbrev pub AppliedIn : List Change → TxnId → Type 0

@@ -1,5 +1,5 @@
 -- Every run with agreement and coverage has serial outcomes.
-use Rattle.std.proofs.Common.{◌≡◌, Bool, true, false, cond, List, [], ◌∷◌, Option, None, Some, refl, sym, ◌∙◌, ap, subst}
+use Rattle.std.proofs.Common.{◌≡◌, Bool, true, false, List, [], ◌∷◌, Option, None, Some, refl, sym, ◌∙◌, ap, subst}
 use Rattle.std.specs.List.{AllByRecursion}
 use Rattle.std.proofs.lemmas.Bool.{or_left, or_right, cond-true, cond-false}
 use Rattle.acc_stamp.specs.declared.stamps.TxnId.{TxnId}
@@ -23,23 +23,22 @@ use Rattle.acc_safety.specs.Coverage.{Coverage}
 use Rattle.acc_safety.specs.SerialOutcomes.{SerialOutcomes}
 use Rattle.acc_safety.specs.RunLaws.{drawn_of, AreDistinct}
 use Rattle.acc_actor_laws.proofs.OpeningFacts.{some_is}
-use Rattle.acc_serial.proofs.Notions.{written_at, outcome_first, wrote, Answered, Finished, IsOutcome}
+use Rattle.acc_serial.proofs.Notions.{written_at, outcome_first, wrote, Answered, Finished}
 use Rattle.acc_serial.proofs.Facts.{Premises, updated_is_found}
 use Rattle.acc_serial.proofs.StoreRight.{one_outcome}
-use Rattle.acc_serial.proofs.SharedMembers.{Contains-first, Contains-later}
 use Rattle.acc_serial.proofs.Frame.{HasApply}
 use Rattle.acc_serial.proofs.Framed.{IsFramedRun, run_framed}
 use Rattle.acc_serial.proofs.Parts.{within_itself}
 use Rattle.acc_serial.proofs.SerialRuns.{IsSerialRun, first_is_right, run_serial}
 use Rattle.acc_serial.proofs.Stores.{used_key_has_stores}
 use Rattle.acc_serial.proofs.Outcomes.{outcomes_agree, replies_agree, notes_in_place}
-use Rattle.acc_serial.proofs.InTheirTurn.{outcomes_in_order, RunsSerially, HasWritten, runs_serially, start_so_far}
+use Rattle.acc_serial.proofs.InTheirTurn.{outcomes_in_order, RunsSerially, runs_serially, start_so_far}
 
 each_answered : (answers : List Answer) → AllByRecursion (λ (a : Answer). is_answered a.id answers ≡ true) answers
 each_answered [] = tt
 each_answered (a ∷ answers) = (
-    or_left (id_eq a.id a.id) _ ((id_order.decides a.id a.id).1 refl),
-    each_weaker (λ (b : Answer). is_answered b.id answers ≡ true) (λ (b : Answer). is_answered b.id (a ∷ answers) ≡ true) answers (λ b h. or_right (id_eq a.id b.id) _ h) (each_answered answers),
+  or_left (id_eq a.id a.id) _ ((id_order.decides a.id a.id).1 refl),
+  each_weaker (λ (b : Answer). is_answered b.id answers ≡ true) (λ (b : Answer). is_answered b.id (a ∷ answers) ≡ true) answers (λ b h. or_right (id_eq a.id b.id) _ h) (each_answered answers),
 )
 
 nothing_written : (body : BodyParts) (o : Option Outcome) (key : Key) → is_updated body key ≡ false → written_at (Some body) o key ≡ None

@@ -1,5 +1,6 @@
 //! Serial outcomes of every run: what follows from agreement and coverage.
 #![tactic(auto)]
+
 ghost use Rattle.std.specs.Prelude.{List};
 ghost use Rattle.acc_topology.specs.Layout.{IsLayout};
 ghost use Rattle.acc_message.specs.declared.item.Item.{Item};
