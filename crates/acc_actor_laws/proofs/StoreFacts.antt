@@ -151,7 +151,7 @@ no_votes_unless x own promised id b least None answer h =
     cond_both (ballot_lt least promised) (nack own id b promised) answer
     (λ list. list_any (votes_for x) list ≡ false) (λ _. refl) (λ _. h)
 
-zero_promise : (b : Ballot) → ballot_lt zero_ballot b ≡ false → b ≡ zero_ballot
+pub zero_promise : (b : Ballot) → ballot_lt zero_ballot b ≡ false → b ≡ zero_ballot
 zero_promise b h = ballot_order.connected b zero_ballot (nothing_below_zero b) h
 
 voted_for : (x id : TxnId) (b : Ballot) (own : Actor) (v : Vote) → list_any (votes_for x) (voted own id b v) ≡ true → id_eq id x ≡ true

@@ -3,3 +3,12 @@ pub mod DrawFacts
 pub mod ReplayFacts
 pub mod PlaceFacts
 pub mod BegunFacts
+pub mod PlaceOrder
+pub mod StoreSent
+pub mod NodeMoved
+pub mod NodeSent
+pub mod Bridge
+pub mod Attempted
+pub mod BodiesBegun
+pub mod Frame
+pub mod StoreNotions

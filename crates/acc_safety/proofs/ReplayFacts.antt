@@ -1,21 +1,14 @@
 -- What an actor did in a run is the replay of what it took.
-use Rattle.std.proofs.Common.{◌≡◌, ℕ, Bool, true, false, ◌&&◌, List, [], ◌∷◌, ◌++◌, refl, sym, ◌∙◌, ap, subst}
-use Rattle.std.specs.Prelude.{is_some}
+use Rattle.std.proofs.Common.{◌≡◌, Bool, true, false, List, [], ◌∷◌, ◌++◌, refl, sym, ◌∙◌, ap, subst}
 use Rattle.std.proofs.lemmas.Bool.{eqb-true}
-use Rattle.acc_stamp.specs.declared.stamps.TxnId.{TxnId}
 use Rattle.acc_stamp.specs.declared.actors.Actor.{Actor}
 use Rattle.acc_stamp.specs.Actor.{node_of}
-use Rattle.acc_stamp.specs.Rising.{id_among}
-use Rattle.acc_stamp.proofs.Order.{id_order}
-use Rattle.acc_stamp.proofs.Rising.{is_among-filter}
 use Rattle.acc_message.specs.declared.entry.Emitted.{Emitted}
 use Rattle.acc_message.specs.declared.entry.Entry.{Entry}
 use Rattle.acc_message.specs.declared.item.Item.{Item}
 use Rattle.acc_message.specs.declared.item.Item.TheVariants.{Step, Skipped, Down}
 use Rattle.acc_message.specs.Items.{same_actor}
 use Rattle.acc_message.specs.Taken.{Taken}
-use Rattle.acc_message.specs.BallotRules.{kept_outcome}
-use Rattle.acc_message.specs.Opening.{opened_of, is_applied, applied_of}
 use Rattle.acc_message.specs.StoreRules.{store_answer, replay}
 use Rattle.acc_message.specs.NodeRules.{Act, Begins, Recovers, Slows, Takes, Restarts, Deed, node_emits, node_replay}
 use Rattle.acc_message.specs.Run.{Cluster, clock_start, deed_with, deed_if, deeds_of, taken_with, taken_from, taken_of, is_node, emits_by, StandsOn, EachStands}

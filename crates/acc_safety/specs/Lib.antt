@@ -5,3 +5,13 @@ pub mod SerialOutcomes
 pub mod Calm
 pub mod Safe
 pub mod RunLaws
+pub mod Places
+pub mod Valid
+pub mod Histories
+pub mod StoreSends
+pub mod NodeMoves
+pub mod Polls
+pub mod Roots
+pub mod StoreFactStatements
+pub mod Statements
+pub mod Attempted

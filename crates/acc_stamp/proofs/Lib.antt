@@ -1,4 +1,4 @@
-mod History
+pub mod History
 pub mod Order
 pub mod Places
 pub mod Rising
