@@ -33,14 +33,14 @@ use Rattle.acc_safety.specs.Coverage.{Coverage}
 use Rattle.acc_serial.proofs.Cell.{Cell}
 use Rattle.acc_actor_laws.proofs.Standing.{not_none}
 use Rattle.acc_serial.proofs.SharedMembers.{Contains-none, Contains-cases, Contains-first, Contains-later}
-use Rattle.acc_serial.proofs.Notions.{time_among, first_apply, written_at, uses, IsDecision, time_of, IsDecided, HasBody, outcome_first, wrote, Below, IsFramed}
+use Rattle.acc_serial.proofs.Notions.{time_among, first_apply, written_at, uses, IsDecision, time_of, IsDecided, HasBody, outcome_first, wrote, Below, SettlesDecided}
 
 -- what the proof of serial outcomes starts from
 pub record Premises (cluster : Cluster) (whole : List Item) : Type 0 where
   pub layout : IsLayout cluster.layout
   pub agreement : Agreement whole
   pub coverage : Coverage cluster whole
-  pub framed : AllByRecursion (IsFramed cluster whole) (sent_of whole)
+  pub settled : AllByRecursion (SettlesDecided cluster whole) (sent_of whole)
 
 -- ---- times
 
@@ -86,12 +86,12 @@ module _ (cluster : Cluster) (whole : List Item) (given : Premises cluster whole
   outcome_settles (PreAccept from to id ballot body) x o e = absurd (not_none o e)
   outcome_settles _ x o e = absurd (not_none o e)
 
-  apply_decided : (ms : List Message) (x : TxnId) (o : Outcome) → AllByRecursion (IsFramed cluster whole) ms → first_apply ms x ≡ Some o → IsDecided cluster whole x
+  apply_decided : (ms : List Message) (x : TxnId) (o : Outcome) → AllByRecursion (SettlesDecided cluster whole) ms → first_apply ms x ≡ Some o → IsDecided cluster whole x
   apply_decided [] x o each e = absurd (not_none o e)
   apply_decided (m ∷ ms) x o each e =
       ⊎_elim
       (λ here. let found = outcome_settles m x o here in
-      subst (IsDecided cluster whole) found.2 (decided_from (id_of m) found.0.t found.0.deps (each.0.settled found.0 found.1)))
+      subst (IsDecided cluster whole) found.2 (decided_from (id_of m) found.0.t found.0.deps (each.0 found.0 found.1)))
       (apply_decided ms x o each.1) (or_else_cases (outcome_in x m) (first_apply ms x) o e)
 
   -- ---- what is written
@@ -122,7 +122,7 @@ module _ (cluster : Cluster) (whole : List Item) (given : Premises cluster whole
             outcome_is = made;
             updates = updates;
             found = found;
-            decided = apply_decided (sent_of whole) x outcome given.framed made;
+            decided = apply_decided (sent_of whole) x outcome given.settled made;
           })
           (λ _ none. absurd (not_none cell none)) e
 

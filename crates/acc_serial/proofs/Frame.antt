@@ -1,5 +1,5 @@
--- In a run every message has the begun body, and what is stable or applied is decided.
-use Rattle.std.proofs.Common.{◌≡◌, List, [], ◌∷◌, ◌++◌, Option, None, Some, Contains, map, refl, sym, ◌∙◌, subst}
+-- What is stable or applied is decided, and what is noted as an outcome is applied.
+use Rattle.std.proofs.Common.{◌≡◌, ℕ, List, [], ◌∷◌, ◌++◌, Option, None, Some, Contains, map, refl, sym, ◌∙◌, ap, subst}
 use Rattle.std.specs.List.{AllByRecursion}
 use Rattle.std.proofs.lemmas.List.Elements.{Contains-append_left, Contains-append_right}
 use Rattle.std.proofs.lemmas.List.Concat.{flat_map-append}
@@ -11,26 +11,34 @@ use Rattle.acc_base.specs.Faults.{or_else}
 use Rattle.acc_message.specs.declared.message.Message.{Message}
 use Rattle.acc_message.specs.declared.item.Item.{Item}
 use Rattle.acc_message.specs.Fields.{id_of}
-use Rattle.acc_message.specs.Items.{notes_of, noted_in}
+use Rattle.acc_message.specs.Items.{notes_of, noted_in, txn_in, txn_of}
 use Rattle.acc_message.specs.Shares.{stores_used}
 use Rattle.acc_message.specs.Taken.{body_in}
 use Rattle.acc_message.specs.BallotRules.{settled_in, outcome_in}
 use Rattle.acc_message.specs.Attempts.{Attempt, Executing}
 use Rattle.acc_message.specs.Run.{Cluster}
-use Rattle.acc_safety.specs.Decisions.{Decision, decisions_in, decisions_of}
+use Rattle.acc_safety.specs.Decisions.{Decision, decisions_in, decisions_of, body_at, body_of}
 use Rattle.acc_actor_laws.proofs.Standing.{not_none}
 use Rattle.acc_actor_laws.proofs.OpeningFacts.{some_is}
-use Rattle.acc_serial.proofs.Notions.{first_apply, IsDecision, HasBody, IsFramed}
-use Rattle.acc_serial.proofs.SharedBegun.{body_kept}
+use Rattle.acc_serial.proofs.Notions.{first_apply, IsDecision, HasBody, SettlesDecided}
 
--- an attempt has the begun body, and once it reads a decision
-pub record IsFramedAttempt (cluster : Cluster) (part : List Item) (x : TxnId) (a : Attempt) : Type 0 where
-  pub body : HasBody cluster part x a.body
-  pub decided : (s : Settled) → a.phase ≡ Executing s → IsDecision cluster part x s.t s.deps
+-- an attempt that reads has a decision
+abbrev pub ReadsDecided : Cluster → List Item → TxnId → Attempt → Type 0
+ReadsDecided cluster part x a = (s : Settled) → a.phase ≡ Executing s → IsDecision cluster part x s.t s.deps
 
 -- ---- what stays
 
+pub number_kept : (item : Item) (earlier : List Item) (x : TxnId) (n : ℕ) → txn_of earlier x ≡ Some n → txn_of (item ∷ earlier) x ≡ Some n
+number_kept item earlier x n e = ap (λ o. or_else o (txn_in x item)) e
+
 module _ (cluster : Cluster) (item : Item) (earlier : List Item) where
+  pub body_kept : (x : TxnId) (body : BodyParts) → body_of cluster earlier x ≡ Some body → body_of cluster (item ∷ earlier) x ≡ Some body
+  body_kept x body = by (txn_of earlier x) refl
+    where
+      by : (o : Option ℕ) → txn_of earlier x ≡ o → body_at cluster o ≡ Some body → body_of cluster (item ∷ earlier) x ≡ Some body
+      by None is e = absurd (not_none body e)
+      by (Some n) is e = ap (body_at cluster) (number_kept item earlier x n is) ∙ e
+
   pub decision_kept : (d : Decision) → Contains (decisions_of (notes_of earlier)) d → Contains (decisions_of (notes_of (item ∷ earlier))) d
   decision_kept d h =
       subst (λ list. Contains list d) (sym (flat_map-append decisions_in (notes_of earlier) (noted_in item)))
@@ -41,46 +49,13 @@ module _ (cluster : Cluster) (item : Item) (earlier : List Item) where
       subst (λ list. Contains list d) (sym (flat_map-append decisions_in (notes_of earlier) (noted_in item)))
       (Contains-append_right (decisions_of (notes_of earlier)) (decisions_of (noted_in item)) d h)
 
-  pub framed_kept : (m : Message) → IsFramed cluster earlier m → IsFramed cluster (item ∷ earlier) m
-  framed_kept m f =
-      record {
-        body = λ body e. body_kept cluster item earlier (id_of m) body (f.body body e);
-        settled = λ s e. decision_kept _ (f.settled s e);
-      }
+  pub settles_still : (m : Message) → SettlesDecided cluster earlier m → SettlesDecided cluster (item ∷ earlier) m
+  settles_still m f s e = decision_kept _ (f s e)
 
-  pub framed_attempt_kept : (x : TxnId) (a : Attempt) → IsFramedAttempt cluster earlier x a → IsFramedAttempt cluster (item ∷ earlier) x a
-  framed_attempt_kept x a f =
-      record {
-        body = body_kept cluster item earlier x a.body f.body;
-        decided = λ s e. decision_kept _ (f.decided s e);
-      }
+  pub reads_still : (x : TxnId) (a : Attempt) → ReadsDecided cluster earlier x a → ReadsDecided cluster (item ∷ earlier) x a
+  reads_still x a f s e = decision_kept _ (f s e)
 
--- ---- framed messages
-
-module _ (cluster : Cluster) (part : List Item) where
-  -- a message that brings neither a body nor a decision
-  pub framed_answer : (m : Message) → body_in m ≡ None → settled_in (id_of m) m ≡ None → IsFramed cluster part m
-  framed_answer m no_body no_settled =
-      record {
-        body = λ body e. absurd (not_none body (sym no_body ∙ e));
-        settled = λ s e. absurd (not_none s (sym no_settled ∙ e));
-      }
-
-  pub framed_request : (m : Message) (body : BodyParts) → body_in m ≡ Some body → settled_in (id_of m) m ≡ None → HasBody cluster part (id_of m) body
-      → IsFramed cluster part m
-  framed_request m body is no_settled has =
-      record {
-        body = λ other e. subst (HasBody cluster part (id_of m)) (some_is body other (sym is ∙ e)) has;
-        settled = λ s e. absurd (not_none s (sym no_settled ∙ e));
-      }
-
-  pub framed_decision : (m : Message) (body : BodyParts) (s : Settled) → body_in m ≡ Some body → settled_in (id_of m) m ≡ Some s → HasBody cluster part (id_of m) body
-      → IsDecision cluster part (id_of m) s.t s.deps → IsFramed cluster part m
-  framed_decision m body s is settled has decided =
-      record {
-        body = λ other e. subst (HasBody cluster part (id_of m)) (some_is body other (sym is ∙ e)) has;
-        settled = λ r e. subst (λ (q : Settled). IsDecision cluster part (id_of m) q.t q.deps) (some_is s r (sym settled ∙ e)) decided;
-      }
+-- ---- applied outcomes
 
 still_first : (k first more : Option Outcome) (o : Outcome) → (first ≡ Some o → more ≡ Some o) → or_else k first ≡ Some o → or_else k more ≡ Some o
 still_first None first more o h e = h e

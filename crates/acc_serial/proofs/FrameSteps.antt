@@ -1,5 +1,5 @@
--- What a node emits is framed.
-use Rattle.std.proofs.Common.{◌≡◌, false, cond, List, [], ◌∷◌, ◌++◌, Option, None, Some, map, refl, ap, subst, ⊎_elim}
+-- What an attempt emits settles what is decided, and it applies the outcome that it notes.
+use Rattle.std.proofs.Common.{◌≡◌, false, cond, List, [], ◌∷◌, ◌++◌, Option, None, Some, map, refl, sym, ◌∙◌, ap, subst, ⊎_elim}
 use Rattle.std.specs.List.{AllByRecursion}
 use Rattle.std.proofs.lemmas.Bool.{false≢true, or_cases, cond-true, cond_both}
 use Rattle.acc_stamp.specs.declared.stamps.TxnId.{TxnId}
@@ -18,6 +18,8 @@ use Rattle.acc_message.specs.declared.message.Message.TheVariants.{PreAccept, Ac
 use Rattle.acc_message.specs.declared.note.Path.{Path}
 use Rattle.acc_message.specs.declared.note.Note.TheVariants.{Decide, Outcome as OutcomeNote}
 use Rattle.acc_message.specs.declared.item.Item.{Item}
+use Rattle.acc_message.specs.Fields.{id_of}
+use Rattle.acc_message.specs.BallotRules.{settled_in}
 use Rattle.acc_message.specs.Items.{same_actor}
 use Rattle.acc_message.specs.Shares.{stores_used}
 use Rattle.acc_message.specs.Attempts.{Attempt, Voting, Recovering, Accepting, Committing, Executing}
@@ -25,18 +27,13 @@ use Rattle.acc_message.specs.Coordinator.{Reaction, to_all, inform, home_node, a
 use Rattle.acc_message.specs.Run.{Cluster}
 use Rattle.acc_actor_laws.proofs.Standing.{not_none}
 use Rattle.acc_actor_laws.proofs.OpeningFacts.{some_is}
-use Rattle.acc_serial.proofs.Notions.{first_apply, IsDecision, HasBody, Answered, IsFramed}
-use Rattle.acc_serial.proofs.SharedMoves.{Move, Stays, Proposes, Commits, Decides, Finishes, Blocked, Ends, Heard, Before, Counted}
-use Rattle.acc_serial.proofs.Frame.{IsFramedAttempt, framed_answer, framed_request, framed_decision, HasApply, each_map}
+use Rattle.acc_serial.proofs.Notions.{first_apply, IsDecision, HasBody, Answered, SettlesDecided}
+use Rattle.acc_safety.specs.NodeMoves.{Move, Wait, Propose, CommitTo, DecideBy, FinishWith, BlockBy, EndBy, made}
+use Rattle.acc_serial.proofs.Going.{Finishing, Goes, Heard, Before, Counted}
+use Rattle.acc_serial.proofs.Frame.{ReadsDecided, HasApply, each_map}
 
-abbrev pub EachFramed : Cluster → List Item → List Message → Type 0
-EachFramed cluster part ms = AllByRecursion (IsFramed cluster part) ms
-
-phases_apart : (s : Settled) → Voting ≡ Executing s → ⊥
-phases_apart s e = cc
-
-recovering_apart : (s : Settled) → Recovering ≡ Executing s → ⊥
-recovering_apart s e = cc
+abbrev pub EachSettles : Cluster → List Item → List Message → Type 0
+EachSettles cluster part ms = AllByRecursion (SettlesDecided cluster part) ms
 
 accepting_apart : (r s : Settled) → Accepting r ≡ Executing s → ⊥
 accepting_apart r s e = cc
@@ -48,46 +45,34 @@ executing_same : (r s : Settled) → Executing r ≡ Executing s → r ≡ s
 executing_same r s e = cc
 
 module _ (cluster : Cluster) (part : List Item) (own : Actor) (x : TxnId) where
-  abbrev layout : Layout
-  layout = cluster.layout
-
   -- ---- requests to all stores
 
-  ask_framed : (body : BodyParts) (f : Actor → Message) → ((store : Actor) → IsFramed cluster part (f store)) → EachFramed cluster part (to_all cluster.layout body f)
-  ask_framed body f h = each_map (IsFramed cluster part) f (stores_used cluster.layout body) h
+  all_settle : (body : BodyParts) (f : Actor → Message) → ((store : Actor) → SettlesDecided cluster part (f store)) → EachSettles cluster part (to_all cluster.layout body f)
+  all_settle body f h = each_map (SettlesDecided cluster part) f (stores_used cluster.layout body) h
 
-  pub votes_framed : (body : BodyParts) → HasBody cluster part x body → EachFramed cluster part (ask_for_votes cluster.layout own x body)
-  votes_framed body has = ask_framed body (λ store. PreAccept own store x zero_ballot body) (λ store. framed_request cluster part (PreAccept own store x zero_ballot body) body refl refl has)
+  -- requests that settle nothing
+  pub none_settle : (body : BodyParts) (f : Actor → Message) → ((store : Actor) → settled_in (id_of (f store)) (f store) ≡ None) → EachSettles cluster part (to_all cluster.layout body f)
+  none_settle body f h = all_settle body f (λ store s e. absurd (not_none s (sym (h store) ∙ e)))
 
-  pub views_framed : (b : Ballot) (body : BodyParts) → HasBody cluster part x body → EachFramed cluster part (ask_for_views cluster.layout own x b body)
-  views_framed b body has = ask_framed body (λ store. Recover own store x b body) (λ store. framed_request cluster part (Recover own store x b body) body refl refl has)
+  settle_decided : (body : BodyParts) (f : Actor → Message) (s : Settled) → ((store : Actor) → settled_in (id_of (f store)) (f store) ≡ cond (id_eq (id_of (f store)) (id_of (f store))) (Some s) None)
+      → ((store : Actor) → id_of (f store) ≡ x) → IsDecision cluster part x s.t s.deps → EachSettles cluster part (to_all cluster.layout body f)
+  settle_decided body f s settles about decided =
+      all_settle body f
+      (λ store r e. subst (λ y. IsDecision cluster part y r.t r.deps) (sym (about store))
+      (subst (λ (q : Settled). IsDecision cluster part x q.t q.deps)
+      (some_is s r (sym (settles store ∙ cond-true (id_eq (id_of (f store)) (id_of (f store))) (Some s) None ((id_order.decides (id_of (f store)) (id_of (f store))).1 refl)) ∙ e)) decided))
 
-  about_itself : (s : Settled) → cond (id_eq x x) (Some s) None ≡ Some s
-  about_itself s = cond-true (id_eq x x) (Some s) None ((id_order.decides x x).1 refl)
-
-  stable_framed : (a : Attempt) (s : Settled) → HasBody cluster part x a.body → IsDecision cluster part x s.t s.deps
-      → EachFramed cluster part (to_all cluster.layout a.body (λ store. Stable own store x a.ballot a.body s.t s.deps))
-  stable_framed a s has decided =
-      ask_framed a.body (λ store. Stable own store x a.ballot a.body s.t s.deps)
-      (λ store. framed_decision cluster part (Stable own store x a.ballot a.body s.t s.deps) a.body s refl (about_itself s) has decided)
-
-  apply_framed : (a : Attempt) (s : Settled) (o : Outcome) → HasBody cluster part x a.body → IsDecision cluster part x s.t s.deps
-      → EachFramed cluster part (to_all cluster.layout a.body (λ store. Apply own store x a.ballot a.body s.t s.deps o))
-  apply_framed a s o has decided =
-      ask_framed a.body (λ store. Apply own store x a.ballot a.body s.t s.deps o)
-      (λ store. framed_decision cluster part (Apply own store x a.ballot a.body s.t s.deps o) a.body s refl (about_itself s) has decided)
-
-  inform_framed : (b : Ballot) (o : Outcome) → EachFramed cluster part (inform own x b o)
-  inform_framed b o =
-      cond_both (same_actor own (home_node x)) [] (Inform own (home_node x) x b o ∷ []) (EachFramed cluster part)
-      (λ _. tt) (λ _. (framed_answer cluster part (Inform own (home_node x) x b o) refl refl, tt))
+  inform_settles : (b : Ballot) (o : Outcome) → EachSettles cluster part (inform own x b o)
+  inform_settles b o =
+      cond_both (same_actor own (home_node x)) [] (Inform own (home_node x) x b o ∷ []) (EachSettles cluster part)
+      (λ _. tt) (λ _. ((λ s e. absurd (not_none s e)), tt))
 
   -- ---- what a move emits, and where it leads
 
   pub record IsFramedReaction (r : Reaction) : Type 0 where
-    pub out : EachFramed cluster part r.emitted.out
+    pub out : EachSettles cluster part r.emitted.out
     pub applied : (y : TxnId) → Answered r.emitted.notes y → HasApply cluster part r.emitted.out y
-    pub next : (a : Attempt) → r.next ≡ Some a → IsFramedAttempt cluster part x a
+    pub next : (a : Attempt) → r.next ≡ Some a → ReadsDecided cluster part x a
 
   -- a Decide that the reaction notes is a decision
   abbrev pub Decided_by : Reaction → Type 0
@@ -109,51 +94,45 @@ module _ (cluster : Cluster) (part : List Item) (own : Actor) (x : TxnId) where
       same : x ≡ y
       same = (id_order.decides x y).0 (⊎_elim (λ is. is) (λ none. absurd (false≢true none)) (or_cases (id_eq x y) false h))
 
-  in_new_phase : (a b : Attempt) → a.body ≡ b.body → ((s : Settled) → b.phase ≡ Executing s → IsDecision cluster part x s.t s.deps)
-      → IsFramedAttempt cluster part x a → (c : Attempt) → ◌≡◌ {A = Option Attempt} (Some b) (Some c) → IsFramedAttempt cluster part x c
-  in_new_phase a b same decided f c e =
-      subst (IsFramedAttempt cluster part x) (some_is b c e) (record { body = subst (HasBody cluster part x) same f.body; decided = decided })
+  in_phase_of : (b : Attempt) → ReadsDecided cluster part x b → (c : Attempt) → ◌≡◌ {A = Option Attempt} (Some b) (Some c) → ReadsDecided cluster part x c
+  in_phase_of b h c e = subst (ReadsDecided cluster part x) (some_is b c e) h
 
-  pub move_framed : (Now : Attempt → Type 0) → ((a : Attempt) → Now a → IsFramedAttempt cluster part x a)
-      → (r : Reaction) → Move cluster.layout own x Now r → Decided_by r → IsFramedReaction r
-  move_framed Now now r (Stays a is) decides =
-      record { out = tt; applied = λ y h. absurd (false≢true h); next = λ c e. subst (IsFramedAttempt cluster part x) (some_is a c e) (now a is) }
-  move_framed Now now r (Proposes a s is) decides =
+  pub move_framed : (a : Attempt) (move : Move) → HasBody cluster part x a.body → ReadsDecided cluster part x a → Finishing cluster.layout a move
+      → Decided_by (made cluster.layout own x a move) → IsFramedReaction (made cluster.layout own x a move)
+  move_framed a Wait has reads finishing decides =
+      record { out = tt; applied = λ y h. absurd (false≢true h); next = in_phase_of a reads }
+  move_framed a (Propose s) has reads finishing decides =
+      record { out = none_settle a.body _ (λ store. refl); applied = λ y h. absurd (false≢true h); next = in_phase_of _ (λ r e. absurd (accepting_apart s r e)) }
+  move_framed a (CommitTo s) has reads finishing decides =
+      record { out = none_settle a.body _ (λ store. refl); applied = λ y h. absurd (false≢true h); next = in_phase_of _ (λ r e. absurd (committing_apart s r e)) }
+  move_framed a (DecideBy path s) has reads finishing decides =
       record {
-        out = ask_framed a.body _ (λ store. framed_request cluster part (Accept own store x a.ballot a.body s.t s.deps) a.body refl refl (now a is).body);
+        out = settle_decided a.body _ s (λ store. refl) (λ store. refl) (decides s path refl);
         applied = λ y h. absurd (false≢true h);
-        next = in_new_phase a _ refl (λ r e. absurd (accepting_apart s r e)) (now a is);
+        next = in_phase_of _ (λ r e. subst (λ (q : Settled). IsDecision cluster part x q.t q.deps) (executing_same s r e) (decides s path refl));
       }
-  move_framed Now now r (Commits a s is) decides =
+  move_framed a (FinishWith s o) has reads finishing decides =
       record {
-        out = ask_framed a.body _ (λ store. framed_request cluster part (Commit own store x a.ballot a.body s.t s.deps) a.body refl refl (now a is).body);
-        applied = λ y h. absurd (false≢true h);
-        next = in_new_phase a _ refl (λ r e. absurd (committing_apart s r e)) (now a is);
-      }
-  move_framed Now now r (Decides a path s is) decides =
-      record {
-        out = stable_framed a s (now a is).body (decides s path refl);
-        applied = λ y h. absurd (false≢true h);
-        next = in_new_phase a _ refl (λ r e. subst (λ (q : Settled). IsDecision cluster part x q.t q.deps) (executing_same s r e) (decides s path refl)) (now a is);
-      }
-  move_framed Now now r (Finishes a s o is executes found) decides =
-      record {
-        out = each_append (IsFramed cluster part) (to_all cluster.layout a.body (λ store. Apply own store x a.ballot a.body s.t s.deps o)) (inform own x a.ballot o)
-            (apply_framed a s o (now a is).body ((now a is).decided s executes)) (inform_framed a.ballot o);
-        applied = λ y h. apply_sent a s o y (now a is).body h;
+        out = each_append (SettlesDecided cluster part) (to_all cluster.layout a.body (λ store. Apply own store x a.ballot a.body s.t s.deps o)) (inform own x a.ballot o)
+            (settle_decided a.body _ s (λ store. refl) (λ store. refl) (reads s finishing.executes)) (inform_settles a.ballot o);
+        applied = λ y h. apply_sent a s o y has h;
         next = λ c e. absurd (not_none c e);
       }
-  move_framed Now now r (Blocked a by is) decides = record { out = tt; applied = λ y h. absurd (false≢true h); next = λ c e. absurd (not_none c e) }
-  move_framed Now now r (Ends a by is) decides = record { out = tt; applied = λ y h. absurd (false≢true h); next = λ c e. absurd (not_none c e) }
+  move_framed a (BlockBy by) has reads finishing decides = record { out = tt; applied = λ y h. absurd (false≢true h); next = λ c e. absurd (not_none c e) }
+  move_framed a (EndBy by) has reads finishing decides = record { out = tt; applied = λ y h. absurd (false≢true h); next = λ c e. absurd (not_none c e) }
 
-  -- an attempt that begins, or that takes over
-  pub begun_framed : (body : BodyParts) → HasBody cluster part x body → IsFramedAttempt cluster part x (begun body)
-  begun_framed body has = record { body = has; decided = λ s e. absurd (phases_apart s e) }
+  -- the same of a reaction that goes by some move
+  pub goes_framed : (Now : Attempt → Type 0) → ((a : Attempt) → Now a → HasBody cluster part x a.body) → ((a : Attempt) → Now a → ReadsDecided cluster part x a)
+      → (r : Reaction) → Goes cluster.layout own x Now r → Decided_by r → IsFramedReaction r
+  goes_framed Now has reads r g decides =
+      subst IsFramedReaction (sym g.is)
+      (move_framed g.attempt g.move (has g.attempt g.now) (reads g.attempt g.now) g.finishing (subst Decided_by g.is decides))
 
-  pub recovering_framed : (b : Ballot) (body : BodyParts) → HasBody cluster part x body → IsFramedAttempt cluster part x (recovering b body)
-  recovering_framed b body has = record { body = has; decided = λ s e. absurd (recovering_apart s e) }
+  -- an answer more leaves an attempt as it is
+  pub heard_body : (before : Attempt) (m : Message) (a : Attempt) → HasBody cluster part x before.body → Heard cluster.layout before m a → HasBody cluster part x a.body
+  heard_body before m a has Before = has
+  heard_body before m a has (Counted is) = has
 
-  -- an answer more leaves an attempt framed
-  pub heard_framed : (before : Attempt) (m : Message) (a : Attempt) → IsFramedAttempt cluster part x before → Heard cluster.layout before m a → IsFramedAttempt cluster part x a
-  heard_framed before m a f Before = f
-  heard_framed before m a f (Counted is) = record { body = f.body; decided = f.decided }
+  pub heard_reads : (before : Attempt) (m : Message) (a : Attempt) → ReadsDecided cluster part x before → Heard cluster.layout before m a → ReadsDecided cluster part x a
+  heard_reads before m a reads Before s e = reads s e
+  heard_reads before m a reads (Counted is) s e = reads s e

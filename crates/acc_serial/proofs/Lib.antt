@@ -11,12 +11,9 @@ pub mod Facts
 pub mod StoreReads
 pub mod Histories
 pub mod StoreRight
-pub mod StoreSends
-pub mod SharedMoves
-pub mod SharedBegun
 pub mod Frame
 pub mod FrameSteps
-pub mod SharedSteps
+pub mod Steps
 pub mod FrameRuns
 pub mod Framed
 pub mod NodeReads
@@ -29,3 +26,4 @@ pub mod Stores
 pub mod Outcomes
 pub mod InTheirTurn
 pub mod Whole
+pub mod Going

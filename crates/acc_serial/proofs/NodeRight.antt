@@ -25,7 +25,8 @@ use Rattle.acc_actor_laws.proofs.Standing.{not_none}
 use Rattle.acc_actor_laws.proofs.OpeningFacts.{some_is}
 use Rattle.acc_serial.proofs.Notions.{IsDecision, HasBody, Answered, Finished, IsOutcome, IsRight}
 use Rattle.acc_serial.proofs.Facts.{Premises, decided_from}
-use Rattle.acc_serial.proofs.SharedMoves.{Move, Stays, Proposes, Commits, Decides, Finishes, Blocked, Ends, Heard, Before, Counted}
+use Rattle.acc_safety.specs.NodeMoves.{Move, Wait, Propose, CommitTo, DecideBy, FinishWith, BlockBy, EndBy, made}
+use Rattle.acc_serial.proofs.Going.{Finishing, Goes, Heard, Before, Counted}
 use Rattle.acc_serial.proofs.Frame.{each_map}
 use Rattle.acc_serial.proofs.NodeReads.{IsReadOf, AreReads, outcome_is_right}
 use Rattle.acc_serial.proofs.NotesInOrder.{InOrder, answered_then, answered_now, finished_more, right_more}
@@ -37,13 +38,6 @@ module _ (cluster : Cluster) (whole : List Item) (given : Premises cluster whole
   -- the answers of an attempt of x that reads are right
   abbrev pub ReadsRight : List Note → TxnId → Attempt → Type 0
   ReadsRight notes x a = (s : Settled) → a.phase ≡ Executing s → AreReads cluster whole given notes x a.answers
-
-  pub read_more : (notes more : List Note) (x : TxnId) (m : Message) → IsReadOf cluster whole given notes x m → IsReadOf cluster whole given (notes ++ more) x m
-  read_more notes more x m r = record { about = r.about; reads = r.reads; right = right_more cluster whole notes more m r.right }
-
-  pub reads_more : (notes more : List Note) (x : TxnId) (a : Attempt) → ReadsRight notes x a → ReadsRight (notes ++ more) x a
-  reads_more notes more x a h s is =
-      each_weaker (IsReadOf cluster whole given notes x) (IsReadOf cluster whole given (notes ++ more) x) a.answers (read_more notes more x) (h s is)
 
   -- an answer more that is right
   pub heard_right : (notes : List Note) (x : TxnId) (before : Attempt) (m : Message) (a : Attempt) → ReadsRight notes x before → id_of m ≡ x
@@ -74,15 +68,10 @@ module _ (cluster : Cluster) (whole : List Item) (given : Premises cluster whole
   inform_right b o is =
       cond_both (same_actor own (home_node x)) [] (Inform own (home_node x) x b o ∷ []) (EachRight cluster whole given (notes ++ more)) (λ _. tt) (λ _. (is, tt))
 
-  -- what a reaction emits, the attempt that it leaves, and its notes, with the reply if the client is open
+  -- what a reaction emits, and its notes, with the reply if the client is open
   pub record IsRightReaction (is_open : Bool) (r : Reaction) : Type 0 where
     pub out : EachRight cluster whole given (notes ++ more) r.emitted.out
-    pub next : (a : Attempt) → r.next ≡ Some a → ReadsRight cluster whole given (notes ++ more) x a
     pub noted : InOrder cluster whole notes (flat_map (replied is_open) r.emitted.notes)
-
-  no_answers : (a : Attempt) (b : Attempt) → b.answers ≡ [] → ◌≡◌ {A = Option Attempt} (Some b) (Some a) → ReadsRight cluster whole given (notes ++ more) x a
-  no_answers a b none e s is =
-      subst (AreReads cluster whole given (notes ++ more) x) (sym none ∙ ap (λ (c : Attempt). c.answers) (some_is b a e)) tt
 
   outcome_in_order : (is_open : Bool) (o : Outcome) → list_any (begins x) notes ≡ true → Finished cluster whole notes x o
       → InOrder cluster whole notes (flat_map (replied is_open) (OutcomeNote x o.reply ∷ []))
@@ -98,38 +87,36 @@ module _ (cluster : Cluster) (whole : List Item) (given : Premises cluster whole
     ),
   )
 
-  pub move_right : (is_open : Bool) (Now : Attempt → Type 0) → ((a : Attempt) → Now a → IsRightAttempt cluster whole given notes x a)
-      → (r : Reaction) → Move cluster.layout own x Now r → more ≡ flat_map (replied is_open) r.emitted.notes → IsRightReaction is_open r
-  move_right is_open Now now r (Stays a is) made =
-      record {
-        out = tt;
-        next = λ b e. subst (ReadsRight cluster whole given (notes ++ more) x) (some_is a b e) (reads_more cluster whole given notes more x a (now a is).reads);
-        noted = tt;
-      }
-  move_right is_open Now now r (Proposes a s is) made =
-      record { out = requests_right a.body _ (λ store. tt); next = λ b e. no_answers b _ refl e; noted = tt }
-  move_right is_open Now now r (Commits a s is) made =
-      record { out = requests_right a.body _ (λ store. tt); next = λ b e. no_answers b _ refl e; noted = tt }
-  move_right is_open Now now r (Decides a path s is) made =
-      record { out = requests_right a.body _ (λ store. tt); next = λ b e. no_answers b _ refl e; noted = (tt, tt) }
-  move_right is_open Now now r (Finishes a s o is executes found) made =
+  pub move_right : (is_open : Bool) (a : Attempt) (move : Move) → IsRightAttempt cluster whole given notes x a → Finishing cluster.layout a move
+      → more ≡ flat_map (replied is_open) (made cluster.layout own x a move).emitted.notes → IsRightReaction is_open (made cluster.layout own x a move)
+  move_right is_open a Wait right finishing made_of = record { out = tt; noted = tt }
+  move_right is_open a (Propose s) right finishing made_of = record { out = requests_right a.body _ (λ store. tt); noted = tt }
+  move_right is_open a (CommitTo s) right finishing made_of = record { out = requests_right a.body _ (λ store. tt); noted = tt }
+  move_right is_open a (DecideBy path s) right finishing made_of = record { out = requests_right a.body _ (λ store. tt); noted = (tt, tt) }
+  move_right is_open a (FinishWith s o) right finishing made_of =
       record {
         out = each_append (IsRight cluster whole (notes ++ more)) (to_all cluster.layout a.body (λ store. Apply own store x a.ballot a.body s.t s.deps o)) (inform own x a.ballot o)
             (requests_right a.body (λ store. Apply own store x a.ballot a.body s.t s.deps o) (λ store. outcome)) (inform_right a.ballot o outcome);
-        next = λ b e. absurd (not_none b e);
-        noted = outcome_in_order is_open o (now a is).begun finished;
+        noted = outcome_in_order is_open o right.begun finished;
       }
     where
       finished : Finished cluster whole notes x o
       finished =
-          outcome_is_right cluster whole given notes x a.body a.answers o (now a is).body
-          (decided_from cluster whole given x s.t s.deps ((now a is).decided s executes)) ((now a is).reads s executes) found
+          outcome_is_right cluster whole given notes x a.body a.answers o right.body
+          (decided_from cluster whole given x s.t s.deps (right.decided s finishing.executes)) (right.reads s finishing.executes) finishing.found
 
       outcome : IsOutcome cluster whole (notes ++ more) x o
       outcome =
           record {
             finished = finished_more cluster whole notes more x o finished;
-            noted = answered_then notes more x (subst (λ list. Answered list x) (sym made) (answered_now x o.reply (cond is_open (ReplyNote x o.reply ∷ []) [] ++ [])));
+            noted = answered_then notes more x (subst (λ list. Answered list x) (sym made_of) (answered_now x o.reply (cond is_open (ReplyNote x o.reply ∷ []) [] ++ [])));
           }
-  move_right is_open Now now r (Blocked a by is) made = record { out = tt; next = λ b e. absurd (not_none b e); noted = (tt, tt) }
-  move_right is_open Now now r (Ends a by is) made = record { out = tt; next = λ b e. absurd (not_none b e); noted = (tt, tt) }
+  move_right is_open a (BlockBy by) right finishing made_of = record { out = tt; noted = (tt, tt) }
+  move_right is_open a (EndBy by) right finishing made_of = record { out = tt; noted = (tt, tt) }
+
+  -- the same of a reaction that goes by some move
+  pub goes_right : (is_open : Bool) (Now : Attempt → Type 0) → ((a : Attempt) → Now a → IsRightAttempt cluster whole given notes x a)
+      → (r : Reaction) → Goes cluster.layout own x Now r → more ≡ flat_map (replied is_open) r.emitted.notes → IsRightReaction is_open r
+  goes_right is_open Now now r g made_of =
+      subst (IsRightReaction is_open) (sym g.is)
+      (move_right is_open g.attempt g.move (now g.attempt g.now) g.finishing (made_of ∙ ap (λ (t : Reaction). flat_map (replied is_open) t.emitted.notes) g.is))

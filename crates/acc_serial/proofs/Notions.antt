@@ -119,7 +119,6 @@ IsRight cluster whole notes (Apply from to id ballot body t deps outcome) = IsOu
 IsRight cluster whole notes (Inform from to id ballot outcome) = IsOutcome cluster whole notes id outcome
 IsRight cluster whole notes _ = Unit {0}
 
--- a message has the begun body, and a timestamp and dependencies that a decision has
-pub record IsFramed (cluster : Cluster) (part : List Item) (m : Message) : Type 0 where
-  pub body : (body : BodyParts) → body_in m ≡ Some body → HasBody cluster part (id_of m) body
-  pub settled : (s : Settled) → settled_in (id_of m) m ≡ Some s → IsDecision cluster part (id_of m) s.t s.deps
+-- the timestamp and the dependencies that a Stable or an Apply brings are those of a decision
+abbrev pub SettlesDecided : Cluster → List Item → Message → Type 0
+SettlesDecided cluster part m = (s : Settled) → settled_in (id_of m) m ≡ Some s → IsDecision cluster part (id_of m) s.t s.deps

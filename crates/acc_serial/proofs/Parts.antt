@@ -1,30 +1,28 @@
--- What a part of a run has the whole run has too, and what a store took was sent.
-use Rattle.std.proofs.Common.{◌≡◌, ℕ, zero, suc, true, List, [], ◌∷◌, Some, Contains, ◌∙◌, subst, ⊎_elim}
-use Rattle.std.specs.List.{AllByRecursion, slice_get, list_any}
-use Rattle.std.proofs.lemmas.Bool.{or_left, or_right}
+-- What a part of a run has the whole run has too, what is begun is noted, and what a store took was sent.
+use Rattle.std.proofs.Common.{◌≡◌, ℕ, Bool, true, false, ◌||◌, cond, List, [], ◌∷◌, ◌++◌, Option, None, Some, Contains, refl, sym, ◌∙◌, ap, subst, ◌⊎◌, inl, inr, ⊎_elim}
+use Rattle.std.specs.List.{AllByRecursion, list_any}
+use Rattle.std.proofs.lemmas.Bool.{or_left, or_right, cond_both}
 use Rattle.std.proofs.lemmas.List.Folds.{list_any-append}
 use Rattle.acc_stamp.specs.declared.stamps.TxnId.{TxnId}
 use Rattle.acc_stamp.specs.declared.actors.Actor.{Actor}
-use Rattle.acc_stamp.proofs.Rising.{each_parts}
 use Rattle.acc_txn.specs.declared.parts.BodyParts.{BodyParts}
 use Rattle.acc_txn.specs.declared.outcome.Outcome.{Outcome}
 use Rattle.acc_message.specs.declared.message.Message.{Message}
-use Rattle.acc_message.specs.declared.entry.Entry.{Entry}
-use Rattle.acc_message.specs.declared.entry.Event.{Event}
+use Rattle.acc_message.specs.declared.note.Note.{Note}
 use Rattle.acc_message.specs.declared.item.Item.{Item}
 use Rattle.acc_message.specs.declared.item.Item.TheVariants.{Step, Skipped, Down}
-use Rattle.acc_message.specs.Items.{sent_in, sent_of, noted_in, notes_of, begins, txn_in, txn_of}
+use Rattle.acc_message.specs.Items.{sent_in, sent_of, noted_in, notes_of, begins, txn_begun, txn_in, txn_of}
 use Rattle.acc_message.specs.Taken.{Taken}
-use Rattle.acc_message.specs.NodeRules.{Act, Deed}
-use Rattle.acc_message.specs.Run.{Cluster, deeds_of, taken_from, taken_of}
-use Rattle.acc_safety.specs.Decisions.{Decision, decisions_of}
+use Rattle.acc_message.specs.Run.{Cluster, taken_of, EachStands}
+use Rattle.acc_safety.specs.Decisions.{Decision, decisions_of, body_at, body_of}
+use Rattle.acc_safety.specs.Places.{IsIn, First, Later, StandsAt, Here, Back, Whole, Behind}
+use Rattle.acc_safety.specs.Histories.{Sending}
+use Rattle.acc_safety.proofs.PlaceOrder.{each_from, IsIn-append_left, IsIn-append_right, StandsAt-IsPast, IsPast-rest}
+use Rattle.acc_safety.proofs.Bridge.{Sending-past, store_step}
 use Rattle.acc_actor_laws.proofs.Standing.{not_none}
-use Rattle.acc_actor_laws.proofs.OpeningFacts.{some_is}
 use Rattle.acc_serial.proofs.Notions.{first_apply, HasBody, outcome_first}
 use Rattle.acc_serial.proofs.Facts.{or_else_cases}
-use Rattle.acc_serial.proofs.SharedBegun.{body_kept, txn_in-begun}
-use Rattle.acc_serial.proofs.SharedSteps.{ActOf, BeginsAs, RecoversAs, SlowsAs, TakesAs, RestartsAs, act_cases, deeds_cases}
-use Rattle.acc_serial.proofs.Frame.{decision_kept, first_apply-more}
+use Rattle.acc_serial.proofs.Frame.{body_kept, decision_kept, first_apply-more}
 
 -- ---- a part of a run
 
@@ -46,7 +44,14 @@ within_earlier cluster whole item earlier w =
 
 -- ---- begins are noted
 
-pub numbered_is_begun : (items : List Item) (x : TxnId) (n : ℕ) → txn_of items x ≡ Some n → list_any (begins x) (notes_of items) ≡ true
+txn_in-begun : (x : TxnId) (item : Item) (n : ℕ) → txn_in x item ≡ Some n → list_any (begins x) (noted_in item) ≡ true
+txn_in-begun x (Step e) n k =
+    cond_both (list_any (begins x) e.emitted.notes) (txn_begun e.event) None (λ o. o ≡ Some n → list_any (begins x) e.emitted.notes ≡ true)
+    (λ is _. is) (λ _ e. absurd (not_none n e)) k
+txn_in-begun x (Skipped step cause) n e = absurd (not_none n e)
+txn_in-begun x (Down actor) n e = absurd (not_none n e)
+
+numbered_is_begun : (items : List Item) (x : TxnId) (n : ℕ) → txn_of items x ≡ Some n → list_any (begins x) (notes_of items) ≡ true
 numbered_is_begun [] x n e = absurd (not_none n e)
 numbered_is_begun (item ∷ earlier) x n e =
     list_any-append (begins x) (notes_of earlier) (noted_in item)
@@ -54,31 +59,45 @@ numbered_is_begun (item ∷ earlier) x n e =
     (λ new. or_right (list_any (begins x) (notes_of earlier)) _ (txn_in-begun x item n new))
     (or_else_cases (txn_of earlier x) (txn_in x item) n e)
 
--- ---- messages that are taken
+pub body_is_begun : (cluster : Cluster) (items : List Item) (x : TxnId) (body : BodyParts) → HasBody cluster items x body → list_any (begins x) (notes_of items) ≡ true
+body_is_begun cluster items x body = by (txn_of items x) refl
+  where
+    by : (o : Option ℕ) → txn_of items x ≡ o → body_at cluster o ≡ Some body → list_any (begins x) (notes_of items) ≡ true
+    by None is e = absurd (not_none body e)
+    by (Some n) is e = numbered_is_begun items x n is
 
-pub each_numbered : (P : Message → Type 0) (ms : List Message) (number : ℕ) (m : Message) → AllByRecursion P ms → slice_get ms number ≡ Some m → P m
-each_numbered P [] number m each e = absurd (not_none m e)
-each_numbered P (n ∷ ms) zero m each e = subst P (some_is n m e) each.0
-each_numbered P (n ∷ ms) (suc number) m each e = each_numbered P ms number m each.1 e
+-- ---- messages
 
-abbrev pub EachTaken : (Message → Type 0) → List Taken → Type 0
-EachTaken P history = AllByRecursion (λ (step : Taken). P step.message) history
+place_cases : {T : Type 0} (x y : T) (past xs : List T) → StandsAt x past (y ∷ xs) → (x ≡ y) ⊎ StandsAt x past xs
+place_cases x y past xs (Here z zs) = inl refl
+place_cases x y past xs (Back z w zs ws at) = inr at
 
-taken_once : (P : Message → Type 0) (cluster : Cluster) (earlier : List Item) (event : Event) (act : Act) (e : Entry) (past : List Deed) → ActOf cluster earlier event act
-    → AllByRecursion P (sent_of earlier) → EachTaken P (taken_from past) → EachTaken P (taken_from (record { act = act; emitted = e.emitted } ∷ past))
-taken_once P cluster earlier event act e past (TakesAs number m at) each h = (each_numbered P (sent_of earlier) number m each at, h)
-taken_once P cluster earlier event act e past (BeginsAs txn body found) each h = h
-taken_once P cluster earlier event act e past (RecoversAs txn x body of found) each h = h
-taken_once P cluster earlier event act e past (SlowsAs txn x of) each h = h
-taken_once P cluster earlier event act e past (RestartsAs kept) each h = h
+-- a message was sent earlier, or by the newest item
+pub sending_cases : (item : Item) (earlier : List Item) (m : Message) → Sending (item ∷ earlier) m → Sending earlier m ⊎ IsIn m (sent_in item)
+sending_cases item earlier m s =
+    ⊎_elim (λ here. inr (subst (λ i. IsIn m (sent_in i)) here s.sent))
+    (λ back. inl (record { entry = s.entry; earlier = s.earlier; at = back; sent = s.sent })) (place_cases (Step s.entry) item s.earlier earlier s.at)
 
--- what holds of each message sent holds of each message taken
-pub each_taken : (P : Message → Type 0) (cluster : Cluster) (a : Actor) (items : List Item) → AllByRecursion P (sent_of items) → EachTaken P (taken_of cluster a items)
-each_taken P cluster a [] each = tt
-each_taken P cluster a (Step e ∷ earlier) each =
-    let before = (each_parts P (sent_of earlier) e.emitted.out each).0 in
-    let taken = each_taken P cluster a earlier before in
-    deeds_cases cluster a e earlier (λ deeds. EachTaken P (taken_from deeds)) taken
-    (λ act same is. taken_once P cluster earlier e.event act e (deeds_of cluster a earlier) (act_cases cluster earlier e.event act is) before taken)
-each_taken P cluster a (Skipped step cause ∷ earlier) each = each_taken P cluster a earlier (each_parts P (sent_of earlier) [] each).0
-each_taken P cluster a (Down actor ∷ earlier) each = each_taken P cluster a earlier (each_parts P (sent_of earlier) [] each).0
+pub sending_is_sent : (items : List Item) (m : Message) → Sending items m → IsIn m (sent_of items)
+sending_is_sent [] m s = absurd (nowhere s.at)
+  where
+    nowhere : {x : Item} {past : List Item} → StandsAt x past [] → ⊥
+    nowhere at = elim at [ ]
+sending_is_sent (item ∷ earlier) m s =
+    ⊎_elim (λ old. IsIn-append_left m (sent_of earlier) (sent_in item) (sending_is_sent earlier m old)) (IsIn-append_right m (sent_of earlier) (sent_in item))
+    (sending_cases item earlier m s)
+
+stands_somewhere : {T : Type 0} (x : T) (xs : List T) → IsIn x xs → (past : List T) × StandsAt x past xs
+stands_somewhere x xs (First y ys) = (ys, Here y ys)
+stands_somewhere x xs (Later y z ys there) = let at = stands_somewhere y ys there in (at.0, Back y z at.0 ys at.1)
+
+-- what holds of each message sent holds of each message that a store took
+pub each_taken : (P : Message → Type 0) (cluster : Cluster) (a : Actor) (items : List Item) → EachStands cluster items → ((m : Message) → Sending items m → P m)
+    → AllByRecursion (λ (step : Taken). P step.message) (taken_of cluster a items)
+each_taken P cluster a items stands each =
+    each_from (λ (step : Taken). P step.message) (taken_of cluster a items)
+    (λ step there.
+        let at = stands_somewhere step (taken_of cluster a items) there in
+        let s = store_step cluster a items stands step at.0 at.1 in
+        each step.message
+        (Sending-past s.earlier items step.message (IsPast-rest (Step s.entry) s.earlier items (StandsAt-IsPast (Step s.entry) s.earlier items s.at)) s.sending))

@@ -21,23 +21,16 @@ use Rattle.acc_message.specs.declared.item.Item.{Item}
 use Rattle.acc_message.specs.Fields.{id_of}
 use Rattle.acc_message.specs.Attempts.{Attempt, Voting, Recovering, Executing}
 use Rattle.acc_message.specs.Coordinator.{Reaction, when, begun, recovering, may_slow_down, slow_down, reaction, slow_reaction}
-use Rattle.acc_message.specs.NodeRules.{Act, Begins, Recovers, Slows, Takes, Deed, next_id, next_ballot, attempt_after, attempt_of, is_open, emitted_by, replied, with_reply, on_taking, node_emits}
+use Rattle.acc_message.specs.NodeRules.{Act, Begins, Recovers, Slows, Takes, Restarts, Deed, next_id, next_ballot, attempt_after, attempt_of, is_open, emitted_by, replied, with_reply, on_taking, node_emits}
 use Rattle.acc_message.specs.Run.{Cluster}
 use Rattle.acc_actor_laws.proofs.Standing.{not_none}
 use Rattle.acc_actor_laws.proofs.OpeningFacts.{some_is}
 use Rattle.acc_serial.proofs.Notions.{IsDecision, HasBody, IsOutcome, IsRight}
 use Rattle.acc_serial.proofs.Facts.{Premises}
-use Rattle.acc_serial.proofs.SharedMoves.{Heard, Before, Counted, reaction_moves, slow_moves}
-use Rattle.acc_serial.proofs.SharedSteps.{ActOf, BeginsAs, RecoversAs, SlowsAs, TakesAs, RestartsAs, about_cases, Told, Outcome_told, Other_told, told}
-use Rattle.acc_serial.proofs.FrameRuns.{told_stays}
+use Rattle.acc_serial.proofs.Going.{Heard, Before, Counted, reaction_goes, slow_goes}
+use Rattle.acc_serial.proofs.Steps.{Told, Outcome_told, Other_told, told}
 use Rattle.acc_serial.proofs.NotesInOrder.{InOrder}
-use Rattle.acc_serial.proofs.NodeRight.{EachRight, ReadsRight, reads_more, heard_right, IsRightAttempt, requests_right, IsRightReaction, move_right}
-
-voting_apart : (s : Settled) → Voting ≡ Executing s → ⊥
-voting_apart s e = cc
-
-recovering_apart : (s : Settled) → Recovering ≡ Executing s → ⊥
-recovering_apart s e = cc
+use Rattle.acc_serial.proofs.NodeRight.{EachRight, heard_right, IsRightAttempt, requests_right, IsRightReaction, goes_right}
 
 slow_is_silent : (layout : Layout) (own : Actor) (x : TxnId) (a : Attempt) → (slow_reaction layout own x a).emitted.notes ≡ []
 slow_is_silent layout own x a = by (may_slow_down layout x a a.phase)
@@ -54,45 +47,18 @@ module _ (cluster : Cluster) (whole : List Item) (given : Premises cluster whole
   abbrev own : Actor
   own = actor_of node 0
 
-  -- what the entry emits, the attempts that it leaves, and its notes
+  -- what the entry emits, and its notes
   pub record IsRightEntry (act : Act) : Type 0 where
     pub out : EachRight cluster whole given (notes ++ more) (node_emits cluster.layout node start past act).out
-    pub next : (x : TxnId) (a : Attempt) → attempt_after cluster.layout node start x past (attempt_of cluster.layout node start x past) act ≡ Some a
-        → ReadsRight cluster whole given (notes ++ more) x a
     pub noted : InOrder cluster whole notes (node_emits cluster.layout node start past act).notes
-
-  still : (x : TxnId) (a : Attempt) → attempt_of cluster.layout node start x past ≡ Some a → ReadsRight cluster whole given (notes ++ more) x a
-  still x a is = reads_more cluster whole given notes more x a (before x a is).reads
-
-  new_attempt : (y : TxnId) (same : Bool) (made a : Attempt) → ((s : Settled) → made.phase ≡ Executing s → ⊥)
-      → cond same (Some made) (attempt_of cluster.layout node start y past) ≡ Some a → ReadsRight cluster whole given (notes ++ more) y a
-  new_attempt y same made a apart =
-      cond_both same (Some made) (attempt_of cluster.layout node start y past) (λ o. o ≡ Some a → ReadsRight cluster whole given (notes ++ more) y a)
-      (λ _ is. subst (ReadsRight cluster whole given (notes ++ more) y) (some_is made a is) (λ s k. absurd (apart s k))) (λ _ is. still y a is)
-
-  begins_right : (txn : ℕ) (body : BodyParts) → IsRightEntry (Begins txn body)
-  begins_right txn body =
-      record {
-        out = requests_right cluster whole given notes more (actor_of node 0) (next_id node start past) body _ (λ store. tt);
-        next = λ y a. new_attempt y (id_eq (next_id node start past) y) (begun body) a voting_apart;
-        noted = (tt, tt);
-      }
-
-  recovers_right : (x : TxnId) (body : BodyParts) → IsRightEntry (Recovers x body)
-  recovers_right x body =
-      record {
-        out = requests_right cluster whole given notes more (actor_of node 0) x body _ (λ store. tt);
-        next = λ y a. new_attempt y (id_eq x y) (recovering (next_ballot node start past) body) a recovering_apart;
-        noted = (tt, tt);
-      }
 
   -- ---- an attempt that is slowed down
 
   slow_right : (x : TxnId) (a : Attempt) → more ≡ (slow_reaction cluster.layout (actor_of node 0) x a).emitted.notes → attempt_of cluster.layout node start x past ≡ Some a
       → IsRightReaction cluster whole given notes more (actor_of node 0) x false (slow_reaction cluster.layout (actor_of node 0) x a)
   slow_right x a made is =
-      move_right cluster whole given notes more (actor_of node 0) x false (λ b. b ≡ a)
-      (λ b same. subst (IsRightAttempt cluster whole given notes x) (sym same) (before x a is)) _ (slow_moves cluster.layout (actor_of node 0) x a)
+      goes_right cluster whole given notes more (actor_of node 0) x false (λ b. b ≡ a)
+      (λ b same. subst (IsRightAttempt cluster whole given notes x) (sym same) (before x a is)) _ (slow_goes cluster.layout (actor_of node 0) x a)
       (made ∙ silent ∙ sym (ap (flat_map (replied false)) silent))
     where
       silent : (slow_reaction cluster.layout (actor_of node 0) x a).emitted.notes ≡ []
@@ -102,8 +68,6 @@ module _ (cluster : Cluster) (whole : List Item) (given : Premises cluster whole
   slows_right x made =
       record {
         out = out (attempt_of cluster.layout node start x past) refl made;
-        next = λ y a k. ⊎_elim (still y a) (λ h. by y h.0 a h.1.0 h.1.1 h.1.2)
-            (about_cases x y (slow_reaction cluster.layout (actor_of node 0) y) (attempt_of cluster.layout node start y past) a k);
         noted = noted (attempt_of cluster.layout node start x past);
       }
     where
@@ -116,20 +80,13 @@ module _ (cluster : Cluster) (whole : List Item) (given : Premises cluster whole
       noted None = tt
       noted (Some a) = subst (InOrder cluster whole notes) (sym (slow_is_silent cluster.layout (actor_of node 0) x a)) tt
 
-      by : (y : TxnId) → x ≡ y → (a b : Attempt) → attempt_of cluster.layout node start y past ≡ Some b
-          → (slow_reaction cluster.layout (actor_of node 0) y b).next ≡ Some a → ReadsRight cluster whole given (notes ++ more) y a
-      by y same a b =
-          subst (λ z. attempt_of cluster.layout node start z past ≡ Some b → (slow_reaction cluster.layout (actor_of node 0) z b).next ≡ Some a
-          → ReadsRight cluster whole given (notes ++ more) z a) same
-          (λ is k. (slow_right x b (made ∙ ap (λ o. (emitted_by (slow_reaction cluster.layout (actor_of node 0) x) o).notes) is) is).next a k)
-
   -- ---- a message that an attempt hears
 
   reaction_right : (m : Message) (a : Attempt) (is_open : Bool) → IsRight cluster whole notes m → attempt_of cluster.layout node start (id_of m) past ≡ Some a
       → more ≡ flat_map (replied is_open) (reaction cluster.layout (actor_of node 0) (id_of m) a m).emitted.notes
       → IsRightReaction cluster whole given notes more (actor_of node 0) (id_of m) is_open (reaction cluster.layout (actor_of node 0) (id_of m) a m)
   reaction_right m a is_open right is made =
-      move_right cluster whole given notes more (actor_of node 0) (id_of m) is_open (Heard cluster.layout a m) now _ (reaction_moves cluster.layout (actor_of node 0) (id_of m) a m) made
+      goes_right cluster whole given notes more (actor_of node 0) (id_of m) is_open (Heard cluster.layout a m) now _ (reaction_goes cluster.layout (actor_of node 0) (id_of m) a m) made
     where
       was : IsRightAttempt cluster whole given notes (id_of m) a
       was = before (id_of m) a is
@@ -141,27 +98,10 @@ module _ (cluster : Cluster) (whole : List Item) (given : Premises cluster whole
           same b Before = (was.body, was.decided)
           same b (Counted is) = (was.body, was.decided)
 
-  next_by_reaction : (m : Message)
-      → ((a b : Attempt) → attempt_of cluster.layout node start (id_of m) past ≡ Some b → (reaction cluster.layout (actor_of node 0) (id_of m) b m).next ≡ Some a
-      → ReadsRight cluster whole given (notes ++ more) (id_of m) a)
-      → (y : TxnId) (a : Attempt) → attempt_after cluster.layout node start y past (attempt_of cluster.layout node start y past) (Takes m) ≡ Some a
-      → ReadsRight cluster whole given (notes ++ more) y a
-  next_by_reaction m here y a k =
-      ⊎_elim (still y a) (λ h. by y h.0 a h.1.0 h.1.1 h.1.2)
-      (about_cases (id_of m) y (λ b. reaction cluster.layout (actor_of node 0) y b m) (attempt_of cluster.layout node start y past) a k)
-    where
-      by : (y : TxnId) → id_of m ≡ y → (a b : Attempt) → attempt_of cluster.layout node start y past ≡ Some b
-          → (reaction cluster.layout (actor_of node 0) y b m).next ≡ Some a → ReadsRight cluster whole given (notes ++ more) y a
-      by y same a b =
-          subst (λ z. attempt_of cluster.layout node start z past ≡ Some b → (reaction cluster.layout (actor_of node 0) z b m).next ≡ Some a
-          → ReadsRight cluster whole given (notes ++ more) z a) same (here a b)
-
   told_right : (from to : Actor) (id : TxnId) (b : Ballot) (o : Outcome) → IsOutcome cluster whole notes id o → IsRightEntry (Takes (Inform from to id b o))
   told_right from to id b o is =
       record {
         out = tt;
-        next = next_by_reaction (Inform from to id b o)
-            (λ a c at k. still id a (at ∙ sym (ap (λ (r : Reaction). r.next) (told_stays cluster.layout (actor_of node 0) id c from to id b o)) ∙ k));
         noted = cond_both (is_open id past) (ReplyNote id o.reply ∷ []) [] (InOrder cluster whole notes)
             (λ _. ((is.noted, record { outcome = o; reply_is = refl; finished = is.finished }), tt)) (λ _. tt);
       }
@@ -171,10 +111,10 @@ module _ (cluster : Cluster) (whole : List Item) (given : Premises cluster whole
       ≡ with_reply (is_open (id_of m) past) (emitted_by (λ a. reaction cluster.layout (actor_of node 0) (id_of m) a m) (attempt_of cluster.layout node start (id_of m) past))
       → more ≡ (node_emits cluster.layout node start past (Takes m)).notes → IsRightEntry (Takes m)
   other_right m right is made =
+      let r = at (attempt_of cluster.layout node start (id_of m) past) refl in
       record {
-        out = subst (λ (t : Emitted). EachRight cluster whole given (notes ++ more) t.out) (sym is) (out (attempt_of cluster.layout node start (id_of m) past) refl);
-        next = next_by_reaction m (λ a b at k. (reaction_right m b (is_open (id_of m) past) right at (made_by (Some b) at)).next a k);
-        noted = subst (λ (t : Emitted). InOrder cluster whole notes t.notes) (sym is) (noted (attempt_of cluster.layout node start (id_of m) past) refl);
+        out = subst (λ (t : Emitted). EachRight cluster whole given (notes ++ more) t.out) (sym is) r.0;
+        noted = subst (λ (t : Emitted). InOrder cluster whole notes t.notes) (sym is) r.1;
       }
     where
       made_by : (o : Option Attempt) → attempt_of cluster.layout node start (id_of m) past ≡ o
@@ -183,25 +123,22 @@ module _ (cluster : Cluster) (whole : List Item) (given : Premises cluster whole
           made ∙ ap (λ (t : Emitted). t.notes) is
           ∙ ap (λ p. flat_map (replied (is_open (id_of m) past)) (emitted_by (λ a. reaction cluster.layout (actor_of node 0) (id_of m) a m) p).notes) at
 
-      out : (o : Option Attempt) → attempt_of cluster.layout node start (id_of m) past ≡ o
+      at : (o : Option Attempt) → attempt_of cluster.layout node start (id_of m) past ≡ o
           → EachRight cluster whole given (notes ++ more) (emitted_by (λ a. reaction cluster.layout (actor_of node 0) (id_of m) a m) o).out
-      out None at = tt
-      out (Some a) at = (reaction_right m a (is_open (id_of m) past) right at (made_by (Some a) at)).out
-
-      noted : (o : Option Attempt) → attempt_of cluster.layout node start (id_of m) past ≡ o
-          → InOrder cluster whole notes (flat_map (replied (is_open (id_of m) past)) (emitted_by (λ a. reaction cluster.layout (actor_of node 0) (id_of m) a m) o).notes)
-      noted None at = tt
-      noted (Some a) at = (reaction_right m a (is_open (id_of m) past) right at (made_by (Some a) at)).noted
+          × InOrder cluster whole notes (flat_map (replied (is_open (id_of m) past)) (emitted_by (λ a. reaction cluster.layout (actor_of node 0) (id_of m) a m) o).notes)
+      at None is' = (tt, tt)
+      at (Some a) is' = let r = reaction_right m a (is_open (id_of m) past) right is' (made_by (Some a) is') in (r.out, r.noted)
 
   takes_right : (m : Message) → Told cluster.layout node start past m → IsRight cluster whole notes m → more ≡ (node_emits cluster.layout node start past (Takes m)).notes
       → IsRightEntry (Takes m)
   takes_right m (Outcome_told from to id b o) right made = told_right from to id b o right
   takes_right m (Other_told n is) right made = other_right m right is made
 
-  pub entry_right : (earlier : List Item) (event : Event) (act : Act) → ActOf cluster earlier event act
-      → ((m : Message) → act ≡ Takes m → IsRight cluster whole notes m) → more ≡ (node_emits cluster.layout node start past act).notes → IsRightEntry act
-  entry_right earlier event act (BeginsAs txn body found) right made = begins_right txn body
-  entry_right earlier event act (RecoversAs txn x body of found) right made = recovers_right x body
-  entry_right earlier event act (SlowsAs txn x of) right made = slows_right x made
-  entry_right earlier event act (TakesAs number m at) right made = takes_right m (told cluster.layout node start past m) (right m refl) made
-  entry_right earlier event act (RestartsAs kept) right made = record { out = tt; next = λ x a k. absurd (not_none a k); noted = tt }
+  pub entry_right : (act : Act) → ((m : Message) → act ≡ Takes m → IsRight cluster whole notes m) → more ≡ (node_emits cluster.layout node start past act).notes → IsRightEntry act
+  entry_right (Begins txn body) right made =
+      record { out = requests_right cluster whole given notes more (actor_of node 0) (next_id node start past) body _ (λ store. tt); noted = (tt, tt) }
+  entry_right (Recovers x body) right made =
+      record { out = requests_right cluster whole given notes more (actor_of node 0) x body _ (λ store. tt); noted = (tt, tt) }
+  entry_right (Slows x) right made = slows_right x made
+  entry_right (Takes m) right made = takes_right m (told cluster.layout node start past m) (right m refl) made
+  entry_right Restarts right made = record { out = tt; noted = tt }

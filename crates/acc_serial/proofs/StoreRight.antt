@@ -28,20 +28,21 @@ use Rattle.acc_message.specs.declared.message.Message.TheVariants.{Apply}
 use Rattle.acc_message.specs.declared.note.Note.{Note}
 use Rattle.acc_message.specs.declared.item.Item.{Item}
 use Rattle.acc_message.specs.Fields.{id_of}
-use Rattle.acc_message.specs.Taken.{Taken, taking, known, heard_body}
+use Rattle.acc_message.specs.Taken.{body_in, Taken, taking, known, heard_body}
 use Rattle.acc_message.specs.BallotRules.{stable_of, kept_outcome, outcome_in}
-use Rattle.acc_message.specs.Opening.{Change, writes_in}
-use Rattle.acc_message.specs.StoreRules.{read_here, read_by, store_answer}
+use Rattle.acc_message.specs.Opening.{Change, is_opened, writes_in, written_by_all, cells_at}
+use Rattle.acc_message.specs.StoreRules.{read_here, read_by, kept_or}
 use Rattle.acc_message.specs.Run.{Cluster}
 use Rattle.acc_serial.proofs.Cell.{Cell}
 use Rattle.acc_serial.proofs.Latest.{one_latest}
 use Rattle.acc_serial.proofs.Timeline.{left_by, left_is_latest_below}
 use Rattle.acc_serial.proofs.Pass.{Covered}
 use Rattle.acc_serial.proofs.StoreChanges.{EachCovered, some_value}
-use Rattle.acc_serial.proofs.StoreReads.{Moment, OfAnswers, writes, EachKept, each_answer}
+use Rattle.acc_safety.specs.StoreSends.{StoreSends, Votes, Accepts, Commits, Reveals, ReadsAtOnce, ReadsOnOpening, Refuses, Tells}
+use Rattle.acc_serial.proofs.StoreReads.{Moment, writes, EachKept, ReadAt, read_at_once, read_on_opening}
 use Rattle.acc_actor_laws.proofs.Standing.{not_none, stable_of-known}
 use Rattle.acc_actor_laws.proofs.OpeningFacts.{some_is}
-use Rattle.acc_serial.proofs.Notions.{time_of, IsDecision, IsDecided, HasBody, outcome_first, wrote, written_at, Below, IsLatestBelow, Answered, Finished, IsOutcome, Reading, RightAnswer, IsRight, IsFramed}
+use Rattle.acc_serial.proofs.Notions.{time_of, IsDecision, IsDecided, HasBody, outcome_first, wrote, written_at, Below, IsLatestBelow, Answered, Finished, IsOutcome, Reading, RightAnswer, IsRight, SettlesDecided}
 use Rattle.acc_serial.proofs.Facts.{Premises, time_is, decided_from, own_times, wrote_tells, writer_below, below_writer}
 use Rattle.acc_serial.proofs.Histories.{stable_from, kept_from, heard_from, heard_has_body}
 
@@ -76,9 +77,10 @@ key_is_read p cells (k ∷ keys) so_far key passes among =
 
 -- ---- right messages
 
--- a message that is framed and right, and whose outcome, if it is an Apply, is the first one
+-- A message has the begun body, settles what is decided and is right. The outcome of an Apply is the first one.
 pub record IsSound (cluster : Cluster) (whole : List Item) (notes : List Note) (m : Message) : Type 0 where
-  pub framed : IsFramed cluster whole m
+  pub body : (body : BodyParts) → body_in m ≡ Some body → HasBody cluster whole (id_of m) body
+  pub settled : SettlesDecided cluster whole m
   pub right : IsRight cluster whole notes m
   pub first : (x : TxnId) (o : Outcome) → outcome_in x m ≡ Some o → outcome_first cluster whole x ≡ Some o
 
@@ -112,13 +114,13 @@ module _ (cluster : Cluster) (whole : List Item) (given : Premises cluster whole
         → IsDecision cluster whole x s.t s.deps
     history_decided history x s sound =
         stable_from (λ y r. IsDecision cluster whole y r.t r.deps) history x s
-        (each_weaker (λ (step : Taken). IsSound cluster whole notes step.message) _ history (λ step h. h.framed.settled) sound)
+        (each_weaker (λ (step : Taken). IsSound cluster whole notes step.message) _ history (λ step h. h.settled) sound)
 
     history_body : (history : List Taken) (x : TxnId) (body : BodyParts) → AllSound cluster whole notes history → heard_body x (known history) ≡ Some body
         → HasBody cluster whole x body
     history_body history x body sound =
         heard_from (HasBody cluster whole) history x body
-        (each_weaker (λ (step : Taken). IsSound cluster whole notes step.message) _ history (λ step h. h.framed.body) sound)
+        (each_weaker (λ (step : Taken). IsSound cluster whole notes step.message) _ history (λ step h. h.body) sound)
 
     history_finished : (history : List Taken) (x : TxnId) (o : Outcome) → AllSound cluster whole notes history → kept_outcome history x ≡ Some o
         → IsOutcome cluster whole notes x o
@@ -244,26 +246,37 @@ module _ (cluster : Cluster) (whole : List Item) (given : Premises cluster whole
                   behind = λ y b. noted_applied changes x y m b;
                 }
 
+        cells_right : (x : TxnId) (cells : Key → Cell) → ReadAt cluster.layout own below first history x cells
+            → RightAnswer cluster whole notes x (shard_of own) (read_by cluster.layout (shard_of own) (heard_body x (known history)) cells)
+        cells_right x cells r =
+            subst (λ k. RightAnswer cluster whole notes x (shard_of own) (read_by cluster.layout (shard_of own) (heard_body x (known history)) k)) (sym r.cells_are)
+            (read_right r.changes x r.moment)
+
         -- a kept outcome
         known_right : (x : TxnId) (o : Outcome) → kept_outcome history x ≡ Some o → IsOutcome cluster whole notes x o
         known_right x o e = history_finished history x o sound e
 
-      answers_right : OfAnswers (IsRight cluster whole notes) own
-      answers_right =
-          record {
-            vote = λ to id b vote deps. tt;
-            accepted = λ to id b deps. tt;
-            committed = λ to id b. tt;
-            view = λ to id b view. tt;
-            nack = λ to id b promised. tt;
-            decided = λ to id b t deps. tt;
-          }
+      answer_right : (past : List Taken) (x : TxnId) (opened : is_opened (shard_of own) past x ≡ true) → AllSound cluster whole notes past
+          → (o : Option Outcome) → kept_outcome past x ≡ o
+          → RightAnswer cluster whole notes x (shard_of own)
+          (kept_or o (read_by cluster.layout (shard_of own) (heard_body x (known past)) (cells_at cluster.layout (shard_of own) past)))
+      answer_right past x opened sound (Some o) is = known_right past sound x o is
+      answer_right past x opened sound None is =
+          cells_right past sound x (cells_at cluster.layout (shard_of own) past) (read_at_once cluster.layout own below first past x (each_covered (shard_of own) past sound) (each_kept past sound) opened is)
 
-      pub store_is_right : (past : List Taken) (m : Message) → AllSound cluster whole notes past → IsSound cluster whole notes m
-          → AllByRecursion (IsRight cluster whole notes) (store_answer cluster.layout own past m)
-      store_is_right past m sound taken =
-          each_answer cluster.layout own below first (IsRight cluster whole notes) answers_right past m
-          (each_covered (shard_of own) (taking m past) (taken, sound)) (each_kept (taking m past) (taken, sound))
-          (λ changes x b at. read_right past sound changes x at)
-          (λ changes x b at. read_right (taking m past) (taken, sound) changes x at)
-          (λ x b o e. known_right past sound x o e)
+      -- each message that the store sends
+      pub sent_right : (past : List Taken) (m s : Message) → AllSound cluster whole notes past → IsSound cluster whole notes m
+          → StoreSends cluster.layout own past m s → IsRight cluster whole notes s
+      sent_right past m s sound taken (ReadsAtOnce from to x b body t deps answer opened is) =
+          subst (RightAnswer cluster whole notes x (shard_of own)) (sym is) (answer_right past x opened sound (kept_outcome past x) refl)
+      sent_right past m s sound taken (ReadsOnOpening n c b answer before among opens waits is) =
+          subst (RightAnswer cluster whole notes c.id (shard_of own)) (sym is)
+          (cells_right (taking n past) (taken, sound) c.id
+          (written_by_all cluster.layout (shard_of own) (taking n past) before (cells_at cluster.layout (shard_of own) past))
+          (read_on_opening cluster.layout own below first past n c before (each_covered (shard_of own) (taking n past) (taken, sound)) (each_kept (taking n past) (taken, sound)) among opens))
+      sent_right past m s sound taken (Votes from to x b body counting v none zero heard given) = tt
+      sent_right past m s sound taken (Accepts from to x b body counting t proposed deps none promised heard is) = tt
+      sent_right past m s sound taken (Commits from to x b body t deps none promised) = tt
+      sent_right past m s sound taken (Reveals from to x b body counting view above heard is) = tt
+      sent_right past m s sound taken (Refuses n promised is) = tt
+      sent_right past m s sound taken (Tells n r is) = tt

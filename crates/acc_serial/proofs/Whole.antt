@@ -29,7 +29,7 @@ use Rattle.acc_serial.proofs.StoreRight.{one_outcome}
 use Rattle.acc_serial.proofs.Frame.{HasApply}
 use Rattle.acc_serial.proofs.Framed.{IsFramedRun, run_framed}
 use Rattle.acc_serial.proofs.Parts.{within_itself}
-use Rattle.acc_serial.proofs.SerialRuns.{IsSerialRun, first_is_right, run_serial}
+use Rattle.acc_serial.proofs.SerialRuns.{IsSerialRun, each_sent_right, first_is_right, run_serial}
 use Rattle.acc_serial.proofs.Stores.{used_key_has_stores}
 use Rattle.acc_serial.proofs.Outcomes.{outcomes_agree, replies_agree, notes_in_place}
 use Rattle.acc_serial.proofs.InTheirTurn.{outcomes_in_order, RunsSerially, runs_serially, start_so_far}
@@ -67,7 +67,7 @@ module _ (cluster : Cluster) (items : List Item) (given : Premises cluster items
           first_is =
               found.1
               ∙ ap (λ p. Some p) (one_outcome cluster items given (notes_of items) notes x found.0 o
-              (first_is_right cluster items given (notes_of items) (sent_of items) x found.0 run.messages found.1).finished f)
+              (first_is_right cluster items given (notes_of items) (sent_of items) x found.0 (each_sent_right cluster items given items run.messages) found.1).finished f)
 
   serially : RunsSerially cluster items (λ key. None) (first_outcomes (notes_of items))
   serially =
@@ -85,9 +85,9 @@ module _ (cluster : Cluster) (items : List Item) (given : Premises cluster items
         in_place = notes_in_place cluster items given (notes_of items) run.noted;
       }
 
-pub serial_outcomes : (cluster : Cluster) (items : List Item) → AreDistinct (drawn_of items) → IsLayout cluster.layout → EachStands cluster items → Agreement items
+pub serial_outcomes : (cluster : Cluster) (items : List Item) → IsLayout cluster.layout → EachStands cluster items → Agreement items
     → Coverage cluster items → SerialOutcomes cluster items
-serial_outcomes cluster items distinct layout stands agreement coverage =
-    let framed = run_framed cluster items distinct stands in
-    let given : Premises cluster items = record { layout = layout; agreement = agreement; coverage = coverage; framed = framed.messages } in
-    outcomes_are_serial cluster items given framed (run_serial cluster items given items (within_itself cluster items) distinct stands)
+serial_outcomes cluster items layout stands agreement coverage =
+    let framed = run_framed cluster items stands in
+    let given : Premises cluster items = record { layout = layout; agreement = agreement; coverage = coverage; settled = framed.messages } in
+    outcomes_are_serial cluster items given framed (run_serial cluster items given items (within_itself cluster items) stands)

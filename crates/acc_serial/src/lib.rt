@@ -9,13 +9,9 @@ ghost use Rattle.acc_safety.specs.Agreement.{Agreement};
 ghost use Rattle.acc_safety.specs.Coverage.{Coverage};
 ghost use Rattle.acc_safety.specs.SerialOutcomes.{SerialOutcomes};
 
-use acc_safety::laws::stamps_are_drawn_once;
-
 /// In a run with agreement and coverage the first outcomes are those of a serial run, and no other outcome and no reply
 /// differs from them.
 pub fn serial_outcomes()
     ensures { (cluster : Cluster) (items : List Item) → IsLayout cluster.layout → EachStands cluster items → Agreement items →
         Coverage cluster items → SerialOutcomes cluster items }
-{
-    stamps_are_drawn_once();
-}
+{}
