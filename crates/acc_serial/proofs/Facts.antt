@@ -1,5 +1,5 @@
 -- What agreement and coverage say of times, writers and conflicts.
-use Rattle.std.proofs.Common.{◌≡◌, ◌==◌, Bool, true, false, ◌||◌, cond, List, [], ◌∷◌, Option, None, Some, Contains, refl, sym, ◌∙◌, ap, subst, ◌⊎◌, inl, inr, ⊎_elim}
+use Rattle.std.proofs.Common.{◌≡◌, ◌==◌, Bool, true, false, ◌||◌, cond, List, [], ◌∷◌, Option, None, Some, refl, sym, ◌∙◌, ap, subst, ◌⊎◌, inl, inr, ⊎_elim}
 use Rattle.std.specs.List.{AllByRecursion}
 use Rattle.std.proofs.lemmas.Bool.{true≢false, or_from, or_right, cases_Bool, cond_both, cond-true, eq-eqb}
 use Rattle.acc_stamp.specs.declared.stamps.Stamp.{Stamp}
@@ -30,10 +30,12 @@ use Rattle.acc_message.specs.Run.{Cluster}
 use Rattle.acc_safety.specs.Decisions.{Decision, decisions_of, body_of}
 use Rattle.acc_safety.specs.Agreement.{Agreement}
 use Rattle.acc_safety.specs.Coverage.{Coverage}
+use Rattle.acc_safety.specs.Polls.{IsBody}
 use Rattle.acc_serial.proofs.Cell.{Cell}
 use Rattle.acc_actor_laws.proofs.Standing.{not_none}
-use Rattle.acc_serial.proofs.SharedMembers.{Contains-none, Contains-cases, Contains-first, Contains-later}
-use Rattle.acc_serial.proofs.Notions.{time_among, first_apply, written_at, uses, IsDecision, time_of, IsDecided, HasBody, outcome_first, wrote, Below, SettlesDecided}
+use Rattle.acc_safety.specs.Places.{IsIn, First, Later}
+use Rattle.acc_safety.proofs.PlaceOrder.{none_is_in, IsIn-cases, Contains-IsIn, IsIn-Contains}
+use Rattle.acc_serial.proofs.Notions.{time_among, first_apply, written_at, uses, IsDecision, time_of, IsDecided, outcome_first, wrote, Below, SettlesDecided}
 
 -- what the proof of serial outcomes starts from
 pub record Premises (cluster : Cluster) (whole : List Item) : Type 0 where
@@ -44,15 +46,15 @@ pub record Premises (cluster : Cluster) (whole : List Item) : Type 0 where
 
 -- ---- times
 
-time_is_that : (decisions : List Decision) (x : TxnId) (t : Stamp) → ((d : Decision) → Contains decisions d → d.id ≡ x → d.t ≡ t)
-    → (d : Decision) → Contains decisions d → d.id ≡ x → time_among decisions x ≡ t
-time_is_that [] x t all d h is = absurd (Contains-none d h)
+time_is_that : (decisions : List Decision) (x : TxnId) (t : Stamp) → ((d : Decision) → IsIn d decisions → d.id ≡ x → d.t ≡ t)
+    → (d : Decision) → IsIn d decisions → d.id ≡ x → time_among decisions x ≡ t
+time_is_that [] x t all d h is = absurd (none_is_in d h)
 time_is_that (e ∷ decisions) x t all d h is =
     cond_both (id_eq e.id x) e.t (time_among decisions x) (λ s. s ≡ t)
-    (λ same. all e (Contains-first e decisions) ((id_order.decides e.id x).0 same))
-    (λ other. ⊎_elim (λ first. absurd (true≢false (sym ((id_order.decides e.id x).1 (ap (λ (k : Decision). k.id) first ∙ is)) ∙ other)))
-    (λ later. time_is_that decisions x t (λ k in' same. all k (Contains-later e decisions k in') same) d later is)
-    (Contains-cases e decisions d h))
+    (λ same. all e (First e decisions) ((id_order.decides e.id x).0 same))
+    (λ other. ⊎_elim (λ first. absurd (true≢false (sym ((id_order.decides e.id x).1 (ap (λ (k : Decision). k.id) (sym first) ∙ is)) ∙ other)))
+    (λ later. time_is_that decisions x t (λ k in' same. all k (Later k e decisions in') same) d later is)
+    (IsIn-cases d e decisions h))
 
 pub or_else_cases : {T : Type 0} (a b : Option T) (x : T) → or_else a b ≡ Some x → (a ≡ Some x) ⊎ (b ≡ Some x)
 or_else_cases None b x e = inr e
@@ -62,7 +64,7 @@ module _ (cluster : Cluster) (whole : List Item) (given : Premises cluster whole
   pub time_is : (x : TxnId) (t : Stamp) (deps : List ShardDeps) → IsDecision cluster whole x t deps → time_of cluster whole x ≡ t
   time_is x t deps h =
       let mine : Decision = record { id = x; t = t; deps = deps } in
-      time_is_that (decisions_of (notes_of whole)) x t (λ d in' same. (given.agreement d mine in' h).same same) mine h refl
+      time_is_that (decisions_of (notes_of whole)) x t (λ d in' same. (given.agreement d mine (IsIn-Contains d (decisions_of (notes_of whole)) in') h).same same) mine (Contains-IsIn mine (decisions_of (notes_of whole)) h) refl
 
   pub decided_from : (x : TxnId) (t : Stamp) (deps : List ShardDeps) → IsDecision cluster whole x t deps → IsDecided cluster whole x
   decided_from x t deps h = (deps, subst (λ s. IsDecision cluster whole x s deps) (sym (time_is x t deps h)) h)
@@ -99,7 +101,7 @@ module _ (cluster : Cluster) (whole : List Item) (given : Premises cluster whole
   -- a transaction wrote the cell to the key
   pub record Wrote (x : TxnId) (key : Key) (cell : Cell) : Type 0 where
     pub body : BodyParts
-    pub body_is : HasBody cluster whole x body
+    pub body_is : IsBody cluster whole x body
     pub outcome : Outcome
     pub outcome_is : outcome_first cluster whole x ≡ Some outcome
     pub updates : is_updated body key ≡ true
@@ -154,7 +156,7 @@ module _ (cluster : Cluster) (whole : List Item) (given : Premises cluster whole
       clashes-at (share_of cluster.layout (footprint_of a) (shard_of_key cluster.layout key)) (share_of cluster.layout (footprint_of b) (shard_of_key cluster.layout key))
       key v w (found_in_share a key v first) (found_in_share b key w second) writes
 
-  below_at : (y x : TxnId) (a b : BodyParts) (key : Key) (v w : Bool) → HasBody cluster whole y a → HasBody cluster whole x b
+  below_at : (y x : TxnId) (a b : BodyParts) (key : Key) (v w : Bool) → IsBody cluster whole y a → IsBody cluster whole x b
       → find (footprint_of a) key ≡ Some v → find (footprint_of b) key ≡ Some w → (v || w) ≡ true → IsDecided cluster whole y → IsDecided cluster whole x
       → stamp_lt (time_of cluster whole y) (time_of cluster whole x) ≡ true → Below cluster whole (shard_of_key cluster.layout key) y x
   below_at y x a b key v w first_is second_is found found_too writes first second earlier =
@@ -173,14 +175,14 @@ module _ (cluster : Cluster) (whole : List Item) (given : Premises cluster whole
       }
 
   -- a writer of a key and one that uses it
-  pub writer_below : (y x : TxnId) (body : BodyParts) (key : Key) (cell : Cell) → wrote cluster whole y key ≡ Some cell → HasBody cluster whole x body → uses body key ≡ true
+  pub writer_below : (y x : TxnId) (body : BodyParts) (key : Key) (cell : Cell) → wrote cluster whole y key ≡ Some cell → IsBody cluster whole x body → uses body key ≡ true
       → IsDecided cluster whole x → stamp_lt (time_of cluster whole y) (time_of cluster whole x) ≡ true → Below cluster whole (shard_of_key cluster.layout key) y x
   writer_below y x body key cell w body_is used decided earlier =
       let made = wrote_tells y key cell w in
       let found = used_is_found body key used in
       below_at y x made.body body key true found.0 made.body_is body_is (updated_is_found made.body key made.updates) found.1 refl made.decided decided earlier
 
-  pub below_writer : (y x : TxnId) (body : BodyParts) (key : Key) (cell : Cell) → wrote cluster whole y key ≡ Some cell → HasBody cluster whole x body → uses body key ≡ true
+  pub below_writer : (y x : TxnId) (body : BodyParts) (key : Key) (cell : Cell) → wrote cluster whole y key ≡ Some cell → IsBody cluster whole x body → uses body key ≡ true
       → IsDecided cluster whole x → stamp_lt (time_of cluster whole x) (time_of cluster whole y) ≡ true → Below cluster whole (shard_of_key cluster.layout key) x y
   below_writer y x body key cell w body_is used decided later =
       let made = wrote_tells y key cell w in

@@ -10,17 +10,15 @@ use Rattle.acc_txn.specs.declared.outcome.Outcome.{Outcome}
 use Rattle.acc_base.specs.Faults.{or_else}
 use Rattle.acc_message.specs.declared.message.Message.{Message}
 use Rattle.acc_message.specs.declared.item.Item.{Item}
-use Rattle.acc_message.specs.Fields.{id_of}
 use Rattle.acc_message.specs.Items.{notes_of, noted_in, txn_in, txn_of}
 use Rattle.acc_message.specs.Shares.{stores_used}
-use Rattle.acc_message.specs.Taken.{body_in}
-use Rattle.acc_message.specs.BallotRules.{settled_in, outcome_in}
+use Rattle.acc_message.specs.BallotRules.{outcome_in}
 use Rattle.acc_message.specs.Attempts.{Attempt, Executing}
 use Rattle.acc_message.specs.Run.{Cluster}
 use Rattle.acc_safety.specs.Decisions.{Decision, decisions_in, decisions_of, body_at, body_of}
 use Rattle.acc_actor_laws.proofs.Standing.{not_none}
-use Rattle.acc_actor_laws.proofs.OpeningFacts.{some_is}
-use Rattle.acc_serial.proofs.Notions.{first_apply, IsDecision, HasBody, SettlesDecided}
+use Rattle.acc_safety.specs.Polls.{IsBody}
+use Rattle.acc_serial.proofs.Notions.{first_apply, IsDecision, SettlesDecided}
 
 -- an attempt that reads has a decision
 abbrev pub ReadsDecided : Cluster → List Item → TxnId → Attempt → Type 0
@@ -79,7 +77,7 @@ first_apply-later (m ∷ ms) more x o e =
 -- x has a body, and where this one has stores, these messages have an Apply about x
 pub record HasApply (cluster : Cluster) (part : List Item) (ms : List Message) (x : TxnId) : Type 0 where
   pub body : BodyParts
-  pub body_is : HasBody cluster part x body
+  pub body_is : IsBody cluster part x body
   pub sent : (stores_used cluster.layout body ≡ [] → ⊥) → (o : Outcome) × (first_apply ms x ≡ Some o)
 
 module _ (cluster : Cluster) (item : Item) (earlier : List Item) (ms more : List Message) (x : TxnId) where

@@ -1,16 +1,13 @@
 -- What an entry emits settles what is decided, and it applies the outcomes that it notes.
-use Rattle.std.proofs.Common.{◌≡◌, ℕ, Bool, true, false, cond, List, [], ◌∷◌, Option, None, Some, Contains, refl, sym, ◌∙◌, ap, subst, ⊎_elim}
-use Rattle.std.specs.List.{AllByRecursion, flat_map}
+use Rattle.std.proofs.Common.{◌≡◌, ℕ, Bool, cond, List, [], ◌∷◌, Option, None, Some, Contains, refl, sym, ◌∙◌, ap, subst, ⊎_elim}
+use Rattle.std.specs.List.{flat_map}
 use Rattle.std.proofs.lemmas.Bool.{false≢true, cond_both}
 use Rattle.acc_stamp.specs.declared.stamps.TxnId.{TxnId}
-use Rattle.acc_stamp.specs.declared.stamps.Ballot.{Ballot}
 use Rattle.acc_stamp.specs.declared.actors.Actor.{Actor}
 use Rattle.acc_stamp.specs.Actor.{actor_of}
 use Rattle.acc_stamp.specs.Stamp.{id_eq}
-use Rattle.acc_topology.specs.Layout.{Layout}
 use Rattle.acc_deps.specs.declared.records.Settled.{Settled}
 use Rattle.acc_txn.specs.declared.parts.BodyParts.{BodyParts}
-use Rattle.acc_txn.specs.declared.outcome.Outcome.{Outcome}
 use Rattle.acc_message.specs.declared.message.Message.{Message}
 use Rattle.acc_message.specs.declared.message.Message.TheVariants.{Inform}
 use Rattle.acc_message.specs.declared.note.Path.{Path}
@@ -24,18 +21,18 @@ use Rattle.acc_message.specs.Fields.{id_of}
 use Rattle.acc_message.specs.Taken.{Taken}
 use Rattle.acc_message.specs.Attempts.{Attempt, Voting, Recovering, Executing}
 use Rattle.acc_message.specs.Coordinator.{Reaction, begun, recovering, reaction, slow_reaction}
-use Rattle.acc_message.specs.NodeRules.{Act, Begins, Recovers, Slows, Takes, Restarts, Deed, next_id, next_ballot, attempt_after, attempt_of, is_open, emitted_by, replied, with_reply, on_taking, node_emits}
+use Rattle.acc_message.specs.NodeRules.{Act, Begins, Recovers, Slows, Takes, Restarts, Deed, next_id, next_ballot, attempt_after, attempt_of, is_open, emitted_by, replied, node_emits}
 use Rattle.acc_message.specs.Run.{Cluster, taken_from, store_emits}
 use Rattle.acc_message.specs.StoreRules.{store_answer}
-use Rattle.acc_safety.specs.Decisions.{Decision, decisions_of, outcomes_of, is_answered}
-use Rattle.acc_safety.specs.Places.{IsIn}
-use Rattle.acc_safety.specs.StoreSends.{StoreSends, Votes, Accepts, Commits, Reveals, ReadsAtOnce, ReadsOnOpening, Refuses, Tells}
-use Rattle.acc_safety.proofs.PlaceOrder.{each_from}
+use Rattle.acc_safety.specs.Decisions.{Decision, decisions_of, is_answered}
+use Rattle.acc_safety.specs.Places.{First}
+use Rattle.acc_safety.specs.StoreSends.{StoreSends, Refuses, Tells}
+use Rattle.acc_safety.proofs.PlaceOrder.{each_from, IsIn-Contains}
 use Rattle.acc_safety.proofs.StoreSent.{store_sends}
 use Rattle.acc_actor_laws.proofs.Standing.{not_none}
 use Rattle.acc_actor_laws.proofs.OpeningFacts.{some_is}
-use Rattle.acc_serial.proofs.Notions.{IsDecision, HasBody, Answered, SettlesDecided}
-use Rattle.acc_serial.proofs.SharedMembers.{Contains-first}
+use Rattle.acc_safety.specs.Polls.{IsBody}
+use Rattle.acc_serial.proofs.Notions.{IsDecision, Answered, SettlesDecided}
 use Rattle.acc_serial.proofs.Going.{Heard, reaction_goes, slow_goes}
 use Rattle.acc_serial.proofs.Steps.{about_cases, Told, Outcome_told, Other_told, told, told_stays, reply_alone, replied_outcomes}
 use Rattle.acc_serial.proofs.Frame.{ReadsDecided, body_kept, decision_now, reads_still, HasApply}
@@ -68,18 +65,18 @@ store_settles cluster part own past _ = tt
 -- ---- a node's entry
 
 module _ (cluster : Cluster) (earlier : List Item) (e : Entry) (node start : ℕ) (past : List Deed)
-    (has : (x : TxnId) (a : Attempt) → attempt_of cluster.layout node start x past ≡ Some a → HasBody cluster earlier x a.body)
+    (has : (x : TxnId) (a : Attempt) → attempt_of cluster.layout node start x past ≡ Some a → IsBody cluster earlier x a.body)
     (reads : (x : TxnId) (a : Attempt) → attempt_of cluster.layout node start x past ≡ Some a → ReadsDecided cluster earlier x a) where
   -- a decision that the entry notes
   noted : (x : TxnId) (s : Settled) (path : Path) → e.emitted.notes ≡ Decide x s.t path s.deps ∷ [] → IsDecision cluster (Step e ∷ earlier) x s.t s.deps
   noted x s path is =
       let d : Decision = record { id = x; t = s.t; deps = s.deps } in
-      decision_now cluster (Step e) earlier d (subst (λ notes. Contains (decisions_of notes) d) (sym is) (Contains-first d []))
+      decision_now cluster (Step e) earlier d (subst (λ notes. Contains (decisions_of notes) d) (sym is) (IsIn-Contains d (d ∷ []) (First d [])))
 
   still : (x : TxnId) (a : Attempt) → attempt_of cluster.layout node start x past ≡ Some a → ReadsDecided cluster (Step e ∷ earlier) x a
   still x a is = reads_still cluster (Step e) earlier x a (reads x a is)
 
-  has_still : (x : TxnId) (a : Attempt) → attempt_of cluster.layout node start x past ≡ Some a → HasBody cluster (Step e ∷ earlier) x a.body
+  has_still : (x : TxnId) (a : Attempt) → attempt_of cluster.layout node start x past ≡ Some a → IsBody cluster (Step e ∷ earlier) x a.body
   has_still x a is = body_kept cluster (Step e) earlier x a.body (has x a is)
 
   reaction_framed : (x : TxnId) (a : Attempt) (m : Message) → attempt_of cluster.layout node start x past ≡ Some a
@@ -95,7 +92,7 @@ module _ (cluster : Cluster) (earlier : List Item) (e : Entry) (node start : ℕ
       → IsFramedReaction cluster (Step e ∷ earlier) (actor_of node 0) x (slow_reaction cluster.layout (actor_of node 0) x a)
   slow_framed x a is decides =
       goes_framed cluster (Step e ∷ earlier) (actor_of node 0) x (λ b. b ≡ a)
-      (λ b same. subst (λ (c : Attempt). HasBody cluster (Step e ∷ earlier) x c.body) (sym same) (has_still x a is))
+      (λ b same. subst (λ (c : Attempt). IsBody cluster (Step e ∷ earlier) x c.body) (sym same) (has_still x a is))
       (λ b same. subst (ReadsDecided cluster (Step e ∷ earlier) x) (sym same) (still x a is)) _ (slow_goes cluster.layout (actor_of node 0) x a) decides
 
   -- what the entry emits, and the attempts that it leaves
@@ -153,7 +150,7 @@ module _ (cluster : Cluster) (earlier : List Item) (e : Entry) (node start : ℕ
           → (slow_reaction cluster.layout (actor_of node 0) y b).next ≡ Some a → ReadsDecided cluster (Step e ∷ earlier) y a
       by y same a b =
           subst (λ z. attempt_of cluster.layout node start z past ≡ Some b → (slow_reaction cluster.layout (actor_of node 0) z b).next ≡ Some a
-              → ReadsDecided cluster (Step e ∷ earlier) z a) same
+          → ReadsDecided cluster (Step e ∷ earlier) z a) same
           (λ is k. (slow_framed x b is (decides b is)).next a k)
 
   -- an attempt that hears a message
@@ -170,7 +167,7 @@ module _ (cluster : Cluster) (earlier : List Item) (e : Entry) (node start : ℕ
           → (reaction cluster.layout (actor_of node 0) y b m).next ≡ Some a → ReadsDecided cluster (Step e ∷ earlier) y a
       by y same a b =
           subst (λ z. attempt_of cluster.layout node start z past ≡ Some b → (reaction cluster.layout (actor_of node 0) z b m).next ≡ Some a
-              → ReadsDecided cluster (Step e ∷ earlier) z a) same
+          → ReadsDecided cluster (Step e ∷ earlier) z a) same
           (λ is k. (reaction_framed (id_of m) b m is (decides b is)).next a k)
 
   takes_framed : (m : Message) → Told cluster.layout node start past m → e.emitted ≡ node_emits cluster.layout node start past (Takes m) → IsFramedEntry (Takes m)

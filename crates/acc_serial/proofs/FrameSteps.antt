@@ -5,16 +5,15 @@ use Rattle.std.proofs.lemmas.Bool.{false≢true, or_cases, cond-true, cond_both}
 use Rattle.acc_stamp.specs.declared.stamps.TxnId.{TxnId}
 use Rattle.acc_stamp.specs.declared.stamps.Ballot.{Ballot}
 use Rattle.acc_stamp.specs.declared.actors.Actor.{Actor}
-use Rattle.acc_stamp.specs.Stamp.{id_eq, zero_ballot}
+use Rattle.acc_stamp.specs.Stamp.{id_eq}
 use Rattle.acc_stamp.proofs.Order.{id_order}
 use Rattle.acc_stamp.proofs.Rising.{each_append}
-use Rattle.acc_topology.specs.Layout.{Layout}
 use Rattle.acc_deps.specs.declared.records.Settled.{Settled}
 use Rattle.acc_txn.specs.declared.parts.BodyParts.{BodyParts}
 use Rattle.acc_txn.specs.declared.outcome.Outcome.{Outcome}
 use Rattle.acc_base.specs.Faults.{or_else}
 use Rattle.acc_message.specs.declared.message.Message.{Message}
-use Rattle.acc_message.specs.declared.message.Message.TheVariants.{PreAccept, Accept, Commit, Stable, Apply, Recover, Inform}
+use Rattle.acc_message.specs.declared.message.Message.TheVariants.{Apply, Inform}
 use Rattle.acc_message.specs.declared.note.Path.{Path}
 use Rattle.acc_message.specs.declared.note.Note.TheVariants.{Decide, Outcome as OutcomeNote}
 use Rattle.acc_message.specs.declared.item.Item.{Item}
@@ -22,12 +21,13 @@ use Rattle.acc_message.specs.Fields.{id_of}
 use Rattle.acc_message.specs.BallotRules.{settled_in}
 use Rattle.acc_message.specs.Items.{same_actor}
 use Rattle.acc_message.specs.Shares.{stores_used}
-use Rattle.acc_message.specs.Attempts.{Attempt, Voting, Recovering, Accepting, Committing, Executing}
-use Rattle.acc_message.specs.Coordinator.{Reaction, to_all, inform, home_node, ask_for_votes, ask_for_views, begun, recovering}
+use Rattle.acc_message.specs.Attempts.{Attempt, Accepting, Committing, Executing}
+use Rattle.acc_message.specs.Coordinator.{Reaction, to_all, inform, home_node}
 use Rattle.acc_message.specs.Run.{Cluster}
 use Rattle.acc_actor_laws.proofs.Standing.{not_none}
 use Rattle.acc_actor_laws.proofs.OpeningFacts.{some_is}
-use Rattle.acc_serial.proofs.Notions.{first_apply, IsDecision, HasBody, Answered, SettlesDecided}
+use Rattle.acc_safety.specs.Polls.{IsBody}
+use Rattle.acc_serial.proofs.Notions.{first_apply, IsDecision, Answered, SettlesDecided}
 use Rattle.acc_safety.specs.NodeMoves.{Move, Wait, Propose, CommitTo, DecideBy, FinishWith, BlockBy, EndBy, made}
 use Rattle.acc_serial.proofs.Going.{Finishing, Goes, Heard, Before, Counted}
 use Rattle.acc_serial.proofs.Frame.{ReadsDecided, HasApply, each_map}
@@ -85,7 +85,7 @@ module _ (cluster : Cluster) (part : List Item) (own : Actor) (x : TxnId) where
       ap (λ (k : Option Outcome). or_else k (first_apply (map (λ store. Apply own store x a.ballot a.body s.t s.deps o) stores ++ more) x))
       (cond-true (id_eq x x) (Some o) None ((id_order.decides x x).1 refl))
 
-  apply_sent : (a : Attempt) (s : Settled) (o : Outcome) (y : TxnId) → HasBody cluster part x a.body → Answered (OutcomeNote x o.reply ∷ []) y
+  apply_sent : (a : Attempt) (s : Settled) (o : Outcome) (y : TxnId) → IsBody cluster part x a.body → Answered (OutcomeNote x o.reply ∷ []) y
       → HasApply cluster part (to_all cluster.layout a.body (λ store. Apply own store x a.ballot a.body s.t s.deps o) ++ inform own x a.ballot o) y
   apply_sent a s o y has h =
       subst (HasApply cluster part (to_all cluster.layout a.body (λ store. Apply own store x a.ballot a.body s.t s.deps o) ++ inform own x a.ballot o)) same
@@ -97,7 +97,7 @@ module _ (cluster : Cluster) (part : List Item) (own : Actor) (x : TxnId) where
   in_phase_of : (b : Attempt) → ReadsDecided cluster part x b → (c : Attempt) → ◌≡◌ {A = Option Attempt} (Some b) (Some c) → ReadsDecided cluster part x c
   in_phase_of b h c e = subst (ReadsDecided cluster part x) (some_is b c e) h
 
-  pub move_framed : (a : Attempt) (move : Move) → HasBody cluster part x a.body → ReadsDecided cluster part x a → Finishing cluster.layout a move
+  pub move_framed : (a : Attempt) (move : Move) → IsBody cluster part x a.body → ReadsDecided cluster part x a → Finishing cluster.layout a move
       → Decided_by (made cluster.layout own x a move) → IsFramedReaction (made cluster.layout own x a move)
   move_framed a Wait has reads finishing decides =
       record { out = tt; applied = λ y h. absurd (false≢true h); next = in_phase_of a reads }
@@ -122,14 +122,14 @@ module _ (cluster : Cluster) (part : List Item) (own : Actor) (x : TxnId) where
   move_framed a (EndBy by) has reads finishing decides = record { out = tt; applied = λ y h. absurd (false≢true h); next = λ c e. absurd (not_none c e) }
 
   -- the same of a reaction that goes by some move
-  pub goes_framed : (Now : Attempt → Type 0) → ((a : Attempt) → Now a → HasBody cluster part x a.body) → ((a : Attempt) → Now a → ReadsDecided cluster part x a)
+  pub goes_framed : (Now : Attempt → Type 0) → ((a : Attempt) → Now a → IsBody cluster part x a.body) → ((a : Attempt) → Now a → ReadsDecided cluster part x a)
       → (r : Reaction) → Goes cluster.layout own x Now r → Decided_by r → IsFramedReaction r
   goes_framed Now has reads r g decides =
       subst IsFramedReaction (sym g.is)
       (move_framed g.attempt g.move (has g.attempt g.now) (reads g.attempt g.now) g.finishing (subst Decided_by g.is decides))
 
   -- an answer more leaves an attempt as it is
-  pub heard_body : (before : Attempt) (m : Message) (a : Attempt) → HasBody cluster part x before.body → Heard cluster.layout before m a → HasBody cluster part x a.body
+  pub heard_body : (before : Attempt) (m : Message) (a : Attempt) → IsBody cluster part x before.body → Heard cluster.layout before m a → IsBody cluster part x a.body
   heard_body before m a has Before = has
   heard_body before m a has (Counted is) = has
 

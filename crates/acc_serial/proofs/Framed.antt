@@ -1,8 +1,6 @@
 -- In every run what is stable or applied is decided, and what is noted as an outcome is applied.
-use Rattle.std.proofs.Common.{◌≡◌, Bool, true, false, List, [], ◌∷◌, ◌++◌, Some, refl, sym, ◌∙◌, ap, subst, ◌⊎◌, ⊎_elim}
-use Rattle.std.proofs.lemmas.Bool.{false≢true, or_cases}
-use Rattle.std.proofs.lemmas.List.Concat.{flat_map-append}
-use Rattle.std.proofs.lemmas.List.Folds.{list_any-append}
+use Rattle.std.proofs.Common.{◌≡◌, Bool, true, false, List, [], ◌∷◌, Some, refl, sym, ◌∙◌, ap, subst, ⊎_elim}
+use Rattle.std.proofs.lemmas.Bool.{false≢true}
 use Rattle.acc_stamp.specs.declared.stamps.TxnId.{TxnId}
 use Rattle.acc_stamp.specs.declared.actors.Actor.{Actor}
 use Rattle.acc_stamp.specs.Actor.{node_of}
@@ -12,18 +10,15 @@ use Rattle.acc_message.specs.declared.entry.Entry.{Entry}
 use Rattle.acc_message.specs.declared.item.Item.{Item}
 use Rattle.acc_message.specs.declared.item.Item.TheVariants.{Step, Skipped, Down}
 use Rattle.acc_message.specs.Items.{sent_in, sent_of, noted_in, notes_of}
-use Rattle.acc_safety.specs.Decisions.{Answered as Answer, outcomes_in, outcomes_of, is_answered}
-use Rattle.acc_message.specs.declared.note.Note.{Note}
-use Rattle.acc_stamp.specs.Stamp.{id_eq}
-use Rattle.acc_topology.specs.Layout.{Layout}
+use Rattle.acc_safety.specs.Decisions.{outcomes_of, is_answered}
 use Rattle.acc_message.specs.Attempts.{Attempt}
-use Rattle.acc_message.specs.NodeRules.{Act, Begins, Takes, Deed, attempt_of, node_emits}
-use Rattle.acc_message.specs.Run.{Cluster, clock_start, act_of, deeds_of, taken_from, store_emits, is_node, emits_by, emits, attempt_at, StandsOn, EachStands}
+use Rattle.acc_message.specs.NodeRules.{Act, attempt_of}
+use Rattle.acc_message.specs.Run.{Cluster, clock_start, act_of, deeds_of, taken_from, store_emits, is_node, emits_by, attempt_at, StandsOn, EachStands}
 use Rattle.acc_actor_laws.proofs.Standing.{not_none}
-use Rattle.acc_actor_laws.proofs.OpeningFacts.{some_is}
 use Rattle.acc_safety.specs.Places.{Whole}
 use Rattle.acc_safety.proofs.BodiesBegun.{attempt_body}
-use Rattle.acc_serial.proofs.Notions.{HasBody, Answered, SettlesDecided}
+use Rattle.acc_safety.specs.Polls.{IsBody}
+use Rattle.acc_serial.proofs.Notions.{Answered, SettlesDecided}
 use Rattle.acc_serial.proofs.Steps.{deeds_cases, node_emitted, answered_cases, store_is_silent}
 use Rattle.acc_serial.proofs.Frame.{ReadsDecided, settles_still, reads_still, HasApply, has_apply_kept, has_apply_now}
 use Rattle.acc_serial.proofs.FrameSteps.{EachSettles}
@@ -36,7 +31,7 @@ pub record IsFramedRun (cluster : Cluster) (items : List Item) : Type 0 where
 
 -- an attempt has the begun body
 pub has_body : (cluster : Cluster) (items : List Item) → EachStands cluster items → (a : Actor) (x : TxnId) (t : Attempt) → is_node a ≡ true → attempt_at cluster items a x ≡ Some t
-    → HasBody cluster items x t.body
+    → IsBody cluster items x t.body
 has_body cluster items stands a x t node at = attempt_body cluster items stands a node (deeds_of cluster a items) x t (Whole (deeds_of cluster a items)) at
 
 module _ (cluster : Cluster) (e : Entry) (earlier : List Item) (stands : EachStands cluster earlier) (s : StandsOn cluster earlier e)
@@ -56,7 +51,7 @@ module _ (cluster : Cluster) (e : Entry) (earlier : List Item) (stands : EachSta
           → EachSettles cluster (Step e ∷ earlier) e.emitted.out × ((y : TxnId) → Answered e.emitted.notes y → HasApply cluster (Step e ∷ earlier) e.emitted.out y)
       by false store =
           let sent : e.emitted ≡ store_emits cluster.layout e.actor (taken_from (deeds_of cluster e.actor earlier)) s.act =
-            s.emitted ∙ ap (λ b. emits_by b cluster e.actor (deeds_of cluster e.actor earlier) s.act) store in (
+          s.emitted ∙ ap (λ b. emits_by b cluster e.actor (deeds_of cluster e.actor earlier) s.act) store in (
             subst (λ (m : Emitted). EachSettles cluster (Step e ∷ earlier) m.out) (sym sent) (store_settles cluster (Step e ∷ earlier) e.actor (deeds_of cluster e.actor earlier) s.act),
             (λ y h. absurd (false≢true (sym (ap (λ notes. is_answered y (outcomes_of notes)) (store_is_silent cluster.layout e.actor (deeds_of cluster e.actor earlier) s.act))
                 ∙ ap (λ (m : Emitted). is_answered y (outcomes_of m.notes)) (sym sent) ∙ h))),

@@ -1,5 +1,5 @@
 -- How an attempt goes on in a step: the attempt that moves, its move, and where it finishes the outcome that it found.
-use Rattle.std.proofs.Common.{◌≡◌, true, refl, sym, subst}
+use Rattle.std.proofs.Common.{◌≡◌, true, refl}
 use Rattle.acc_stamp.specs.declared.stamps.TxnId.{TxnId}
 use Rattle.acc_stamp.specs.declared.actors.Actor.{Actor}
 use Rattle.std.proofs.Common.{Some}
@@ -9,7 +9,7 @@ use Rattle.acc_txn.specs.declared.outcome.Outcome.{Outcome}
 use Rattle.acc_message.specs.declared.message.Message.{Message}
 use Rattle.acc_message.specs.Attempts.{Attempt, Executing, counts, outcome_from}
 use Rattle.acc_message.specs.Coordinator.{Reaction, with_answer, reaction, slow_reaction}
-use Rattle.acc_safety.specs.NodeMoves.{Move, Wait, FinishWith, made, Moves, WaitsForMore, HasOutcome, Hears, Ignores, Counts, IsEnded, TakesOver}
+use Rattle.acc_safety.specs.NodeMoves.{Move, FinishWith, made, Moves, WaitsForMore, HasOutcome, Hears, Ignores, Counts}
 use Rattle.acc_safety.proofs.NodeMoved.{hears_all, slow_moved}
 
 -- an attempt that finishes was reading, and its answers give the outcome

@@ -25,9 +25,10 @@ use Rattle.acc_message.specs.Items.{notes_of}
 use Rattle.acc_message.specs.Run.{Cluster}
 use Rattle.acc_safety.specs.Decisions.{Answered as Answer, outcomes_in, outcomes_of, is_answered, firsts_after, body_of}
 use Rattle.acc_actor_laws.proofs.OpeningFacts.{some_is}
+use Rattle.acc_safety.specs.Polls.{IsBody}
 use Rattle.acc_serial.proofs.Cell.{Cell}
 use Rattle.acc_serial.proofs.Latest.{IsLatest, Unwritten, same_latest, one_latest, latest_more}
-use Rattle.acc_serial.proofs.Notions.{uses, time_of, HasBody, wrote, Below, Answered, Finished}
+use Rattle.acc_serial.proofs.Notions.{uses, time_of, wrote, Below, Answered, Finished}
 use Rattle.acc_serial.proofs.Facts.{Premises, own_times, wrote_tells, writer_below, below_writer}
 use Rattle.acc_serial.proofs.NotesInOrder.{HasReply, InOrder}
 
@@ -63,7 +64,7 @@ module _ (cluster : Cluster) (whole : List Item) where
 -- So far: these were answered, what is below an answered one was answered, and the cells are the latest of the answered ones.
 pub record SoFar (cluster : Cluster) (whole : List Item) (earlier seen : List Answer) (cells : Key → Cell) : Type 0 where
   pub seen_all : (y : TxnId) → is_answered y earlier ≡ true → is_answered y seen ≡ true
-  pub closed : (z y : TxnId) (body : BodyParts) (key : Key) → is_answered z seen ≡ true → HasBody cluster whole z body → uses body key ≡ true
+  pub closed : (z y : TxnId) (body : BodyParts) (key : Key) → is_answered z seen ≡ true → IsBody cluster whole z body → uses body key ≡ true
       → Below cluster whole (shard_of_key cluster.layout key) y z → is_answered y seen ≡ true
   pub latest : (key : Key) → IsLatest (time_of cluster whole) (wrote cluster whole) (λ y. is_answered y seen ≡ true) key (cells key)
 
@@ -99,7 +100,7 @@ module _ (cluster : Cluster) (whole : List Item) (given : Premises cluster whole
         (or_cases (is_answered y earlier) (is_answered y (a ∷ []))
         (sym (list_any-append (λ (b : Answer). id_eq b.id y) earlier (a ∷ [])) ∙ h))
 
-    still_closed : (z y : TxnId) (body : BodyParts) (key : Key) → is_answered z (a ∷ seen) ≡ true → HasBody cluster whole z body → uses body key ≡ true
+    still_closed : (z y : TxnId) (body : BodyParts) (key : Key) → is_answered z (a ∷ seen) ≡ true → IsBody cluster whole z body → uses body key ≡ true
         → Below cluster whole (shard_of_key cluster.layout key) y z → is_answered y (a ∷ seen) ≡ true
     still_closed z y body key h has used b =
         or_right (id_eq a.id y) _

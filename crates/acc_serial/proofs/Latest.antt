@@ -6,10 +6,8 @@ use Rattle.acc_stamp.specs.declared.stamps.TxnId.{TxnId}
 use Rattle.acc_stamp.specs.Stamp.{stamp_lt}
 use Rattle.acc_stamp.proofs.Order.{stamp_order}
 use Rattle.acc_value.specs.declared.key.Key.{Key}
+use Rattle.acc_actor_laws.proofs.OpeningFacts.{some_is}
 use Rattle.acc_serial.proofs.Cell.{Cell}
-
-some_same : {T : Type 0} (x y : T) → Some x ≡ Some y → x ≡ y
-some_same x y e = cc
 
 -- what a transaction wrote to a key
 abbrev pub Writes : Type 0
@@ -55,7 +53,7 @@ module _ (time : TxnId → Stamp) (wrote : Writes) (key : Key) where
   one_latest among a b own (Unwritten is none) (Written l) = absurd (none.none l.writer b l.is_among l.cell_is)
   one_latest among a b own (Written l) (Unwritten is none) = absurd (none.none l.writer a l.is_among l.cell_is)
   one_latest among a b own (Written l) (Written m) =
-      some_same a b (sym l.cell_is ∙ ap (λ y. wrote y key) same ∙ m.cell_is)
+      some_is a b (sym l.cell_is ∙ ap (λ y. wrote y key) same ∙ m.cell_is)
     where
       same : l.writer ≡ m.writer
       same =

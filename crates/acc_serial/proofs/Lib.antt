@@ -6,7 +6,6 @@ pub mod Turns
 pub mod Pass
 pub mod StoreChanges
 pub mod Notions
-pub mod SharedMembers
 pub mod Facts
 pub mod StoreReads
 pub mod Histories

@@ -29,8 +29,9 @@ use Rattle.acc_message.specs.Attempts.{is_read_ok, known_in, known_among, cell_i
 use Rattle.acc_message.specs.Run.{Cluster}
 use Rattle.acc_actor_laws.proofs.Standing.{not_none}
 use Rattle.acc_actor_laws.proofs.OpeningFacts.{some_is}
+use Rattle.acc_safety.specs.Polls.{IsBody}
 use Rattle.acc_serial.proofs.Cell.{Cell}
-use Rattle.acc_serial.proofs.Notions.{uses, IsDecided, HasBody, Below, IsLatestBelow, Answered, Finished, Reading, IsRight}
+use Rattle.acc_serial.proofs.Notions.{uses, IsDecided, Below, IsLatestBelow, Answered, Finished, Reading, IsRight}
 use Rattle.acc_serial.proofs.Facts.{or_else_cases, used_is_found, Premises}
 
 -- ---- the shards that a body uses
@@ -104,7 +105,7 @@ module _ (cluster : Cluster) (whole : List Item) (given : Premises cluster whole
       by None is e = (is, e)
       by (Some o) is e = absurd (not_none o (sym e))
 
-  cell_is_latest : (answers : List Message) (body : BodyParts) (key : Key) → AreReads answers → known_among answers ≡ None → HasBody cluster whole x body → is_read body key ≡ true
+  cell_is_latest : (answers : List Message) (body : BodyParts) (key : Key) → AreReads answers → known_among answers ≡ None → IsBody cluster whole x body → is_read body key ≡ true
       → has_read answers (shard_of_key cluster.layout key) ≡ true → IsLatestBelow cluster whole x key (cell_read cluster.layout answers key)
   cell_is_latest [] body key are none has read answered = absurd (false≢true answered)
   cell_is_latest (m ∷ answers) body key are none has read answered =
@@ -132,7 +133,7 @@ module _ (cluster : Cluster) (whole : List Item) (given : Premises cluster whole
 
   -- ---- the outcome
 
-  pub outcome_is_right : (body : BodyParts) (answers : List Message) (o : Outcome) → HasBody cluster whole x body → IsDecided cluster whole x → AreReads answers
+  pub outcome_is_right : (body : BodyParts) (answers : List Message) (o : Outcome) → IsBody cluster whole x body → IsDecided cluster whole x → AreReads answers
       → outcome_from cluster.layout body answers ≡ Some o → Finished cluster whole notes x o
   outcome_is_right body answers o has decided are = by (known_among answers) refl (read_everywhere cluster.layout body answers) refl
     where

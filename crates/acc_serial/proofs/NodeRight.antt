@@ -1,11 +1,11 @@
 -- What a node makes of right answers is right, and its notes are in order.
-use Rattle.std.proofs.Common.{◌≡◌, Bool, true, false, ◌&&◌, cond, List, [], ◌∷◌, ◌++◌, Option, Some, refl, sym, ◌∙◌, ap, subst}
+use Rattle.std.proofs.Common.{◌≡◌, Bool, true, false, ◌&&◌, cond, List, [], ◌∷◌, ◌++◌, refl, sym, ◌∙◌, ap, subst}
 use Rattle.std.specs.List.{AllByRecursion, list_any, flat_map}
 use Rattle.std.proofs.lemmas.Bool.{and_parts, cond_both}
 use Rattle.acc_stamp.specs.declared.stamps.TxnId.{TxnId}
 use Rattle.acc_stamp.specs.declared.stamps.Ballot.{Ballot}
 use Rattle.acc_stamp.specs.declared.actors.Actor.{Actor}
-use Rattle.acc_stamp.proofs.Rising.{each_append, each_weaker}
+use Rattle.acc_stamp.proofs.Rising.{each_append}
 use Rattle.acc_deps.specs.declared.records.Settled.{Settled}
 use Rattle.acc_txn.specs.declared.parts.BodyParts.{BodyParts}
 use Rattle.acc_txn.specs.declared.outcome.Outcome.{Outcome}
@@ -21,15 +21,14 @@ use Rattle.acc_message.specs.Attempts.{Attempt, Executing, fits, is_read_ok}
 use Rattle.acc_message.specs.Coordinator.{Reaction, to_all, inform, home_node, begun}
 use Rattle.acc_message.specs.NodeRules.{replied}
 use Rattle.acc_message.specs.Run.{Cluster}
-use Rattle.acc_actor_laws.proofs.Standing.{not_none}
-use Rattle.acc_actor_laws.proofs.OpeningFacts.{some_is}
-use Rattle.acc_serial.proofs.Notions.{IsDecision, HasBody, Answered, Finished, IsOutcome, IsRight}
+use Rattle.acc_safety.specs.Polls.{IsBody}
+use Rattle.acc_serial.proofs.Notions.{IsDecision, Answered, Finished, IsOutcome, IsRight}
 use Rattle.acc_serial.proofs.Facts.{Premises, decided_from}
 use Rattle.acc_safety.specs.NodeMoves.{Move, Wait, Propose, CommitTo, DecideBy, FinishWith, BlockBy, EndBy, made}
 use Rattle.acc_serial.proofs.Going.{Finishing, Goes, Heard, Before, Counted}
 use Rattle.acc_serial.proofs.Frame.{each_map}
-use Rattle.acc_serial.proofs.NodeReads.{IsReadOf, AreReads, outcome_is_right}
-use Rattle.acc_serial.proofs.NotesInOrder.{InOrder, answered_then, answered_now, finished_more, right_more}
+use Rattle.acc_serial.proofs.NodeReads.{AreReads, outcome_is_right}
+use Rattle.acc_serial.proofs.NotesInOrder.{InOrder, answered_then, answered_now, finished_more}
 
 module _ (cluster : Cluster) (whole : List Item) (given : Premises cluster whole) where
   abbrev pub EachRight : List Note → List Message → Type 0
@@ -54,7 +53,7 @@ module _ (cluster : Cluster) (whole : List Item) (given : Premises cluster whole
 
 -- an attempt to which all of this applies
 pub record IsRightAttempt (cluster : Cluster) (whole : List Item) (given : Premises cluster whole) (notes : List Note) (x : TxnId) (a : Attempt) : Type 0 where
-  pub body : HasBody cluster whole x a.body
+  pub body : IsBody cluster whole x a.body
   pub begun : list_any (begins x) notes ≡ true
   pub decided : (s : Settled) → a.phase ≡ Executing s → IsDecision cluster whole x s.t s.deps
   pub reads : ReadsRight cluster whole given notes x a

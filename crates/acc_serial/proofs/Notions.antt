@@ -24,11 +24,11 @@ use Rattle.acc_message.specs.declared.note.Note.{Note}
 use Rattle.acc_message.specs.declared.item.Item.{Item}
 use Rattle.acc_message.specs.Fields.{id_of}
 use Rattle.acc_message.specs.Items.{sent_of, notes_of}
-use Rattle.acc_message.specs.Taken.{body_in}
 use Rattle.acc_message.specs.BallotRules.{settled_in, outcome_in}
 use Rattle.acc_message.specs.Run.{Cluster}
 use Rattle.acc_safety.specs.Decisions.{Decision, decisions_of, outcomes_of, is_answered, body_of}
 use Rattle.acc_safety.specs.Coverage.{Conflict}
+use Rattle.acc_safety.specs.Polls.{IsBody}
 use Rattle.acc_serial.proofs.Cell.{Cell}
 use Rattle.acc_serial.proofs.Latest.{Writes, IsLatest}
 
@@ -61,9 +61,6 @@ module _ (cluster : Cluster) (whole : List Item) where
   abbrev pub IsDecided : TxnId → Type 0
   IsDecided x = (deps : List ShardDeps) × IsDecision x (time_of x) deps
 
-  abbrev pub HasBody : TxnId → BodyParts → Type 0
-  HasBody x body = body_of cluster whole x ≡ Some body
-
   abbrev pub outcome_first : TxnId → Option Outcome
   outcome_first x = first_apply (sent_of whole) x
 
@@ -89,7 +86,7 @@ Answered notes x = is_answered x (outcomes_of notes) ≡ true
 -- An outcome of x: what its body means on the latest cells below it. By now outcomes of those below it are noted.
 pub record Finished (cluster : Cluster) (whole : List Item) (notes : List Note) (x : TxnId) (outcome : Outcome) : Type 0 where
   pub body : BodyParts
-  pub body_is : HasBody cluster whole x body
+  pub body_is : IsBody cluster whole x body
   pub decided : IsDecided cluster whole x
   pub cells : Key → Cell
   pub outcome_is : outcome ≡ outcome_of body cells
@@ -104,7 +101,7 @@ pub record IsOutcome (cluster : Cluster) (whole : List Item) (notes : List Note)
 -- What x reads in a shard: of each key there the latest cell below it. Outcomes of those below it there are noted.
 pub record Reading (cluster : Cluster) (whole : List Item) (notes : List Note) (x : TxnId) (shard : ℕ) (cells : List (Key × Cell)) : Type 0 where
   pub decided : IsDecided cluster whole x
-  pub latest : (body : BodyParts) (key : Key) → HasBody cluster whole x body → is_read body key ≡ true → shard_of_key cluster.layout key ≡ shard
+  pub latest : (body : BodyParts) (key : Key) → IsBody cluster whole x body → is_read body key ≡ true → shard_of_key cluster.layout key ≡ shard
       → IsLatestBelow cluster whole x key (cell_of cells key)
   pub behind : (y : TxnId) → Below cluster whole shard y x → Answered notes y
 

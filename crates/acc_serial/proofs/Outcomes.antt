@@ -18,7 +18,8 @@ use Rattle.acc_safety.specs.SerialOutcomes.{IsInPlace}
 use Rattle.acc_serial.proofs.Notions.{Answered}
 use Rattle.acc_serial.proofs.Facts.{Premises}
 use Rattle.acc_serial.proofs.StoreRight.{one_outcome}
-use Rattle.acc_serial.proofs.SharedMembers.{Contains-none, Contains-cases, Contains-first, Contains-later}
+use Rattle.acc_safety.specs.Places.{IsIn}
+use Rattle.acc_safety.proofs.PlaceOrder.{each_at, any_from, passing, Contains-IsIn, IsIn-Contains}
 use Rattle.acc_serial.proofs.NotesInOrder.{HasReply, InPlace, InOrder, answered_more, in_place_at}
 
 -- ---- first outcomes
@@ -26,11 +27,8 @@ use Rattle.acc_serial.proofs.NotesInOrder.{HasReply, InPlace, InOrder, answered_
 is_one : (a : Answer) (x : TxnId) (reply : Reply) → a.id ≡ x → a.reply ≡ reply → a ≡ record { id = x; reply = reply }
 is_one a x reply p q = λ i. record { id = p i; reply = q i }
 
-answered_by : (x : TxnId) (answers : List Answer) (a : Answer) → Contains answers a → a.id ≡ x → is_answered x answers ≡ true
-answered_by x [] a h same = absurd (Contains-none a h)
-answered_by x (b ∷ answers) a h same =
-    ⊎_elim (λ first. or_left (id_eq b.id x) _ ((id_order.decides b.id x).1 (ap (λ (c : Answer). c.id) first ∙ same)))
-    (λ later. or_right (id_eq b.id x) _ (answered_by x answers a later same)) (Contains-cases b answers a h)
+answered_by : (answers : List Answer) (a : Answer) → IsIn a answers → is_answered a.id answers ≡ true
+answered_by answers a there = any_from (λ (b : Answer). id_eq b.id a.id) a answers there ((id_order.decides a.id a.id).1 refl)
 
 -- of each transaction that is answered one answer is first
 first_is_answered : (seen answers : List Answer) (x : TxnId) → is_answered x answers ≡ true → is_answered x seen ≡ false → is_answered x (firsts_after seen answers) ≡ true
@@ -86,34 +84,31 @@ module _ (cluster : Cluster) (whole : List Item) (given : Premises cluster whole
       subst (λ list. AllByRecursion (λ (a : Answer). Replies a.id a.reply × Answered list a.id) (replies_of notes)) (append_assoc before (note ∷ []) notes)
       (each_reply (before ++ note ∷ []) notes h.1)
 
-  each_at : (P : Answer → Type 0) (answers : List Answer) (a : Answer) → AllByRecursion P answers → Contains answers a → P a
-  each_at P [] a each h = absurd (Contains-none a h)
-  each_at P (b ∷ answers) a each h = ⊎_elim (λ same. subst P same each.0) (each_at P answers a each.1) (Contains-cases b answers a h)
-
   -- an answered transaction has just this answer
   the_answer : (answers : List Answer) (a : Answer) → AllByRecursion (λ (b : Answer). Replies b.id b.reply) answers → is_answered a.id answers ≡ true → Replies a.id a.reply
-      → Contains answers a
-  the_answer [] a each answered is = absurd (false≢true answered)
-  the_answer (b ∷ answers) a each answered is =
-      ⊎_elim
-      (λ here. let same = (id_order.decides b.id a.id).0 here in
-      subst (λ list. Contains list a) (ap (λ c. c ∷ answers)
-      (sym (is_one b a.id a.reply same (one_reply a.id b.reply a.reply (subst (λ y. Replies y b.reply) same each.0) is)))) (Contains-first a answers))
-      (λ later. Contains-later b answers a (the_answer answers a each.1 later is)) (or_cases (id_eq b.id a.id) (is_answered a.id answers) answered)
+      → IsIn a answers
+  the_answer answers a each answered is =
+      let p = passing (λ (b : Answer). id_eq b.id a.id) answers answered in
+      let same = (id_order.decides p.element.id a.id).0 p.passes in
+      subst (λ b. IsIn b answers)
+      (is_one p.element a.id a.reply same
+      (one_reply a.id p.element.reply a.reply (subst (λ y. Replies y p.element.reply) same (each_at (λ (b : Answer). Replies b.id b.reply) p.element answers each p.there)) is)) p.there
 
   module _ (notes : List Note) (order : InOrder cluster whole [] notes) where
     first_answer : (a : Answer) → Answered notes a.id → Replies a.id a.reply → Contains (first_outcomes notes) a
     first_answer a answered is =
-        the_answer (first_outcomes notes) a (each_first (λ (b : Answer). Replies b.id b.reply) [] (outcomes_of notes) (each_outcome [] notes order))
-        (first_is_answered [] (outcomes_of notes) a.id answered refl) is
+        IsIn-Contains a (first_outcomes notes)
+        (the_answer (first_outcomes notes) a (each_first (λ (b : Answer). Replies b.id b.reply) [] (outcomes_of notes) (each_outcome [] notes order))
+        (first_is_answered [] (outcomes_of notes) a.id answered refl) is)
 
     pub outcomes_agree : (a : Answer) → Contains (outcomes_of notes) a → Contains (first_outcomes notes) a
     outcomes_agree a h =
-        first_answer a (answered_by a.id (outcomes_of notes) a h refl) (each_at (λ (b : Answer). Replies b.id b.reply) (outcomes_of notes) a (each_outcome [] notes order) h)
+        let there = Contains-IsIn a (outcomes_of notes) h in
+        first_answer a (answered_by (outcomes_of notes) a there) (each_at (λ (b : Answer). Replies b.id b.reply) a (outcomes_of notes) (each_outcome [] notes order) there)
 
     pub replies_agree : (a : Answer) → Contains (replies_of notes) a → Contains (first_outcomes notes) a
     replies_agree a h =
-        let r = each_at (λ (b : Answer). Replies b.id b.reply × Answered notes b.id) (replies_of notes) a (each_reply [] notes order) h in
+        let r = each_at (λ (b : Answer). Replies b.id b.reply × Answered notes b.id) a (replies_of notes) (each_reply [] notes order) (Contains-IsIn a (replies_of notes) h) in
         first_answer a r.1 r.0
 
   -- ---- the place of an outcome

@@ -1,5 +1,5 @@
 -- What a part of a run has the whole run has too, what is begun is noted, and what a store took was sent.
-use Rattle.std.proofs.Common.{◌≡◌, ℕ, Bool, true, false, ◌||◌, cond, List, [], ◌∷◌, ◌++◌, Option, None, Some, Contains, refl, sym, ◌∙◌, ap, subst, ◌⊎◌, inl, inr, ⊎_elim}
+use Rattle.std.proofs.Common.{◌≡◌, ℕ, true, List, [], ◌∷◌, Option, None, Some, Contains, refl, ◌∙◌, subst, ◌⊎◌, inl, inr, ⊎_elim}
 use Rattle.std.specs.List.{AllByRecursion, list_any}
 use Rattle.std.proofs.lemmas.Bool.{or_left, or_right, cond_both}
 use Rattle.std.proofs.lemmas.List.Folds.{list_any-append}
@@ -8,26 +8,26 @@ use Rattle.acc_stamp.specs.declared.actors.Actor.{Actor}
 use Rattle.acc_txn.specs.declared.parts.BodyParts.{BodyParts}
 use Rattle.acc_txn.specs.declared.outcome.Outcome.{Outcome}
 use Rattle.acc_message.specs.declared.message.Message.{Message}
-use Rattle.acc_message.specs.declared.note.Note.{Note}
 use Rattle.acc_message.specs.declared.item.Item.{Item}
 use Rattle.acc_message.specs.declared.item.Item.TheVariants.{Step, Skipped, Down}
 use Rattle.acc_message.specs.Items.{sent_in, sent_of, noted_in, notes_of, begins, txn_begun, txn_in, txn_of}
 use Rattle.acc_message.specs.Taken.{Taken}
 use Rattle.acc_message.specs.Run.{Cluster, taken_of, EachStands}
-use Rattle.acc_safety.specs.Decisions.{Decision, decisions_of, body_at, body_of}
-use Rattle.acc_safety.specs.Places.{IsIn, First, Later, StandsAt, Here, Back, Whole, Behind}
+use Rattle.acc_safety.specs.Decisions.{Decision, decisions_of, body_at}
+use Rattle.acc_safety.specs.Places.{IsIn, First, Later, StandsAt, Here, Back}
 use Rattle.acc_safety.specs.Histories.{Sending}
 use Rattle.acc_safety.proofs.PlaceOrder.{each_from, IsIn-append_left, IsIn-append_right, StandsAt-IsPast, IsPast-rest}
 use Rattle.acc_safety.proofs.Bridge.{Sending-past, store_step}
 use Rattle.acc_actor_laws.proofs.Standing.{not_none}
-use Rattle.acc_serial.proofs.Notions.{first_apply, HasBody, outcome_first}
+use Rattle.acc_safety.specs.Polls.{IsBody}
+use Rattle.acc_serial.proofs.Notions.{first_apply, outcome_first}
 use Rattle.acc_serial.proofs.Facts.{or_else_cases}
 use Rattle.acc_serial.proofs.Frame.{body_kept, decision_kept, first_apply-more}
 
 -- ---- a part of a run
 
 pub record IsWithin (cluster : Cluster) (whole part : List Item) : Type 0 where
-  pub body : (x : TxnId) (body : BodyParts) → HasBody cluster part x body → HasBody cluster whole x body
+  pub body : (x : TxnId) (body : BodyParts) → IsBody cluster part x body → IsBody cluster whole x body
   pub decision : (d : Decision) → Contains (decisions_of (notes_of part)) d → Contains (decisions_of (notes_of whole)) d
   pub first : (x : TxnId) (o : Outcome) → first_apply (sent_of part) x ≡ Some o → outcome_first cluster whole x ≡ Some o
 
@@ -59,7 +59,7 @@ numbered_is_begun (item ∷ earlier) x n e =
     (λ new. or_right (list_any (begins x) (notes_of earlier)) _ (txn_in-begun x item n new))
     (or_else_cases (txn_of earlier x) (txn_in x item) n e)
 
-pub body_is_begun : (cluster : Cluster) (items : List Item) (x : TxnId) (body : BodyParts) → HasBody cluster items x body → list_any (begins x) (notes_of items) ≡ true
+pub body_is_begun : (cluster : Cluster) (items : List Item) (x : TxnId) (body : BodyParts) → IsBody cluster items x body → list_any (begins x) (notes_of items) ≡ true
 body_is_begun cluster items x body = by (txn_of items x) refl
   where
     by : (o : Option ℕ) → txn_of items x ≡ o → body_at cluster o ≡ Some body → list_any (begins x) (notes_of items) ≡ true
@@ -97,7 +97,7 @@ pub each_taken : (P : Message → Type 0) (cluster : Cluster) (a : Actor) (items
 each_taken P cluster a items stands each =
     each_from (λ (step : Taken). P step.message) (taken_of cluster a items)
     (λ step there.
-        let at = stands_somewhere step (taken_of cluster a items) there in
-        let s = store_step cluster a items stands step at.0 at.1 in
-        each step.message
-        (Sending-past s.earlier items step.message (IsPast-rest (Step s.entry) s.earlier items (StandsAt-IsPast (Step s.entry) s.earlier items s.at)) s.sending))
+    let at = stands_somewhere step (taken_of cluster a items) there in
+    let s = store_step cluster a items stands step at.0 at.1 in
+    each step.message
+    (Sending-past s.earlier items step.message (IsPast-rest (Step s.entry) s.earlier items (StandsAt-IsPast (Step s.entry) s.earlier items s.at)) s.sending))

@@ -1,31 +1,27 @@
 -- What an entry of a node emits is right, and its notes are in order.
-use Rattle.std.proofs.Common.{◌≡◌, ℕ, Bool, true, false, cond, List, [], ◌∷◌, ◌++◌, Option, None, Some, refl, sym, ◌∙◌, ap, subst, ⊎_elim}
+use Rattle.std.proofs.Common.{◌≡◌, ℕ, Bool, true, false, List, [], ◌∷◌, ◌++◌, Option, None, Some, refl, sym, ◌∙◌, ap, subst}
 use Rattle.std.specs.List.{flat_map}
 use Rattle.std.proofs.lemmas.Bool.{cond_both}
 use Rattle.acc_stamp.specs.declared.stamps.TxnId.{TxnId}
 use Rattle.acc_stamp.specs.declared.stamps.Ballot.{Ballot}
 use Rattle.acc_stamp.specs.declared.actors.Actor.{Actor}
 use Rattle.acc_stamp.specs.Actor.{actor_of}
-use Rattle.acc_stamp.specs.Stamp.{id_eq}
 use Rattle.acc_topology.specs.Layout.{Layout}
 use Rattle.acc_deps.specs.declared.records.Settled.{Settled}
-use Rattle.acc_txn.specs.declared.parts.BodyParts.{BodyParts}
 use Rattle.acc_txn.specs.declared.outcome.Outcome.{Outcome}
 use Rattle.acc_message.specs.declared.message.Message.{Message}
 use Rattle.acc_message.specs.declared.message.Message.TheVariants.{Inform}
 use Rattle.acc_message.specs.declared.note.Note.{Note}
 use Rattle.acc_message.specs.declared.note.Note.TheVariants.{Reply as ReplyNote}
 use Rattle.acc_message.specs.declared.entry.Emitted.{Emitted}
-use Rattle.acc_message.specs.declared.entry.Event.{Event}
 use Rattle.acc_message.specs.declared.item.Item.{Item}
 use Rattle.acc_message.specs.Fields.{id_of}
-use Rattle.acc_message.specs.Attempts.{Attempt, Voting, Recovering, Executing}
-use Rattle.acc_message.specs.Coordinator.{Reaction, when, begun, recovering, may_slow_down, slow_down, reaction, slow_reaction}
-use Rattle.acc_message.specs.NodeRules.{Act, Begins, Recovers, Slows, Takes, Restarts, Deed, next_id, next_ballot, attempt_after, attempt_of, is_open, emitted_by, replied, with_reply, on_taking, node_emits}
+use Rattle.acc_message.specs.Attempts.{Attempt, Executing}
+use Rattle.acc_message.specs.Coordinator.{when, may_slow_down, slow_down, reaction, slow_reaction}
+use Rattle.acc_message.specs.NodeRules.{Act, Begins, Recovers, Slows, Takes, Restarts, Deed, next_id, attempt_of, is_open, emitted_by, replied, with_reply, on_taking, node_emits}
 use Rattle.acc_message.specs.Run.{Cluster}
-use Rattle.acc_actor_laws.proofs.Standing.{not_none}
-use Rattle.acc_actor_laws.proofs.OpeningFacts.{some_is}
-use Rattle.acc_serial.proofs.Notions.{IsDecision, HasBody, IsOutcome, IsRight}
+use Rattle.acc_safety.specs.Polls.{IsBody}
+use Rattle.acc_serial.proofs.Notions.{IsDecision, IsOutcome, IsRight}
 use Rattle.acc_serial.proofs.Facts.{Premises}
 use Rattle.acc_serial.proofs.Going.{Heard, Before, Counted, reaction_goes, slow_goes}
 use Rattle.acc_serial.proofs.Steps.{Told, Outcome_told, Other_told, told}
@@ -94,7 +90,7 @@ module _ (cluster : Cluster) (whole : List Item) (given : Premises cluster whole
       now : (b : Attempt) → Heard cluster.layout a m b → IsRightAttempt cluster whole given notes (id_of m) b
       now b h = record { body = (same b h).0; begun = was.begun; decided = (same b h).1; reads = heard_right cluster whole given notes (id_of m) a m b was.reads refl right h }
         where
-          same : (b : Attempt) → Heard cluster.layout a m b → HasBody cluster whole (id_of m) b.body × ((s : Settled) → b.phase ≡ Executing s → IsDecision cluster whole (id_of m) s.t s.deps)
+          same : (b : Attempt) → Heard cluster.layout a m b → IsBody cluster whole (id_of m) b.body × ((s : Settled) → b.phase ≡ Executing s → IsDecision cluster whole (id_of m) s.t s.deps)
           same b Before = (was.body, was.decided)
           same b (Counted is) = (was.body, was.decided)
 

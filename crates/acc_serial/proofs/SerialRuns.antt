@@ -1,24 +1,21 @@
 -- In every run with agreement and coverage all messages are right, and all notes are in order.
 use Rattle.std.proofs.Common.{◌≡◌, Bool, true, false, List, [], ◌∷◌, ◌++◌, Option, None, Some, refl, sym, ◌∙◌, ap, subst, ⊎_elim}
-use Rattle.std.specs.List.{AllByRecursion}
 use Rattle.acc_stamp.specs.declared.stamps.TxnId.{TxnId}
 use Rattle.acc_stamp.specs.declared.actors.Actor.{Actor}
 use Rattle.acc_stamp.specs.Actor.{node_of}
-use Rattle.acc_stamp.proofs.Rising.{each_append, each_weaker}
 use Rattle.acc_txn.specs.declared.outcome.Outcome.{Outcome}
 use Rattle.acc_base.specs.Faults.{or_else}
 use Rattle.acc_message.specs.declared.message.Message.{Message}
 use Rattle.acc_message.specs.declared.note.Note.{Note}
 use Rattle.acc_message.specs.declared.entry.Emitted.{Emitted}
 use Rattle.acc_message.specs.declared.entry.Entry.{Entry}
-use Rattle.acc_message.specs.declared.entry.Event.{Event}
 use Rattle.acc_message.specs.declared.item.Item.{Item}
 use Rattle.acc_message.specs.declared.item.Item.TheVariants.{Step, Skipped, Down}
 use Rattle.acc_message.specs.Fields.{id_of}
 use Rattle.acc_message.specs.Items.{sent_in, sent_of, noted_in, notes_of}
 use Rattle.acc_message.specs.BallotRules.{outcome_in}
 use Rattle.acc_message.specs.Attempts.{Attempt}
-use Rattle.acc_message.specs.NodeRules.{Act, Begins, Takes, attempt_of}
+use Rattle.acc_message.specs.NodeRules.{Act, Begins, Takes}
 use Rattle.acc_message.specs.Run.{Cluster, clock_start, deeds_of, taken_from, taken_of, store_emits, is_node, emits_by, attempt_at, MayStand, StandsOn, EachStands}
 use Rattle.acc_actor_laws.proofs.Standing.{not_none}
 use Rattle.acc_serial.proofs.Facts.{Premises, or_else_cases}
@@ -79,7 +76,7 @@ module _ (cluster : Cluster) (whole : List Item) (given : Premises cluster whole
         let about = outcome_about x m o e in
         let found = sent_has_first (sent_of part) m x o there e in
         let mine = subst (λ y. IsOutcome cluster whole (notes_of part) y o) about.0
-          (right_outcome cluster whole (notes_of part) m o (right m (sent_is_sending part m there)) about.1) in
+        (right_outcome cluster whole (notes_of part) m o (right m (sent_is_sending part m there)) about.1) in
         let theirs = first_is_right (notes_of part) (sent_of part) x found.0 (each_sent_right part right) found.1 in
         within.first x found.0 found.1
         ∙ ap (λ q. Some q) (one_outcome cluster whole given (notes_of part) (notes_of part) x found.0 o theirs.finished mine.finished)
@@ -99,14 +96,14 @@ module _ (cluster : Cluster) (whole : List Item) (given : Premises cluster whole
     answers_right a x t node at s executes =
         each_from (IsReadOf cluster whole given (notes_of part) x) t.answers
         (λ m there.
-            let answer = answers_of cluster.layout x (node_of a) (clock_start cluster.starts (node_of a)) (deeds_of cluster a part) t at m there in
-            let n = node_step cluster a part stands answer.took.deed answer.took.past answer.took.at in
-            let sent = (taken_was_sent cluster a part answer.took.deed answer.took.past m n answer.took.act_is).sending in
-            record {
-              about = answer.about;
-              reads = subst (λ phase. fits phase m ≡ true) executes answer.fitting;
-              right = right m (Sending-past n.earlier part m (IsPast-rest (Step n.entry) n.earlier part (StandsAt-IsPast (Step n.entry) n.earlier part n.at)) sent);
-            })
+        let answer = answers_of cluster.layout x (node_of a) (clock_start cluster.starts (node_of a)) (deeds_of cluster a part) t at m there in
+        let n = node_step cluster a part stands answer.took.deed answer.took.past answer.took.at in
+        let sent = (taken_was_sent cluster a part answer.took.deed answer.took.past m n answer.took.act_is).sending in
+        record {
+          about = answer.about;
+          reads = subst (λ phase. fits phase m ≡ true) executes answer.fitting;
+          right = right m (Sending-past n.earlier part m (IsPast-rest (Step n.entry) n.earlier part (StandsAt-IsPast (Step n.entry) n.earlier part n.at)) sent);
+        })
 
     attempt_right : (a : Actor) → is_node a ≡ true → (x : TxnId) (t : Attempt) → attempt_at cluster part a x ≡ Some t → IsRightAttempt cluster whole given (notes_of part) x t
     attempt_right a node x t at =
@@ -138,9 +135,9 @@ module _ (cluster : Cluster) (whole : List Item) (given : Premises cluster whole
         record {
           out = each_from (IsRight cluster whole (notes_of earlier ++ [])) (store_answer cluster.layout e.actor (taken_of cluster e.actor earlier) m)
               (λ n there. right_more cluster whole (notes_of earlier) [] n
-                  (sent_right cluster whole given (notes_of earlier) e.actor (taken_of cluster e.actor earlier) m n
-                  (each_taken (IsSound cluster whole (notes_of earlier)) cluster e.actor earlier stands (sound earlier stands within run.messages)) (taken m refl)
-                  (store_sends cluster.layout e.actor (taken_of cluster e.actor earlier) m n there)));
+              (sent_right cluster whole given (notes_of earlier) e.actor (taken_of cluster e.actor earlier) m n
+              (each_taken (IsSound cluster whole (notes_of earlier)) cluster e.actor earlier stands (sound earlier stands within run.messages)) (taken m refl)
+              (store_sends cluster.layout e.actor (taken_of cluster e.actor earlier) m n there)));
           noted = tt;
         }
     store_emits_right (Begins txn body) taken = record { out = tt; noted = tt }
@@ -155,7 +152,7 @@ module _ (cluster : Cluster) (whole : List Item) (given : Premises cluster whole
         by true node =
             let same = node_emitted cluster earlier e s e.actor s.act node refl s.act_is in
             let r = entry_right cluster whole given (notes_of earlier) e.emitted.notes (node_of e.actor) (clock_start cluster.starts (node_of e.actor)) (deeds_of cluster e.actor earlier)
-              (attempt_right earlier stands within run.messages e.actor node) s.act (λ m takes. (taken_sound m takes).right) (ap (λ (t : Emitted). t.notes) same) in
+            (attempt_right earlier stands within run.messages e.actor node) s.act (λ m takes. (taken_sound m takes).right) (ap (λ (t : Emitted). t.notes) same) in
             record {
               out = subst (λ (t : Emitted). EachRight cluster whole given (notes_of earlier ++ e.emitted.notes) t.out) (sym same) r.out;
               noted = subst (λ (t : Emitted). InOrder cluster whole (notes_of earlier) t.notes) (sym same) r.noted;

@@ -1,29 +1,20 @@
 -- What a store reads, at moments of its changes.
-use Rattle.std.proofs.Common.{◌≡◌, Bool, true, false, cond, List, [], ◌∷◌, ◌++◌, Option, None, Some, is_some, map, refl, sym, ◌∙◌, ap, subst, inl, inr}
-use Rattle.std.specs.List.{AllByRecursion}
-use Rattle.std.proofs.lemmas.Bool.{false≢true, or_left, cond_both}
-use Rattle.acc_stamp.specs.declared.stamps.Stamp.{Stamp}
+use Rattle.std.proofs.Common.{◌≡◌, Bool, true, false, cond, List, [], ◌∷◌, ◌++◌, Option, None, Some, is_some, refl, sym, ◌∙◌, ap, subst, inl, inr}
+use Rattle.std.proofs.lemmas.Bool.{false≢true, or_left}
 use Rattle.acc_stamp.specs.declared.stamps.TxnId.{TxnId}
-use Rattle.acc_stamp.specs.declared.stamps.Ballot.{Ballot}
 use Rattle.acc_stamp.specs.declared.actors.Actor.{Actor}
 use Rattle.acc_stamp.specs.Actor.{shard_of}
-use Rattle.acc_stamp.specs.Stamp.{id_eq, ballot_lt, zero_ballot}
+use Rattle.acc_stamp.specs.Stamp.{id_eq}
 use Rattle.acc_stamp.specs.Rising.{id_among}
-use Rattle.acc_stamp.proofs.Rising.{each_append, each_weaker, is_among-append}
+use Rattle.acc_stamp.proofs.Rising.{is_among-append}
 use Rattle.acc_topology.specs.Layout.{Layout}
-use Rattle.acc_deps.specs.declared.records.Settled.{Settled}
-use Rattle.acc_deps.specs.declared.records.View.{View}
-use Rattle.acc_deps.specs.declared.shards.ShardDeps.{ShardDeps}
 use Rattle.acc_value.specs.declared.key.Key.{Key}
 use Rattle.acc_value.specs.Cells.{applied}
 use Rattle.acc_txn.specs.declared.outcome.Outcome.{Outcome}
-use Rattle.acc_message.specs.declared.answer.ReadAnswer.TheVariants.{Known}
 use Rattle.acc_message.specs.declared.message.Message.{Message}
-use Rattle.acc_message.specs.declared.message.Message.TheVariants.{PreAccept, PreAcceptOk, Accept, AcceptOk, Commit, CommitOk, Stable, Apply, Recover, RecoverOk, Nack, Decided}
-use Rattle.acc_message.specs.Taken.{Taken, taking, known, heard_body}
-use Rattle.acc_message.specs.BallotRules.{promise_of, stable_of, kept_outcome}
+use Rattle.acc_message.specs.Taken.{Taken, taking}
+use Rattle.acc_message.specs.BallotRules.{stable_of, kept_outcome}
 use Rattle.acc_message.specs.Opening.{Change, opened_by, opened_of, is_opened, changes_of, writes_in, written_by, written_by_all, cells_at}
-use Rattle.acc_message.specs.StoreRules.{nack, unless_stable, unless_promised, read_ok, read_by, stable_ballots, opening_of, release, released, kept_or, at_once, store_answer}
 use Rattle.acc_safety.specs.StoreSends.{taking_step, ChangeAmong}
 use Rattle.acc_serial.proofs.Cell.{Cell}
 use Rattle.acc_serial.proofs.Timeline.{AppliedIn, behind, left_by, AllInTurn, AppliedIn-behind, AllInTurn-earlier, below_is_applied}

@@ -33,6 +33,7 @@ use Rattle.acc_message.specs.BallotRules.{stable_of, kept_outcome, outcome_in}
 use Rattle.acc_message.specs.Opening.{Change, is_opened, writes_in, written_by_all, cells_at}
 use Rattle.acc_message.specs.StoreRules.{read_here, read_by, kept_or}
 use Rattle.acc_message.specs.Run.{Cluster}
+use Rattle.acc_safety.specs.Polls.{IsBody}
 use Rattle.acc_serial.proofs.Cell.{Cell}
 use Rattle.acc_serial.proofs.Latest.{one_latest}
 use Rattle.acc_serial.proofs.Timeline.{left_by, left_is_latest_below}
@@ -42,7 +43,7 @@ use Rattle.acc_safety.specs.StoreSends.{StoreSends, Votes, Accepts, Commits, Rev
 use Rattle.acc_serial.proofs.StoreReads.{Moment, writes, EachKept, ReadAt, read_at_once, read_on_opening}
 use Rattle.acc_actor_laws.proofs.Standing.{not_none, stable_of-known}
 use Rattle.acc_actor_laws.proofs.OpeningFacts.{some_is}
-use Rattle.acc_serial.proofs.Notions.{time_of, IsDecision, IsDecided, HasBody, outcome_first, wrote, written_at, Below, IsLatestBelow, Answered, Finished, IsOutcome, Reading, RightAnswer, IsRight, SettlesDecided}
+use Rattle.acc_serial.proofs.Notions.{time_of, IsDecision, IsDecided, outcome_first, wrote, written_at, Below, IsLatestBelow, Answered, Finished, IsOutcome, Reading, RightAnswer, IsRight, SettlesDecided}
 use Rattle.acc_serial.proofs.Facts.{Premises, time_is, decided_from, own_times, wrote_tells, writer_below, below_writer}
 use Rattle.acc_serial.proofs.Histories.{stable_from, kept_from, heard_from, heard_has_body}
 
@@ -79,7 +80,7 @@ key_is_read p cells (k ∷ keys) so_far key passes among =
 
 -- A message has the begun body, settles what is decided and is right. The outcome of an Apply is the first one.
 pub record IsSound (cluster : Cluster) (whole : List Item) (notes : List Note) (m : Message) : Type 0 where
-  pub body : (body : BodyParts) → body_in m ≡ Some body → HasBody cluster whole (id_of m) body
+  pub body : (body : BodyParts) → body_in m ≡ Some body → IsBody cluster whole (id_of m) body
   pub settled : SettlesDecided cluster whole m
   pub right : IsRight cluster whole notes m
   pub first : (x : TxnId) (o : Outcome) → outcome_in x m ≡ Some o → outcome_first cluster whole x ≡ Some o
@@ -117,9 +118,9 @@ module _ (cluster : Cluster) (whole : List Item) (given : Premises cluster whole
         (each_weaker (λ (step : Taken). IsSound cluster whole notes step.message) _ history (λ step h. h.settled) sound)
 
     history_body : (history : List Taken) (x : TxnId) (body : BodyParts) → AllSound cluster whole notes history → heard_body x (known history) ≡ Some body
-        → HasBody cluster whole x body
+        → IsBody cluster whole x body
     history_body history x body sound =
-        heard_from (HasBody cluster whole) history x body
+        heard_from (IsBody cluster whole) history x body
         (each_weaker (λ (step : Taken). IsSound cluster whole notes step.message) _ history (λ step h. h.body) sound)
 
     history_finished : (history : List Taken) (x : TxnId) (o : Outcome) → AllSound cluster whole notes history → kept_outcome history x ≡ Some o
@@ -195,7 +196,7 @@ module _ (cluster : Cluster) (whole : List Item) (given : Premises cluster whole
             let o = some_value (kept_outcome history y) (m.within y (m.below_applied y b)) in
             (history_finished history y o.0 sound o.1).noted
 
-        latest_at : (changes : List Change) (x : TxnId) (body : BodyParts) (key : Key) → Moment below history changes x → HasBody cluster whole x body → is_read body key ≡ true
+        latest_at : (changes : List Change) (x : TxnId) (body : BodyParts) (key : Key) → Moment below history changes x → IsBody cluster whole x body → is_read body key ≡ true
             → shard_of_key cluster.layout key ≡ shard_of own → IsDecided cluster whole x
             → IsLatestBelow cluster whole x key (left_by (writes cluster.layout own below first) changes key)
         latest_at changes x body key m body_is read here decided =
@@ -232,7 +233,7 @@ module _ (cluster : Cluster) (whole : List Item) (given : Premises cluster whole
             cells : Key → Cell
             cells = left_by (writes cluster.layout own below first) changes
 
-            with_body : (body : BodyParts) → HasBody cluster whole x body → IsDecided cluster whole x
+            with_body : (body : BodyParts) → IsBody cluster whole x body → IsDecided cluster whole x
                 → Reading cluster whole notes x (shard_of own) (read_here cluster.layout (shard_of own) body (left_by (writes cluster.layout own below first) changes))
             with_body body is decided =
                 record {

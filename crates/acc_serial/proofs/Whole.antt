@@ -21,7 +21,6 @@ use Rattle.acc_safety.specs.Decisions.{Answered as Answer, outcomes_of, is_answe
 use Rattle.acc_safety.specs.Agreement.{Agreement}
 use Rattle.acc_safety.specs.Coverage.{Coverage}
 use Rattle.acc_safety.specs.SerialOutcomes.{SerialOutcomes}
-use Rattle.acc_safety.specs.RunLaws.{drawn_of, AreDistinct}
 use Rattle.acc_actor_laws.proofs.OpeningFacts.{some_is}
 use Rattle.acc_serial.proofs.Notions.{written_at, outcome_first, wrote, Answered, Finished}
 use Rattle.acc_serial.proofs.Facts.{Premises, updated_is_found}
