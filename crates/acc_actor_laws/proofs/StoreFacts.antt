@@ -1,5 +1,5 @@
 -- What a store promises, and when it votes.
-use Rattle.std.proofs.Common.{◌≡◌, ℤ, Bool, true, false, ◌||◌, cond, List, [], ◌∷◌, Option, None, Some, map, refl, sym, ◌∙◌, ap, arith}
+use Rattle.std.proofs.Common.{◌≡◌, Bool, true, false, ◌||◌, cond, List, [], ◌∷◌, Option, None, Some, map, refl, sym, ◌∙◌, ap, arith}
 use Rattle.std.specs.List.{list_any}
 use Rattle.std.proofs.lemmas.Bool.{true≢false, and_parts, and_right, or_from, cond_both}
 use Rattle.std.proofs.lemmas.Bool.Decides.{nat_tests}
@@ -13,6 +13,7 @@ use Rattle.acc_stamp.proofs.Order.{id_order, ballot_order, asym}
 use Rattle.acc_topology.specs.Layout.{Layout}
 use Rattle.acc_deps.specs.declared.records.Settled.{Settled}
 use Rattle.acc_value.specs.declared.key.Key.{Key}
+use Rattle.acc_value.specs.declared.value.Value.{Value}
 use Rattle.acc_txn.specs.declared.parts.BodyParts.{BodyParts}
 use Rattle.acc_message.specs.declared.message.Message.{Message}
 use Rattle.acc_message.specs.declared.message.Message.TheVariants.{PreAccept, PreAcceptOk, Accept, AcceptOk, Commit, CommitOk, Stable, ReadOk, Apply, Recover, RecoverOk, Nack, Decided, Inform}
@@ -123,14 +124,14 @@ no_votes_mapped : {B : Type 0} (x : TxnId) (answer : B → Message) (bs : List B
 no_votes_mapped x answer [] h = refl
 no_votes_mapped x answer (b ∷ bs) h = or_from (votes_for x (answer b)) _ (h b) (no_votes_mapped x answer bs h)
 
-no_votes_opening : (x : TxnId) (layout : Layout) (own : Actor) (now : List Taken) (c : Change) (cells : Key → Option ℤ)
+no_votes_opening : (x : TxnId) (layout : Layout) (own : Actor) (now : List Taken) (c : Change) (cells : Key → Option Value)
     → list_any (votes_for x) (opening_of layout own now c cells) ≡ false
 no_votes_opening x layout own now c cells =
     cond_both c.opens _ [] (λ list. list_any (votes_for x) list ≡ false)
     (λ _. no_votes_mapped x (λ b. read_ok own c.id b (read_by layout (shard_of own) (heard_body c.id (known now)) cells)) (stable_ballots now c.id) (λ b. refl))
     (λ _. refl)
 
-no_votes_released : (x : TxnId) (layout : Layout) (own : Actor) (now : List Taken) (changes : List Change) (cells : Key → Option ℤ)
+no_votes_released : (x : TxnId) (layout : Layout) (own : Actor) (now : List Taken) (changes : List Change) (cells : Key → Option Value)
     → list_any (votes_for x) (release layout own now changes cells) ≡ false
 no_votes_released x layout own now [] cells = refl
 no_votes_released x layout own now (c ∷ changes) cells =

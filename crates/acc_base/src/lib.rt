@@ -5,10 +5,12 @@
 mod memory;
 mod numbers;
 mod sequence;
+mod shared;
 
 pub use memory::{Duplicate, OutOfMemory};
 pub use numbers::{push_number, push_signed_number};
 pub use sequence::Sequence;
+pub use shared::SharedSequence;
 
 /// A list of bytes.
 pub type Bytes = Sequence<u8>;

@@ -1,5 +1,5 @@
 -- Dependencies by shard: their form, what each shard has, and that this determines them.
-use Rattle.std.proofs.Common.{◌≡◌, ℕ, ◌<◌, ◌==◌, Bool, true, false, cond, nat_lt, ◌||◌, ◌⊎◌, List, [], ◌∷◌, ◌++◌, length, get_or, set, insert, suc, zero, sym, refl, ap, ◌∙◌, ◌&&◌, subst, ⊎_elim, arith}
+use Rattle.std.proofs.Common.{◌≡◌, ℕ, ◌<◌, ◌==◌, Bool, true, false, cond, nat_lt, ◌||◌, ◌⊎◌, List, [], ◌∷◌, ◌++◌, length, get_or, set, insert, Result, Ok, Err, OnOk, OnErr, suc, zero, sym, refl, ap, ◌∙◌, ◌&&◌, subst, ⊎_elim, arith}
 use Rattle.std.specs.List.{AllByRecursion, list_any}
 use Rattle.std.proofs.lemmas.Bool.{cond_both, cond-true, cond-false, lt-ltb}
 use Rattle.std.proofs.lemmas.List.{set-get_or}
@@ -77,6 +77,11 @@ AreDeps-with e ds p q h = record { shards = shards-with e ds h.shards; ids = ids
 pub AreDeps-union : (ds es : List ShardDeps) → AreDeps ds → AreDeps es → AreDeps (deps_union ds es)
 AreDeps-union ds [] h k = h
 AreDeps-union ds (e ∷ es) h k = AreDeps-with e (deps_union ds es) k.ids.0 k.some.0 (AreDeps-union ds es h (AreDeps-rest e es k))
+
+-- the form is kept by what answers OutOfMemory and changes nothing then
+pub AreDeps-after : {T E : Type 0} (r : Result T E) (before after done : List ShardDeps) → OnOk r (after ≡ done) → OnErr r (after ≡ before) → AreDeps done → AreDeps before → AreDeps after
+AreDeps-after (Ok x) before after done ok err h k = subst AreDeps (sym ok) h
+AreDeps-after (Err e) before after done ok err h k = subst AreDeps (sym err) k
 
 -- ---- what a shard has
 

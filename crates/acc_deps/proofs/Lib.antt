@@ -1,3 +1,5 @@
+pub mod Adopted
 pub mod ByShard
 mod Merge
 mod ShardMerge
+mod Within

@@ -3,7 +3,7 @@
 --     least_stably      the stable record of the first store
 --     highest_claim      the committed or accepted record of the greatest ballot, then a committed one, then that of the first store
 --     waits_of      the transactions for which some view waits
-use Rattle.std.specs.Prelude.{Bool, true, false, not, cond, ◌==◌, ◌&&◌, ◌||◌, nat_lt, List, [], ◌∷◌, ◌++◌, Option, None, Some}
+use Rattle.std.specs.Prelude.{◌≡◌, Bool, true, false, not, cond, ◌==◌, ◌&&◌, ◌||◌, nat_lt, List, [], ◌∷◌, ◌++◌, Option, None, Some, Contains}
 use Rattle.std.specs.List.{flat_map}
 use Rattle.std.specs.Bool.{beq}
 use Rattle.acc_stamp.specs.declared.stamps.TxnId.{TxnId}
@@ -87,3 +87,32 @@ choice_of_claim c = cond c.is_committed (GoCommit c.settled) (GoAccept c.settled
 abbrev pub waits_of : List View → List TxnId
 waits_of [] = []
 waits_of (v ∷ views) = ids_union (waits_of views) v.waits
+
+-- ---- laws
+
+-- some view shows this stable record
+pub record ShowsStable (views : List View) (s : Stably) : Type 0 where
+  pub view : View
+  pub there : Contains views view
+  pub store_is : view.store ≡ s.store
+  pub shows : view.stable ≡ Some s.settled
+
+-- the record that a claim is
+abbrev pub record_of : Claim → Accepted
+record_of c = record { ballot = c.ballot; t = c.settled.t; deps = c.settled.deps }
+
+-- the view has the claim as its committed or as its accepted record
+abbrev pub shown_as : View → Bool → Option Accepted
+shown_as v is_committed = cond is_committed v.committed v.accepted
+
+-- some view shows the claim
+pub record ShowsClaim (views : List View) (c : Claim) : Type 0 where
+  pub view : View
+  pub there : Contains views view
+  pub store_is : view.store ≡ c.store
+  pub shows : shown_as view c.is_committed ≡ Some (record_of c)
+
+-- the ballot of the first isn't smaller, and where both have one ballot the first is committed if the second is
+pub record IsAtLeast (c d : Claim) : Type 0 where
+  pub ballot : ballot_lt c.ballot d.ballot ≡ false
+  pub committed : c.ballot ≡ d.ballot → d.is_committed ≡ true → c.is_committed ≡ true

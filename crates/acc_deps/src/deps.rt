@@ -1,32 +1,40 @@
 //! The dependencies of a transaction.
-ghost use Rattle.std.specs.Prelude.{◌≡◌, ◌<◌, [], ◌++◌, IfOk, OnOk, OnErr};
+ghost use Rattle.std.specs.Prelude.{◌≡◌, ◌<◌, ℕ, [], ◌++◌, IsTrue, IfOk, OnOk, OnErr};
 ghost use Rattle.std.specs.List.{AllByRecursion};
+ghost use Rattle.acc_stamp.specs.declared.stamps.TxnId.{TxnId};
 ghost use Rattle.acc_stamp.specs.Rising.{IsRising};
 ghost use Rattle.acc_deps.specs.Deps.{AreDeps, of_shard, deps_has, deps_with, deps_union, deps_of, all_ids};
 
-use crate::ids::insert_id;
+use crate::content::{Content, insert_shared, push_shared, shards_in};
+use crate::parts::is_part;
 use crate::shards::{ShardDeps, merged_all, merged_shards, place_of};
 use acc_base::{Duplicate, OutOfMemory};
 use acc_stamp::{Ids, TxnId};
 use std::alloc::Global;
 use std::marker::Model;
+use std::sync::Arc;
 
 /// The dependencies of a transaction: in each shard the transactions that conflict with it and are to go before it.
+///
+/// Copies share their content. A value that has a content of its own is written in place, and another one takes a content of
+/// its own first.
 #[derive(Debug, Drop)]
 pub struct Deps {
-    shards: Vec<ShardDeps>,
+    alloc: Global,
+    shards: Content,
 }
 
 impl Model for Deps {
     ghost use Rattle.std.specs.Prelude.{List};
+    ghost use Rattle.acc_base.specs.Shared.{items_of};
     ghost use Rattle.acc_deps.specs.declared.shards.ShardDeps.{ShardDeps};
     ghost use Rattle.acc_deps.specs.Deps.{AreDeps};
 
     ghost Value = { List ShardDeps };
 
-    ghost view = { λ d. d.shards.items };
+    ghost view = { λ d. items_of d.shards };
 
-    ghost invariant = { λ d. AreDeps d.shards.items };
+    ghost invariant = { λ d. AreDeps (items_of d.shards) };
 }
 
 impl Deps {
@@ -35,8 +43,20 @@ impl Deps {
         ensures { result ≡ [] }
     {
         Deps {
-            shards: Vec::new(alloc),
+            alloc,
+            shards: None,
         }
+    }
+
+    // Dependencies with a content of their own.
+    fn of(alloc: Global, shards: Vec<ShardDeps>) -> Result<Deps, OutOfMemory>
+        requires { AreDeps shards.items }
+        ensures { IfOk result (λ deps. deps ≡ shards.items) }
+    {
+        Ok(Deps {
+            alloc,
+            shards: Some(Arc::new(alloc, shards)?),
+        })
     }
 
     /// The shards that have dependencies, with these.
@@ -44,7 +64,7 @@ impl Deps {
         ensures shards { result.now ≡ self.now }
         ensures stands { AreDeps self.now }
     {
-        &self.shards
+        shards_in(&self.shards)
     }
 
     /// The dependencies in a shard, rising.
@@ -52,8 +72,9 @@ impl Deps {
         ensures ids { result.now ≡ of_shard self.now shard }
         ensures rises { IsRising result.now }
     {
-        match place_of(&self.shards, shard) {
-            Ok(place) => self.shards[place].ids.as_slice(),
+        let shards = self.by_shard();
+        match place_of(shards, shard) {
+            Ok(place) => shards[place].ids.as_slice(),
             Err(_) => &[],
         }
     }
@@ -70,7 +91,7 @@ impl Deps {
         ensures ids { IfOk result (λ ids. ids ≡ all_ids self.now) }
         ensures rises { IfOk result IsRising }
     {
-        merged_all(*self.shards.allocator(), &self.shards)
+        merged_all(self.alloc, self.by_shard())
     }
 
     /// Adds a transaction to the dependencies in a shard, where it isn't there. Without memory for it these are as before.
@@ -78,15 +99,7 @@ impl Deps {
         ensures ok { OnOk result (self.new ≡ deps_with shard id self.old) }
         ensures err { OnErr result (self.new ≡ self.old) }
     {
-        match place_of(&self.shards, shard) {
-            Ok(place) => insert_id(&mut self.shards[place].ids, id),
-            Err(place) => {
-                let mut ids = Ids::new(*self.shards.allocator());
-                ids.push(id)?;
-                self.shards.insert(place, ShardDeps { shard, ids })?;
-                Ok(())
-            }
-        }
+        insert_shared(&mut self.shards, self.alloc, shard, id)
     }
 
     /// Adds a shard behind all that have dependencies, with these. No transactions add nothing. Without memory for it the
@@ -100,26 +113,58 @@ impl Deps {
         if ids.is_empty() {
             return Ok(());
         }
-        self.shards.push(ShardDeps { shard, ids })?;
-        Ok(())
+        push_shared(&mut self.shards, self.alloc, ShardDeps { shard, ids })
     }
 
-    /// Adds the dependencies that another value has. Without memory for them these are as before.
+    // Whether these have all of some others. Where this isn't found, they may have them too.
+    fn has_each(&self, others: &[ShardDeps]) -> bool
+        ensures { IsTrue result → (s : ℕ) (x : TxnId) → IsTrue (deps_has others.now s x) → IsTrue (deps_has self.now s x) }
+    {
+        for other in others {
+            if !is_part(other.ids.as_slice(), self.of_shard(other.shard)) {
+                return false;
+            }
+        }
+        true
+    }
+
+    /// Adds the dependencies that another value has. Without memory for them these are as before. Where one value has all of
+    /// the other, it is shared, and no new list is made.
     pub fn union(&mut self, other: &Deps) -> Result<(), OutOfMemory>
         ensures ok { OnOk result (self.new ≡ deps_union self.old other.now) }
         ensures err { OnErr result (self.new ≡ self.old) }
     {
-        self.shards = merged_shards(*self.shards.allocator(), &self.shards, &other.shards)?;
+        *self = self.joined(other)?;
         Ok(())
     }
 
-    /// An equal value, in memory of its own.
+    // The dependencies of both.
+    fn joined(&self, other: &Deps) -> Result<Deps, OutOfMemory>
+        ensures { IfOk result (λ joined. joined ≡ deps_union self.now other.now) }
+    {
+        let ours = self.by_shard();
+        let theirs = other.by_shard();
+        if self.has_each(theirs) {
+            return self.copy();
+        }
+        if other.has_each(ours) {
+            return other.copy();
+        }
+        let merged = merged_shards(self.alloc, ours, theirs)?;
+        Deps::of(self.alloc, merged)
+    }
+
+    /// An equal value, which shares its content with this one. It takes no memory of its own.
     pub fn copy(&self) -> Result<Deps, OutOfMemory>
         ensures { IfOk result (λ copy. copy ≡ self.now) }
     {
-        Ok(Deps {
-            shards: ShardDeps::copy_all(*self.shards.allocator(), &self.shards)?,
-        })
+        match &self.shards {
+            Some(shards) => Ok(Deps {
+                alloc: self.alloc,
+                shards: Some(Arc::try_clone(shards)?),
+            }),
+            None => Ok(Deps::new(self.alloc)),
+        }
     }
 }
 
@@ -139,7 +184,7 @@ impl PartialEq for Deps {
     ghost laws = { lists_per laws-law };
 
     fn eq(&self, other: &Deps) -> bool {
-        self.shards == other.shards
+        self.by_shard() == other.by_shard()
     }
 }
 

@@ -2,9 +2,11 @@
 //! the paper by Elliott Smith, Zhang, Eggleston and Andreas.
 #![tactic(auto)]
 
+mod content;
 mod deps;
 mod ids;
 pub mod laws;
+mod parts;
 mod records;
 mod shards;
 
@@ -12,6 +14,3 @@ pub use deps::Deps;
 pub use ids::merged_ids;
 pub use records::{Accepted, Choice, Settled, View};
 pub use shards::ShardDeps;
-
-#[cfg(test)]
-mod tests;

@@ -1,5 +1,8 @@
 -- Serial outcomes are decided by a test.
-use Rattle.std.proofs.Common.{◌≡◌, ℤ, Bool, true, false, not, ◌&&◌, ◌||◌, List, [], ◌∷◌, ◌++◌, Option, None, Some, map, Contains, IsTrue, refl, sym, ◌∙◌, ap, subst, append_assoc}
+use Rattle.std.proofs.Common.{◌≡◌, Bool, true, false, not, ◌&&◌, ◌||◌, List, [], ◌∷◌, ◌++◌, Option, None, Some, map, Contains, IsTrue, refl, sym, ◌∙◌, ap, subst, append_assoc}
+use Rattle.acc_value.specs.declared.value.Value.{Value}
+use Rattle.acc_value.specs.declared.value.Value.TheVariants.{Number, Text}
+use Rattle.std.specs.Str.{bytes_eq}
 use Rattle.std.specs.Prelude.{is_some}
 use Rattle.std.specs.Bool.{Decides}
 use Rattle.std.specs.List.{list_any, list_all}
@@ -8,7 +11,7 @@ use Rattle.std.specs.Ordering.{int_eq}
 use Rattle.std.specs.Cmp.Lexicographic.{pointwise}
 use Rattle.std.proofs.lemmas.Bool.{true≢false, and_parts, and_from}
 use Rattle.std.proofs.lemmas.Bool.Decides.{Decides-int_eq, Decides-and, Decides-like}
-use Rattle.std.proofs.lemmas.Slice.Eq.{slice_eq-Decides}
+use Rattle.std.proofs.lemmas.Slice.Eq.{slice_eq-Decides, bytes_eq-Decides}
 use Rattle.std.specs.Set.{is_member}
 use Rattle.std.proofs.lemmas.Map.Made.{is_member-Decides}
 use Rattle.std.proofs.lemmas.List.{append-nil}
@@ -58,27 +61,43 @@ verdict_eq-same Overflow = refl
 verdict_eq-Decides : (a b : Verdict) → Decides (verdict_eq a b) (a ≡ b)
 verdict_eq-Decides a b = (verdict_eq-sound a b, λ e. subst (λ c. verdict_eq a c ≡ true) e (verdict_eq-same a))
 
-value_eq-sound : (a b : Option ℤ) → option_eq int_eq a b ≡ true → a ≡ b
-value_eq-sound None None h = refl
-value_eq-sound None (Some y) h = absurd (true≢false (sym h))
-value_eq-sound (Some x) None h = absurd (true≢false (sym h))
-value_eq-sound (Some x) (Some y) h = ap (λ z. Some z) ((Decides-int_eq x y).0 h)
+abbrev value_test : Value → Value → Bool
+value_test (Number a) (Number b) = int_eq a b
+value_test (Number a) (Text b) = false
+value_test (Text a) (Number b) = false
+value_test (Text a) (Text b) = bytes_eq a b
 
-value_eq-same : (a : Option ℤ) → option_eq int_eq a a ≡ true
-value_eq-same None = refl
-value_eq-same (Some x) = (Decides-int_eq x x).1 refl
+value_sound : (a b : Value) → value_test a b ≡ true → a ≡ b
+value_sound (Number a) (Number b) h = ap (λ n. Number n) ((Decides-int_eq a b).0 h)
+value_sound (Number a) (Text b) h = absurd (true≢false (sym h))
+value_sound (Text a) (Number b) h = absurd (true≢false (sym h))
+value_sound (Text a) (Text b) h = ap (λ t. Text t) ((bytes_eq-Decides a b).0 h)
 
-value_eq-Decides : (a b : Option ℤ) → Decides (option_eq int_eq a b) (a ≡ b)
-value_eq-Decides a b = (value_eq-sound a b, λ e. subst (λ c. option_eq int_eq a c ≡ true) e (value_eq-same a))
+value_same : (a : Value) → value_test a a ≡ true
+value_same (Number a) = (Decides-int_eq a a).1 refl
+value_same (Text a) = (bytes_eq-Decides a a).1 refl
+
+cell_sound : (a b : Option Value) → option_eq value_test a b ≡ true → a ≡ b
+cell_sound None None h = refl
+cell_sound None (Some y) h = absurd (true≢false (sym h))
+cell_sound (Some x) None h = absurd (true≢false (sym h))
+cell_sound (Some x) (Some y) h = ap (λ z. Some z) (value_sound x y h)
+
+cell_same : (a : Option Value) → option_eq value_test a a ≡ true
+cell_same None = refl
+cell_same (Some x) = value_same x
+
+cell_test-Decides : (a b : Option Value) → Decides (option_eq value_test a b) (a ≡ b)
+cell_test-Decides a b = (cell_sound a b, λ e. subst (λ c. option_eq value_test a c ≡ true) e (cell_same a))
 
 abbrev reply_eq : Reply → Reply → Bool
-reply_eq a b = verdict_eq a.verdict b.verdict && pointwise (option_eq int_eq) a.values b.values
+reply_eq a b = verdict_eq a.verdict b.verdict && pointwise (option_eq value_test) a.values b.values
 
 reply_eq-Decides : (a b : Reply) → Decides (reply_eq a b) (a ≡ b)
 reply_eq-Decides a b =
     Decides-like _ (λ h. λ i. record { verdict = h.0 i; values = h.1 i }) (λ e. (ap (λ (r : Reply). r.verdict) e, ap (λ (r : Reply). r.values) e))
     (Decides-and _ _ (verdict_eq-Decides a.verdict b.verdict)
-    (slice_eq-Decides value_eq-Decides a.values b.values (pointwise (option_eq int_eq) a.values b.values) refl))
+    (slice_eq-Decides cell_test-Decides a.values b.values (pointwise (option_eq value_test) a.values b.values) refl))
 
 abbrev replies_eq : List Reply → List Reply → Bool
 replies_eq xs ys = pointwise reply_eq xs ys

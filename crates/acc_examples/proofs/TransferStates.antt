@@ -1,5 +1,6 @@
 -- The items of the transfer between two shards, after its first two transactions and after its third.
-use Rattle.std.proofs.Common.{ℕ, ℤ, pos, false, List, [], ◌∷◌, ◌++◌, Option, Some, map}
+use Rattle.std.proofs.Common.{ℕ, false, List, [], ◌∷◌, ◌++◌, Option, map}
+use Rattle.acc_value.specs.declared.value.Value.{Value}
 use Rattle.acc_stamp.specs.declared.stamps.TxnId.{TxnId}
 use Rattle.acc_stamp.specs.declared.actors.Actor.{Actor}
 use Rattle.acc_stamp.specs.Actor.{actor_of}
@@ -17,7 +18,7 @@ use Rattle.acc_message.specs.declared.note.Note.TheVariants.{Begin as BeginNote,
 use Rattle.acc_message.specs.declared.entry.Event.TheVariants.{Begin as BeginEvent, Message as Takes}
 use Rattle.acc_message.specs.declared.item.Item.{Item}
 use Rattle.acc_message.specs.declared.item.Item.TheVariants.{Step}
-use Rattle.acc_examples.specs.Clusters.{id, deps_in, key, alice, zoe, writing, transfer, ok}
+use Rattle.acc_examples.specs.Clusters.{id, deps_in, key, alice, zoe, writing, transfer, ok, number_cell}
 
 abbrev node : Actor
 node = actor_of 1 0
@@ -52,11 +53,11 @@ body_b = writing zoe 5
 abbrev body_c : BodyParts
 body_c = transfer alice zoe 30
 
-abbrev read_alice : List (Key × Option ℤ)
-read_alice = (key alice, Some (pos 100)) ∷ []
+abbrev read_alice : List (Key × Option Value)
+read_alice = (key alice, number_cell 100) ∷ []
 
-abbrev read_zoe : List (Key × Option ℤ)
-read_zoe = (key zoe, Some (pos 5)) ∷ []
+abbrev read_zoe : List (Key × Option Value)
+read_zoe = (key zoe, number_cell 5) ∷ []
 
 abbrev outcome_a : Result
 outcome_a = record { reply = ok []; writes = read_alice }
@@ -67,8 +68,8 @@ outcome_b = record { reply = ok []; writes = read_zoe }
 abbrev outcome_c : Result
 outcome_c =
     record {
-      reply = ok (Some (pos 100) ∷ Some (pos 5) ∷ []);
-      writes = (key alice, Some (pos 70)) ∷ (key zoe, Some (pos 35)) ∷ [];
+      reply = ok (number_cell 100 ∷ number_cell 5 ∷ []);
+      writes = (key alice, number_cell 70) ∷ (key zoe, number_cell 35) ∷ [];
     }
 
 -- the node begins a transaction, an actor takes a message, and the node takes one and notes something

@@ -1,6 +1,6 @@
 -- A client has one reply: the outcome that another node tells closes it, and so does the outcome of the own attempt. A decision
 -- that a store tells is adopted once. Of the reads of one shard the first counts.
-use Rattle.std.specs.Prelude.{ℕ, pos, List, [], ◌∷◌, Some, map}
+use Rattle.std.specs.Prelude.{ℕ, List, [], ◌∷◌, map}
 use Rattle.acc_stamp.specs.declared.stamps.TxnId.{TxnId}
 use Rattle.acc_stamp.specs.declared.actors.Actor.{Actor}
 use Rattle.acc_stamp.specs.Actor.{actor_of}
@@ -14,14 +14,14 @@ use Rattle.acc_message.specs.declared.note.Note.TheVariants.{Begin, Decide, Outc
 use Rattle.acc_message.specs.declared.entry.Emitted.{Emitted}
 use Rattle.acc_message.specs.Coordinator.{silence}
 use Rattle.acc_message.specs.NodeRules.{Act, Begins, Takes}
-use Rattle.acc_examples.specs.Clusters.{id, reading_both, key, alice, zoe, ok}
+use Rattle.acc_examples.specs.Clusters.{id, reading_both, key, alice, zoe, ok, number_cell}
 use Rattle.acc_examples.specs.Actors.{a, zero, node_at}
 
 abbrev pub both : BodyParts
 both = reading_both alice zoe
 
 abbrev pub told : Outcome
-told = record { reply = ok (Some (pos 1) ∷ Some (pos 3) ∷ []); writes = [] }
+told = record { reply = ok (number_cell 1 ∷ number_cell 3 ∷ []); writes = [] }
 
 -- the id of the second transaction of node 1
 abbrev pub second : TxnId
@@ -32,7 +32,7 @@ decided x = Takes (Decided (actor_of 3 2) (node_at 1) x zero x.0 [])
 
 abbrev pub read : TxnId → ℕ → ℕ → List ℕ → ℕ → Act
 read x node shard text number =
-    Takes (ReadOk (actor_of node shard) (node_at 1) x zero (Values ((key text, Some (pos number)) ∷ [])))
+    Takes (ReadOk (actor_of node shard) (node_at 1) x zero (Values ((key text, number_cell number) ∷ [])))
 
 abbrev pub informed : TxnId → Act
 informed x = Takes (Inform (node_at 2) (node_at 1) x zero told)

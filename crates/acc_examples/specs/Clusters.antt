@@ -1,5 +1,7 @@
 -- Small clusters and transactions, for worked examples.
-use Rattle.std.specs.Prelude.{ℕ, ℤ, pos, true, false, List, [], ◌∷◌, Option, None, Some}
+use Rattle.std.specs.Prelude.{ℕ, pos, true, false, List, [], ◌∷◌, Option, None, Some}
+use Rattle.acc_value.specs.declared.value.Value.{Value}
+use Rattle.acc_value.specs.declared.value.Value.TheVariants.{Number as NumberValue}
 use Rattle.acc_stamp.specs.declared.stamps.Stamp.{Stamp}
 use Rattle.acc_stamp.specs.declared.stamps.TxnId.{TxnId}
 use Rattle.acc_stamp.specs.declared.stamps.Ballot.{Ballot}
@@ -120,5 +122,9 @@ transfer text other n =
     (setting text (name_of 0 ∷ less n ∷ []) ∷ setting other (name_of 1 ∷ number n ∷ []) ∷ [])
 
 -- the reply ok, with these values
-abbrev pub ok : List (Option ℤ) → Reply
+abbrev pub ok : List (Option Value) → Reply
 ok values = record { verdict = Done; values = values }
+
+-- the cell with a number
+abbrev pub number_cell : ℕ → Option Value
+number_cell n = Some (NumberValue (pos n))

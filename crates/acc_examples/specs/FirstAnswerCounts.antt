@@ -1,6 +1,6 @@
 -- Of two answers of one store the first one counts: the second, with a changed vote, loses no fast quorum, and the votes of the
 -- other stores decide.
-use Rattle.std.specs.Prelude.{List, [], ◌∷◌, pos, Some}
+use Rattle.std.specs.Prelude.{List, [], ◌∷◌}
 use Rattle.acc_txn.specs.declared.outcome.Outcome.{Outcome}
 use Rattle.acc_message.specs.declared.answer.ReadAnswer.TheVariants.{Values}
 use Rattle.acc_message.specs.declared.message.Message.TheVariants.{PreAccept, PreAcceptOk, Stable, ReadOk, Apply}
@@ -9,11 +9,11 @@ use Rattle.acc_message.specs.declared.note.Note.TheVariants.{Begin, Decide, Outc
 use Rattle.acc_message.specs.declared.entry.Emitted.{Emitted}
 use Rattle.acc_message.specs.Coordinator.{silence}
 use Rattle.acc_message.specs.NodeRules.{Act, Begins, Takes}
-use Rattle.acc_examples.specs.Clusters.{stamp, writing, key, x, ok}
+use Rattle.acc_examples.specs.Clusters.{stamp, writing, key, x, ok, number_cell}
 use Rattle.acc_examples.specs.Actors.{a, zero, node_at, store_at}
 
 abbrev pub written : Outcome
-written = record { reply = ok []; writes = (key x, Some (pos 1)) ∷ [] }
+written = record { reply = ok []; writes = (key x, number_cell 1) ∷ [] }
 
 abbrev pub acts : List Act
 acts =

@@ -1,7 +1,7 @@
 -- Of three transactions on one key, b waits for a and c for both. Applying a opens b for its two waiters, in the order of their
 -- ballots, and then c, each with the cells of its turn. A Stable that comes after its transaction was opened doesn't wait: it
 -- gets the cells of that moment, and later, behind the Apply, the outcome.
-use Rattle.std.specs.Prelude.{List, [], ◌∷◌, pos, Some}
+use Rattle.std.specs.Prelude.{List, [], ◌∷◌}
 use Rattle.acc_stamp.specs.declared.stamps.Ballot.{Ballot}
 use Rattle.acc_txn.specs.declared.parts.BodyParts.{BodyParts}
 use Rattle.acc_txn.specs.declared.parts.Select.TheVariants.{Names}
@@ -9,7 +9,7 @@ use Rattle.acc_txn.specs.declared.outcome.Outcome.{Outcome}
 use Rattle.acc_message.specs.declared.answer.ReadAnswer.TheVariants.{Values, Known}
 use Rattle.acc_message.specs.declared.message.Message.{Message}
 use Rattle.acc_message.specs.declared.message.Message.TheVariants.{Stable, ReadOk, Apply}
-use Rattle.acc_examples.specs.Clusters.{stamp, ballot, deps_in, writing, reading, body, binding, setting, number, key, x, p, ok}
+use Rattle.acc_examples.specs.Clusters.{stamp, ballot, deps_in, writing, reading, body, binding, setting, number, key, x, p, ok, number_cell}
 use Rattle.acc_examples.specs.Actors.{a, b, c, zero, node_at, store_at}
 
 -- LET p = (SELECT v FROM t WHERE k = 'x'); SELECT p.v; UPDATE t SET v = 9 WHERE k = 'x'
@@ -17,10 +17,10 @@ abbrev pub exchanging : BodyParts
 exchanging = body (binding p x ∷ []) (Names (0 ∷ [])) [] (setting x (number 9 ∷ []) ∷ [])
 
 abbrev pub written : Outcome
-written = record { reply = ok []; writes = (key x, Some (pos 7)) ∷ [] }
+written = record { reply = ok []; writes = (key x, number_cell 7) ∷ [] }
 
 abbrev pub exchanged : Outcome
-exchanged = record { reply = ok (Some (pos 7) ∷ []); writes = (key x, Some (pos 9)) ∷ [] }
+exchanged = record { reply = ok (number_cell 7 ∷ []); writes = (key x, number_cell 9) ∷ [] }
 
 abbrev pub messages : List Message
 messages =
@@ -41,11 +41,11 @@ answers =
     ∷ []
     ∷ []
     ∷ (ReadOk (store_at 1) (node_at 1) a zero (Values []) ∷ [])
-    ∷ (ReadOk (store_at 1) (node_at 2) b zero (Values ((key x, Some (pos 7)) ∷ []))
-    ∷ ReadOk (store_at 1) (node_at 3) b (ballot 1 192) (Values ((key x, Some (pos 7)) ∷ []))
-    ∷ ReadOk (store_at 1) (node_at 3) c zero (Values ((key x, Some (pos 9)) ∷ []))
+    ∷ (ReadOk (store_at 1) (node_at 2) b zero (Values ((key x, number_cell 7) ∷ []))
+    ∷ ReadOk (store_at 1) (node_at 3) b (ballot 1 192) (Values ((key x, number_cell 7) ∷ []))
+    ∷ ReadOk (store_at 1) (node_at 3) c zero (Values ((key x, number_cell 9) ∷ []))
     ∷ [])
-    ∷ (ReadOk (store_at 1) (node_at 1) c (ballot 2 64) (Values ((key x, Some (pos 9)) ∷ [])) ∷ [])
+    ∷ (ReadOk (store_at 1) (node_at 1) c (ballot 2 64) (Values ((key x, number_cell 9) ∷ [])) ∷ [])
     ∷ (ReadOk (store_at 1) (node_at 1) b (ballot 2 64) (Known exchanged) ∷ [])
     ∷ []
 

@@ -1,10 +1,10 @@
 -- Outcomes and replies that one serial map gives, and some that it doesn't. Items stand newest first.
-use Rattle.std.specs.Prelude.{List, [], ◌∷◌, pos, None, Some}
+use Rattle.std.specs.Prelude.{List, [], ◌∷◌, None}
 use Rattle.acc_txn.specs.declared.outcome.Reply.{Reply}
 use Rattle.acc_message.specs.declared.note.Note.TheVariants.{Outcome as OutcomeNote, Reply as ReplyNote}
 use Rattle.acc_message.specs.declared.item.Item.{Item}
 use Rattle.acc_message.specs.Run.{Cluster}
-use Rattle.acc_examples.specs.Clusters.{node, writing, reading, x, ok}
+use Rattle.acc_examples.specs.Clusters.{node, writing, reading, x, ok, number_cell}
 use Rattle.acc_examples.specs.Actors.{three, a, b, c}
 use Rattle.acc_safety.specs.Decisions.{Answered}
 use Rattle.acc_examples.specs.Noted.{begun, noting, finished, answered, finished_and_answered}
@@ -23,10 +23,10 @@ abbrev pub nothing_read : Reply
 nothing_read = ok (None ∷ [])
 
 abbrev pub five_read : Reply
-five_read = ok (Some (pos 5) ∷ [])
+five_read = ok (number_cell 5 ∷ [])
 
 abbrev pub six_read : Reply
-six_read = ok (Some (pos 6) ∷ [])
+six_read = ok (number_cell 6 ∷ [])
 
 -- No outcome. A write and a read, in either order. Each read sees the last write before it. A second outcome that equals the
 -- first, at a place where another would be due. A reply in the step of its outcome or behind it, or none.

@@ -1,5 +1,5 @@
 -- The timestamp of b is smaller, but a is done first. A serial run has to take them as their outcomes are printed.
-use Rattle.std.specs.Prelude.{List, [], ◌∷◌, pos, Some}
+use Rattle.std.specs.Prelude.{List, [], ◌∷◌}
 use Rattle.acc_txn.specs.declared.parts.BodyParts.{BodyParts}
 use Rattle.acc_txn.specs.declared.outcome.Reply.{Reply}
 use Rattle.acc_message.specs.declared.note.Path.TheVariants.{Fast, Slow}
@@ -10,7 +10,7 @@ use Rattle.acc_message.specs.Run.{Cluster}
 use Rattle.acc_world.specs.declared.ask.Ask.TheVariants.{Begin}
 use Rattle.acc_world.specs.Asks.{after_asks}
 use Rattle.acc_world.specs.Schedules.{drained}
-use Rattle.acc_examples.specs.Clusters.{stamp, id, deps_in, last_shard, layout, writing, reading_both, x, y, ok}
+use Rattle.acc_examples.specs.Clusters.{stamp, id, deps_in, last_shard, layout, writing, reading_both, x, y, ok, number_cell}
 
 abbrev pub cluster : Cluster
 cluster =
@@ -36,8 +36,8 @@ notes =
     ∷ ReplyNote (id 5 128) (ok [])
     ∷ BeginNote (id 1 192)
     ∷ Decide (id 1 192) (stamp 11 65) Slow (deps_in 1 (id 5 128 ∷ id 10 64 ∷ []))
-    ∷ Outcome (id 1 192) (ok (Some (pos 1) ∷ Some (pos 2) ∷ []))
-    ∷ ReplyNote (id 1 192) (ok (Some (pos 1) ∷ Some (pos 2) ∷ []))
+    ∷ Outcome (id 1 192) (ok (number_cell 1 ∷ number_cell 2 ∷ []))
+    ∷ ReplyNote (id 1 192) (ok (number_cell 1 ∷ number_cell 2 ∷ []))
     ∷ []
 
 -- the bodies in the order of their outcomes, and their replies
@@ -45,4 +45,4 @@ abbrev pub serially : List BodyParts
 serially = writing x 1 ∷ writing y 2 ∷ reading_both x y ∷ []
 
 abbrev pub replies : List Reply
-replies = ok [] ∷ ok [] ∷ ok (Some (pos 1) ∷ Some (pos 2) ∷ []) ∷ []
+replies = ok [] ∷ ok [] ∷ ok (number_cell 1 ∷ number_cell 2 ∷ []) ∷ []

@@ -1,5 +1,5 @@
 -- A store can't answer the Stable of b as long as a isn't applied there. It does so when the Apply of a comes.
-use Rattle.std.specs.Prelude.{List, [], ◌∷◌, pos, Some}
+use Rattle.std.specs.Prelude.{List, [], ◌∷◌}
 use Rattle.acc_txn.specs.declared.parts.BodyParts.{BodyParts}
 use Rattle.acc_txn.specs.declared.outcome.Reply.{Reply}
 use Rattle.acc_message.specs.declared.note.Path.TheVariants.{Fast}
@@ -10,7 +10,7 @@ use Rattle.acc_message.specs.Run.{Cluster}
 use Rattle.acc_world.specs.declared.ask.Ask.{Ask}
 use Rattle.acc_world.specs.declared.ask.Ask.TheVariants.{Begin, Deliver}
 use Rattle.acc_world.specs.Asks.{after_asks}
-use Rattle.acc_examples.specs.Clusters.{stamp, id, deps_in, node, last_shard, layout, writing, reading, x, ok}
+use Rattle.acc_examples.specs.Clusters.{stamp, id, deps_in, node, last_shard, layout, writing, reading, x, ok, number_cell}
 
 abbrev pub cluster : Cluster
 cluster =
@@ -37,8 +37,8 @@ notes =
     ∷ Decide (id 1 128) (stamp 1 128) Fast (deps_in 1 (id 1 64 ∷ []))
     ∷ Outcome (id 1 64) (ok [])
     ∷ ReplyNote (id 1 64) (ok [])
-    ∷ Outcome (id 1 128) (ok (Some (pos 7) ∷ []))
-    ∷ ReplyNote (id 1 128) (ok (Some (pos 7) ∷ []))
+    ∷ Outcome (id 1 128) (ok (number_cell 7 ∷ []))
+    ∷ ReplyNote (id 1 128) (ok (number_cell 7 ∷ []))
     ∷ []
 
 -- the bodies in the order of their outcomes, and their replies
@@ -46,4 +46,4 @@ abbrev pub serially : List BodyParts
 serially = writing x 7 ∷ reading x ∷ []
 
 abbrev pub replies : List Reply
-replies = ok [] ∷ ok (Some (pos 7) ∷ []) ∷ []
+replies = ok [] ∷ ok (number_cell 7 ∷ []) ∷ []

@@ -1,6 +1,6 @@
 -- An answer of a store that isn't one of the transaction's counts for nothing: neither its vote with its dependencies, nor the
 -- outcome that it claims to know.
-use Rattle.std.specs.Prelude.{List, [], ◌∷◌, pos, Some, map}
+use Rattle.std.specs.Prelude.{List, [], ◌∷◌, map}
 use Rattle.acc_stamp.specs.declared.actors.Actor.{Actor}
 use Rattle.acc_stamp.specs.Actor.{actor_of}
 use Rattle.acc_txn.specs.declared.outcome.Outcome.{Outcome}
@@ -11,7 +11,7 @@ use Rattle.acc_message.specs.declared.note.Note.TheVariants.{Begin, Decide, Outc
 use Rattle.acc_message.specs.declared.entry.Emitted.{Emitted}
 use Rattle.acc_message.specs.Coordinator.{silence}
 use Rattle.acc_message.specs.NodeRules.{Act, Begins, Takes}
-use Rattle.acc_examples.specs.Clusters.{stamp, deps_in, writing, key, alice, ok}
+use Rattle.acc_examples.specs.Clusters.{stamp, deps_in, writing, key, alice, ok, number_cell}
 use Rattle.acc_examples.specs.Actors.{a, b, zero, node_at, store_at}
 
 -- the transaction's key lies in the first of two shards, and this is a store of the second
@@ -19,10 +19,10 @@ abbrev pub stranger : Actor
 stranger = actor_of 1 2
 
 abbrev pub written : Outcome
-written = record { reply = ok []; writes = (key alice, Some (pos 1)) ∷ [] }
+written = record { reply = ok []; writes = (key alice, number_cell 1) ∷ [] }
 
 abbrev pub claimed : Outcome
-claimed = record { reply = ok (Some (pos 9) ∷ []); writes = [] }
+claimed = record { reply = ok (number_cell 9 ∷ []); writes = [] }
 
 abbrev pub acts : List Act
 acts =

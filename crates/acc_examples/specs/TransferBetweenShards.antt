@@ -1,5 +1,5 @@
 -- A transfer between two shards, and a read of both cells.
-use Rattle.std.specs.Prelude.{ℕ, List, [], ◌∷◌, ◌++◌, pos, Some}
+use Rattle.std.specs.Prelude.{ℕ, List, [], ◌∷◌, ◌++◌}
 use Rattle.acc_txn.specs.declared.parts.BodyParts.{BodyParts}
 use Rattle.acc_txn.specs.declared.outcome.Reply.{Reply}
 use Rattle.acc_message.specs.declared.note.Path.TheVariants.{Fast}
@@ -10,7 +10,7 @@ use Rattle.acc_message.specs.Run.{Cluster}
 use Rattle.acc_world.specs.declared.ask.Ask.TheVariants.{Begin}
 use Rattle.acc_world.specs.Asks.{after_asks}
 use Rattle.acc_world.specs.Schedules.{drained}
-use Rattle.acc_examples.specs.Clusters.{stamp, id, deps_in, node, last_shard, shard_to, layout, writing, reading_both, transfer, m, alice, zoe, ok}
+use Rattle.acc_examples.specs.Clusters.{stamp, id, deps_in, node, last_shard, shard_to, layout, writing, reading_both, transfer, m, alice, zoe, ok, number_cell}
 
 abbrev pub cluster : Cluster
 cluster =
@@ -40,12 +40,12 @@ notes =
     ∷ ReplyNote (id 2 64) (ok [])
     ∷ BeginNote (id 3 64)
     ∷ Decide (id 3 64) (stamp 3 64) Fast (deps_in 1 (id 1 64 ∷ []) ++ deps_in 2 (id 2 64 ∷ []))
-    ∷ Outcome (id 3 64) (ok (Some (pos 100) ∷ Some (pos 5) ∷ []))
-    ∷ ReplyNote (id 3 64) (ok (Some (pos 100) ∷ Some (pos 5) ∷ []))
+    ∷ Outcome (id 3 64) (ok (number_cell 100 ∷ number_cell 5 ∷ []))
+    ∷ ReplyNote (id 3 64) (ok (number_cell 100 ∷ number_cell 5 ∷ []))
     ∷ BeginNote (id 4 64)
     ∷ Decide (id 4 64) (stamp 4 64) Fast (deps_in 1 (id 1 64 ∷ id 3 64 ∷ []) ++ deps_in 2 (id 2 64 ∷ id 3 64 ∷ []))
-    ∷ Outcome (id 4 64) (ok (Some (pos 70) ∷ Some (pos 35) ∷ []))
-    ∷ ReplyNote (id 4 64) (ok (Some (pos 70) ∷ Some (pos 35) ∷ []))
+    ∷ Outcome (id 4 64) (ok (number_cell 70 ∷ number_cell 35 ∷ []))
+    ∷ ReplyNote (id 4 64) (ok (number_cell 70 ∷ number_cell 35 ∷ []))
     ∷ []
 
 -- the bodies in the order of their outcomes, and their replies
@@ -53,4 +53,4 @@ abbrev pub serially : List BodyParts
 serially = writing alice 100 ∷ writing zoe 5 ∷ transfer alice zoe 30 ∷ reading_both alice zoe ∷ []
 
 abbrev pub replies : List Reply
-replies = ok [] ∷ ok [] ∷ ok (Some (pos 100) ∷ Some (pos 5) ∷ []) ∷ ok (Some (pos 70) ∷ Some (pos 35) ∷ []) ∷ []
+replies = ok [] ∷ ok [] ∷ ok (number_cell 100 ∷ number_cell 5 ∷ []) ∷ ok (number_cell 70 ∷ number_cell 35 ∷ []) ∷ []

@@ -1,5 +1,5 @@
 -- Attempts at a transaction: their phases, the answers that count, and the counts of them.
-use Rattle.std.specs.Prelude.{ℕ, ℤ, Bool, true, false, not, cond, ◌==◌, ◌&&◌, ◌||◌, List, [], ◌∷◌, Option, None, Some, map}
+use Rattle.std.specs.Prelude.{ℕ, Bool, true, false, not, cond, ◌==◌, ◌&&◌, ◌||◌, List, [], ◌∷◌, Option, None, Some, map}
 use Rattle.std.specs.List.{list_any, list_all}
 use Rattle.acc_stamp.specs.declared.stamps.Stamp.{Stamp}
 use Rattle.acc_stamp.specs.declared.stamps.TxnId.{TxnId}
@@ -13,6 +13,7 @@ use Rattle.acc_deps.specs.declared.shards.ShardDeps.{ShardDeps}
 use Rattle.acc_deps.specs.declared.records.Settled.{Settled}
 use Rattle.acc_quorum.specs.Answers.{Answer, greatest, union_of as all_deps, majority_everywhere as majority_of, fast_everywhere as fast_of, fast_lost_somewhere as fast_lost_of, may_be_fast_everywhere as may_be_fast_of}
 use Rattle.acc_value.specs.declared.key.Key.{Key}
+use Rattle.acc_value.specs.declared.value.Value.{Value}
 use Rattle.acc_value.specs.Cells.{cell_of}
 use Rattle.acc_txn.specs.declared.parts.BodyParts.{BodyParts}
 use Rattle.acc_txn.specs.declared.outcome.Outcome.{Outcome}
@@ -131,19 +132,19 @@ abbrev pub known_among : List Message → Option Outcome
 known_among [] = None
 known_among (m ∷ answers) = or_else (known_in m) (known_among answers)
 
-abbrev pub cell_in_read : Key → ReadAnswer → Option ℤ
+abbrev pub cell_in_read : Key → ReadAnswer → Option Value
 cell_in_read key (Values cells) = cell_of cells key
 cell_in_read key (Known outcome) = None
 
-abbrev pub cell_in : Key → Message → Option ℤ
+abbrev pub cell_in : Key → Message → Option Value
 cell_in key (ReadOk from to id ballot answer) = cell_in_read key answer
 cell_in key _ = None
 
 -- a key is looked up in the answer of its own shard, and is null where this one lacks it
-abbrev pub cell_read : Layout → List Message → Key → Option ℤ
+abbrev pub cell_read : Layout → List Message → Key → Option Value
 cell_read layout [] key = None
 cell_read layout (m ∷ answers) key =
-    let others : Option ℤ = cell_read layout answers key in
+    let others : Option Value = cell_read layout answers key in
     cond (shard_of (from_of m) == shard_of_key layout key) (cell_in key m) others
 
 abbrev pub has_read : List Message → ℕ → Bool

@@ -1,7 +1,7 @@
 -- Opening: which transactions a store has opened and applied, and its cells.
 --     IsOpened      the least set of opened transactions after a step
 --     changes_of      the same in one pass over the stable transactions, by their timestamps and then by their ids
-use Rattle.std.specs.Prelude.{◌≡◌, ℕ, ℤ, Bool, true, false, not, cond, ◌==◌, ◌&&◌, ◌||◌, List, [], ◌∷◌, ◌++◌, Option, None, Some, IsTrue, is_some, filter}
+use Rattle.std.specs.Prelude.{◌≡◌, ℕ, Bool, true, false, not, cond, ◌==◌, ◌&&◌, ◌||◌, List, [], ◌∷◌, ◌++◌, Option, None, Some, IsTrue, is_some, filter}
 use Rattle.std.specs.List.{list_any, list_all, flat_map, fold}
 use Rattle.std.specs.Ordering.{ordering_then, is_lt}
 use Rattle.acc_stamp.specs.declared.stamps.Stamp.{Stamp}
@@ -13,6 +13,7 @@ use Rattle.acc_topology.specs.Keys.{shard_of_key}
 use Rattle.acc_deps.specs.Deps.{of_shard}
 use Rattle.acc_deps.specs.declared.records.Settled.{Settled}
 use Rattle.acc_value.specs.declared.key.Key.{Key}
+use Rattle.acc_value.specs.declared.value.Value.{Value}
 use Rattle.acc_value.specs.Cells.{applied}
 use Rattle.acc_txn.specs.declared.outcome.Outcome.{Outcome}
 use Rattle.acc_message.specs.declared.message.Message.{Message}
@@ -147,25 +148,25 @@ may_open _ = false
 
 -- ---- cells
 
-abbrev pub writes_of : Option Outcome → List (Key × Option ℤ)
+abbrev pub writes_of : Option Outcome → List (Key × Option Value)
 writes_of None = []
 writes_of (Some outcome) = outcome.writes
 
 -- the writes of an outcome to the keys of a shard
-abbrev pub writes_in : Layout → ℕ → Option Outcome → List (Key × Option ℤ)
+abbrev pub writes_in : Layout → ℕ → Option Outcome → List (Key × Option Value)
 writes_in layout shard outcome = filter (λ w. shard_of_key layout w.0 == shard) (writes_of outcome)
 
-abbrev pub written_by : Layout → ℕ → List Taken → Change → (Key → Option ℤ) → Key → Option ℤ
+abbrev pub written_by : Layout → ℕ → List Taken → Change → (Key → Option Value) → Key → Option Value
 written_by layout shard history c cells =
     cond c.applies (applied cells (writes_in layout shard (kept_outcome history c.id))) cells
 
-abbrev pub written_by_all : Layout → ℕ → List Taken → List Change → (Key → Option ℤ) → Key → Option ℤ
+abbrev pub written_by_all : Layout → ℕ → List Taken → List Change → (Key → Option Value) → Key → Option Value
 written_by_all layout shard history [] cells = cells
 written_by_all layout shard history (c ∷ changes) cells =
     written_by_all layout shard history changes (written_by layout shard history c cells)
 
 -- the cells of a store, as what it has applied left them
-abbrev pub cells_at : Layout → ℕ → List Taken → Key → Option ℤ
+abbrev pub cells_at : Layout → ℕ → List Taken → Key → Option Value
 cells_at layout shard [] = λ key. None
 cells_at layout shard (step ∷ past) =
     written_by_all layout shard (step ∷ past) (changes_of shard step past) (cells_at layout shard past)

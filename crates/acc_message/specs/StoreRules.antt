@@ -1,5 +1,5 @@
 -- The rules of a store: what it sends when it takes a message, as a function of its history.
-use Rattle.std.specs.Prelude.{ℕ, ℤ, Bool, true, false, cond, ◌==◌, List, [], ◌∷◌, ◌++◌, Option, None, Some, map, filter, if◌then◌else◌}
+use Rattle.std.specs.Prelude.{ℕ, Bool, true, false, cond, ◌==◌, List, [], ◌∷◌, ◌++◌, Option, None, Some, map, filter, if◌then◌else◌}
 use Rattle.std.specs.List.{fold}
 use Rattle.acc_stamp.specs.declared.stamps.Stamp.{Stamp}
 use Rattle.acc_stamp.specs.declared.stamps.TxnId.{TxnId}
@@ -12,6 +12,7 @@ use Rattle.acc_topology.specs.Layout.{Layout}
 use Rattle.acc_topology.specs.Keys.{shard_of_key}
 use Rattle.acc_deps.specs.declared.records.Settled.{Settled}
 use Rattle.acc_value.specs.declared.key.Key.{Key}
+use Rattle.acc_value.specs.declared.value.Value.{Value}
 use Rattle.acc_value.specs.Pairs.{put}
 use Rattle.acc_txn.specs.declared.parts.BodyParts.{BodyParts}
 use Rattle.acc_txn.specs.declared.outcome.Outcome.{Outcome}
@@ -84,11 +85,11 @@ abbrev pub read_ok : Actor → TxnId → Ballot → ReadAnswer → Message
 read_ok own x b answer = ReadOk own (home_of x b) x b answer
 
 -- the cells of the keys of this shard that a body reads, in the order of the keys
-abbrev pub read_here : Layout → ℕ → BodyParts → (Key → Option ℤ) → List (Key × Option ℤ)
+abbrev pub read_here : Layout → ℕ → BodyParts → (Key → Option Value) → List (Key × Option Value)
 read_here layout shard body cells =
     fold (λ so_far key. put so_far key (cells key)) [] (filter (λ key. shard_of_key layout key == shard) (read_keys body))
 
-abbrev pub read_by : Layout → ℕ → Option BodyParts → (Key → Option ℤ) → ReadAnswer
+abbrev pub read_by : Layout → ℕ → Option BodyParts → (Key → Option Value) → ReadAnswer
 read_by layout shard None cells = Values []
 read_by layout shard (Some body) cells = Values (read_here layout shard body cells)
 
@@ -106,14 +107,14 @@ abbrev pub waiters_of : ℕ → List Taken → TxnId → List Ballot
 waiters_of shard history x = cond (is_opened shard history x) [] (stable_ballots history x)
 
 -- when x is opened each of its Stables gets the cells, since up to then all of them wait
-abbrev pub opening_of : Layout → Actor → List Taken → Change → (Key → Option ℤ) → List Message
+abbrev pub opening_of : Layout → Actor → List Taken → Change → (Key → Option Value) → List Message
 opening_of layout own now c cells =
     cond c.opens
     (map (λ b. read_ok own c.id b (read_by layout (shard_of own) (heard_body c.id (known now)) cells)) (stable_ballots now c.id))
     []
 
 -- what the changes of a step send, one after another, each with the cells of its turn
-abbrev pub release : Layout → Actor → List Taken → List Change → (Key → Option ℤ) → List Message
+abbrev pub release : Layout → Actor → List Taken → List Change → (Key → Option Value) → List Message
 release layout own now [] cells = []
 release layout own now (c ∷ changes) cells =
     opening_of layout own now c cells ++ release layout own now changes (written_by layout (shard_of own) now c cells)

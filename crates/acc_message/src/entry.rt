@@ -22,7 +22,7 @@ pub enum Event {
 }
 
 /// What a step emits: notes in the order of the rules, and messages in the order in which they are sent.
-#[derive(Debug, PartialEq, Eq, Drop)]
+#[derive(Debug, Drop)]
 pub struct Emitted {
     pub notes: Notes,
     pub out: Messages,
@@ -47,7 +47,7 @@ impl Duplicate for Emitted {
 }
 
 /// One step of one actor.
-#[derive(Debug, PartialEq, Eq, Drop)]
+#[derive(Debug, Drop)]
 pub struct Entry {
     /// Who stepped.
     pub actor: Actor,

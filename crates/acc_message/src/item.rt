@@ -21,7 +21,7 @@ pub enum Skip {
 }
 
 /// An item of a run.
-#[derive(Debug, PartialEq, Eq, Drop)]
+#[derive(Debug, Drop)]
 pub enum Item {
     /// An actor stepped.
     Step(Entry),

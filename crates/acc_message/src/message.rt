@@ -9,7 +9,7 @@ use acc_txn::{Body, Outcome};
 
 /// A message between a node and a store, or between two nodes. Each names its sender, the actor that it goes to, the
 /// transaction, and the attempt at it, by the attempt's ballot. An answer repeats the ballot of what it answers.
-#[derive(Debug, PartialEq, Eq, Drop)]
+#[derive(Debug, Drop)]
 pub enum Message {
     /// A node asks a store for its vote.
     PreAccept {

@@ -85,6 +85,16 @@ module _ (layout : Layout) (node start : ℕ) (x : TxnId) (P : List Deed → Att
   heard_on emitted past before m a move is about h (TakesOver from to id ballot t deps same undecided ready) =
       kept.takes_over from to id ballot t deps emitted past before is about h
 
+  moving : (emitted : Emitted) (past : List Deed) (before : Attempt) (m : Message) (a : Attempt) (move : Move)
+      → attempt_of layout node start x past ≡ Some before → id_of m ≡ x → P past before → Hears layout x before m a move
+      → P (doing (Takes m) emitted ∷ past) a
+  moving emitted past before m a move is about h (Ignores n) = kept.stays (doing (Takes n) emitted) past before h
+  moving emitted past before m a move is about h (Counts n moved of_ballot counting moves) = kept.counts n emitted past before is about of_ballot counting h
+  moving emitted past before m a move is about h (IsEnded from to id ballot promised same above) =
+      kept.stays (doing (Takes (Nack from to id ballot promised)) emitted) past before h
+  moving emitted past before m a move is about h (TakesOver from to id ballot t deps same undecided ready) =
+      kept.stays (doing (Takes (Decided from to id ballot t deps)) emitted) past before h
+
   reacts_on : (act : Act) (emitted : Emitted) (past : List Deed) (a : Attempt) (move : Move)
       → OnAttempt (P past) (attempt_of layout node start x past) → Reacts layout node start past x act a move
       → OnAttempt (P (doing act emitted ∷ past)) (made layout (actor_of node 0) x a move).next
@@ -108,6 +118,14 @@ module _ (layout : Layout) (node start : ℕ) (x : TxnId) (P : List Deed → Att
   each_attempt (deed ∷ past) =
       moves_on deed.act deed.emitted past (attempt_of layout node start x (deed ∷ past)) (each_attempt past)
       (attempt_moves layout node start past x deed.act)
+
+  -- it holds of the attempt that moves, once the step is done
+  pub of_moving : (act : Act) (emitted : Emitted) (past : List Deed) (a : Attempt) (move : Move) → Reacts layout node start past x act a move
+      → P (doing act emitted ∷ past) a
+  of_moving act emitted past a move (ToSlow b moved is moves) =
+      kept.stays (doing (Slows x) emitted) past b (on_attempt (P past) (attempt_of layout node start x past) b is (each_attempt past))
+  of_moving act emitted past a move (ToMessage before b m moved is about hears) =
+      moving emitted past before m b moved is about (on_attempt (P past) (attempt_of layout node start x past) before is (each_attempt past)) hears
 
   pub of_attempt : (deeds : List Deed) (a : Attempt) → attempt_of layout node start x deeds ≡ Some a → P deeds a
   of_attempt deeds a is = on_attempt (P deeds) (attempt_of layout node start x deeds) a is (each_attempt deeds)
@@ -145,10 +163,10 @@ module _ (layout : Layout) (x : TxnId) where
         record { fitting = w.fitting; about = w.about; of_ballot = w.of_ballot; of_store = w.of_store; took = w.took })
       (IsIn-cases n m a.answers there)
 
-  no_answers : (deeds : List Deed) (a : Attempt) (phase : Phase) → AreAnswersOf layout x deeds (in_phase a phase)
+  pub no_answers : (deeds : List Deed) (a : Attempt) (phase : Phase) → AreAnswersOf layout x deeds (in_phase a phase)
   no_answers deeds a phase m there = absurd (none_is_in m there)
 
-  answers_kept : (node start : ℕ) → IsKept layout node start x (AreAnswersOf layout x)
+  pub answers_kept : (node start : ℕ) → IsKept layout node start x (AreAnswersOf layout x)
   answers_kept node start =
       record {
         stays = λ deed past a h m there. answer_back deed past a m (h m there);

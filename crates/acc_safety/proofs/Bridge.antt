@@ -421,3 +421,33 @@ from_entry cluster items m h s kind is = by kind is
 -- every message was sent by its sender, a store or a node
 pub sender : (cluster : Cluster) (items : List Item) (m : Message) → EachStands cluster items → Sending items m → Sender cluster items m
 sender cluster items m h s = from_entry cluster items m h s (is_node s.entry.actor) refl
+
+-- ---- who made a note
+
+store_notes_nothing : (act : Act) (layout : Layout) (a : Actor) (past : List Taken) (note : Note) → IsIn note (store_emits layout a past act).notes → ⊥
+store_notes_nothing (Takes m) layout a past note h = none_is_in note h
+store_notes_nothing (Begins txn body) layout a past note h = none_is_in note h
+store_notes_nothing (Recovers x body) layout a past note h = none_is_in note h
+store_notes_nothing (Slows x) layout a past note h = none_is_in note h
+store_notes_nothing Restarts layout a past note h = none_is_in note h
+
+note_by : (cluster : Cluster) (items : List Item) (note : Note) → EachStands cluster items → (s : Noting items note) (kind : Bool)
+    → is_node s.entry.actor ≡ kind → NotedBy cluster items note
+note_by cluster items note h s false store =
+    let on = stands_at cluster items s.earlier s.entry s.at h in
+    absurd (store_notes_nothing on.act cluster.layout s.entry.actor (taken_from (deeds_of cluster s.entry.actor s.earlier)) note
+    (subst (λ (e : Emitted). IsIn note e.notes) (on.emitted ∙ ap (λ b. emits_by b cluster s.entry.actor (deeds_of cluster s.entry.actor s.earlier) on.act) store) s.noted))
+note_by cluster items note h s true node =
+    let on = stands_at cluster items s.earlier s.entry s.at h in
+    record {
+      actor = s.entry.actor;
+      is_node = node;
+      deed = record { act = on.act; emitted = s.entry.emitted };
+      past = deeds_of cluster s.entry.actor s.earlier;
+      at = deed_at cluster items s.earlier s.entry on.act s.at on.act_is;
+      noted = s.noted;
+    }
+
+-- every note was made by a node
+pub noted_by : (cluster : Cluster) (items : List Item) (note : Note) → EachStands cluster items → Noting items note → NotedBy cluster items note
+noted_by cluster items note h s = note_by cluster items note h s (is_node s.entry.actor) refl

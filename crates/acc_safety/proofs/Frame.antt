@@ -14,6 +14,7 @@ use Rattle.acc_topology.specs.Layout.{Layout}
 use Rattle.acc_deps.specs.declared.records.Settled.{Settled}
 use Rattle.acc_txn.specs.declared.parts.BodyParts.{BodyParts}
 use Rattle.acc_message.specs.declared.message.Message.{Message}
+use Rattle.acc_message.specs.declared.note.Note.{Note}
 use Rattle.acc_message.specs.declared.item.Item.{Item}
 use Rattle.acc_message.specs.Fields.{from_of, id_of, ballot_of}
 use Rattle.acc_message.specs.Taken.{Taken, body_in}
@@ -23,15 +24,15 @@ use Rattle.acc_message.specs.Run.{Cluster, clock_start, deeds_of, taken_of, is_n
 use Rattle.acc_actor_laws.proofs.Standing.{not_none}
 use Rattle.acc_actor_laws.proofs.OpeningFacts.{some_is}
 use Rattle.acc_safety.specs.Places.{IsIn, StandsAt, IsPast}
-use Rattle.acc_safety.specs.Histories.{Sending, FromStore, FromNode, Sender, IsStore, IsNode}
+use Rattle.acc_safety.specs.Histories.{Sending, FromStore, FromNode, Sender, IsStore, IsNode, NotedBy}
 use Rattle.acc_safety.specs.StoreSends.{StoreSends, Votes, Accepts, Commits, Reveals, ReadsAtOnce, ReadsOnOpening, Refuses, Tells}
-use Rattle.acc_safety.specs.NodeMoves.{Move, Hears, Ignores, Counts, IsEnded, TakesOver, Reacts, ToSlow, ToMessage, NodeSends, AsksForVotes, AsksForViews, Proposes, Commits as CommitsTo, Decides, Finishes, Informs}
+use Rattle.acc_safety.specs.NodeMoves.{Move, Hears, Ignores, Counts, IsEnded, TakesOver, Reacts, ToSlow, ToMessage, NodeSends, AsksForVotes, AsksForViews, Proposes, Commits as CommitsTo, Decides, Finishes, Informs, NodeNotes}
 use Rattle.acc_safety.specs.Polls.{IsBody}
 use Rattle.acc_safety.specs.Attempted.{Origin, FromBegin, FromRecover}
 use Rattle.acc_safety.specs.Statements.{BodiesAreBegun, HomesAreOne}
 use Rattle.acc_safety.proofs.PlaceOrder.{StandsAt-IsPast, IsPast-rest}
 use Rattle.acc_safety.proofs.StoreSent.{store_sends}
-use Rattle.acc_safety.proofs.NodeSent.{node_sends}
+use Rattle.acc_safety.proofs.NodeSent.{node_sends, node_notes}
 use Rattle.acc_safety.proofs.Bridge.{each_answers, each_emits, answers_at, emits_at, sender, node_is_actor}
 use Rattle.acc_safety.proofs.Attempted.{origin_of}
 use Rattle.acc_safety.proofs.BodiesBegun.{begin_body, recover_body, attempt_body}
@@ -51,6 +52,15 @@ node_sent cluster items a m h f =
     (subst (λ e. IsIn m e.out)
     (emits_at cluster.layout (node_of a) (clock_start cluster.starts (node_of a)) (deeds_of cluster a items) f.deed f.past (each_emits cluster a items h f.is_node) f.at)
     f.sent)
+
+pub node_noted : (cluster : Cluster) (items : List Item) (note : Note) → EachStands cluster items → (f : NotedBy cluster items note)
+    → NodeNotes cluster.layout (node_of f.actor) (clock_start cluster.starts (node_of f.actor)) f.past f.deed.act note
+node_noted cluster items note h f =
+    node_notes cluster.layout (node_of f.actor) (clock_start cluster.starts (node_of f.actor)) f.past f.deed.act note
+    (subst (λ e. IsIn note e.notes)
+    (emits_at cluster.layout (node_of f.actor) (clock_start cluster.starts (node_of f.actor)) (deeds_of cluster f.actor items) f.deed f.past
+    (each_emits cluster f.actor items h f.is_node) f.at)
+    f.noted)
 
 -- the past of a place is a past of the whole
 pub past_of : {T : Type 0} (x : T) (past xs : List T) → StandsAt x past xs → IsPast past xs

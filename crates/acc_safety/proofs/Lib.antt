@@ -12,3 +12,7 @@ pub mod Attempted
 pub mod BodiesBegun
 pub mod Frame
 pub mod StoreNotions
+pub mod Prefixes
+pub mod SetsNamed
+pub mod Meetings
+pub mod Polled

@@ -1,6 +1,6 @@
 -- Places in one list, and elements of lists that are made of others.
-use Rattle.std.proofs.Common.{◌≡◌, ℕ, zero, suc, Bool, true, false, cond, List, [], ◌∷◌, ◌++◌, length, map, filter, Contains, refl, sym, ◌∙◌, ap, subst, ◌⊎◌, inl, inr, ⊎_elim, arith}
-use Rattle.std.specs.List.{AllByRecursion, list_any, flat_map}
+use Rattle.std.proofs.Common.{◌≡◌, ℕ, zero, suc, Bool, true, false, cond, List, [], ◌∷◌, ◌++◌, length, map, filter, Contains, Option, None, Some, refl, sym, ◌∙◌, ap, subst, ◌⊎◌, inl, inr, ⊎_elim, arith}
+use Rattle.std.specs.List.{AllByRecursion, list_any, flat_map, filter_map, cons_option}
 use Rattle.std.proofs.lemmas.Bool.{true≢false, or_cases, or_left, or_right}
 use Rattle.std.proofs.lemmas.List.Elements.{Contains-append_cases, Contains-push_cases, Contains-append_left, Contains-append_right, Contains-push}
 use Rattle.acc_safety.specs.Places.{IsIn, First, Later, StandsAt, Here, Back, IsPast, Whole, Behind, InOrder, IsOlder, IsSame, IsNewer}
@@ -140,6 +140,10 @@ module _ {T : Type 0} where
   filter-IsIn test x xs (First a rest) h = subst (λ b. IsIn a (cond b (a ∷ filter test rest) (filter test rest))) (sym h) (First a (filter test rest))
   filter-IsIn test x xs (Later a b rest there) h = filter_with test a b rest (test b) (filter-IsIn test a rest there h)
 
+cons_some : {B : Type 0} (o : Option B) (y : B) (rest : List B) → IsIn y (cons_option o rest) → (o ≡ Some y) ⊎ IsIn y rest
+cons_some None y rest h = inr h
+cons_some (Some z) y rest h = ⊎_elim (λ same. inl (ap Some (sym same))) inr (IsIn-cases y z rest h)
+
 -- ---- elements of lists that are mapped
 
 module _ {A B : Type 0} where
@@ -180,3 +184,18 @@ module _ {A B : Type 0} where
   pub flat_map-IsIn : (f : A → List B) (y : B) (x : A) (xs : List A) → IsIn x xs → IsIn y (f x) → IsIn y (flat_map f xs)
   flat_map-IsIn f y x xs (First a rest) h = IsIn-append_left y (f a) (flat_map f rest) h
   flat_map-IsIn f y x xs (Later a b rest there) h = IsIn-append_right y (f b) (flat_map f rest) (flat_map-IsIn f y a rest there h)
+
+  -- the element that gives one
+  pub record FromSome (f : A → Option B) (y : B) (xs : List A) : Type 0 where
+    pub source : A
+    pub there : IsIn source xs
+    pub gives : f source ≡ Some y
+
+  pub IsIn-filter_map : (f : A → Option B) (y : B) (xs : List A) → IsIn y (filter_map f xs) → FromSome f y xs
+  IsIn-filter_map f y [] h = elim h [ ]
+  IsIn-filter_map f y (x ∷ xs) h =
+      ⊎_elim (λ here. record { source = x; there = First x xs; gives = here })
+      (λ rest.
+        let p = IsIn-filter_map f y xs rest in
+        record { source = p.source; there = Later p.source x xs p.there; gives = p.gives })
+      (cons_some (f x) y (filter_map f xs) h)

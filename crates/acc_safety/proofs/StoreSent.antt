@@ -1,5 +1,5 @@
 -- Whatever a store sends is one of seven answers, with its reason.
-use Rattle.std.proofs.Common.{◌≡◌, ℤ, Bool, true, false, ◌||◌, cond, List, [], ◌∷◌, ◌++◌, Option, None, Some, map, refl, sym, ◌∙◌, ap, subst, ⊎_elim}
+use Rattle.std.proofs.Common.{◌≡◌, Bool, true, false, ◌||◌, cond, List, [], ◌∷◌, ◌++◌, Option, None, Some, map, refl, sym, ◌∙◌, ap, subst, ⊎_elim}
 use Rattle.std.specs.List.{list_any}
 use Rattle.std.proofs.lemmas.Bool.{true≢false, or_cases, cond_both, cases_Bool}
 use Rattle.acc_stamp.specs.declared.stamps.Stamp.{Stamp}
@@ -13,6 +13,7 @@ use Rattle.acc_topology.specs.Layout.{Layout}
 use Rattle.acc_deps.specs.declared.shards.ShardDeps.{ShardDeps}
 use Rattle.acc_deps.specs.declared.records.Settled.{Settled}
 use Rattle.acc_value.specs.declared.key.Key.{Key}
+use Rattle.acc_value.specs.declared.value.Value.{Value}
 use Rattle.acc_txn.specs.declared.parts.BodyParts.{BodyParts}
 use Rattle.acc_message.specs.declared.message.Message.{Message}
 use Rattle.acc_message.specs.declared.message.Message.TheVariants.{PreAccept, PreAcceptOk, Accept, AcceptOk, Commit, CommitOk, Stable, ReadOk, Apply, Recover, RecoverOk, Nack, Decided, Inform}
@@ -60,7 +61,7 @@ counting m past body is =
 
 -- ---- changes
 
-written_by_all-more : (layout : Layout) (own : Actor) (history : List Taken) (before : List Change) (c : Change) (cells : Key → Option ℤ)
+written_by_all-more : (layout : Layout) (own : Actor) (history : List Taken) (before : List Change) (c : Change) (cells : Key → Option Value)
     → written_by_all layout (shard_of own) history (before ++ c ∷ []) cells
     ≡ written_by layout (shard_of own) history c (written_by_all layout (shard_of own) history before cells)
 written_by_all-more layout own history [] c cells = refl
@@ -111,7 +112,7 @@ module _ (layout : Layout) (own : Actor) (past : List Taken) where
       (λ closed. absurd (none_is_in s closed.1))
       (IsIn-cond_cases s c.opens _ [] h)
     where
-      cells : Key → Option ℤ
+      cells : Key → Option Value
       cells = written_by_all layout (shard_of own) (taking m past) before (cells_at layout (shard_of own) past)
 
   release_sent : (m : Message) (before rest : List Change) (s : Message) → changes_of (shard_of own) (taking_step m) past ≡ before ++ rest

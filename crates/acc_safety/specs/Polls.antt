@@ -11,6 +11,7 @@ use Rattle.acc_message.specs.declared.message.Message.{Message}
 use Rattle.acc_message.specs.declared.item.Item.{Item}
 use Rattle.acc_message.specs.Fields.{from_of, id_of, ballot_of}
 use Rattle.acc_message.specs.Shares.{shards_used, is_store_of, conflict_in}
+use Rattle.acc_message.specs.Attempts.{vote_in_answer}
 use Rattle.acc_message.specs.Run.{Cluster}
 use Rattle.acc_safety.specs.Decisions.{body_of}
 use Rattle.acc_safety.specs.Places.{IsIn}
@@ -30,6 +31,16 @@ pub record IsAnswer (cluster : Cluster) (items : List Item) (x : TxnId) (body : 
 
 abbrev pub AreAnswers : Cluster → List Item → TxnId → BodyParts → Ballot → (Message → Bool) → List Message → Type 0
 AreAnswers cluster items x body b kind answers = (m : Message) → IsIn m answers → IsAnswer cluster items x body b kind m
+
+-- any answer, one that kept the own timestamp of x, and one that changed it
+abbrev pub IsAny : Message → Type 0
+IsAny m = Unit {0}
+
+abbrev pub Kept : TxnId → Message → Type 0
+Kept x m = vote_in_answer m ≡ x.0
+
+abbrev pub Changed : TxnId → Message → Type 0
+Changed x m = vote_in_answer m ≡ x.0 → ⊥
 
 -- a store of the shard is the sender of one of these and of one of those
 pub record Meeting (shard : ℕ) (one other : Message → Type 0) (answers others : List Message) : Type 0 where

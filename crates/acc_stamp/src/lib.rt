@@ -19,6 +19,3 @@ pub type Ids = Sequence<TxnId>;
 
 /// A list of attempts.
 pub type Ballots = Sequence<Ballot>;
-
-#[cfg(test)]
-mod tests;

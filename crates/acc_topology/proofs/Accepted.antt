@@ -1,11 +1,12 @@
 -- Nodes and shards without a fault make a layout.
-use Rattle.std.proofs.Common.{◌≡◌, ℕ, zero, suc, ◌+◌, ◌<◌, ◌≤◌, Bool, true, false, not, eqb, List, [], ◌∷◌, length, take, drop, get_or, map, Option, Some, None, is_none, refl, sym, ap, subst, ◌∙◌, arith, add-one, add-zero, zero-add, inl, inr, IsTrue, All, drop-cons}
+use Rattle.std.proofs.Common.{◌≡◌, ℕ, zero, suc, ◌+◌, ◌/◌, ◌<◌, ◌≤◌, Bool, true, false, not, eqb, List, [], ◌∷◌, length, take, drop, get_or, map, Option, Some, None, is_none, unwrap_or, refl, sym, ap, subst, ◌∙◌, arith, add-one, add-zero, zero-add, inl, inr, IsTrue, All, drop-cons}
 use Rattle.std.specs.List.{AllByRecursion}
-use Rattle.std.proofs.lemmas.Bool.{eqb-true, eq-eqb, ne_eqb, ltb-true, or_cases, or_left, not-true, false_from_ne_true, and_parts, and_from}
+use Rattle.std.proofs.lemmas.Bool.{eqb-true, eq-eqb, ne_eqb, ltb-true, or_cases, or_left, or_right, leb-true, not-true, false_from_ne_true, and_parts, and_from}
 use Rattle.std.proofs.lemmas.List.Elements.{recursion_from_All}
 use Rattle.std.proofs.lemmas.List.{take_all, length-drop, length-map}
+use Rattle.acc_base.specs.Faults.{◌then◌, must, each}
 use Rattle.acc_topology.specs.declared.error.TopologyError.{TopologyError}
-use Rattle.acc_topology.specs.declared.error.TopologyKind.{TopologyKind}
+use Rattle.acc_topology.specs.declared.error.TopologyError.TheVariants.{Wrong}
 use Rattle.acc_topology.specs.declared.error.TopologyKind.TheVariants.{NoNode, NoShard}
 use Rattle.acc_topology.specs.declared.given.NodeSpec.{NodeSpec}
 use Rattle.acc_topology.specs.declared.given.ShardSpec.{ShardSpec}
@@ -13,7 +14,7 @@ use Rattle.acc_topology.specs.Sets.{in_set, is_among, in_order, IsSetOf}
 use Rattle.acc_topology.specs.View.{shard_view, layout_view}
 use Rattle.acc_topology.specs.declared.shard.Shard.{Shard as MadeShard}
 use Rattle.acc_topology.specs.Layout.{IsLayout, IsShard, bytes_lt, is_end_before, ends_rise, is_replica_count}
-use Rattle.acc_topology.specs.Faults.{Fault, ◌then◌, must, each, ids, node_fault, nodes_fault, ends_well, end_before, replica_fault, replica_faults, shard_fault, shards_fault, fault_of, given_shard, given_layout, IsFault}
+use Rattle.acc_topology.specs.Faults.{Fault, ids, node_fault, nodes_fault, ends_well, end_before, replica_fault, elector_fault, electorate_fault, electors, replica_faults, replicas_fault, shard_fault, shards_fault, fault_of, given_shard, given_layout, IsFault}
 use Rattle.acc_topology.proofs.Counts.{replica_count_odd}
 use Rattle.acc_topology.proofs.Listed.{AreSmall, in_order-part, in_order-nodes, is_among-in_order, length-in_order-take, members-in_order}
 use Rattle.acc_topology.proofs.Rules.{end_before-next}
@@ -24,9 +25,9 @@ then_none : (f g : Fault) → (f then g) ≡ None → (f ≡ None) × (g ≡ Non
 then_none None g e = (refl, e)
 then_none (Some fault) g e = absurd cc
 
-must_none : (test : Bool) (kind : TopologyKind) (shard item : ℕ) → must test kind shard item ≡ None → IsTrue test
-must_none true kind shard item e = refl
-must_none false kind shard item e = absurd cc
+must_none : (test : Bool) (fault : TopologyError) → must test fault ≡ None → IsTrue test
+must_none true fault e = refl
+must_none false fault e = absurd cc
 
 module _ {A : Type 0} where
   -- a rule that holds of each item holds at each place
@@ -40,23 +41,60 @@ module _ {A : Type 0} where
   each_none_at : (rule : ℕ → A → Fault) (xs : List A) (i : ℕ) (d : A) → each rule 0 xs ≡ None → i < length xs → rule i (get_or xs i d) ≡ None
   each_none_at rule xs i d e lt = subst (λ (k : ℕ). rule k (get_or xs i d) ≡ None) (zero-add i) (each_none rule xs 0 i d e lt)
 
--- ---- replicas
+-- ---- replicas and electors
 
--- what the rules say of a shard's replicas
-record AreReplicas (is_node : ℕ → Bool) (replicas : List ℕ) : Type 0 where
-  count : IsTrue (is_replica_count (length replicas))
-  nodes : (i : ℕ) → i < length replicas → IsTrue (is_node (get_or replicas i 0))
-  new : (i : ℕ) → i < length replicas → is_among (take i replicas) (get_or replicas i 0) ≡ false
+-- each number of a list passes a test and stands once
+record AreOnce (test : ℕ → Bool) (ns : List ℕ) : Type 0 where
+  pass : (i : ℕ) → i < length ns → IsTrue (test (get_or ns i 0))
+  new : (i : ℕ) → i < length ns → is_among (take i ns) (get_or ns i 0) ≡ false
 
-are_replicas : (is_node : ℕ → Bool) (place : ℕ) (s : ShardSpec) → replica_faults is_node place s ≡ None → AreReplicas is_node s.replicas
-are_replicas is_node place s e =
+record AreElectors (replicas electors : List ℕ) : Type 0 where
+  enough : length replicas / 2 + 1 ≤ length electors
+  once : AreOnce (is_among replicas) electors
+
+-- what the rules say of a shard's replicas and electors
+record AreReplicas (is_node : ℕ → Bool) (s : ShardSpec) : Type 0 where
+  count : IsTrue (is_replica_count (length s.replicas))
+  once : AreOnce is_node s.replicas
+  electors : AreElectors s.replicas (electors s)
+
+among_at : (ns : List ℕ) (i : ℕ) → i < length ns → IsTrue (is_among ns (get_or ns i 0))
+among_at [] i lt = absurd (omega arith)
+among_at (m ∷ ns) zero lt = or_left (eqb m m) _ (eq-eqb m m refl)
+among_at (m ∷ ns) (suc i) lt = or_right (eqb m (get_or ns i 0)) _ (among_at ns i (omega arith))
+
+named_electors : (replicas electorate : List ℕ) (place : ℕ) → electorate_fault (is_among replicas) (length replicas / 2 + 1) place (Some electorate) ≡ None → AreElectors replicas electorate
+named_electors replicas electorate place e =
     let a = then_none _ _ e in
-    let at : (i : ℕ) → i < length s.replicas → replica_fault is_node place s.replicas i (get_or s.replicas i 0) ≡ None = λ i lt. each_none_at (replica_fault is_node place s.replicas) s.replicas i 0 a.1 lt in
+    let at : (i : ℕ) → i < length electorate → IsTrue (is_among replicas (get_or electorate i 0)) × IsTrue (not (is_among (take i electorate) (get_or electorate i 0))) =
+    λ i lt. and_parts _ _ (must_none _ _ (each_none_at (elector_fault (is_among replicas) place electorate) electorate i 0 a.1 lt)) in
     record {
-      count = must_none _ _ place 0 a.0;
-      nodes = λ i lt. must_none _ _ place i (then_none _ _ (at i lt)).0;
-      new = λ i lt. not-true _ (must_none _ _ place i (then_none _ _ (at i lt)).1);
+      enough = leb-true _ _ (must_none _ _ a.0);
+      once = record { pass = λ i lt. (at i lt).0; new = λ i lt. not-true _ (at i lt).1 };
     }
+
+are_electors : (is_node : ℕ → Bool) (replicas : List ℕ) (place : ℕ) (named : Option (List ℕ)) → IsTrue (is_replica_count (length replicas)) → AreOnce is_node replicas → electorate_fault (is_among replicas) (length replicas / 2 + 1) place named ≡ None → AreElectors replicas (unwrap_or named replicas)
+are_electors is_node replicas place None count once e = record {
+  enough = omega (arith, replica_count_odd (length replicas) count);
+  once = record { pass = among_at replicas; new = once.new };
+}
+are_electors is_node replicas place (Some electorate) count once e = named_electors replicas electorate place e
+
+are_once : (is_node : ℕ → Bool) (place : ℕ) (replicas : List ℕ) → replicas_fault is_node place replicas ≡ None → AreOnce is_node replicas
+are_once is_node place replicas e =
+    let at : (i : ℕ) → i < length replicas → replica_fault is_node place replicas i (get_or replicas i 0) ≡ None = λ i lt. each_none_at (replica_fault is_node place replicas) replicas i 0 e lt in
+    record {
+      pass = λ i lt. must_none _ _ (then_none _ _ (at i lt)).0;
+      new = λ i lt. not-true _ (must_none _ _ (then_none _ _ (at i lt)).1);
+    }
+
+are_replicas : (is_node : ℕ → Bool) (place : ℕ) (s : ShardSpec) → replica_faults is_node place s ≡ None → AreReplicas is_node s
+are_replicas is_node place s e =
+    let a = then_none _ (electorate_fault (is_among s.replicas) (length s.replicas / 2 + 1) place s.electorate) e in
+    let b = then_none _ (replicas_fault is_node place s.replicas) a.0 in
+    let count = must_none _ _ b.0 in
+    let once = are_once is_node place s.replicas b.1 in
+    record { count = count; once = once; electors = are_electors is_node s.replicas place s.electorate count once a.1 }
 
 -- each number of a list stands at some place
 record Stands (ns : List ℕ) (n : ℕ) : Type 0 where
@@ -72,23 +110,29 @@ stands (m ∷ ns) n h =
       | inr more ↦ let s = stands ns n more in record { place = suc s.place; within = omega (arith, s.within); here = s.here }
     ]
 
-known : (is_node : ℕ → Bool) (replicas : List ℕ) → AreReplicas is_node replicas → (n : ℕ) → IsTrue (is_among replicas n) → IsTrue (is_node n)
-known is_node replicas are n h =
-    let s = stands replicas n h in
-    subst (λ (k : ℕ). IsTrue (is_node k)) s.here (are.nodes s.place s.within)
+known : (test : ℕ → Bool) (ns : List ℕ) → AreOnce test ns → (n : ℕ) → IsTrue (is_among ns n) → IsTrue (test n)
+known test ns are n h =
+    let s = stands ns n h in
+    subst (λ (k : ℕ). IsTrue (test k)) s.here (are.pass s.place s.within)
 
-is_shard : (nodes : List ℕ) (s : ShardSpec) → AreSmall nodes → AreReplicas (is_among nodes) s.replicas → IsShard (in_order nodes) (given_shard s)
+-- putting numbers that stand once in order keeps their count
+length-once : (test : ℕ → Bool) (ns : List ℕ) → AreOnce test ns → ((n : ℕ) → IsTrue (test n) → n < 16) → length (in_order ns) ≡ length ns
+length-once test ns are small =
+    let whole : take (length ns) ns ≡ ns = take_all (length ns) ns (omega arith) in
+    ap (λ (l : List ℕ). length (in_order l)) (sym whole) ∙ length-in_order-take ns (length ns) (omega arith) (λ i lt. (are.new i lt, small (get_or ns i 0) (are.pass i lt)))
+
+is_shard : (nodes : List ℕ) (s : ShardSpec) → AreSmall nodes → AreReplicas (is_among nodes) s → IsShard (in_order nodes) (given_shard s)
 is_shard nodes s small are =
-    let within = known (is_among nodes) s.replicas are in
+    let within = known (is_among nodes) s.replicas are.once in
+    let within_replicas = known (is_among s.replicas) (electors s) are.electors.once in
     let below : AreSmall s.replicas = λ n h. small n (within n h) in
-    let whole : take (length s.replicas) s.replicas ≡ s.replicas = take_all (length s.replicas) s.replicas (omega arith) in
-    let long : length (in_order s.replicas) ≡ length s.replicas =
-    ap (λ (l : List ℕ). length (in_order l)) (sym whole) ∙ length-in_order-take s.replicas (length s.replicas) (omega arith) (λ i lt. (are.new i lt, small (get_or s.replicas i 0) (are.nodes i lt))) in
+    let long = length-once (is_among nodes) s.replicas are.once small in
+    let long_electors = length-once (is_among s.replicas) (electors s) are.electors.once below in
     record {
       count = rw long are.count;
       replicas = in_order-part s.replicas nodes below within;
-      electorate = in_order-part s.replicas s.replicas below (λ n h. h);
-      enough = omega (arith, long, replica_count_odd (length s.replicas) are.count);
+      electorate = in_order-part (electors s) s.replicas (λ n h. below n (within_replicas n h)) within_replicas;
+      enough = omega (arith, long, long_electors, are.electors.enough);
     }
 
 -- ---- ends
@@ -117,7 +161,7 @@ standing all place s rest e =
     record { within = within; here = cc; behind = rw add-one cc }
 
 ends_hold : (is_node : ℕ → Bool) (all : List ShardSpec) (place : ℕ) (s : ShardSpec) → shard_fault is_node all place s ≡ None → IsTrue (ends_well (eqb (place + 1) (length all)) (end_before all place) s.end)
-ends_hold is_node all place s e = must_none _ _ place 0 (then_none _ _ e).0
+ends_hold is_node all place s e = must_none _ _ (then_none _ _ e).0
 
 -- the ends of the shards from a place on
 ends_from : (is_node : ℕ → Bool) (all rest : List ShardSpec) (place : ℕ) → rest ≡ drop place all → 0 < length rest → each (shard_fault is_node all) place rest ≡ None → IsTrue (ends_rise (map given_shard rest))
@@ -139,7 +183,7 @@ ends_from is_node all (s ∷ t ∷ rest) place e some none =
 
 -- ---- the whole
 
-each_shard : (is_node : ℕ → Bool) (nodes : List ℕ) (all rest : List ShardSpec) (place : ℕ) → ((s : ShardSpec) → AreReplicas is_node s.replicas → IsShard nodes (given_shard s)) → each (shard_fault is_node all) place rest ≡ None → AllByRecursion (IsShard nodes) (map given_shard rest)
+each_shard : (is_node : ℕ → Bool) (nodes : List ℕ) (all rest : List ShardSpec) (place : ℕ) → ((s : ShardSpec) → AreReplicas is_node s → IsShard nodes (given_shard s)) → each (shard_fault is_node all) place rest ≡ None → AllByRecursion (IsShard nodes) (map given_shard rest)
 each_shard is_node nodes all [] place make none = tt
 each_shard is_node nodes all (s ∷ rest) place make none =
     let parts = then_none _ _ none in
@@ -169,9 +213,9 @@ some_in_order (m ∷ nodes) small some =
 pub given_is_layout : (nodes : List NodeSpec) (shards : List ShardSpec) → All (λ n. (1 ≤ n.id) × (n.id ≤ 15)) nodes → length shards ≤ 15 → fault_of nodes shards ≡ None → IsLayout (given_layout nodes shards)
 given_is_layout nodes shards within few none =
     let parts = then_none (nodes_fault nodes) _ none in
-    let some_nodes : 0 < length nodes = ltb-true _ _ (must_none _ NoNode 0 0 (then_none _ (each (node_fault nodes) 0 nodes) parts.0).0) in
+    let some_nodes : 0 < length nodes = ltb-true _ _ (must_none _ (Wrong NoNode 0 0) (then_none _ (each (node_fault nodes) 0 nodes) parts.0).0) in
     let shard_parts = then_none _ (each (shard_fault (is_among (ids nodes)) shards) 0 shards) parts.1 in
-    let some_shards : 0 < length shards = ltb-true _ _ (must_none _ NoShard 0 0 shard_parts.0) in
+    let some_shards : 0 < length shards = ltb-true _ _ (must_none _ (Wrong NoShard 0 0) shard_parts.0) in
     let ids_within = small_by nodes (recursion_from_All IsNodeId nodes within) in
     let small : AreSmall (ids nodes) = λ n h. omega (arith, (ids_within n h).1) in
     record {

@@ -1,8 +1,8 @@
 -- Counts over a list, and what they say of quorums.
-use Rattle.std.proofs.Common.{◌≡◌, ℕ, zero, suc, ◌+◌, ◌*◌, ◌-◌, ◌/◌, ◌%◌, ◌<◌, ◌≤◌, Bool, true, false, not, ◌&&◌, ◌||◌, cond, eqb, leb, ltb, get_or, List, [], ◌∷◌, length, filter, count_by, refl, sym, ap, ◌∙◌, arith, inl, inr, IsTrue}
+use Rattle.std.proofs.Common.{◌≡◌, ℕ, zero, suc, ◌+◌, ◌*◌, ◌-◌, ◌/◌, ◌%◌, ◌<◌, ◌≤◌, Bool, true, false, not, ◌&&◌, ◌||◌, cond, eqb, leb, ltb, get_or, List, [], ◌∷◌, length, filter, count_by, Contains, refl, sym, ap, subst, ◌∙◌, arith, inl, inr, IsTrue}
 use Rattle.std.specs.List.{AllByRecursion}
-use Rattle.std.proofs.lemmas.Bool.{eqb-true, leb-true, le-leb, lt-leb, or_cases, or_left, or_right, eq-eqb, and_parts, cases_lt, lt-ltb, le-ltb}
-use Rattle.std.proofs.lemmas.List.Sums.{length-filter}
+use Rattle.std.proofs.lemmas.Bool.{eqb-true, leb-true, le-leb, lt-leb, cases_eq, or_cases, or_left, or_right, eq-eqb, and_parts, cases_lt, lt-ltb, le-ltb}
+use Rattle.std.proofs.lemmas.List.Sums.{length-filter, count_by-le-length}
 use Rattle.acc_topology.specs.Sets.{is_among, IsPartOf}
 use Rattle.acc_topology.specs.Layout.{Layout, Shard, IsLayout, IsShard, HasShard, shard_at, no_shard, is_replica_count}
 use Rattle.acc_topology.specs.Quorums.{tolerated, majority_size, half_rounded_up, fast_size, is_majority, is_fast, fast_lost, may_be_fast, Meet}
@@ -101,6 +101,9 @@ fast_above_majority nodes s is = omega (arith, is.enough)
 pub fast_twice : (nodes : List ℕ) (s : Shard) → IsShard nodes s → length s.electorate + tolerated s < 2 * fast_size s
 fast_twice nodes s is = omega arith
 
+pub fast_half : (nodes : List ℕ) (s : Shard) → IsShard nodes s → length s.electorate < 2 * fast_size s
+fast_half nodes s is = omega arith
+
 pub fast_possible : (nodes : List ℕ) (s : Shard) → IsShard nodes s → fast_size s ≤ length s.electorate
 fast_possible nodes s is = omega (arith, is.enough)
 
@@ -164,10 +167,31 @@ may_be_fast-is s answered votes =
     enough_is (fast_size s) (count_by (λ n. not (answered n)) s.electorate) (count_by (λ n. answered n && votes n) s.electorate)
     ∙ ap (leb (fast_size s)) (sym (count_by-either answered votes s.electorate))
 
-pub fast_size_of_all : (s : Shard) (replicas size : ℕ) → half_rounded_up (replicas + replicas / 2 + 1) ≡ size → s.electorate ≡ s.replicas → length s.replicas ≡ replicas → fast_size s ≡ size
-fast_size_of_all s replicas size e all long =
-    let E : length s.electorate ≡ replicas = ap length all ∙ long in
-    ap (λ (n : ℕ). half_rounded_up (n + length s.replicas / 2 + 1)) E ∙ ap (λ (n : ℕ). half_rounded_up (replicas + n / 2 + 1)) long ∙ e
+-- an electorate has no more members than there are replicas
+electorate_within : (nodes : List ℕ) (s : Shard) → IsShard nodes s → length s.electorate ≤ length s.replicas
+electorate_within nodes s is =
+    let kept : length s.electorate ≡ count_by (is_among s.electorate) s.replicas = ap length is.electorate ∙ length-filter (is_among s.electorate) s.replicas in
+    omega (arith, kept, count_by-le-length (is_among s.electorate) s.replicas)
+
+-- the sizes from one number on, each with the size of a fast quorum
+abbrev pub sizes : ℕ → ℕ → ℕ → List (ℕ × ℕ)
+sizes replicas from zero = []
+sizes replicas from (suc count) = (from, half_rounded_up (from + replicas / 2 + 1)) ∷ sizes replicas (from + 1) count
+
+has_size : (replicas from count size : ℕ) → from ≤ size → size < from + count → Contains (sizes replicas from count) (size, half_rounded_up (size + replicas / 2 + 1))
+has_size replicas from zero size le lt = absurd (omega arith)
+has_size replicas from (suc count) size le lt =
+    elim (cases_eq from size) [
+      | inl same ↦ (0, omega arith, ap (λ (n : ℕ). (n, half_rounded_up (n + replicas / 2 + 1))) same)
+      | inr other ↦
+          let rest = has_size replicas (from + 1) count size (omega arith) (omega arith) in
+          (suc rest.0, omega (arith, rest.1), rest.2)
+    ]
+
+pub fast_size_in : (nodes : List ℕ) (s : Shard) (replicas : ℕ) → IsShard nodes s → length s.replicas ≡ replicas → Contains (sizes replicas (replicas / 2 + 1) (replicas - replicas / 2)) (length s.electorate, fast_size s)
+fast_size_in nodes s replicas is long =
+    let there = has_size (length s.replicas) (length s.replicas / 2 + 1) (length s.replicas - length s.replicas / 2) (length s.electorate) is.enough (omega (arith, electorate_within nodes s is)) in
+    subst (λ (n : ℕ). Contains (sizes n (n / 2 + 1) (n - n / 2)) (length s.electorate, fast_size s)) long there
 
 -- ---- the shards of a layout
 

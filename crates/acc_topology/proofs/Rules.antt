@@ -4,14 +4,15 @@ use Rattle.std.proofs.lemmas.List.{take-map, take_more, map-append}
 use Rattle.std.specs.Option.{option_and_then}
 use Rattle.std.proofs.lemmas.Option.{slice_get-get_or}
 use Rattle.std.proofs.lemmas.Bool.{cases_lt, true≢false, lt-ltb}
+use Rattle.acc_base.specs.Faults.{◌then◌, must, each}
 use Rattle.acc_topology.specs.declared.error.TopologyError.{TopologyError}
-use Rattle.acc_topology.specs.declared.error.TopologyKind.{TopologyKind}
 use Rattle.acc_topology.specs.declared.error.TopologyError.TheVariants.{Wrong, OutOfMemory}
+use Rattle.acc_topology.specs.declared.error.TopologyKind.TheVariants.{Replicas}
 use Rattle.acc_topology.specs.declared.given.NodeSpec.{NodeSpec}
 use Rattle.acc_topology.specs.declared.given.ShardSpec.{ShardSpec}
 use Rattle.acc_topology.specs.Sets.{in_set, is_among, IsSetOf}
-use Rattle.acc_topology.specs.Layout.{Shard}
-use Rattle.acc_topology.specs.Faults.{Fault, ◌then◌, must, each, ids, ends_well, end_before, replica_faults, shard_fault, shards_fault, given_shard, IsFault}
+use Rattle.acc_topology.specs.Layout.{Shard, is_replica_count}
+use Rattle.acc_topology.specs.Faults.{Fault, ids, ends_well, end_before, replicas_fault, least_electors, electorate_fault, replica_faults, shard_fault, shards_fault, given_shard, IsFault}
 use Rattle.acc_topology.proofs.Bits.{in_set_above}
 
 pub in_set-below : (set n : ℕ) → set < 2 ^ 16 → IsTrue (in_set set n) → n < 16
@@ -48,8 +49,8 @@ module _ {A : Type 0} where
 pub is_new-not_in : (set : ℕ) (ns : List ℕ) (n : ℕ) → IsSetOf set ns → false ≡ in_set set n → not (is_among ns n) ≡ true
 is_new-not_in set ns n before lacks = ap not (sym (before n) ∙ sym lacks)
 
-pub must_holds : (test : Bool) (kind : TopologyKind) (shard item : ℕ) → test ≡ true → must test kind shard item ≡ None
-must_holds test kind shard item e = ap (λ b. must b kind shard item) e
+pub must_holds : (test : Bool) (fault : TopologyError) → test ≡ true → must test fault ≡ None
+must_holds test fault e = ap (λ b. must b fault) e
 
 pub ids-more : (nodes : List NodeSpec) (i : ℕ) (d : NodeSpec) → i < length nodes → take (i + 1) (ids nodes) ≡ take i (ids nodes) ++ (get_or nodes i d).id ∷ []
 ids-more nodes i d lt =
@@ -61,6 +62,19 @@ ids-more nodes i d lt =
 same_error : (fault total : Fault) (e : TopologyError) → ((f : TopologyError) → fault ≡ Some f → total ≡ Some f) → IsFault fault e → IsFault total e
 same_error fault total (Wrong kind shard item) so h = so (Wrong kind shard item) h
 same_error fault total OutOfMemory so h = tt
+
+-- a fault is one of those that an answer may have
+is_fault : (fault : Fault) (e : TopologyError) → fault ≡ Some e → IsFault fault e
+is_fault fault (Wrong kind shard item) h = h
+is_fault fault OutOfMemory h = tt
+
+-- the fault of an electorate is the first of a shard whose replicas have none
+pub electors_fail : (is_node : ℕ → Bool) (replicas place : ℕ) (s : ShardSpec) (e : TopologyError) → is_replica_count (length s.replicas) ≡ true → replicas_fault is_node place s.replicas ≡ None → IsSetOf replicas s.replicas
+    → electorate_fault (in_set replicas) (least_electors s) place s.electorate ≡ Some e → IsFault (replica_faults is_node place s) e
+electors_fail is_node replicas place s e count none is h =
+    let front : (must (is_replica_count (length s.replicas)) (Wrong Replicas place 0) then replicas_fault is_node place s.replicas) ≡ None = ap (λ b. must b (Wrong Replicas place 0) then replicas_fault is_node place s.replicas) count ∙ none in
+    let same : electorate_fault (is_among s.replicas) (least_electors s) place s.electorate ≡ Some e = ap (λ (p : ℕ → Bool). electorate_fault p (least_electors s) place s.electorate) (λ i n. sym (is n) i) ∙ h in
+    is_fault _ e (ap (λ f. f then electorate_fault (is_among s.replicas) (least_electors s) place s.electorate) front ∙ same)
 
 -- the fault of a shard is the first of all
 pub shards_fail : (is_node : ℕ → Bool) (shards : List ShardSpec) (place : ℕ) (s : ShardSpec) (before end : Option (List ℕ)) (e : TopologyError)

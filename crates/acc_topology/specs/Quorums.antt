@@ -1,6 +1,6 @@
 -- The counts that decide, over the replicas of a shard and over its electorate. A set of nodes is a test on node numbers.
 -- Source: the paper by Elliott Smith, Zhang, Eggleston and Andreas; CEP-15.
-use Rattle.std.specs.Prelude.{◌≡◌, ℕ, ◌+◌, ◌-◌, ◌/◌, nat_le, nat_lt, Bool, not, ◌&&◌, IsTrue, length, count_by}
+use Rattle.std.specs.Prelude.{◌≡◌, ℕ, ◌+◌, ◌-◌, ◌/◌, nat_le, nat_lt, Bool, not, ◌&&◌, IsTrue, List, length, count_by, Contains}
 use Rattle.acc_topology.specs.Sets.{is_among}
 use Rattle.acc_topology.specs.Layout.{Layout, Shard, IsLayout, HasShard, shard_at}
 
@@ -45,7 +45,7 @@ Meet s a b = (n : ℕ) × IsTrue (is_among s.replicas n) × IsTrue (a n) × IsTr
 abbrev pub OfEachShard : (Shard → Type 0) → Type 0
 OfEachShard P = (layout : Layout) (shard : ℕ) → IsLayout layout → HasShard layout shard → P (shard_at layout shard)
 
--- where so many replicas are all of the electorate, a fast quorum has this size
-abbrev pub FastSizeIs : ℕ → ℕ → Type 0
-FastSizeIs replicas size =
-    OfEachShard (λ s. s.electorate ≡ s.replicas → length s.replicas ≡ replicas → fast_size s ≡ size)
+-- where there are so many replicas, the sizes of the electorate and of a fast quorum are one of these pairs
+abbrev pub FastSizesAre : ℕ → List (ℕ × ℕ) → Type 0
+FastSizesAre replicas sizes =
+    OfEachShard (λ s. length s.replicas ≡ replicas → Contains sizes (length s.electorate, fast_size s))

@@ -2,7 +2,8 @@
 ghost use Rattle.std.specs.Prelude.{◌≡◌, ◌<◌, ◌≤◌, ℕ, List, length, Some, None, MatchResult, All, map};
 ghost use Rattle.std.specs.Option.{option_copied};
 ghost use Rattle.acc_topology.specs.Sets.{in_set, IsSetOf};
-ghost use Rattle.acc_topology.specs.Faults.{ids, nodes_fault, ends_well, replicas_fault, replica_faults, shards_fault, given_shard, Finds};
+ghost use Rattle.acc_topology.specs.Layout.{is_replica_count};
+ghost use Rattle.acc_topology.specs.Faults.{ids, nodes_fault, ends_well, replicas_fault, least_electors, electorate_fault, electors, replica_faults, shards_fault, given_shard, Finds};
 ghost use Rattle.acc_topology.specs.View.{shard_view};
 
 use crate::error::{TopologyError, TopologyKind};
@@ -57,6 +58,51 @@ pub(crate) fn replica_set(
     Ok(set)
 }
 
+/// The set of a shard's electorate: all its replicas where it names none.
+pub(crate) fn electorate_set(
+    replicas: NodeSet,
+    place: u32,
+    shard: &ShardSpec,
+) -> Result<NodeSet, TopologyError>
+    requires { IsSetOf replicas shard.now.replicas }
+    ensures { MatchResult result
+        (λ set. (electorate_fault (in_set replicas) (least_electors shard.now) place shard.now.electorate ≡ None)
+        × IsSetOf set (electors shard.now))
+        (λ fault. electorate_fault (in_set replicas) (least_electors shard.now) place shard.now.electorate ≡ Some fault) }
+{
+    match &shard.electorate {
+        Some(electorate) => {
+            let least = shard.replicas.len() / 2 + 1;
+            named_electorate(replicas, least, place, electorate.as_slice())
+        }
+        None => Ok(replicas),
+    }
+}
+
+/// The set of an electorate that a shard names.
+fn named_electorate(
+    replicas: NodeSet,
+    least: usize,
+    place: u32,
+    electorate: &[u32],
+) -> Result<NodeSet, TopologyError>
+    ensures { MatchResult result
+        (λ set. (electorate_fault (in_set replicas) least place (Some electorate.now) ≡ None) × IsSetOf set electorate.now)
+        (λ fault. electorate_fault (in_set replicas) least place (Some electorate.now) ≡ Some fault) }
+{
+    if electorate.len() < least {
+        return Err(wrong(TopologyKind::Electorate, place, 0));
+    }
+    let mut set = 0;
+    for elector in electorate {
+        if !contains(replicas, *elector) || contains(set, *elector) {
+            return Err(wrong(TopologyKind::Electorate, place, 0));
+        }
+        set = with(set, *elector);
+    }
+    Ok(set)
+}
+
 /// Whether a shard may end here: the last has no end, and every other one ends behind the one before.
 pub(crate) fn may_end(is_last: bool, before: Option<&Text>, end: Option<&Text>) -> bool
     ensures { result ≡ ends_well is_last (option_copied before.entry) (option_copied end.entry) }
@@ -68,13 +114,20 @@ pub(crate) fn may_end(is_last: bool, before: Option<&Text>, end: Option<&Text>) 
     }
 }
 
+/// Whether a shard may have so many replicas.
+fn is_replica_count(count: usize) -> bool
+    ensures { result ≡ is_replica_count count }
+{
+    matches!(count, 1 | 3 | 5 | 7)
+}
+
 fn wrong(kind: TopologyKind, shard: u32, item: u32) -> TopologyError
     ensures { result ≡ TopologyError.Wrong kind shard item }
 {
     TopologyError::Wrong { kind, shard, item }
 }
 
-/// The shards, each with the set of its replicas.
+/// The shards, each with the sets of its replicas and its electorate.
 pub(crate) fn checked_shards(
     alloc: Global,
     nodes: NodeSet,
@@ -100,18 +153,19 @@ pub(crate) fn checked_shards(
     Ok(checked)
 }
 
-/// A shard with the set of its replicas, which are its electorate too.
+/// A shard with the sets of its replicas and its electorate.
 fn checked_shard(nodes: NodeSet, place: u32, shard: &ShardSpec) -> Result<Shard, TopologyError>
     ensures { Finds (replica_faults (in_set nodes) place shard.now)
         (λ checked. shard_view checked ≡ given_shard shard.now) result }
 {
-    if !matches!(shard.replicas.len(), 1 | 3 | 5 | 7) {
+    if !is_replica_count(shard.replicas.len()) {
         return Err(wrong(TopologyKind::Replicas, place, 0));
     }
     let replicas = replica_set(nodes, place, shard.replicas.as_slice())?;
+    let electorate = electorate_set(replicas, place, shard)?;
     Ok(Shard {
         end: shard.end.copy()?,
         replicas,
-        electorate: replicas,
+        electorate,
     })
 }

@@ -21,7 +21,7 @@ pub enum TopologyKind {
     Twice = 5,
     /// A replica is no node.
     UnknownNode = 6,
-    /// An electorate is no large enough part of the replicas. No input can name one yet.
+    /// An electorate has fewer nodes than a majority of the replicas, a node twice, or a node that is no replica.
     Electorate = 7,
 }
 

@@ -13,11 +13,13 @@ pub struct NodeSpec {
     pub clock: u64,
 }
 
-/// A shard: the text in front of which its keys end, or nothing for the last shard, and the nodes that keep it.
+/// A shard: the text in front of which its keys end, or nothing for the last shard, the nodes that keep it, and those whose
+/// votes make a fast path. Where no electorate is named, all replicas are in it.
 #[derive(Debug, Drop)]
 pub struct ShardSpec {
     pub end: Option<Text>,
     pub replicas: NodeList,
+    pub electorate: Option<NodeList>,
 }
 
 impl ShardSpec {
@@ -25,9 +27,13 @@ impl ShardSpec {
     pub fn copy(&self) -> Result<ShardSpec, OutOfMemory>
         ensures { IfOk result (λ copy. copy ≡ self.now) }
     {
+        let end = self.end.copy()?;
+        let replicas = self.replicas.copy()?;
+        let electorate = self.electorate.copy()?;
         Ok(ShardSpec {
-            end: self.end.copy()?,
-            replicas: self.replicas.copy()?,
+            end,
+            replicas,
+            electorate,
         })
     }
 }

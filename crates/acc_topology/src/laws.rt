@@ -1,8 +1,8 @@
 //! Laws of every accepted layout. Each is the contract of a function that does nothing. A set of nodes is any test on
 //! node numbers.
-ghost use Rattle.std.specs.Prelude.{◌≡◌, ◌<◌, ◌≤◌, ◌+◌, ◌*◌, ℕ, Bool, not, ◌&&◌, ◌||◌, IsTrue, List, length};
+ghost use Rattle.std.specs.Prelude.{◌≡◌, ◌<◌, ◌≤◌, ◌+◌, ◌*◌, ℕ, Bool, not, ◌&&◌, ◌||◌, IsTrue, List, [], ◌∷◌, length};
 ghost use Rattle.acc_topology.specs.Layout.{Layout, Shard, IsLayout, HoldsKey, shard_of};
-ghost use Rattle.acc_topology.specs.Quorums.{tolerated, majority_size, fast_size, is_majority, is_fast, fast_lost, may_be_fast, Meet, OfEachShard, FastSizeIs};
+ghost use Rattle.acc_topology.specs.Quorums.{tolerated, majority_size, fast_size, is_majority, is_fast, fast_lost, may_be_fast, Meet, OfEachShard, FastSizesAre};
 
 /// Any two majorities of a shard meet in a replica.
 pub fn majorities_meet()
@@ -25,20 +25,21 @@ pub fn fast_quorums_meet_in_majority()
         → Meet s (λ n. a n && b n) c) }
 {}
 
-/// The size of a fast quorum is at least that of a majority, lies above half of the electorate and the replicas that may
-/// fail, and the electorate has as many members.
+/// The size of a fast quorum is at least that of a majority, lies above half of the electorate, and above half of the
+/// electorate and the replicas that may fail, and the electorate has as many members.
 pub fn fast_sizes()
     ensures majority { OfEachShard (λ s. majority_size s ≤ fast_size s) }
-    ensures half { OfEachShard (λ s. length s.electorate + tolerated s < 2 * fast_size s) }
+    ensures half { OfEachShard (λ s. length s.electorate < 2 * fast_size s) }
+    ensures above_failing { OfEachShard (λ s. length s.electorate + tolerated s < 2 * fast_size s) }
     ensures possible { OfEachShard (λ s. fast_size s ≤ length s.electorate) }
 {}
 
-/// Where all of 1, 3, 5 or 7 replicas are the electorate, the size of a fast quorum is 1, 3, 4 or 6.
-pub fn fast_sizes_of_all()
-    ensures one { FastSizeIs 1 1 }
-    ensures three { FastSizeIs 3 3 }
-    ensures five { FastSizeIs 5 4 }
-    ensures seven { FastSizeIs 7 6 }
+/// The sizes that an electorate can have, each with the size of a fast quorum.
+pub fn fast_sizes_by_electorate()
+    ensures one { FastSizesAre 1 ((1, 1) ∷ []) }
+    ensures three { FastSizesAre 3 ((2, 2) ∷ (3, 3) ∷ []) }
+    ensures five { FastSizesAre 5 ((3, 3) ∷ (4, 4) ∷ (5, 4) ∷ []) }
+    ensures seven { FastSizesAre 7 ((4, 4) ∷ (5, 5) ∷ (6, 5) ∷ (7, 6) ∷ []) }
 {}
 
 /// A fast quorum is lost exactly where the votes that haven't changed are no fast quorum.

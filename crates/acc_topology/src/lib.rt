@@ -13,6 +13,3 @@ pub use error::{TopologyError, TopologyKind};
 pub use given::{NodeList, NodeSpec, ShardSpec};
 pub use sets::{NodeSet, ShardSet};
 pub use topology::Topology;
-
-#[cfg(test)]
-mod tests;

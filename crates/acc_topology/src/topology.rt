@@ -1,5 +1,6 @@
 //! The nodes and shards of a cluster.
-ghost use Rattle.std.specs.Prelude.{◌≡◌, ◌≤◌, length, IfOk, All};
+ghost use Rattle.std.specs.Prelude.{◌≡◌, ◌==◌, ◌≤◌, length, IfOk, All};
+ghost use Rattle.std.specs.List.{list_all};
 ghost use Rattle.acc_topology.specs.Sets.{in_set, members, in_order, IsSetOf};
 ghost use Rattle.acc_topology.specs.Layout.{IsLayout, HasShard, shard_at};
 ghost use Rattle.acc_topology.specs.Quorums.{is_majority, is_fast, fast_lost, may_be_fast};
@@ -39,8 +40,8 @@ impl Model for Topology {
 impl Topology {
     ghost use Rattle.acc_topology.specs.View.{shard_view};
 
-    /// The topology of these nodes and shards. All replicas of a shard are its electorate. A replica may be any number;
-    /// one that is no node is refused.
+    /// The topology of these nodes and shards. Where a shard names no electorate, its replicas are. A replica and an
+    /// elector may be any number; a replica that is no node is refused, and so is an elector that is no replica.
     pub fn new(
         alloc: Global,
         nodes: &[NodeSpec],
@@ -116,10 +117,26 @@ impl Topology {
         shards
     }
 
-    /// The part of a footprint that lies in a shard. Where there is no such shard, no key lies in it.
+    // Whether all keys of a footprint lie in a shard.
+    fn holds_all(&self, footprint: &Footprint, shard: u32) -> bool
+        ensures { result ≡ list_all (λ item. shard_of_key self.now item.0 == shard) footprint.now }
+    {
+        for (key, _) in footprint.pairs() {
+            if self.shard_of(key) != shard {
+                return false;
+            }
+        }
+        true
+    }
+
+    /// The part of a footprint that lies in a shard: a copy of the footprint where the shard holds all its keys. Where there
+    /// is no such shard, no key lies in it.
     pub fn share(&self, footprint: &Footprint, shard: u32) -> Result<Footprint, OutOfMemory>
         ensures { IfOk result (λ share. share ≡ share_of self.now footprint.now shard) }
     {
+        if self.holds_all(footprint, shard) {
+            return footprint.copy();
+        }
         let mut share = Footprint::new(*self.shards.allocator());
         for (key, writes) in footprint.pairs() {
             if self.shard_of(key) == shard {

@@ -1,5 +1,6 @@
 -- The outcome of a body depends on the cells of the keys that it reads, and on no others.
-use Rattle.std.proofs.Common.{◌≡◌, Bool, true, false, ◌||◌, List, [], ◌∷◌, ◌++◌, map, Option, ℤ, refl, ap, ◌∙◌}
+use Rattle.std.proofs.Common.{◌≡◌, Bool, true, false, ◌||◌, List, [], ◌∷◌, ◌++◌, map, Option, refl, ap, ◌∙◌}
+use Rattle.acc_value.specs.declared.value.Value.{Value}
 use Rattle.std.specs.List.{list_any}
 use Rattle.acc_value.specs.declared.key.Key.{Key}
 use Rattle.acc_value.specs.Key.{key_eq}
@@ -23,7 +24,7 @@ any_right : {X : Type 0} (p : X → Bool) (xs ys : List X) → list_any p ys ≡
 any_right p [] ys h = h
 any_right p (x ∷ xs) ys h = right_or (p x) _ (any_right p xs ys h)
 
-module _ (f g : Key → Option ℤ) where
+module _ (f g : Key → Option Value) where
   -- LETs are bound alike
   bound_alike : (lets : List Let) (more : List Key) → ((key : Key) → list_any (key_eq key) (map (λ l. l.key) lets ++ more) ≡ true → f key ≡ g key) → bound_cells lets f ≡ bound_cells lets g
   bound_alike [] more agree = refl
@@ -32,7 +33,7 @@ module _ (f g : Key → Option ℤ) where
       λ i. first i ∷ bound_alike lets more (λ key among. agree key (right_or (key_eq key l.key) _ among)) i
 
   -- a select sees alike
-  selected_alike : (bound : List (Option ℤ)) (select : Select) → ((key : Key) → list_any (key_eq key) (selected_keys select) ≡ true → f key ≡ g key) → selected bound f select ≡ selected bound g select
+  selected_alike : (bound : List (Option Value)) (select : Select) → ((key : Key) → list_any (key_eq key) (selected_keys select) ≡ true → f key ≡ g key) → selected bound f select ≡ selected bound g select
   selected_alike bound Nothing agree = refl
   selected_alike bound (Names names) agree = refl
   selected_alike bound (Get key) agree = λ i. agree key (left_or _ _ (key_eq-refl key)) i ∷ []

@@ -3,12 +3,12 @@ use Rattle.std.proofs.Common.{not, List, [], ◌∷◌, nat_le, ℕ, ◌≡◌, 
 use Rattle.std.proofs.lemmas.Bool.Decides.{nat_tests}
 use Rattle.acc_txn.specs.declared.parts.BodyParts.{BodyParts}
 use Rattle.acc_txn.specs.declared.error.BodyError.{BodyError}
-use Rattle.acc_txn.specs.declared.error.BodyError.TheVariants.{TooMany, UnboundName, TwiceBound, NoKey, BadWord, BadShape, OutOfMemory}
+use Rattle.acc_txn.specs.declared.error.BodyError.TheVariants.{TooMany, UnboundName, TwiceBound, NoKey, BadWord, BadShape, BadText, OutOfMemory}
 use Rattle.std.specs.List.{list_any, list_all}
 use Rattle.std.specs.Cmp.{first_so, second_so}
 use Rattle.acc_txn.specs.Words.{is_name, is_key, is_key_text}
 use Rattle.acc_txn.specs.Uses.{selected_keys, updated_key, footprint_of}
-use Rattle.acc_txn.specs.Rules.{is_many, selected_names, is_long, some_expression, has_too_many, has_unbound_name, has_name_twice, has_no_key, has_bad_name, has_bad_key, has_bad_shape, refusal_of, IsBody, IsRefused}
+use Rattle.acc_txn.specs.Rules.{is_many, selected_names, is_long, some_expression, has_too_many, has_unbound_name, has_name_twice, has_no_key, has_bad_name, has_bad_key, has_bad_shape, mentions_bad_text, refusal_of, IsBody, IsRefused}
 
 not_both : {X A : Type 0} {x : X} {o : Option X} → o ≡ None → o ≡ Some x → A
 not_both none some = let clash = sym none ∙ some in cc
@@ -21,6 +21,7 @@ refused_for_memory parts TwiceBound none refused = not_both none refused
 refused_for_memory parts NoKey none refused = not_both none refused
 refused_for_memory parts BadWord none refused = not_both none refused
 refused_for_memory parts BadShape none refused = not_both none refused
+refused_for_memory parts BadText none refused = not_both none refused
 refused_for_memory parts OutOfMemory none refused = refl
 
 none_is : {X : Type 0} (o : Option X) → IsTrue (is_none o) → o ≡ None
@@ -38,6 +39,7 @@ pub record KeepsRules (parts : BodyParts) : Type 0 where
   pub keyed : has_no_key parts ≡ false
   pub worded : (has_bad_name parts.lets || has_bad_key parts) ≡ false
   pub shaped : has_bad_shape parts ≡ false
+  pub texts : some_expression mentions_bad_text parts ≡ false
 
 passes : (b : Bool) → not b ≡ false → b ≡ true
 passes true h = refl
@@ -54,8 +56,9 @@ IsBody-keeps parts keeps =
     let c = passed (has_name_twice parts.lets) TwiceBound _ b.1 in
     let d = passed (has_no_key parts) NoKey _ c.1 in
     let e = passed (has_bad_name parts.lets || has_bad_key parts) BadWord _ d.1 in
-    let f = passed (has_bad_shape parts) BadShape None e.1 in
-    record { few = a.0; bound = b.0; once = c.0; keyed = d.0; worded = e.0; shaped = f.0 }
+    let f = passed (has_bad_shape parts) BadShape _ e.1 in
+    let g = passed (some_expression mentions_bad_text parts) BadText None f.1 in
+    record { few = a.0; bound = b.0; once = c.0; keyed = d.0; worded = e.0; shaped = f.0; texts = g.0 }
 
 -- a body's lists are short
 pub record IsShort (parts : BodyParts) : Type 0 where

@@ -6,7 +6,7 @@ use Rattle.acc_txn.specs.declared.parts.Let.{Let}
 use Rattle.acc_txn.specs.declared.parts.Select.{Select}
 use Rattle.acc_txn.specs.declared.parts.Select.TheVariants.{Nothing, Names, Get}
 use Rattle.acc_txn.specs.declared.parts.Term.{Term}
-use Rattle.acc_txn.specs.declared.parts.Term.TheVariants.{Number, Name, Null}
+use Rattle.acc_txn.specs.declared.parts.Term.TheVariants.{Number, Name, Null, Text}
 use Rattle.acc_txn.specs.declared.parts.Part.{Part}
 use Rattle.acc_txn.specs.declared.parts.Condition.{Condition}
 use Rattle.acc_txn.specs.declared.parts.Condition.TheVariants.{Compare, IsNull, IsNotNull}
@@ -14,8 +14,8 @@ use Rattle.acc_txn.specs.declared.parts.Update.{Update}
 use Rattle.acc_txn.specs.declared.parts.Update.TheVariants.{Set, Delete}
 use Rattle.acc_txn.specs.declared.parts.BodyParts.{BodyParts}
 use Rattle.acc_txn.specs.declared.error.BodyError.{BodyError}
-use Rattle.acc_txn.specs.declared.error.BodyError.TheVariants.{TooMany, UnboundName, TwiceBound, NoKey, BadWord, BadShape, OutOfMemory}
-use Rattle.acc_txn.specs.Words.{is_name, is_key}
+use Rattle.acc_txn.specs.declared.error.BodyError.TheVariants.{TooMany, UnboundName, TwiceBound, NoKey, BadWord, BadShape, BadText, OutOfMemory}
+use Rattle.acc_txn.specs.Words.{is_name, is_key, is_text_value}
 use Rattle.acc_txn.specs.Uses.{selected_keys, updated_key, read_keys, written_keys, footprint_of}
 
 -- more than 16
@@ -58,6 +58,7 @@ abbrev pub term_is_unbound : ℕ → Term → Bool
 term_is_unbound lets (Number number) = false
 term_is_unbound lets (Name name) = is_unbound lets name
 term_is_unbound lets Null = false
+term_is_unbound lets (Text text) = false
 
 abbrev pub mentions_unbound : ℕ → List Part → Bool
 mentions_unbound lets expr = list_any (λ part. term_is_unbound lets part.term) expr
@@ -108,6 +109,16 @@ abbrev pub has_bad_shape : BodyParts → Bool
 has_bad_shape parts =
     some_expression is_malformed parts || selects_nothing parts.select || (nat_lt 0 (length parts.guards) && length parts.updates == 0)
 
+-- a text that no cell can hold
+abbrev pub is_bad_text : Term → Bool
+is_bad_text (Number number) = false
+is_bad_text (Name name) = false
+is_bad_text Null = false
+is_bad_text (Text text) = not (is_text_value text)
+
+abbrev pub mentions_bad_text : List Part → Bool
+mentions_bad_text expr = list_any (λ part. is_bad_text part.term) expr
+
 -- the first rule that the parts break, in the order of the rules
 abbrev pub refusal_of : BodyParts → Option BodyError
 refusal_of parts =
@@ -117,7 +128,8 @@ refusal_of parts =
     else (if has_no_key parts then Some NoKey
     else (if has_bad_name parts.lets || has_bad_key parts then Some BadWord
     else (if has_bad_shape parts then Some BadShape
-    else None)))))
+    else (if some_expression mentions_bad_text parts then Some BadText
+    else None))))))
 
 -- the parts break no rule
 abbrev pub IsBody : BodyParts → Type 0
@@ -131,4 +143,5 @@ IsRefused parts TwiceBound = refusal_of parts ≡ Some TwiceBound
 IsRefused parts NoKey = refusal_of parts ≡ Some NoKey
 IsRefused parts BadWord = refusal_of parts ≡ Some BadWord
 IsRefused parts BadShape = refusal_of parts ≡ Some BadShape
+IsRefused parts BadText = refusal_of parts ≡ Some BadText
 IsRefused parts OutOfMemory = ⊤

@@ -41,3 +41,11 @@ is_key_text bytes = nat_le 1 (length bytes) && nat_le (length bytes) 64 && is_ut
 -- a key whose table is a name and whose text may be one
 abbrev pub is_key : Key → Bool
 is_key key = is_name key.table && is_key_text key.key
+
+-- a byte that is no control character
+abbrev pub is_printed : ℕ → Bool
+is_printed c = nat_le 32 c && not (c == 127)
+
+-- a text that a cell may hold
+abbrev pub is_text_value : List ℕ → Bool
+is_text_value bytes = nat_le (length bytes) 255 && list_all is_printed bytes && is_utf8 bytes

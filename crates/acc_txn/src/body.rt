@@ -15,25 +15,35 @@ use crate::rules::refusal;
 use crate::uses::footprint;
 use acc_base::{Duplicate, OutOfMemory};
 use acc_value::{CellList, Footprint};
+use std::alloc::Global;
 use std::marker::Model;
+use std::sync::Arc;
 
-/// The body of a transaction: parts that keep to the rules of bodies.
-#[derive(Debug, Drop, PartialEq, Eq)]
+/// The body of a transaction: parts that keep to the rules of bodies. Copies share them.
+#[derive(Debug, Drop)]
 pub struct Body {
+    content: Arc<Content, Global>,
+}
+
+/// What the copies of a body share: its parts and the keys that they use.
+#[derive(Debug, Drop)]
+struct Content {
     parts: BodyParts,
+    uses: Footprint,
 }
 
 impl Model for Body {
+    ghost use Rattle.std.specs.Prelude.{◌≡◌};
+    ghost use Rattle.std.specs.Arc.{arc_value};
     ghost use Rattle.acc_txn.specs.declared.parts.BodyParts.{BodyParts};
     ghost use Rattle.acc_txn.specs.Rules.{IsBody};
+    ghost use Rattle.acc_txn.specs.Uses.{footprint_of};
 
     ghost Value = { BodyParts };
 
-    ghost view = { λ b. b.parts };
+    ghost view = { λ b. (arc_value b.content).parts };
 
-    ghost invariant = { λ b. IsBody b.parts };
-
-    ghost inverse = { λ parts. record { parts = parts } };
+    ghost invariant = { λ b. IsBody (arc_value b.content).parts × ((arc_value b.content).uses ≡ footprint_of (arc_value b.content).parts) };
 }
 
 impl Body {
@@ -45,16 +55,20 @@ impl Body {
     {
         match refusal(&parts)? {
             Some(error) => Err(error),
-            None => Ok(Body { parts }),
+            None => Ok(Body::new_unchecked(parts)?),
         }
     }
 
     /// The body of parts that keep to the rules, which aren't tested again: for a reader that has tested them one by one.
-    pub fn new_unchecked(parts: BodyParts) -> Body
+    pub fn new_unchecked(parts: BodyParts) -> Result<Body, OutOfMemory>
         requires { IsBody parts }
-        ensures { result ≡ parts }
+        ensures { IfOk result (λ body. body ≡ parts) }
     {
-        Body { parts }
+        let uses = footprint(&parts)?;
+        let alloc = parts.lets.allocator();
+        Ok(Body {
+            content: Arc::new(alloc, Content { parts, uses })?,
+        })
     }
 
     /// The parts, which keep to the rules.
@@ -62,7 +76,14 @@ impl Body {
         ensures parts { result.now ≡ self.now }
         ensures keeps_rules { IsBody self.now }
     {
-        &self.parts
+        &self.content.parts
+    }
+
+    /// The keys that the body reads and writes, which `footprint` copies.
+    pub fn uses(&self) -> &Footprint
+        ensures { result.now ≡ footprint_of self.now }
+    {
+        &self.content.uses
     }
 
     /// The keys that the body reads, which are those of its LETs and of a select of a key, and those that it writes,
@@ -71,22 +92,22 @@ impl Body {
         ensures uses { IfOk result (λ uses. uses ≡ footprint_of self.now) }
         ensures keys { IfOk result (λ uses. (key : Key) → find uses key ≡ (if is_updated self.now key then Some true else (if is_read self.now key then Some false else None))) }
     {
-        footprint(&self.parts)
+        self.uses().copy()
     }
 
     /// The outcome of the body on the cells before it. Where `cells` doesn't have a key, its cell is null.
     pub fn evaluate(&self, cells: &CellList) -> Result<Outcome, OutOfMemory>
         ensures { IfOk result (λ outcome. outcome ≡ outcome_of self.now (cell_of cells.now)) }
     {
-        outcome(&self.parts, cells)
+        outcome(&self.content.parts, cells)
     }
 
-    /// An equal body, in memory of its own.
+    /// An equal body, which shares its parts with this one and takes no memory of its own.
     pub fn copy(&self) -> Result<Body, OutOfMemory>
         ensures { IfOk result (λ copy. copy ≡ self.now) }
     {
         Ok(Body {
-            parts: self.parts.copy()?,
+            content: Arc::try_clone(&self.content)?,
         })
     }
 }

@@ -19,8 +19,10 @@ pub enum BodyError {
     BadWord = 5,
     /// A sum is empty or begins with a minus, a select by names is empty, or no update follows the conditions.
     BadShape = 6,
+    /// A text among the terms has more than 255 bytes or a control character (below 32, or 127), or isn't UTF-8.
+    BadText = 7,
     /// Memory was refused, whatever the parts are.
-    OutOfMemory = 7,
+    OutOfMemory = 8,
 }
 
 impl fmt::Display for BodyError {
@@ -32,6 +34,7 @@ impl fmt::Display for BodyError {
             BodyError::NoKey => "no key",
             BodyError::BadWord => "a malformed name, table or key",
             BodyError::BadShape => "a malformed sum, select or condition",
+            BodyError::BadText => "a text that no cell can hold",
             BodyError::OutOfMemory => "out of memory",
         };
         write!(f, "{text}")

@@ -11,7 +11,7 @@ mod uses;
 mod words;
 
 pub use acc_base::{Bytes, Duplicate, OutOfMemory, Sequence, Text};
-pub use acc_value::{CellList, CellMap, Cells, Footprint, Key, conflicts};
+pub use acc_value::{CellList, CellMap, Cells, Footprint, Key, Value, conflicts};
 pub use body::Body;
 pub use error::BodyError;
 pub use outcome::{Outcome, Reply, Verdict};
@@ -19,7 +19,4 @@ pub use parts::{
     BodyParts, Condition, Conditions, Expr, Let, Lets, Numbers, Operator, Part, Select, Term,
     Update, Updates,
 };
-pub use words::{is_free_key_text, is_free_word};
-
-#[cfg(test)]
-mod tests;
+pub use words::{is_free_key_text, is_free_text_value, is_free_word};

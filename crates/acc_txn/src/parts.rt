@@ -3,7 +3,6 @@ ghost use Rattle.std.specs.Prelude.{◌≡◌, IfOk};
 
 use acc_base::{Duplicate, OutOfMemory, Sequence, Text};
 use acc_value::Key;
-use std::alloc::Global;
 
 /// The LETs of a body, in the order of the text.
 pub type Lets = Sequence<Let>;
@@ -17,7 +16,7 @@ pub type Conditions = Sequence<Condition>;
 /// The updates of a body, in the order of the text.
 pub type Updates = Sequence<Update>;
 
-/// A sum: its terms with their signs, from the left.
+/// A sum: its terms with their signs, from the left. With one term it stands for the term's own value, which may be a text.
 pub type Expr = Sequence<Part>;
 
 /// A name that is bound to the cell of a key.
@@ -58,7 +57,7 @@ pub enum Operator {
 }
 
 /// A term of a sum.
-#[derive(Clone, Copy, Debug, PartialEq, Eq)]
+#[derive(Debug, Drop, PartialEq, Eq)]
 pub enum Term {
     /// A number.
     Number(i64),
@@ -66,10 +65,12 @@ pub enum Term {
     Name(u8),
     /// Null.
     Null,
+    /// A text. It is UTF-8 of at most 255 bytes, without control characters; it may be empty.
+    Text(Text),
 }
 
 /// A term of a sum with its sign.
-#[derive(Clone, Copy, Debug, PartialEq, Eq)]
+#[derive(Debug, Drop, PartialEq, Eq)]
 pub struct Part {
     /// Whether the term is taken away. The first term of a sum is added.
     pub minus: bool,
@@ -80,7 +81,7 @@ pub struct Part {
 /// A condition of an IF.
 #[derive(Debug, Drop, PartialEq, Eq)]
 pub enum Condition {
-    /// Compares two sums. With null on a side it doesn't hold.
+    /// Compares two sums. It doesn't hold with null on a side, nor of a text and a number.
     Compare {
         /// How the two are compared.
         op: Operator,
@@ -91,7 +92,7 @@ pub enum Condition {
     },
     /// The cell of a name is null.
     IsNull(u8),
-    /// The cell of a name is a number.
+    /// The cell of a name is a number or a text.
     IsNotNull(u8),
 }
 
@@ -162,13 +163,41 @@ impl Duplicate for Select {
     }
 }
 
+impl Term {
+    /// An equal term, in memory of its own.
+    pub fn copy(&self) -> Result<Term, OutOfMemory>
+        ensures { IfOk result (λ copy. copy ≡ self.now) }
+    {
+        match self {
+            Term::Number(number) => Ok(Term::Number(*number)),
+            Term::Name(name) => Ok(Term::Name(*name)),
+            Term::Null => Ok(Term::Null),
+            Term::Text(text) => Ok(Term::Text(text.copy()?)),
+        }
+    }
+}
+
+impl Duplicate for Term {
+    fn copy(&self) -> Result<Term, OutOfMemory> {
+        Term::copy(self)
+    }
+}
+
+impl Part {
+    /// An equal term with its sign, in memory of its own.
+    pub fn copy(&self) -> Result<Part, OutOfMemory>
+        ensures { IfOk result (λ copy. copy ≡ self.now) }
+    {
+        Ok(Part {
+            minus: self.minus,
+            term: self.term.copy()?,
+        })
+    }
+}
+
 impl Duplicate for Part {
     fn copy(&self) -> Result<Part, OutOfMemory> {
-        Ok(*self)
-    }
-
-    fn copy_all(alloc: Global, items: &[Part]) -> Result<Vec<Part>, OutOfMemory> {
-        Ok(Vec::from_slice(alloc, items)?)
+        Part::copy(self)
     }
 }
 

@@ -4,12 +4,12 @@ ghost use Rattle.std.specs.List.{list_any};
 ghost use Rattle.std.specs.Str.{bytes_eq};
 ghost use Rattle.acc_txn.specs.Words.{is_name, is_key};
 ghost use Rattle.acc_txn.specs.Uses.{selected_keys, updated_key};
-ghost use Rattle.acc_txn.specs.Rules.{is_many, selected_names, condition_has, update_has, some_expression, is_long, has_too_many, is_unbound, term_is_unbound, mentions_unbound, asks_unbound, has_unbound_name, has_name_twice, has_no_key, has_bad_name, has_bad_key, is_malformed, selects_nothing, has_bad_shape, refusal_of};
+ghost use Rattle.acc_txn.specs.Rules.{is_many, selected_names, condition_has, update_has, some_expression, is_long, has_too_many, is_unbound, term_is_unbound, mentions_unbound, asks_unbound, has_unbound_name, has_name_twice, has_no_key, has_bad_name, has_bad_key, is_malformed, selects_nothing, has_bad_shape, is_bad_text, mentions_bad_text, refusal_of};
 
 use crate::error::BodyError;
 use crate::parts::{BodyParts, Condition, Let, Part, Select, Term, Update};
 use crate::uses::footprint;
-use crate::words::{is_free_word, is_well_formed};
+use crate::words::{is_free_text_value, is_free_word, is_well_formed};
 use acc_base::OutOfMemory;
 
 /// How many LETs, items of a select, conditions, updates, terms of a sum and different keys a body may have.
@@ -31,6 +31,8 @@ pub fn refusal(parts: &BodyParts) -> Result<Option<BodyError>, OutOfMemory>
         Ok(Some(BodyError::BadWord))
     } else if is_misshapen(parts) {
         Ok(Some(BodyError::BadShape))
+    } else if has_bad_text(parts) {
+        Ok(Some(BodyError::BadText))
     } else {
         Ok(None)
     }
@@ -164,15 +166,16 @@ fn update_mentions_no_let(lets: usize, update: &Update) -> bool
 fn sum_mentions_no_let(lets: usize, sum: &[Part]) -> bool
     ensures { result ≡ mentions_unbound lets sum.now }
 {
-    sum.iter().any(|part| term_mentions_no_let(lets, part.term))
+    sum.iter()
+        .any(|part| term_mentions_no_let(lets, &part.term))
 }
 
-fn term_mentions_no_let(lets: usize, term: Term) -> bool
-    ensures { result ≡ term_is_unbound lets term }
+fn term_mentions_no_let(lets: usize, term: &Term) -> bool
+    ensures { result ≡ term_is_unbound lets term.now }
 {
     match term {
-        Term::Name(name) => lets <= name as usize,
-        Term::Number(_) | Term::Null => false,
+        Term::Name(name) => lets <= *name as usize,
+        Term::Number(_) | Term::Null | Term::Text(_) => false,
     }
 }
 
@@ -313,5 +316,58 @@ fn sum_is_malformed(sum: &[Part]) -> bool
     match sum.first() {
         Some(part) => part.minus,
         None => true,
+    }
+}
+
+fn has_bad_text(parts: &BodyParts) -> bool
+    ensures { result ≡ some_expression mentions_bad_text parts.now }
+{
+    guards_mistype(parts.guards.as_slice()) || updates_mistype(parts.updates.as_slice())
+}
+
+fn guards_mistype(guards: &[Condition]) -> bool
+    ensures { result ≡ list_any (condition_has mentions_bad_text) guards.now }
+{
+    guards.iter().any(|guard| condition_mistypes(guard))
+}
+
+fn updates_mistype(updates: &[Update]) -> bool
+    ensures { result ≡ list_any (update_has mentions_bad_text) updates.now }
+{
+    updates.iter().any(|update| update_mistypes(update))
+}
+
+fn condition_mistypes(guard: &Condition) -> bool
+    ensures { result ≡ condition_has mentions_bad_text guard.now }
+{
+    match guard {
+        Condition::Compare { left, right, .. } => {
+            sum_mistypes(left.as_slice()) || sum_mistypes(right.as_slice())
+        }
+        Condition::IsNull(_) | Condition::IsNotNull(_) => false,
+    }
+}
+
+fn update_mistypes(update: &Update) -> bool
+    ensures { result ≡ update_has mentions_bad_text update.now }
+{
+    match update {
+        Update::Set { value, .. } => sum_mistypes(value.as_slice()),
+        Update::Delete { .. } => false,
+    }
+}
+
+fn sum_mistypes(sum: &[Part]) -> bool
+    ensures { result ≡ mentions_bad_text sum.now }
+{
+    sum.iter().any(|part| term_mistypes(&part.term))
+}
+
+fn term_mistypes(term: &Term) -> bool
+    ensures { result ≡ is_bad_text term.now }
+{
+    match term {
+        Term::Text(text) => !is_free_text_value(text.as_slice()),
+        Term::Number(_) | Term::Name(_) | Term::Null => false,
     }
 }

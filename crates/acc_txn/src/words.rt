@@ -2,7 +2,7 @@
 ghost use Rattle.std.specs.Prelude.{◌≡◌};
 ghost use Rattle.std.specs.List.{list_any, list_all};
 ghost use Rattle.std.specs.Str.{bytes_eq, is_utf8};
-ghost use Rattle.acc_txn.specs.Words.{is_name, begins_word, continues_word, is_lower_word, is_key_text, is_key};
+ghost use Rattle.acc_txn.specs.Words.{is_name, begins_word, continues_word, is_lower_word, is_key_text, is_key, is_printed, is_text_value};
 
 use acc_value::Key;
 
@@ -32,6 +32,9 @@ const LONGEST_WORD: usize = 32;
 
 /// The greatest length of a key's text in bytes.
 const LONGEST_KEY: usize = 64;
+
+/// How many bytes a text in a cell may have.
+const LONGEST_TEXT: usize = 255;
 
 /// Whether a text is a word of the language in lower case that may name a LET or a table.
 pub fn is_free_word(word: &[u8]) -> bool
@@ -74,6 +77,19 @@ pub fn is_free_key_text(text: &[u8]) -> bool
     ensures { result ≡ is_key_text text.now }
 {
     !text.is_empty() && text.len() <= LONGEST_KEY && is_text(text)
+}
+
+/// Whether a cell may hold the text: UTF-8 of at most 255 bytes, none below 32 and none equal to 127.
+pub fn is_free_text_value(text: &[u8]) -> bool
+    ensures { result ≡ is_text_value text.now }
+{
+    text.len() <= LONGEST_TEXT && has_no_control(text) && is_text(text)
+}
+
+fn has_no_control(bytes: &[u8]) -> bool
+    ensures { result ≡ list_all is_printed bytes.now }
+{
+    bytes.iter().all(|byte| *byte >= 32 && *byte != 127)
 }
 
 fn is_text(bytes: &[u8]) -> bool

@@ -1,4 +1,5 @@
 pub mod Key
+pub mod Value
 pub mod Pairs
 pub mod Cells
 pub mod Entries

@@ -1,5 +1,6 @@
 //! Lists of cells.
-ghost use Rattle.std.specs.Prelude.{◌≡◌, ◌==◌, ◌↔◌, [], ◌∷◌, ◌++◌, length, IfOk, OnOk, OnErr, IsTrue};
+ghost use Rattle.std.specs.Prelude.{◌≡◌, ◌==◌, [], ◌∷◌, ◌++◌, length, IfOk, OnOk, OnErr};
+ghost use Rattle.std.specs.Option.{option_copied};
 ghost use Rattle.std.specs.Cmp.{partial_equiv_from_equiv};
 ghost use Rattle.std.specs.Cmp.Rules.{comparing};
 ghost use Rattle.std.proofs.Common.{rules};
@@ -8,25 +9,27 @@ ghost use Rattle.acc_value.specs.Cells.{cell_of, cells_eq};
 
 use crate::key::Key;
 use crate::search::place_of;
+use crate::value::Value;
 use acc_base::{Duplicate, OutOfMemory, Sequence};
 use std::alloc::Global;
 use std::marker::Model;
 
-/// A list of cells. A cell is a number, or null where it is `None`.
-pub type Cells = Sequence<Option<i64>>;
+/// A list of cells. A cell is a value, or null where it is `None`.
+pub type Cells = Sequence<Option<Value>>;
 
 /// Cells by their keys, in the order of the keys, each key once. Contracts see the pairs as a plain list.
 #[derive(Debug, Drop)]
 pub struct CellList {
-    cells: Vec<(Key, Option<i64>)>,
+    cells: Vec<(Key, Option<Value>)>,
 }
 
 impl Model for CellList {
-    ghost use Rattle.std.specs.Prelude.{List, Option, ℤ};
+    ghost use Rattle.std.specs.Prelude.{List, Option};
     ghost use Rattle.acc_value.specs.declared.key.Key.{Key};
+    ghost use Rattle.acc_value.specs.declared.value.Value.{Value as CellValue};
     ghost use Rattle.acc_value.specs.Pairs.{IsRising};
 
-    ghost Value = { List (Key × Option ℤ) };
+    ghost Value = { List (Key × Option CellValue) };
 
     ghost view = { λ l. l.cells.items };
 
@@ -44,11 +47,16 @@ impl CellList {
     }
 
     /// The pairs, whose keys rise.
-    pub fn pairs(&self) -> &[(Key, Option<i64>)]
+    pub fn pairs(&self) -> &[(Key, Option<Value>)]
         ensures pairs { result.now ≡ self.now }
         ensures rising { IsRising self.now }
     {
         self.cells.as_slice()
+    }
+
+    /// The allocator of the pairs, for a further list beside this one.
+    pub fn allocator(&self) -> Global {
+        *self.cells.allocator()
     }
 
     /// How many pairs there are.
@@ -66,17 +74,25 @@ impl CellList {
     }
 
     /// The cell of a key, which is null too where the list lacks the key.
-    pub fn get(&self, key: &Key) -> Option<i64>
-        ensures { result ≡ cell_of self.now key.now }
+    pub fn get(&self, key: &Key) -> Option<&Value>
+        ensures { option_copied result ≡ cell_of self.now key.now }
     {
         match place_of(&self.cells, key) {
-            Ok(place) => self.cells[place].1,
+            Ok(place) => self.cells[place].1.as_ref(),
             Err(_) => None,
         }
     }
 
+    /// Asks for room for so many more pairs, so that pushing them takes no more memory. The pairs stay in any case.
+    pub fn reserve(&mut self, additional: usize) -> Result<(), OutOfMemory>
+        ensures { self.new ≡ self.old }
+    {
+        self.cells.reserve(additional)?;
+        Ok(())
+    }
+
     /// Appends the pair of a key that is greater than those before. Without memory for it the list is as before.
-    pub fn push(&mut self, key: Key, cell: Option<i64>) -> Result<(), OutOfMemory>
+    pub fn push(&mut self, key: Key, cell: Option<Value>) -> Result<(), OutOfMemory>
         requires { IsRising (self.old ++ (key, cell) ∷ []) }
         ensures ok { OnOk result (self.new ≡ self.old ++ (key, cell) ∷ []) }
         ensures err { OnErr result (self.new ≡ self.old) }
@@ -86,7 +102,7 @@ impl CellList {
     }
 
     /// Sets the cell of a key. Without memory for a new pair the list is as before.
-    pub fn set(&mut self, key: Key, cell: Option<i64>) -> Result<(), OutOfMemory>
+    pub fn set(&mut self, key: Key, cell: Option<Value>) -> Result<(), OutOfMemory>
         ensures ok { OnOk result (self.new ≡ put self.old key cell) }
         ensures err { OnErr result (self.new ≡ self.old) }
     {
@@ -121,7 +137,7 @@ impl Duplicate for CellList {
 impl PartialEq for CellList {
     ghost eq = { cells_eq };
 
-    ghost laws = { partial_equiv_from_equiv (Prim.search (comparing, rules)) };
+    ghost laws = { partial_equiv_from_equiv (Prim.search (comparing, rules) depth 9) };
 
     fn eq(&self, other: &CellList) -> bool {
         self.cells == other.cells
@@ -129,5 +145,5 @@ impl PartialEq for CellList {
 }
 
 impl Eq for CellList {
-    ghost laws = { Prim.search (comparing, rules) };
+    ghost laws = { Prim.search (comparing, rules) depth 9 };
 }

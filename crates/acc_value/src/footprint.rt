@@ -8,7 +8,7 @@ ghost use Rattle.acc_value.specs.Footprint.{used, uses_eq, clashes};
 
 use crate::key::Key;
 use crate::search::place_of;
-use acc_base::{Duplicate, OutOfMemory};
+use acc_base::{Duplicate, OutOfMemory, SharedSequence};
 use std::alloc::Global;
 use std::cmp::Ordering;
 use std::marker::Model;
@@ -17,7 +17,7 @@ use std::marker::Model;
 /// see the pairs as a plain list.
 #[derive(Debug, Drop)]
 pub struct Footprint {
-    uses: Vec<(Key, bool)>,
+    uses: SharedSequence<(Key, bool)>,
 }
 
 impl Model for Footprint {
@@ -27,9 +27,9 @@ impl Model for Footprint {
 
     ghost Value = { List (Key × Bool) };
 
-    ghost view = { λ f. f.uses.items };
+    ghost view = { λ f. f.uses };
 
-    ghost invariant = { λ f. IsRising f.uses.items };
+    ghost invariant = { λ f. IsRising f.uses };
 }
 
 impl Footprint {
@@ -38,7 +38,7 @@ impl Footprint {
         ensures { result ≡ [] }
     {
         Footprint {
-            uses: Vec::new(alloc),
+            uses: SharedSequence::new(alloc),
         }
     }
 
@@ -70,9 +70,11 @@ impl Footprint {
         ensures ok { OnOk result (self.new ≡ used self.old key.now writes) }
         ensures err { OnErr result (self.new ≡ self.old) }
     {
-        match place_of(&self.uses, key) {
+        match place_of(self.uses.as_slice(), key) {
             Ok(place) => {
-                self.uses[place].1 |= writes;
+                let pair = &self.uses.as_slice()[place];
+                let joined = (pair.0.copy()?, pair.1 | writes);
+                self.uses.set(place, joined)?;
                 Ok(())
             }
             Err(place) => {
@@ -88,16 +90,15 @@ impl Footprint {
         ensures ok { OnOk result (self.new ≡ self.old ++ (key, writes) ∷ []) }
         ensures err { OnErr result (self.new ≡ self.old) }
     {
-        self.uses.push((key, writes))?;
-        Ok(())
+        self.uses.push((key, writes))
     }
 
-    /// An equal footprint, in memory of its own.
+    /// An equal footprint, which shares its keys with this one and takes no memory of its own.
     pub fn copy(&self) -> Result<Footprint, OutOfMemory>
         ensures { IfOk result (λ copy. copy ≡ self.now) }
     {
         Ok(Footprint {
-            uses: Duplicate::copy_all(*self.uses.allocator(), &self.uses)?,
+            uses: self.uses.copy()?,
         })
     }
 }

@@ -6,12 +6,11 @@ mod footprint;
 mod key;
 mod map;
 mod search;
+mod value;
 
 pub use acc_base::{Bytes, Duplicate, OutOfMemory, Sequence, Text};
 pub use cells::{CellList, Cells};
 pub use footprint::{Footprint, conflicts};
 pub use key::Key;
 pub use map::CellMap;
-
-#[cfg(test)]
-mod tests;
+pub use value::Value;

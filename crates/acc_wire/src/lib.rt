@@ -8,6 +8,3 @@ mod writing;
 pub use error::{WireError, WireKind};
 pub use reader::Reader;
 pub use writing::{put_i64, put_text, put_u8, put_u16, put_u32, put_u64};
-
-#[cfg(test)]
-mod tests;

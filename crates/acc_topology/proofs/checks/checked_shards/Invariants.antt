@@ -1,8 +1,9 @@
 -- The rest decides, the shards so far are checked, and the end of the last of them is at hand.
 use Rattle.std.proofs.Common.{◌≡◌, take, drop, map}
 use Rattle.std.specs.Option.{option_copied}
+use Rattle.acc_base.specs.Faults.{each}
 use Rattle.acc_topology.specs.Sets.{in_set}
-use Rattle.acc_topology.specs.Faults.{each, shard_fault, given_shard, end_before}
+use Rattle.acc_topology.specs.Faults.{shard_fault, given_shard, end_before}
 use Rattle.acc_topology.specs.View.{shard_view}
 use Rattle.acc_topology.proofs.checks.checked_shards.Given as goal
 

@@ -1,7 +1,8 @@
 -- The rest decides, and the set has the nodes so far.
 use Rattle.std.proofs.Common.{◌≡◌, take, drop}
+use Rattle.acc_base.specs.Faults.{each}
 use Rattle.acc_topology.specs.Sets.{IsSetOf}
-use Rattle.acc_topology.specs.Faults.{each, ids, node_fault}
+use Rattle.acc_topology.specs.Faults.{ids, node_fault}
 use Rattle.acc_topology.proofs.checks.node_set.Given as goal
 
 abbrev pub invariant-loop-place : goal.invariant-loop-place

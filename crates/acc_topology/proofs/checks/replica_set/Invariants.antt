@@ -1,7 +1,8 @@
 -- The rest decides, and the set has the replicas so far.
 use Rattle.std.proofs.Common.{◌≡◌, take, drop}
+use Rattle.acc_base.specs.Faults.{each}
 use Rattle.acc_topology.specs.Sets.{in_set, IsSetOf}
-use Rattle.acc_topology.specs.Faults.{each, replica_fault, replicas_fault}
+use Rattle.acc_topology.specs.Faults.{replica_fault, replicas_fault}
 use Rattle.acc_topology.proofs.checks.replica_set.Given as goal
 
 abbrev pub invariant-loop-item : goal.invariant-loop-item

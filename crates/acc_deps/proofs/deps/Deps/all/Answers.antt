@@ -1,5 +1,4 @@
-use Rattle.std.proofs.Common.{◌≡◌, sym, subst}
-use Rattle.std.specs.List.{AllByRecursion}
+use Rattle.std.proofs.Common.{◌≡◌, sym, ap, ◌∙◌, subst}
 use Rattle.std.proofs.lemmas.Result.{IfOk-weaker}
 use Rattle.acc_stamp.specs.Rising.{IsRising}
 use Rattle.acc_deps.specs.Deps.{all_ids}
@@ -8,5 +7,5 @@ use Rattle.acc_deps.proofs.deps.Deps.all.Goals as goal
 
 pub returns-clause-rises : goal.returns-clause-rises
 returns-clause-rises c =
-    let rise = subst (AllByRecursion (λ d. IsRising d.ids)) (sym c.deref.ensures.value) c.self.invariant.ids in
-    IfOk-weaker _ (λ ids. ids ≡ all_ids c.deref.result.now) IsRising (λ ids e. subst IsRising (sym e) (IsRising-all_ids _ rise)) c.merged_all.ensures
+    IfOk-weaker _ (λ ids. ids ≡ all_ids c.by_shard.result.now) IsRising
+    (λ ids e. subst IsRising (sym (e ∙ ap all_ids c.by_shard.ensures.shards)) (IsRising-all_ids _ c.by_shard.ensures.stands.ids)) c.merged_all.ensures

@@ -1,50 +1,10 @@
-use Rattle.std.proofs.Common.{◌≡◌, ◌⊎◌, ℕ, List, [], ◌∷◌, ◌++◌, insert, Result, Ok, Err, OnOk, OnErr, nat_lt, inl, inr, set, sym, ap, ◌∙◌, subst, ⊎_elim}
-use Rattle.std.proofs.lemmas.Result.{IfOk-weaker}
-use Rattle.acc_stamp.specs.declared.stamps.TxnId.{TxnId}
-use Rattle.acc_deps.specs.declared.shards.ShardDeps.{ShardDeps}
-use Rattle.acc_stamp.specs.Rising.{IsPlaceOf, IsGapFor, ids_with}
-use Rattle.acc_deps.specs.Deps.{AreDeps, deps_with}
-use Rattle.acc_deps.proofs.ByShard.{AreDeps-with_id, deps_with-place, unchanged-place, with_shard-gap}
+use Rattle.acc_deps.specs.Deps.{deps_with}
+use Rattle.acc_base.specs.Shared.{items_of}
+use Rattle.acc_deps.proofs.ByShard.{AreDeps-with_id, AreDeps-after}
 use Rattle.acc_deps.proofs.deps.Deps.insert.Goals as goal
-
-either : {T E : Type 0} (r : Result T E) (P Q : Type 0) → OnOk r P → OnErr r Q → P ⊎ Q
-either (Ok x) P Q h k = inl h
-either (Err e) P Q h k = inr k
 
 pub invariant_of-self : goal.invariant_of-self
 invariant_of-self c =
-    let items = c.self.inside.shards.items in
-    let x = c.index_mut.result.now in
-    let place = subst (λ ds. IsPlaceOf (λ d. d.shard) ds c.args.shard c.in-Ok.place) c.deref.ensures.value c.in-Ok.ensures in
-    ⊎_elim
-    (λ e. subst AreDeps (sym (deps_with-place items c.args.shard c.in-Ok.place c.args.id x _ c.self.invariant.shards place c.index_mut.ensures.value e)) (AreDeps-with_id c.args.shard c.args.id items c.self.invariant))
-    (λ e. subst AreDeps (sym (unchanged-place items c.in-Ok.place x _ c.index_mut.ensures.value e)) c.self.invariant)
-    (either c.insert_id.result (c.insert_id.new.ids ≡ ids_with c.args.id x.ids) (c.insert_id.new.ids ≡ x.ids) c.insert_id.ensures.ok c.insert_id.ensures.err)
-
-pub returns-in-Ok-clause-ok : goal.returns-in-Ok-clause-ok
-returns-in-Ok-clause-ok c =
-    let items = c.self.inside.shards.items in
-    let x = c.index_mut.result.now in
-    let after = set items c.in-Ok.place (record { shard = x.shard; ids = c.insert_id.new.ids }) in
-    let place = subst (λ ds. IsPlaceOf (λ d. d.shard) ds c.args.shard c.in-Ok.place) c.deref.ensures.value c.in-Ok.ensures in
-    IfOk-weaker _ (λ _. c.insert_id.new.ids ≡ ids_with c.args.id x.ids) (λ _. after ≡ deps_with c.args.shard c.args.id c.args.self.now)
-    (λ _ e. deps_with-place items c.args.shard c.in-Ok.place c.args.id x _ c.self.invariant.shards place c.index_mut.ensures.value e ∙ ap (deps_with c.args.shard c.args.id) c.self.view_is)
-    c.insert_id.ensures.ok
-
-put_in : (ds after : List ShardDeps) (s i : ℕ) (id : TxnId) (none ids : List TxnId) → IsGapFor nat_lt (λ d. d.shard) ds s i → none ≡ [] → ids ≡ none ++ id ∷ [] → after ≡ insert ds i (record { shard = s; ids = ids }) → after ≡ deps_with s id ds
-put_in ds after s i id none ids g n e f =
-    f ∙ ap (λ zs. insert ds i (record { shard = s; ids = zs })) (e ∙ ap (λ zs. zs ++ id ∷ []) n) ∙ with_shard-gap (record { shard = s; ids = id ∷ [] }) ds i g
-
-pub invariant_of-self-in-Err : goal.invariant_of-self-in-Err
-invariant_of-self-in-Err c =
-    let items = c.self.inside.shards.items in
-    let gap = subst (λ ds. IsGapFor nat_lt (λ d. d.shard) ds c.args.shard c.in-Err.place) c.deref.ensures.value c.in-Err.ensures in
-    subst AreDeps (sym (put_in items _ c.args.shard c.in-Err.place c.args.id _ _ gap c.new-ids.ensures c.in_ok-push-in-Err.ensures.ok c.in_ok-insert-in-Err.ensures.items))
-    (AreDeps-with_id c.args.shard c.args.id items c.self.invariant)
-
-pub returns-in_ok-insert-in-Err-clause-ok : goal.returns-in_ok-insert-in-Err-clause-ok
-returns-in_ok-insert-in-Err-clause-ok c =
-    let items = c.self.inside.shards.items in
-    let gap = subst (λ ds. IsGapFor nat_lt (λ d. d.shard) ds c.args.shard c.in-Err.place) c.deref.ensures.value c.in-Err.ensures in
-    put_in items _ c.args.shard c.in-Err.place c.args.id _ _ gap c.new-ids.ensures c.in_ok-push-in-Err.ensures.ok c.in_ok-insert-in-Err.ensures.items
-    ∙ ap (deps_with c.args.shard c.args.id) c.self.view_is
+    let before = items_of c.self.inside.shards in
+    AreDeps-after c.insert_shared.result before (items_of c.insert_shared.new.content) (deps_with c.args.shard c.args.id before) c.insert_shared.ensures.ok c.insert_shared.ensures.err
+    (AreDeps-with_id c.args.shard c.args.id before c.self.invariant) c.self.invariant

@@ -7,7 +7,7 @@ use Rattle.acc_value.proofs.map.CellMap.apply.Goals as goal
 
 pub returns-in_err-reserve-clause-err : goal.returns-in_err-reserve-clause-err
 returns-in_err-reserve-clause-err c =
-    on_err c.from_residual.result
+    on_err c.from_residual-in_err-reserve.result
     (same_cells (map_of c.reserve.new.entries.entries) (map_of c.self.inside.entries.entries)
     (λ q. cells_of-entries c.reserve.new.entries q ∙ c.reserve.ensures.same q ∙ sym (cells_of-entries c.self.inside.entries q))
     ∙ c.self.view_is)
