@@ -7,3 +7,4 @@ pub mod CoverageTested
 pub mod SerialTested
 pub mod CalmTested
 pub mod RowsSafe
+pub mod Drained

@@ -1,10 +1,10 @@
 //! Worked examples of runs: for each one its cluster, its schedule, the notes that it must print, and the replies of the
 //! serial run of its bodies in the order of their outcomes. Each is the contract of a function that does nothing.
-ghost use Rattle.std.specs.Prelude.{◌≡◌, Some, map};
+ghost use Rattle.std.specs.Prelude.{◌≡◌, Some, map, [], ◌∷◌};
 ghost use Rattle.acc_message.specs.Items.{notes_of};
 ghost use Rattle.acc_txn.specs.Serial.{serial};
 ghost use Rattle.acc_safety.specs.Decisions.{Answered, first_outcomes, body_of};
-ghost use Rattle.acc_world.specs.Schedules.{skipped_of};
+ghost use Rattle.acc_world.specs.Schedules.{skipped_of, waiting};
 ghost use Rattle.acc_safety.specs.Safe.{IsSafeRun};
 ghost use Rattle.acc_examples.specs.OneUpdate as one_update_row;
 ghost use Rattle.acc_examples.specs.LostVote as lost_vote_row;
@@ -155,4 +155,22 @@ pub fn transfer_between_shards()
     ensures serial { serial transfer_between_shards_row.serially ≡ transfer_between_shards_row.replies }
     ensures outcomes { map (λ (a : Answered). a.reply) (first_outcomes transfer_between_shards_row.notes) ≡ transfer_between_shards_row.replies }
     ensures safe { IsSafeRun transfer_between_shards_row.cluster transfer_between_shards_row.items }
+{}
+
+/// Where an example ends with a drain, no message waits at its end: each was taken or is one of those that were dropped.
+pub fn nothing_waits()
+    ensures one_update { waiting one_update_row.items [] ≡ [] }
+    ensures lost_vote { waiting lost_vote_row.items (11 ∷ []) ≡ [] }
+    ensures no_lost_vote { waiting no_lost_vote_row.items [] ≡ [] }
+    ensures conflict_heard_first { waiting conflict_heard_first_row.items [] ≡ [] }
+    ensures reads_do_not_conflict { waiting reads_do_not_conflict_row.items [] ≡ [] }
+    ensures four_of_five { waiting four_of_five_row.items (4 ∷ []) ≡ [] }
+    ensures slow_needs_majority { waiting slow_needs_majority_row.items [] ≡ [] }
+    ensures printed_order { waiting printed_order_row.items [] ≡ [] }
+    ensures recovery_after_restart { waiting recovery_after_restart_row.items [] ≡ [] }
+    ensures one_unchanged_of_two { waiting one_unchanged_of_two_row.items [] ≡ [] }
+    ensures superseded_by_accept { waiting superseded_by_accept_row.items [] ≡ [] }
+    ensures blocked_recovery { waiting blocked_recovery_row.items (5 ∷ []) ≡ [] }
+    ensures nack_with_own_ballot { waiting nack_with_own_ballot_row.items [] ≡ [] }
+    ensures transfer_between_shards { waiting transfer_between_shards_row.items [] ≡ [] }
 {}

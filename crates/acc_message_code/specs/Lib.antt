@@ -4,3 +4,4 @@ pub mod Short
 pub mod Fitting
 pub mod MessageSpelling
 pub mod MessageReading
+pub mod Weight

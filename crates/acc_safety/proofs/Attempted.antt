@@ -1,5 +1,5 @@
 -- Facts of attempts by induction over what a node did: an attempt begins, takes answers, and goes on to phases.
-use Rattle.std.proofs.Common.{◌≡◌, ℕ, Bool, true, false, not, ◌&&◌, List, [], ◌∷◌, Option, None, Some, refl, sym, ◌∙◌, ap, subst, ⊎_elim, ◌⊎◌, inl, inr}
+use Rattle.std.proofs.Common.{◌≡◌, ℕ, true, not, ◌&&◌, List, [], ◌∷◌, Option, None, Some, refl, sym, ◌∙◌, ap, subst, ⊎_elim}
 use Rattle.std.specs.List.{list_any}
 use Rattle.std.proofs.lemmas.Bool.{and_parts}
 use Rattle.acc_stamp.specs.declared.stamps.Stamp.{Stamp}
@@ -14,14 +14,13 @@ use Rattle.acc_txn.specs.declared.parts.BodyParts.{BodyParts}
 use Rattle.acc_message.specs.declared.message.Message.{Message}
 use Rattle.acc_message.specs.declared.message.Message.TheVariants.{Nack, Decided}
 use Rattle.acc_message.specs.declared.note.Path.{Path}
-use Rattle.acc_message.specs.declared.note.Path.TheVariants.{Adopted}
 use Rattle.acc_message.specs.declared.entry.Emitted.{Emitted}
 use Rattle.acc_message.specs.Fields.{from_of, id_of, ballot_of}
 use Rattle.acc_message.specs.Shares.{is_store_of}
 use Rattle.acc_message.specs.Attempts.{Attempt, Phase, Accepting, Committing, Executing, fits, same_seat, counts}
 use Rattle.acc_message.specs.Coordinator.{begun, recovering, with_answer, in_phase}
-use Rattle.acc_message.specs.NodeRules.{Act, Begins, Recovers, Slows, Takes, Restarts, Deed, next_id, next_ballot, attempt_of}
-use Rattle.acc_safety.specs.Places.{IsIn, First, Later, StandsAt, Here, Back}
+use Rattle.acc_message.specs.NodeRules.{Act, Begins, Recovers, Slows, Takes, Deed, next_id, next_ballot, attempt_of}
+use Rattle.acc_safety.specs.Places.{Here, Back}
 use Rattle.acc_safety.specs.NodeMoves.{Move, Wait, Propose, CommitTo, DecideBy, FinishWith, BlockBy, EndBy, made, Moves, Hears, Ignores, Counts, IsEnded, TakesOver, Reacts, ToSlow, ToMessage, AttemptMoves, Keeps, BeginsIt, RecoversIt, MovesOn, Forgets}
 use Rattle.acc_safety.specs.Attempted.{OnAttempt, Took, AnswerOf, AreAnswersOf, Origin, FromBegin, FromRecover}
 use Rattle.acc_safety.proofs.PlaceOrder.{IsIn-cases, none_is_in}
@@ -159,8 +158,8 @@ module _ (layout : Layout) (x : TxnId) where
       ⊎_elim
       (λ same. subst (λ k. AnswerOf layout x (with_answer a m) (doing (Takes m) emitted ∷ past) k) (sym same) (new_answer m emitted past a about of_ballot counting))
       (λ older.
-        let w = answer_back (doing (Takes m) emitted) past a n (h n older) in
-        record { fitting = w.fitting; about = w.about; of_ballot = w.of_ballot; of_store = w.of_store; took = w.took })
+      let w = answer_back (doing (Takes m) emitted) past a n (h n older) in
+      record { fitting = w.fitting; about = w.about; of_ballot = w.of_ballot; of_store = w.of_store; took = w.took })
       (IsIn-cases n m a.answers there)
 
   pub no_answers : (deeds : List Deed) (a : Attempt) (phase : Phase) → AreAnswersOf layout x deeds (in_phase a phase)
@@ -204,13 +203,13 @@ module _ (layout : Layout) (node start : ℕ) (x : TxnId) where
         begins = λ txn body emitted past is. FromBegin txn (doing (Begins txn body) emitted) past (Here (doing (Begins txn body) emitted) past) refl is refl;
         recovers = λ body emitted past. FromRecover (doing (Recovers x body) emitted) past (Here (doing (Recovers x body) emitted) past) refl refl;
         counts = λ m emitted past a is about of_ballot counting h.
-          origin_same (doing (Takes m) emitted ∷ past) a (with_answer a m) refl refl (origin_back (doing (Takes m) emitted) past a h);
+            origin_same (doing (Takes m) emitted ∷ past) a (with_answer a m) refl refl (origin_back (doing (Takes m) emitted) past a h);
         proposes = λ deeds a s h moves. origin_same deeds a (in_phase a (Accepting s)) refl refl h;
         commits = λ deeds a s h moves. origin_same deeds a (in_phase a (Committing s)) refl refl h;
         decides = λ deeds a path s h moves. origin_same deeds a (in_phase a (Executing s)) refl refl h;
         takes_over = λ from to id ballot t deps emitted past a is about h.
-          let deed : Deed = doing (Takes (Decided from to id ballot t deps)) emitted in
-          origin_same (deed ∷ past) a (in_phase a (Executing (record { t = t; deps = deps }))) refl refl (origin_back deed past a h);
+            let deed : Deed = doing (Takes (Decided from to id ballot t deps)) emitted in
+            origin_same (deed ∷ past) a (in_phase a (Executing (record { t = t; deps = deps }))) refl refl (origin_back deed past a h);
       }
 
   -- an attempt comes from a begin or from a recover

@@ -1,23 +1,18 @@
 -- Every message brings the body with which its transaction was begun, and comes from the home of its ballot.
-use Rattle.std.proofs.Common.{◌≡◌, ◌≢◌, ℕ, ◌*◌, ◌+◌, ◌/◌, ◌<◌, Bool, true, false, ◌==◌, ◌||◌, cond, List, [], ◌∷◌, ◌++◌, Option, None, Some, refl, sym, ◌∙◌, ap, subst, ⊎_elim, ◌⊎◌, inl, inr, arith}
-use Rattle.std.specs.List.{list_any, slice_get, flat_map, AllByRecursion}
+use Rattle.std.proofs.Common.{◌≡◌, ℕ, true, false, cond, List, [], ◌∷◌, ◌++◌, Option, None, Some, refl, sym, ◌∙◌, ap, subst, ⊎_elim}
+use Rattle.std.specs.List.{list_any, slice_get, flat_map}
 use Rattle.std.specs.Option.{option_map}
-use Rattle.std.proofs.lemmas.Bool.{true≢false, or_left, or_right, or_cases, or_parts, eqb-true, eq-eqb, cond_both}
-use Rattle.std.proofs.lemmas.Bool.Decides.{nat_tests}
+use Rattle.std.proofs.lemmas.Bool.{true≢false, or_left, or_right, or_cases, or_parts, eqb-true, cond_both}
 use Rattle.acc_base.specs.Faults.{or_else}
 use Rattle.acc_stamp.specs.declared.stamps.Stamp.{Stamp}
 use Rattle.acc_stamp.specs.declared.stamps.TxnId.{TxnId}
-use Rattle.acc_stamp.specs.declared.stamps.Ballot.{Ballot}
 use Rattle.acc_stamp.specs.declared.actors.Actor.{Actor}
-use Rattle.acc_stamp.specs.Actor.{actor_of, node_of, node_of_stamp, home_of}
-use Rattle.acc_stamp.specs.Stamp.{stamp_eq, id_eq, ballot_eq, zero_ballot}
-use Rattle.acc_stamp.specs.Clock.{next_stamp}
-use Rattle.acc_stamp.specs.History.{ClockEvent, Draw}
+use Rattle.acc_stamp.specs.Actor.{node_of}
+use Rattle.acc_stamp.specs.Stamp.{stamp_eq}
 use Rattle.acc_stamp.specs.Rising.{is_among}
-use Rattle.acc_stamp.proofs.Order.{stamp_order, id_order, ballot_order, eq_itself}
+use Rattle.acc_stamp.proofs.Order.{stamp_order, id_order, eq_itself}
 use Rattle.acc_stamp.proofs.Rising.{is_among-append}
 use Rattle.acc_stamp.proofs.History.{draws_rise, draws_are_of_node}
-use Rattle.acc_topology.specs.Layout.{Layout}
 use Rattle.acc_txn.specs.declared.parts.BodyParts.{BodyParts}
 use Rattle.acc_message.specs.declared.message.Message.{Message}
 use Rattle.acc_message.specs.declared.note.Note.{Note}
@@ -28,23 +23,20 @@ use Rattle.acc_message.specs.declared.entry.Event.{Event}
 use Rattle.acc_message.specs.declared.entry.Event.TheVariants.{Begin as BeginEvent, Recover as RecoverEvent, Slow as SlowEvent, Message as MessageEvent, Restart as RestartEvent}
 use Rattle.acc_message.specs.declared.item.Item.{Item}
 use Rattle.acc_message.specs.declared.item.Item.TheVariants.{Step, Skipped, Down}
-use Rattle.acc_message.specs.Fields.{from_of, id_of, ballot_of}
 use Rattle.acc_message.specs.Items.{noted_in, begins, id_drawn, event_begins, txn_begun, id_begun, id_of_txn, txn_in, txn_of, message_at}
-use Rattle.acc_message.specs.Taken.{body_in}
 use Rattle.acc_message.specs.Attempts.{Attempt}
-use Rattle.acc_message.specs.NodeRules.{Act, Begins, Recovers, Slows, Takes, Restarts, Deed, next_draw, next_id, next_ballot, clock_events, attempt_of, node_emits}
+use Rattle.acc_message.specs.NodeRules.{Begins, Recovers, Slows, Takes, Restarts, Deed, next_id, attempt_of, node_emits}
 use Rattle.acc_message.specs.Run.{Cluster, clock_start, act_of, recovers, deeds_of, is_node, EachStands}
 use Rattle.acc_actor_laws.proofs.Standing.{not_none}
 use Rattle.acc_actor_laws.proofs.OpeningFacts.{some_is}
 use Rattle.acc_safety.specs.Places.{IsIn, First, Later, StandsAt, Here, Back, IsPast}
 use Rattle.acc_safety.specs.RunLaws.{drawn_in, drawn_of, AreDistinct}
-use Rattle.acc_safety.specs.Decisions.{body_at, body_of}
-use Rattle.acc_safety.specs.Histories.{Sending, NodeStep, FromNode}
+use Rattle.acc_safety.specs.Decisions.{body_at}
 use Rattle.acc_safety.specs.Polls.{IsBody}
 use Rattle.acc_safety.specs.Attempted.{Origin, FromBegin, FromRecover}
 use Rattle.acc_safety.proofs.PlaceOrder.{any_from, passing, StandsAt-whole, StandsAt-behind}
 use Rattle.acc_safety.proofs.DrawFacts.{Clocks, stamps_are_drawn_once}
-use Rattle.acc_safety.proofs.Bridge.{node_step, each_emits, emits_at, EachStands-past}
+use Rattle.acc_safety.proofs.Bridge.{node_step, each_emits, emits_at}
 use Rattle.acc_safety.proofs.Attempted.{origin_of}
 
 -- ---- draws of a run
@@ -60,8 +52,8 @@ apart_behind [] behind s d h = absurd (true≢false (sym h))
 apart_behind (t ∷ front) behind s d h =
     ⊎_elim
     (λ same.
-      subst (λ z. is_among stamp_eq z behind ≡ false) ((stamp_order.decides t s).0 same)
-      (or_parts (is_among stamp_eq t front) (is_among stamp_eq t behind) (sym (is_among-append stamp_eq t front behind) ∙ d.0)).1)
+    subst (λ z. is_among stamp_eq z behind ≡ false) ((stamp_order.decides t s).0 same)
+    (or_parts (is_among stamp_eq t front) (is_among stamp_eq t behind) (sym (is_among-append stamp_eq t front behind) ∙ d.0)).1)
     (apart_behind front behind s d.1) (or_cases (stamp_eq t s) (is_among stamp_eq s front) h)
 
 distinct_behind : (front behind : List Stamp) → AreDistinct (front ++ behind) → AreDistinct behind
@@ -75,7 +67,7 @@ note_draws x notes (Later note other rest there) =
     is_among-append stamp_eq x.0 (drawn_in other) (flat_map drawn_in rest)
     ∙ or_right (is_among stamp_eq x.0 (drawn_in other)) (is_among stamp_eq x.0 (flat_map drawn_in rest)) (note_draws x rest there)
 
-begins_is : (x : TxnId) (note : Note) → begins x note ≡ true → note ≡ BeginNote x
+pub begins_is : (x : TxnId) (note : Note) → begins x note ≡ true → note ≡ BeginNote x
 begins_is x (BeginNote id) h = ap BeginNote ((id_order.decides id x).0 h)
 begins_is x (RecoverNote id ballot) h = absurd (true≢false (sym h))
 begins_is x (Blocked id ballot by) h = absurd (true≢false (sym h))
@@ -181,7 +173,7 @@ recovers_known x body (Some y) (Some other) e =
     let parts = recovers_parts y x other body (some_is (Recovers y other) (Recovers x body) e) in (ap Some parts.0, ap Some parts.1)
 
 -- the number of a recovered transaction
-recover_event : (cluster : Cluster) (earlier : List Item) (x : TxnId) (body : BodyParts) (event : Event) → act_of cluster earlier event ≡ Some (Recovers x body)
+pub recover_event : (cluster : Cluster) (earlier : List Item) (x : TxnId) (body : BodyParts) (event : Event) → act_of cluster earlier event ≡ Some (Recovers x body)
     → (txn : ℕ) × (id_of_txn earlier txn ≡ Some x) × (slice_get cluster.bodies txn ≡ Some body)
 recover_event cluster earlier x body (RecoverEvent number) is =
     let parts = recovers_known x body (id_of_txn earlier number) (slice_get cluster.bodies number) is in (number, parts.0, parts.1)
@@ -261,7 +253,7 @@ module _ (cluster : Cluster) (items : List Item) (h : EachStands cluster items) 
   start = clock_start cluster.starts (node_of a)
 
   -- a begin of a node notes the id that it draws
-  begin_noted : (deed : Deed) (past : List Deed) (txn : ℕ) (body : BodyParts) → StandsAt deed past (deeds_of cluster a items) → deed.act ≡ Begins txn body
+  pub begin_noted : (deed : Deed) (past : List Deed) (txn : ℕ) (body : BodyParts) → StandsAt deed past (deeds_of cluster a items) → deed.act ≡ Begins txn body
       → deed.emitted.notes ≡ BeginNote (next_id (node_of a) start past) ∷ []
   begin_noted deed past txn body at is =
       ap (λ (e : Emitted). e.notes) (emits_at cluster.layout (node_of a) start (deeds_of cluster a items) deed past (each_emits cluster a items h node) at)
@@ -274,7 +266,7 @@ module _ (cluster : Cluster) (items : List Item) (h : EachStands cluster items) 
       let parts = begin_event cluster n.earlier txn body n.entry.event (n.act_is ∙ ap Some is) in
       let x : TxnId = next_id (node_of a) start past in
       let noted : IsIn (BeginNote x) n.entry.emitted.notes =
-        subst (IsIn (BeginNote x)) (sym (ap (λ (e : Emitted). e.notes) n.emitted_is ∙ begin_noted deed past txn body at is)) (First (BeginNote x) []) in
+      subst (IsIn (BeginNote x)) (sym (ap (λ (e : Emitted). e.notes) n.emitted_is ∙ begin_noted deed past txn body at is)) (First (BeginNote x) []) in
       body_by cluster items x txn body (txn_begun_there x txn n.entry n.earlier items (distinct_draws cluster items h) n.at noted parts.0) parts.1
 
   pub recover_body : (deed : Deed) (past : List Deed) (x : TxnId) (body : BodyParts) → StandsAt deed past (deeds_of cluster a items) → deed.act ≡ Recovers x body

@@ -1,11 +1,11 @@
 -- The histories of actors in a run: each step is what the rules say, and has its entry.
-use Rattle.std.proofs.Common.{◌≡◌, ℕ, zero, suc, Bool, true, false, ◌==◌, cond, List, [], ◌∷◌, ◌++◌, Option, None, Some, IsTrue, refl, sym, ◌∙◌, ap, subst, ⊎_elim, ◌⊎◌, inl, inr, arith, ◌%◌, ◌/◌, ◌*◌, ◌+◌}
+use Rattle.std.proofs.Common.{◌≡◌, ℕ, zero, suc, Bool, true, false, List, [], ◌∷◌, ◌++◌, Option, None, Some, IsTrue, refl, sym, ◌∙◌, ap, subst, ⊎_elim, ◌⊎◌, inl, inr, arith, ◌%◌, ◌/◌, ◌*◌, ◌+◌}
 use Rattle.std.specs.List.{slice_get}
 use Rattle.std.specs.Option.{option_map}
-use Rattle.std.proofs.lemmas.Bool.{true≢false, eqb-true, eq-eqb}
+use Rattle.std.proofs.lemmas.Bool.{eqb-true, eq-eqb}
 use Rattle.acc_stamp.specs.declared.stamps.TxnId.{TxnId}
 use Rattle.acc_stamp.specs.declared.actors.Actor.{Actor}
-use Rattle.acc_stamp.specs.Actor.{node_of, shard_of, actor_of}
+use Rattle.acc_stamp.specs.Actor.{node_of, actor_of}
 use Rattle.acc_topology.specs.Layout.{Layout}
 use Rattle.acc_txn.specs.declared.parts.BodyParts.{BodyParts}
 use Rattle.acc_message.specs.declared.message.Message.{Message}
@@ -28,7 +28,7 @@ use Rattle.acc_safety.specs.Places.{IsIn, First, Later, StandsAt, Here, Back, Is
 use Rattle.acc_safety.specs.Histories.{EachAnswers, EachEmits, Sending, Noting, StoreStep, NodeStep, TakenByNode, FromStore, FromNode, Sender, IsStore, IsNode, NotedBy}
 use Rattle.acc_safety.specs.StoreSends.{StoreSends, Votes, Accepts, Commits, Reveals, ReadsAtOnce, ReadsOnOpening, Refuses, Tells}
 use Rattle.acc_safety.specs.NodeMoves.{NodeSends, AsksForVotes, AsksForViews, Proposes, Commits as CommitsTo, Decides, Finishes, Informs}
-use Rattle.acc_safety.proofs.PlaceOrder.{none_is_in, IsIn-append_cases, IsIn-append_left, StandsAt-whole, StandsAt-IsPast, IsPast-rest, IsPast-trans}
+use Rattle.acc_safety.proofs.PlaceOrder.{none_is_in, IsIn-append_cases, StandsAt-whole, StandsAt-IsPast, IsPast-rest}
 use Rattle.acc_safety.proofs.StoreSent.{store_sends}
 use Rattle.acc_safety.proofs.NodeSent.{node_sends}
 
@@ -128,9 +128,9 @@ entry_step cluster a earlier e s false is deed past at rest = step_back cluster 
 entry_step cluster a earlier e s true is deed past at rest =
     ⊎_elim
     (λ first.
-      subst (λ d. NodeStep cluster a (Step e ∷ earlier) d past) (sym first.0)
-      (subst (λ p. NodeStep cluster a (Step e ∷ earlier) (record { act = s.act; emitted = e.emitted }) p) (sym first.1)
-      (step_here cluster a earlier e s (same e.actor a is))))
+    subst (λ d. NodeStep cluster a (Step e ∷ earlier) d past) (sym first.0)
+    (subst (λ p. NodeStep cluster a (Step e ∷ earlier) (record { act = s.act; emitted = e.emitted }) p) (sym first.1)
+    (step_here cluster a earlier e s (same e.actor a is))))
     (λ back. step_back cluster a (Step e) earlier deed past (rest back))
     (first_or_back deed (record { act = s.act; emitted = e.emitted }) past (deeds_of cluster a earlier)
     (subst (λ o. StandsAt deed past (deed_with o e.emitted ++ deeds_of cluster a earlier)) s.act_is at))
@@ -160,10 +160,11 @@ emitted_by_rules cluster a items deed past h n =
 emits_each : (cluster : Cluster) (a : Actor) (items : List Item) → EachStands cluster items → is_node a ≡ true → (deeds : List Deed)
     → IsPast deeds (deeds_of cluster a items) → EachEmits cluster.layout (node_of a) (clock_start cluster.starts (node_of a)) deeds
 emits_each cluster a items h node [] within = tt
-emits_each cluster a items h node (deed ∷ past) within =
-    (emitted_by_rules cluster a items deed past h (node_step cluster a items h deed past (StandsAt-whole deed past (deed ∷ past) (deeds_of cluster a items) (Here deed past) within))
-    ∙ ap (λ b. emits_by b cluster a past deed.act) node,
-    emits_each cluster a items h node past (IsPast-rest deed past (deeds_of cluster a items) within))
+emits_each cluster a items h node (deed ∷ past) within = (
+  emitted_by_rules cluster a items deed past h (node_step cluster a items h deed past (StandsAt-whole deed past (deed ∷ past) (deeds_of cluster a items) (Here deed past) within))
+      ∙ ap (λ b. emits_by b cluster a past deed.act) node,
+  emits_each cluster a items h node past (IsPast-rest deed past (deeds_of cluster a items) within),
+)
 
 -- what a node did emits by the rules
 pub each_emits : (cluster : Cluster) (a : Actor) (items : List Item) → EachStands cluster items → is_node a ≡ true
@@ -339,12 +340,14 @@ deed_at cluster items earlier e act at is =
 taken_there : (act : Act) (emitted : Emitted) (deeds before : List Deed) (m : Message) (cluster : Cluster) (a : Actor)
     → StandsAt (record { act = act; emitted = emitted }) before deeds → emitted ≡ emits_by false cluster a before act → IsIn m emitted.out
     → (step : Taken) × (past : List Taken) × StandsAt step past (taken_from deeds) × IsIn m step.sent
-taken_there (Takes n) emitted deeds before m cluster a at is sent =
-    (record { message = n; sent = emitted.out }, taken_from before,
-    StandsAt-whole (record { message = n; sent = emitted.out }) (taken_from before) (taken_from (record { act = Takes n; emitted = emitted } ∷ before)) (taken_from deeds)
-    (Here (record { message = n; sent = emitted.out }) (taken_from before))
-    (taken_from-past (record { act = Takes n; emitted = emitted } ∷ before) deeds (StandsAt-IsPast (record { act = Takes n; emitted = emitted }) before deeds at)),
-    sent)
+taken_there (Takes n) emitted deeds before m cluster a at is sent = (
+  record { message = n; sent = emitted.out },
+  taken_from before,
+  StandsAt-whole (record { message = n; sent = emitted.out }) (taken_from before) (taken_from (record { act = Takes n; emitted = emitted } ∷ before)) (taken_from deeds)
+      (Here (record { message = n; sent = emitted.out }) (taken_from before))
+      (taken_from-past (record { act = Takes n; emitted = emitted } ∷ before) deeds (StandsAt-IsPast (record { act = Takes n; emitted = emitted }) before deeds at)),
+  sent,
+)
 taken_there (Begins txn body) emitted deeds before m cluster a at is sent = absurd (none_is_in m (subst (λ (e : Emitted). IsIn m e.out) is sent))
 taken_there (Recovers x body) emitted deeds before m cluster a at is sent = absurd (none_is_in m (subst (λ (e : Emitted). IsIn m e.out) is sent))
 taken_there (Slows x) emitted deeds before m cluster a at is sent = absurd (none_is_in m (subst (λ (e : Emitted). IsIn m e.out) is sent))
@@ -395,7 +398,7 @@ from_entry cluster items m h s kind is = by kind is
     as_store : is_node a ≡ false → FromStore cluster items a m
     as_store store =
         let t = taken_there on.act s.entry.emitted (deeds_of cluster a items) (deeds_of cluster a s.earlier) m cluster a at
-          (on.emitted ∙ ap (λ b. emits_by b cluster a (deeds_of cluster a s.earlier) on.act) store) s.sent in
+        (on.emitted ∙ ap (λ b. emits_by b cluster a (deeds_of cluster a s.earlier) on.act) store) s.sent in
         record { is_store = store; step = t.0; past = t.1; at = t.2; sent = t.3 }
 
     from_store : (f : FromStore cluster items a m) → from_of m ≡ a
@@ -431,12 +434,17 @@ store_notes_nothing (Recovers x body) layout a past note h = none_is_in note h
 store_notes_nothing (Slows x) layout a past note h = none_is_in note h
 store_notes_nothing Restarts layout a past note h = none_is_in note h
 
+-- a store makes no note
+pub store_made_none : (cluster : Cluster) (items earlier : List Item) (e : Entry) (note : Note) → EachStands cluster items → StandsAt (Step e) earlier items
+    → IsIn note e.emitted.notes → is_node e.actor ≡ false → ⊥
+store_made_none cluster items earlier e note h at noted store =
+    let on = stands_at cluster items earlier e at h in
+    store_notes_nothing on.act cluster.layout e.actor (taken_from (deeds_of cluster e.actor earlier)) note
+    (subst (λ (m : Emitted). IsIn note m.notes) (on.emitted ∙ ap (λ b. emits_by b cluster e.actor (deeds_of cluster e.actor earlier) on.act) store) noted)
+
 note_by : (cluster : Cluster) (items : List Item) (note : Note) → EachStands cluster items → (s : Noting items note) (kind : Bool)
     → is_node s.entry.actor ≡ kind → NotedBy cluster items note
-note_by cluster items note h s false store =
-    let on = stands_at cluster items s.earlier s.entry s.at h in
-    absurd (store_notes_nothing on.act cluster.layout s.entry.actor (taken_from (deeds_of cluster s.entry.actor s.earlier)) note
-    (subst (λ (e : Emitted). IsIn note e.notes) (on.emitted ∙ ap (λ b. emits_by b cluster s.entry.actor (deeds_of cluster s.entry.actor s.earlier) on.act) store) s.noted))
+note_by cluster items note h s false store = absurd (store_made_none cluster items s.earlier s.entry note h s.at s.noted store)
 note_by cluster items note h s true node =
     let on = stands_at cluster items s.earlier s.entry s.at h in
     record {

@@ -1,7 +1,6 @@
 -- The frame: what every message of a run brings, and from where it comes.
-use Rattle.std.proofs.Common.{◌≡◌, ℕ, zero, suc, ◌*◌, ◌+◌, ◌/◌, Bool, true, false, if◌then◌else◌, List, [], ◌∷◌, Option, None, Some, refl, sym, ◌∙◌, ap, subst, arith}
+use Rattle.std.proofs.Common.{◌≡◌, ℕ, ◌*◌, ◌/◌, true, false, if◌then◌else◌, List, ◌∷◌, Some, refl, sym, ◌∙◌, ap, subst, arith}
 use Rattle.std.proofs.lemmas.Bool.{true≢false, false_from_ne_true}
-use Rattle.acc_stamp.specs.declared.stamps.Stamp.{Stamp}
 use Rattle.acc_stamp.specs.declared.stamps.TxnId.{TxnId}
 use Rattle.acc_stamp.specs.declared.stamps.Ballot.{Ballot}
 use Rattle.acc_stamp.specs.declared.actors.Actor.{Actor}
@@ -11,7 +10,6 @@ use Rattle.acc_stamp.specs.History.{Draw}
 use Rattle.acc_stamp.proofs.Order.{ballot_order}
 use Rattle.acc_stamp.proofs.History.{draws_are_of_node}
 use Rattle.acc_topology.specs.Layout.{Layout}
-use Rattle.acc_deps.specs.declared.records.Settled.{Settled}
 use Rattle.acc_txn.specs.declared.parts.BodyParts.{BodyParts}
 use Rattle.acc_message.specs.declared.message.Message.{Message}
 use Rattle.acc_message.specs.declared.note.Note.{Note}
@@ -19,12 +17,12 @@ use Rattle.acc_message.specs.declared.item.Item.{Item}
 use Rattle.acc_message.specs.Fields.{from_of, id_of, ballot_of}
 use Rattle.acc_message.specs.Taken.{Taken, body_in}
 use Rattle.acc_message.specs.Attempts.{Attempt}
-use Rattle.acc_message.specs.NodeRules.{Act, Begins, Recovers, Deed, next_draw, next_id, next_ballot, clock_events, attempt_of}
+use Rattle.acc_message.specs.NodeRules.{Act, Deed, next_draw, next_id, next_ballot, clock_events, attempt_of}
 use Rattle.acc_message.specs.Run.{Cluster, clock_start, deeds_of, taken_of, is_node, EachStands}
 use Rattle.acc_actor_laws.proofs.Standing.{not_none}
 use Rattle.acc_actor_laws.proofs.OpeningFacts.{some_is}
 use Rattle.acc_safety.specs.Places.{IsIn, StandsAt, IsPast}
-use Rattle.acc_safety.specs.Histories.{Sending, FromStore, FromNode, Sender, IsStore, IsNode, NotedBy}
+use Rattle.acc_safety.specs.Histories.{FromStore, FromNode, Sender, IsStore, IsNode, NotedBy}
 use Rattle.acc_safety.specs.StoreSends.{StoreSends, Votes, Accepts, Commits, Reveals, ReadsAtOnce, ReadsOnOpening, Refuses, Tells}
 use Rattle.acc_safety.specs.NodeMoves.{Move, Hears, Ignores, Counts, IsEnded, TakesOver, Reacts, ToSlow, ToMessage, NodeSends, AsksForVotes, AsksForViews, Proposes, Commits as CommitsTo, Decides, Finishes, Informs, NodeNotes}
 use Rattle.acc_safety.specs.Polls.{IsBody}

@@ -1,6 +1,5 @@
 pub mod SentFacts
 pub mod DrawFacts
-pub mod ReplayFacts
 pub mod PlaceFacts
 pub mod BegunFacts
 pub mod PlaceOrder
@@ -16,3 +15,5 @@ pub mod Prefixes
 pub mod SetsNamed
 pub mod Meetings
 pub mod Polled
+pub mod Replays
+pub mod BegunBefore

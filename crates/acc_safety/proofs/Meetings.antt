@@ -1,5 +1,5 @@
 -- Quorums of answers meet in a store that gave an answer to both; and conflicts are one both ways.
-use Rattle.std.proofs.Common.{◌≡◌, ℕ, zero, suc, ◌*◌, ◌+◌, ◌%◌, ◌≤◌, ◌<◌, Bool, true, false, not, ◌==◌, ◌&&◌, ◌||◌, List, [], ◌∷◌, length, map, filter, IsTrue, refl, sym, ◌∙◌, ap, subst, ⊎_elim, arith}
+use Rattle.std.proofs.Common.{◌≡◌, ℕ, zero, suc, ◌*◌, ◌+◌, ◌%◌, ◌≤◌, ◌<◌, Bool, true, false, not, ◌==◌, ◌&&◌, List, [], ◌∷◌, length, filter, sym, ◌∙◌, ap, subst, ⊎_elim, arith}
 use Rattle.std.specs.List.{list_any, range_with_len}
 use Rattle.std.proofs.lemmas.Bool.{true≢false, or_cases, or_left, or_right, and_parts, eqb-true, eq-eqb, cond_both, cases_Bool}
 use Rattle.acc_stamp.specs.declared.stamps.TxnId.{TxnId}
@@ -7,15 +7,14 @@ use Rattle.acc_stamp.specs.declared.actors.Actor.{Actor}
 use Rattle.acc_stamp.specs.Actor.{actor_of, shard_of}
 use Rattle.acc_stamp.specs.Stamp.{stamp_eq}
 use Rattle.acc_stamp.proofs.Order.{stamp_order}
-use Rattle.acc_topology.specs.Layout.{Layout, IsLayout, HasShard, shard_at}
+use Rattle.acc_topology.specs.Layout.{Layout, IsLayout, HasShard}
 use Rattle.acc_topology.specs.Keys.{shard_of_key, shards_of, share_of}
-use Rattle.acc_topology.specs.Sets.{is_among, in_order, numbers}
+use Rattle.acc_topology.specs.Sets.{is_among, numbers}
 use Rattle.acc_topology.proofs.Ends.{shard_of-holds}
 use Rattle.acc_quorum.specs.Answers.{Answer, is_from, has_answered, has_kept, has_changed}
-use Rattle.acc_quorum.specs.Meetings.{MeetAt, MeetSomewhere, InCommon, AreShardsOf}
+use Rattle.acc_quorum.specs.Meetings.{MeetSomewhere, InCommon, AreShardsOf}
 use Rattle.acc_quorum.proofs.Counted.{majorities, fast_and_majority, fast_and_fast, fast_and_possible_fast, lost_and_fast, impossible_and_fast}
 use Rattle.acc_value.specs.declared.key.Key.{Key}
-use Rattle.acc_value.specs.Footprint.{clashes}
 use Rattle.acc_value.proofs.Clash.{clashes-symm}
 use Rattle.acc_txn.specs.declared.parts.BodyParts.{BodyParts}
 use Rattle.acc_txn.specs.Uses.{footprint_of}
@@ -27,7 +26,7 @@ use Rattle.acc_message.specs.Attempts.{vote_in_answer, plain, plainly, majority_
 use Rattle.acc_message.specs.Run.{Cluster}
 use Rattle.acc_safety.specs.Places.{IsIn, First, Later}
 use Rattle.acc_safety.specs.Polls.{IsBody, Meeting, AreRivals, IsAny, Kept, Changed}
-use Rattle.acc_safety.proofs.PlaceOrder.{Passing, passing}
+use Rattle.acc_safety.proofs.PlaceOrder.{passing}
 
 -- ---- shards
 
@@ -98,8 +97,8 @@ found_in x test P shard node (m ∷ answers) tells h =
     ⊎_elim
     (λ here. let t = tells m here in record { message = m; there = First m answers; from = t.0; holds = t.1 })
     (λ rest.
-      let f = found_in x test P shard node answers tells rest in
-      record { message = f.message; there = Later f.message m answers f.there; from = f.from; holds = f.holds })
+    let f = found_in x test P shard node answers tells rest in
+    record { message = f.message; there = Later f.message m answers f.there; from = f.from; holds = f.holds })
     (or_cases (test (plain x m)) (list_any test (plainly x answers)) h)
 
 answered_there : (x : TxnId) (shard node : ℕ) (answers : List Message) → has_answered (plainly x answers) shard node ≡ true → Found IsAny shard node answers
@@ -110,17 +109,18 @@ kept_there : (x : TxnId) (shard node : ℕ) (answers : List Message) → has_kep
 kept_there x shard node answers h =
     found_in x (λ a. is_from shard node a && a.unchanged) (Kept x) shard node answers
     (λ m both.
-      let parts = and_parts (is_from shard node (plain x m)) (stamp_eq (vote_in_answer m) x.0) both in
-      (from_there (from_of m) (actor_of node shard) parts.0, (stamp_order.decides (vote_in_answer m) x.0).0 parts.1))
+    let parts = and_parts (is_from shard node (plain x m)) (stamp_eq (vote_in_answer m) x.0) both in
+    (from_there (from_of m) (actor_of node shard) parts.0, (stamp_order.decides (vote_in_answer m) x.0).0 parts.1))
     h
 
 changed_there : (x : TxnId) (shard node : ℕ) (answers : List Message) → has_changed (plainly x answers) shard node ≡ true → Found (Changed x) shard node answers
 changed_there x shard node answers h =
     found_in x (λ a. is_from shard node a && not a.unchanged) (Changed x) shard node answers
     (λ m both.
-      let parts = and_parts (is_from shard node (plain x m)) (not (stamp_eq (vote_in_answer m) x.0)) both in
-      (from_there (from_of m) (actor_of node shard) parts.0,
-      λ same. true≢false (sym parts.1 ∙ ap not ((stamp_order.decides (vote_in_answer m) x.0).1 same))))
+    let parts = and_parts (is_from shard node (plain x m)) (not (stamp_eq (vote_in_answer m) x.0)) both in (
+      from_there (from_of m) (actor_of node shard) parts.0,
+      λ same. true≢false (sym parts.1 ∙ ap not ((stamp_order.decides (vote_in_answer m) x.0).1 same)),
+    ))
     h
 
 meeting : (layout : Layout) (shard node : ℕ) (one other : Message → Type 0) (answers others : List Message) → IsLayout layout → HasShard layout shard
@@ -176,10 +176,11 @@ module _ (layout : Layout) (x y : TxnId) (body other : BodyParts) (answers other
 module _ (layout : Layout) (x : TxnId) (body : BodyParts) (answers others : List Message) (is : IsLayout layout) where
   somewhere : MeetSomewhere layout (has_changed (plainly x answers)) (has_kept (plainly x others)) (shards_used layout body)
       → (shard : ℕ) × Meeting shard (Changed x) (Kept x) answers others
-  somewhere m =
-      (m.shard,
-      meeting layout m.shard m.meet.node (Changed x) (Kept x) answers others is (used-HasShard layout body m.shard is m.used)
-      (changed_there x m.shard m.meet.node answers m.meet.first) (kept_there x m.shard m.meet.node others m.meet.second))
+  somewhere m = (
+    m.shard,
+    meeting layout m.shard m.meet.node (Changed x) (Kept x) answers others is (used-HasShard layout body m.shard is m.used)
+        (changed_there x m.shard m.meet.node answers m.meet.first) (kept_there x m.shard m.meet.node others m.meet.second),
+  )
 
   pub lost_meets_fast : fast_lost_somewhere layout x body answers ≡ true → fast_everywhere layout x body others ≡ true
       → (shard : ℕ) × Meeting shard (Changed x) (Kept x) answers others
@@ -210,8 +211,8 @@ among_range start (suc len) n low high =
     ⊎_elim
     (λ same. or_left (start == n) (is_among (range_with_len (start + 1) len) n) same)
     (λ apart.
-      or_right (start == n) (is_among (range_with_len (start + 1) len) n)
-      (among_range (start + 1) len n (further apart) (omega arith)))
+    or_right (start == n) (is_among (range_with_len (start + 1) len) n)
+    (among_range (start + 1) len n (further apart) (omega arith)))
     (cases_Bool (start == n))
   where
     further : (start == n) ≡ false → start + 1 ≤ n

@@ -1,7 +1,7 @@
 -- However an attempt moves, it is one of the moves, with its reason.
-use Rattle.std.proofs.Common.{◌≡◌, ℕ, Bool, true, false, not, ◌&&◌, ◌||◌, cond, List, [], ◌∷◌, Option, None, Some, refl, sym, ◌∙◌, ap, subst, ⊎_elim, ◌⊎◌, inl, inr}
+use Rattle.std.proofs.Common.{◌≡◌, ℕ, Bool, true, false, not, ◌&&◌, ◌||◌, cond, List, [], ◌∷◌, Option, None, Some, refl, sym, subst, inl, inr}
 use Rattle.std.specs.List.{list_any}
-use Rattle.std.proofs.lemmas.Bool.{true≢false, and_parts, or_cases}
+use Rattle.std.proofs.lemmas.Bool.{true≢false, and_parts}
 use Rattle.acc_stamp.specs.declared.stamps.Stamp.{Stamp}
 use Rattle.acc_stamp.specs.declared.stamps.TxnId.{TxnId}
 use Rattle.acc_stamp.specs.declared.stamps.Ballot.{Ballot}
@@ -15,17 +15,16 @@ use Rattle.acc_deps.specs.declared.records.Settled.{Settled}
 use Rattle.acc_deps.specs.declared.records.View.{View}
 use Rattle.acc_deps.specs.declared.records.Choice.TheVariants.{Accept as GoAccept, Commit as GoCommit}
 use Rattle.acc_deps.specs.Records.{Stably, stably_all, least_stably, Claim, claims_of, highest_claim, choice_of_claim, waits_of}
-use Rattle.acc_txn.specs.declared.parts.BodyParts.{BodyParts}
 use Rattle.acc_txn.specs.declared.outcome.Outcome.{Outcome}
 use Rattle.acc_message.specs.declared.message.Message.{Message}
 use Rattle.acc_message.specs.declared.message.Message.TheVariants.{PreAccept, PreAcceptOk, Accept, AcceptOk, Commit, CommitOk, Stable, ReadOk, Apply, Recover, RecoverOk, Nack, Decided, Inform}
 use Rattle.acc_message.specs.declared.note.Path.TheVariants.{Fast, Adopted}
 use Rattle.acc_message.specs.Fields.{id_of, ballot_of}
-use Rattle.acc_message.specs.Attempts.{Attempt, Phase, Voting, Recovering, Accepting, Committing, Executing, counts, union_of, majority_everywhere, fast_everywhere, fast_lost_somewhere, may_be_fast_everywhere, outcome_from}
-use Rattle.acc_message.specs.RecoveryDecision.{Ruling, Go, Blocks, views_in, by_stable, by_claim, without_records, unless_blocked, recovery_decision}
-use Rattle.acc_message.specs.Coordinator.{Reaction, stay, when, either, begun, recovering, own_stamp, highest_vote, agreed, path_of, propose, decide, slow_down, go, follow_ruling, finish_with, after_vote, after_view, after_accept, after_commit, after_answer, with_answer, end, is_decided, is_past_recover, on_nack, on_decided, on_message, reaction, may_slow_down, slow_reaction}
+use Rattle.acc_message.specs.Attempts.{Attempt, Phase, Voting, Recovering, Accepting, Committing, Executing, counts, majority_everywhere, fast_everywhere, fast_lost_somewhere, may_be_fast_everywhere, outcome_from}
+use Rattle.acc_message.specs.RecoveryDecision.{Go, views_in, by_stable, by_claim, without_records, unless_blocked}
+use Rattle.acc_message.specs.Coordinator.{Reaction, stay, when, either, begun, recovering, own_stamp, highest_vote, agreed, path_of, decide, slow_down, go, follow_ruling, finish_with, after_answer, with_answer, end, is_decided, is_past_recover, on_message, reaction, may_slow_down, slow_reaction}
 use Rattle.acc_message.specs.NodeRules.{Act, Begins, Recovers, Slows, Takes, Restarts, Deed, next_id, next_ballot, next_by, where_about, attempt_after, attempt_of}
-use Rattle.acc_safety.specs.NodeMoves.{NoRecords, IsRuledOut, IsFree, Move, Wait, Propose, CommitTo, DecideBy, FinishWith, BlockBy, EndBy, made, Moves, WaitsForMore, DecidesFast, SlowsDown, AdoptsStable, AdoptsCommitted, AdoptsAccepted, ProposesGreatest, ProposesOwn, IsBlocked, CommitsIt, DecidesCommitted, HasOutcome, Hears, Ignores, Counts, IsEnded, TakesOver, Reacts, ToSlow, ToMessage, AttemptMoves, Keeps, BeginsIt, RecoversIt, MovesOn, Forgets}
+use Rattle.acc_safety.specs.NodeMoves.{NoRecords, Move, Wait, Propose, CommitTo, DecideBy, FinishWith, BlockBy, EndBy, made, Moves, WaitsForMore, DecidesFast, SlowsDown, AdoptsStable, AdoptsCommitted, AdoptsAccepted, ProposesGreatest, ProposesOwn, IsBlocked, CommitsIt, DecidesCommitted, HasOutcome, Hears, Ignores, Counts, IsEnded, TakesOver, ToSlow, ToMessage, AttemptMoves, Keeps, BeginsIt, RecoversIt, MovesOn, Forgets}
 
 -- a reaction is that of a move
 pub record Moved (layout : Layout) (own : Actor) (x : TxnId) (a : Attempt) (r : Reaction) : Type 0 where
@@ -78,8 +77,8 @@ module _ (layout : Layout) (own : Actor) (x : TxnId) where
       → list_any (λ (v : View). v.superseded) (views_in a.answers) ≡ superseded
       → a.phase ≡ Recovering → majority_everywhere layout x a.body a.answers ≡ true → NoRecords a.answers
       → Moved layout own x a (follow_ruling layout own x a (cond (not possible || superseded)
-        (Go (GoAccept (highest_vote x a)))
-        (unless_blocked x a.answers (waits_of (views_in a.answers)))))
+      (Go (GoAccept (highest_vote x a)))
+      (unless_blocked x a.answers (waits_of (views_in a.answers)))))
   bare_moved a false superseded is is_too phase major none = moved a (Propose (highest_vote x a)) (ProposesGreatest phase major none (inl is))
   bare_moved a true true is is_too phase major none = moved a (Propose (highest_vote x a)) (ProposesGreatest phase major none (inr is_too))
   bare_moved a true false is is_too phase major none = free_moved a (waits_of (views_in a.answers)) refl phase major none is is_too
@@ -96,7 +95,7 @@ module _ (layout : Layout) (own : Actor) (x : TxnId) where
   stables_moved : (a : Attempt) (o : Option Stably) → least_stably (stably_all (views_in a.answers)) ≡ o
       → a.phase ≡ Recovering → majority_everywhere layout x a.body a.answers ≡ true
       → Moved layout own x a (follow_ruling layout own x a
-        (by_stable o (by_claim (highest_claim (claims_of (views_in a.answers))) (without_records layout x a.body a.answers))))
+      (by_stable o (by_claim (highest_claim (claims_of (views_in a.answers))) (without_records layout x a.body a.answers))))
   stables_moved a (Some s) is phase major = moved a (DecideBy Adopted s.settled) (AdoptsStable s phase major is)
   stables_moved a None is phase major = claims_moved a (highest_claim (claims_of (views_in a.answers))) refl is phase major
 
@@ -245,7 +244,7 @@ module _ (layout : Layout) (node start : ℕ) (past : List Deed) where
     where
       by : (b : Bool) → id_eq (id_of m) x ≡ b
           → AttemptMoves layout node start past x (Takes m)
-            (where_about b (next_by (λ a. reaction layout (actor_of node 0) x a m)) (attempt_of layout node start x past))
+          (where_about b (next_by (λ a. reaction layout (actor_of node 0) x a m)) (attempt_of layout node start x past))
       by true is = message_after x m (attempt_of layout node start x past) refl ((id_order.decides (id_of m) x).0 is)
       by false is = Keeps (Takes m)
   attempt_moves x Restarts = Forgets

@@ -1,30 +1,23 @@
 -- Whatever a node sends or notes belongs to a move of an attempt, or begins one, or tells an outcome to an open client.
-use Rattle.std.proofs.Common.{◌≡◌, ℕ, Bool, true, false, cond, List, [], ◌∷◌, ◌++◌, Option, None, Some, map, refl, sym, ◌∙◌, ap, subst, ⊎_elim, ◌⊎◌, inl, inr}
+use Rattle.std.proofs.Common.{◌≡◌, ℕ, cond, List, [], ◌∷◌, ◌++◌, Option, None, Some, map, refl, sym, subst, ⊎_elim}
 use Rattle.std.specs.List.{flat_map}
-use Rattle.acc_stamp.specs.declared.stamps.Stamp.{Stamp}
 use Rattle.acc_stamp.specs.declared.stamps.TxnId.{TxnId}
-use Rattle.acc_stamp.specs.declared.stamps.Ballot.{Ballot}
 use Rattle.acc_stamp.specs.declared.actors.Actor.{Actor}
 use Rattle.acc_stamp.specs.Actor.{actor_of}
 use Rattle.acc_stamp.specs.Stamp.{zero_ballot}
 use Rattle.acc_topology.specs.Layout.{Layout}
-use Rattle.acc_deps.specs.declared.shards.ShardDeps.{ShardDeps}
-use Rattle.acc_deps.specs.declared.records.Settled.{Settled}
 use Rattle.acc_txn.specs.declared.parts.BodyParts.{BodyParts}
-use Rattle.acc_txn.specs.declared.outcome.Outcome.{Outcome}
 use Rattle.acc_message.specs.declared.message.Message.{Message}
 use Rattle.acc_message.specs.declared.message.Message.TheVariants.{PreAccept, PreAcceptOk, Accept, AcceptOk, Commit, CommitOk, Stable, ReadOk, Apply, Recover, RecoverOk, Nack, Decided, Inform}
-use Rattle.acc_message.specs.declared.note.Path.{Path}
 use Rattle.acc_message.specs.declared.note.Note.{Note}
 use Rattle.acc_message.specs.declared.note.Note.TheVariants.{Begin as BeginNote, Recover as RecoverNote, Blocked, Ended, Decide as DecideNote, Outcome as OutcomeNote, Reply as ReplyNote}
-use Rattle.acc_message.specs.declared.entry.Emitted.{Emitted}
-use Rattle.acc_message.specs.Fields.{id_of, ballot_of}
+use Rattle.acc_message.specs.Fields.{id_of}
 use Rattle.acc_message.specs.Items.{same_actor}
 use Rattle.acc_message.specs.Shares.{stores_used}
 use Rattle.acc_message.specs.Attempts.{Attempt}
-use Rattle.acc_message.specs.Coordinator.{silence, Reaction, home_node, inform, reaction, slow_reaction}
+use Rattle.acc_message.specs.Coordinator.{Reaction, home_node, inform, reaction, slow_reaction}
 use Rattle.acc_message.specs.NodeRules.{Act, Begins, Recovers, Slows, Takes, Restarts, Deed, next_id, next_ballot, is_open, attempt_of, emitted_by, replied, with_reply, on_taking, node_emits}
-use Rattle.acc_safety.specs.Places.{IsIn, First, Later}
+use Rattle.acc_safety.specs.Places.{IsIn}
 use Rattle.acc_safety.specs.NodeMoves.{Move, Wait, Propose, CommitTo, DecideBy, FinishWith, BlockBy, EndBy, made, Reacts, ToSlow, ToMessage, NodeSends, AsksForVotes, AsksForViews, Proposes, Commits, Decides, Finishes, Informs, NodeNotes, NotesBegin, NotesRecover, NotesDecision, NotesOutcome, NotesReply, NotesTold, NotesBlocked, NotesEnded}
 use Rattle.acc_safety.proofs.PlaceOrder.{only, none_is_in, IsIn-append_cases, IsIn-cond_cases, IsIn-map, IsIn-cases}
 use Rattle.acc_safety.proofs.NodeMoved.{hears_all, slow_moved}
@@ -52,9 +45,9 @@ module _ (layout : Layout) (node start : ℕ) (past : List Deed) where
       ⊎_elim
       (mapped act a.body (λ store. Apply (actor_of node 0) store x a.ballot a.body settled.t settled.deps outcome) s (λ store. Finishes act x a settled outcome store reacts))
       (λ informs.
-        ⊎_elim (λ none. absurd (none_is_in s none.1))
-        (λ one. subst (NodeSends layout node start past act) (sym (only s _ one.1)) (Informs act x a settled outcome reacts))
-        (IsIn-cond_cases s (same_actor (actor_of node 0) (home_node x)) [] _ informs))
+      ⊎_elim (λ none. absurd (none_is_in s none.1))
+      (λ one. subst (NodeSends layout node start past act) (sym (only s _ one.1)) (Informs act x a settled outcome reacts))
+      (IsIn-cond_cases s (same_actor (actor_of node 0) (home_node x)) [] _ informs))
       (IsIn-append_cases s (map (λ store. Apply (actor_of node 0) store x a.ballot a.body settled.t settled.deps outcome) (stores_used layout a.body))
       (inform (actor_of node 0) x a.ballot outcome) h)
   move_sends act x a (BlockBy by) s reacts h = absurd (none_is_in s h)
@@ -130,14 +123,14 @@ module _ (layout : Layout) (node start : ℕ) (past : List Deed) where
       ⊎_elim
       (λ first. subst (NodeNotes layout node start past act) (sym first) (NotesOutcome act x a settled outcome reacts))
       (λ rest.
-        ⊎_elim
-        (λ reply.
-          ⊎_elim
-          (λ open_now. one_note act note (ReplyNote x outcome.reply) (NotesReply act x a settled outcome reacts open_now.0) open_now.1)
-          (λ closed. absurd (none_is_in note closed.1))
-          (IsIn-cond_cases note (is_open x past) (ReplyNote x outcome.reply ∷ []) [] reply))
-        (λ none. absurd (none_is_in note none))
-        (IsIn-append_cases note (cond (is_open x past) (ReplyNote x outcome.reply ∷ []) []) [] rest))
+      ⊎_elim
+      (λ reply.
+      ⊎_elim
+      (λ open_now. one_note act note (ReplyNote x outcome.reply) (NotesReply act x a settled outcome reacts open_now.0) open_now.1)
+      (λ closed. absurd (none_is_in note closed.1))
+      (IsIn-cond_cases note (is_open x past) (ReplyNote x outcome.reply ∷ []) [] reply))
+      (λ none. absurd (none_is_in note none))
+      (IsIn-append_cases note (cond (is_open x past) (ReplyNote x outcome.reply ∷ []) []) [] rest))
       (IsIn-cases note (OutcomeNote x outcome.reply) (cond (is_open x past) (ReplyNote x outcome.reply ∷ []) [] ++ []) h)
   move_replies act x a (BlockBy by) note reacts h = one_note act note (Blocked x a.ballot by) (NotesBlocked act x a by reacts) h
   move_replies act x a (EndBy by) note reacts h = one_note act note (Ended x a.ballot by) (NotesEnded act x a by reacts) h

@@ -1,5 +1,5 @@
 -- Places in one list, and elements of lists that are made of others.
-use Rattle.std.proofs.Common.{◌≡◌, ℕ, zero, suc, Bool, true, false, cond, List, [], ◌∷◌, ◌++◌, length, map, filter, Contains, Option, None, Some, refl, sym, ◌∙◌, ap, subst, ◌⊎◌, inl, inr, ⊎_elim, arith}
+use Rattle.std.proofs.Common.{◌≡◌, Bool, true, false, cond, List, [], ◌∷◌, ◌++◌, map, filter, Contains, Option, None, Some, refl, sym, ◌∙◌, ap, subst, ◌⊎◌, inl, inr, ⊎_elim, arith}
 use Rattle.std.specs.List.{AllByRecursion, list_any, flat_map, filter_map, cons_option}
 use Rattle.std.proofs.lemmas.Bool.{true≢false, or_cases, or_left, or_right}
 use Rattle.std.proofs.lemmas.List.Elements.{Contains-append_cases, Contains-push_cases, Contains-append_left, Contains-append_right, Contains-push}
@@ -111,8 +111,8 @@ module _ {T : Type 0} where
   passing test (x ∷ xs) h =
       ⊎_elim (λ here. record { element = x; there = First x xs; passes = here })
       (λ rest.
-        let p = passing test xs rest in
-        record { element = p.element; there = Later p.element x xs p.there; passes = p.passes })
+      let p = passing test xs rest in
+      record { element = p.element; there = Later p.element x xs p.there; passes = p.passes })
       (or_cases (test x) (list_any test xs) h)
 
   pub any_from : (test : T → Bool) (x : T) (xs : List T) → IsIn x xs → test x ≡ true → list_any test xs ≡ true
@@ -158,8 +158,8 @@ module _ {A B : Type 0} where
   IsIn-map f y (x ∷ xs) h =
       ⊎_elim (λ same. record { source = x; there = First x xs; is = same })
       (λ rest.
-        let p = IsIn-map f y xs rest in
-        record { source = p.source; there = Later p.source x xs p.there; is = p.is })
+      let p = IsIn-map f y xs rest in
+      record { source = p.source; there = Later p.source x xs p.there; is = p.is })
       (IsIn-cases y (f x) (map f xs) h)
 
   pub map-IsIn : (f : A → B) (x : A) (xs : List A) → IsIn x xs → IsIn (f x) (map f xs)
@@ -177,8 +177,8 @@ module _ {A B : Type 0} where
   IsIn-flat_map f y (x ∷ xs) h =
       ⊎_elim (λ first. record { source = x; there = First x xs; within = first })
       (λ rest.
-        let p = IsIn-flat_map f y xs rest in
-        record { source = p.source; there = Later p.source x xs p.there; within = p.within })
+      let p = IsIn-flat_map f y xs rest in
+      record { source = p.source; there = Later p.source x xs p.there; within = p.within })
       (IsIn-append_cases y (f x) (flat_map f xs) h)
 
   pub flat_map-IsIn : (f : A → List B) (y : B) (x : A) (xs : List A) → IsIn x xs → IsIn y (f x) → IsIn y (flat_map f xs)
@@ -196,6 +196,6 @@ module _ {A B : Type 0} where
   IsIn-filter_map f y (x ∷ xs) h =
       ⊎_elim (λ here. record { source = x; there = First x xs; gives = here })
       (λ rest.
-        let p = IsIn-filter_map f y xs rest in
-        record { source = p.source; there = Later p.source x xs p.there; gives = p.gives })
+      let p = IsIn-filter_map f y xs rest in
+      record { source = p.source; there = Later p.source x xs p.there; gives = p.gives })
       (cons_some (f x) y (filter_map f xs) h)

@@ -1,27 +1,25 @@
 -- The answers of an attempt, in a run, are answers of stores, each with its place in its store's history.
-use Rattle.std.proofs.Common.{◌≡◌, ℕ, Bool, true, false, List, [], ◌∷◌, Option, None, Some, refl, sym, ◌∙◌, ap, subst}
+use Rattle.std.proofs.Common.{◌≡◌, ℕ, Bool, true, false, List, ◌∷◌, refl, sym, ◌∙◌}
 use Rattle.std.proofs.lemmas.Bool.{true≢false}
 use Rattle.acc_stamp.specs.declared.stamps.TxnId.{TxnId}
 use Rattle.acc_stamp.specs.declared.actors.Actor.{Actor}
 use Rattle.acc_stamp.specs.Actor.{node_of}
 use Rattle.acc_topology.specs.Layout.{Layout}
-use Rattle.acc_txn.specs.declared.parts.BodyParts.{BodyParts}
 use Rattle.acc_message.specs.declared.message.Message.{Message}
-use Rattle.acc_message.specs.declared.message.Message.TheVariants.{PreAccept, PreAcceptOk, Accept, AcceptOk, Commit, CommitOk, Stable, ReadOk, Apply, Recover, RecoverOk, Nack, Decided, Inform}
+use Rattle.acc_message.specs.declared.message.Message.TheVariants.{PreAcceptOk, AcceptOk, CommitOk, ReadOk, RecoverOk}
 use Rattle.acc_message.specs.declared.item.Item.{Item}
-use Rattle.acc_message.specs.Fields.{from_of, id_of, ballot_of}
-use Rattle.acc_message.specs.Attempts.{Attempt, Phase, Voting, Recovering, Accepting, Committing, Executing, fits, is_preaccept_ok, is_read_ok}
-use Rattle.acc_message.specs.BallotRules.{is_accept_ok, is_commit_ok, is_recover_ok}
-use Rattle.acc_message.specs.NodeRules.{Act, Deed, attempt_of}
+use Rattle.acc_message.specs.Fields.{from_of}
+use Rattle.acc_message.specs.Attempts.{Attempt, Phase, Voting, Recovering, Accepting, Committing, Executing, fits}
+use Rattle.acc_message.specs.NodeRules.{Act, Deed}
 use Rattle.acc_message.specs.Run.{Cluster, clock_start, deeds_of, is_node, EachStands}
-use Rattle.acc_safety.specs.Places.{IsIn, StandsAt, IsPast}
-use Rattle.acc_safety.specs.Histories.{Sending, FromStore, FromNode, Sender, IsStore, IsNode}
+use Rattle.acc_safety.specs.Places.{StandsAt, IsPast}
+use Rattle.acc_safety.specs.Histories.{Sending, FromStore, Sender, IsStore, IsNode}
 use Rattle.acc_safety.specs.NodeMoves.{Move, Reacts, NodeSends, AsksForVotes, AsksForViews, Proposes, Commits, Decides, Finishes, Informs}
-use Rattle.acc_safety.specs.Attempted.{Took, AnswerOf, AreAnswersOf}
-use Rattle.acc_safety.specs.Polls.{IsAnswer, AreAnswers}
+use Rattle.acc_safety.specs.Attempted.{Took, AreAnswersOf, kind_of}
+use Rattle.acc_safety.specs.Polls.{AreAnswers}
 use Rattle.acc_safety.proofs.PlaceOrder.{StandsAt-whole, StandsAt-IsPast}
 use Rattle.acc_safety.proofs.Bridge.{Sending-past, sender}
-use Rattle.acc_safety.proofs.Attempted.{doing, answers_kept, answers_of, of_moving}
+use Rattle.acc_safety.proofs.Attempted.{answers_kept, of_moving}
 use Rattle.acc_safety.proofs.Frame.{node_sent}
 use Rattle.acc_safety.proofs.Prefixes.{IsBefore-past, node_took_before}
 
@@ -71,14 +69,6 @@ pub answer_place : (cluster : Cluster) (items : List Item) (phase : Phase) (m : 
     → FromStore cluster items (from_of m) m
 answer_place cluster items phase m h fitting s = answer_from_store cluster items m h (fits-answer phase m fitting) (sender cluster items m h s)
 
--- the kind of the answers of a phase
-abbrev pub kind_of : Phase → Message → Bool
-kind_of Voting m = is_preaccept_ok m
-kind_of Recovering m = is_recover_ok m
-kind_of (Accepting s) m = is_accept_ok m
-kind_of (Committing s) m = is_commit_ok m
-kind_of (Executing s) m = is_read_ok m
-
 fits-kind : (phase : Phase) (m : Message) → fits phase m ≡ true → kind_of phase m ≡ true
 fits-kind Voting m h = h
 fits-kind Recovering m h = h
@@ -93,12 +83,12 @@ module _ (cluster : Cluster) (items : List Item) (h : EachStands cluster items) 
   polled past x at within are m there =
       let answer = are m there in
       let took : Took (deeds_of cluster a items) m =
-        record {
-          deed = answer.took.deed;
-          past = answer.took.past;
-          at = StandsAt-whole answer.took.deed answer.took.past past (deeds_of cluster a items) answer.took.at within;
-          act_is = answer.took.act_is;
-        } in
+      record {
+        deed = answer.took.deed;
+        past = answer.took.past;
+        at = StandsAt-whole answer.took.deed answer.took.past past (deeds_of cluster a items) answer.took.at within;
+        act_is = answer.took.act_is;
+      } in
       let before = node_took_before cluster a items h m took in
       record {
         is = fits-kind at.phase m answer.fitting;

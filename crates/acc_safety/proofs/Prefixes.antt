@@ -1,16 +1,15 @@
 -- Induction over the prefixes of a run: a message stands on those that were sent before it.
-use Rattle.std.proofs.Common.{◌≡◌, List, [], ◌∷◌, refl, sym, subst}
+use Rattle.std.proofs.Common.{List, [], ◌∷◌}
 use Rattle.acc_stamp.specs.declared.actors.Actor.{Actor}
 use Rattle.acc_message.specs.declared.message.Message.{Message}
 use Rattle.acc_message.specs.declared.item.Item.{Item}
 use Rattle.acc_message.specs.Taken.{Taken}
-use Rattle.acc_message.specs.NodeRules.{Takes, Deed}
 use Rattle.acc_message.specs.Run.{Cluster, deeds_of, taken_of, EachStands}
-use Rattle.acc_safety.specs.Places.{IsIn, StandsAt, Here, Back, IsPast, Whole, Behind}
+use Rattle.acc_safety.specs.Places.{StandsAt, Here, Back, IsPast, Whole, Behind}
 use Rattle.acc_safety.specs.Histories.{Sending}
 use Rattle.acc_safety.specs.Attempted.{Took}
-use Rattle.acc_safety.proofs.PlaceOrder.{StandsAt-IsPast, IsPast-rest, IsPast-trans}
-use Rattle.acc_safety.proofs.Bridge.{EachStands-past, Sending-past, store_step, node_step, taken_was_sent}
+use Rattle.acc_safety.proofs.PlaceOrder.{StandsAt-IsPast, IsPast-rest}
+use Rattle.acc_safety.proofs.Bridge.{store_step, node_step, taken_was_sent}
 
 -- these items are those without at least the newest one
 abbrev pub IsBefore : List Item → List Item → Type 0

@@ -1,14 +1,12 @@
 -- Dependencies of every message and note are sets: each shard once, in order, and its transactions rising.
-use Rattle.std.proofs.Common.{◌≡◌, ℕ, Bool, true, false, cond, List, [], ◌∷◌, ◌++◌, Option, None, Some, map, filter, Contains, refl, sym, ◌∙◌, ap, subst, ⊎_elim}
-use Rattle.std.specs.List.{AllByRecursion, flat_map}
-use Rattle.std.proofs.lemmas.Bool.{cond_both}
+use Rattle.std.proofs.Common.{◌≡◌, ℕ, Bool, true, false, List, [], ◌∷◌, ◌++◌, Option, None, Some, map, filter, Contains, refl, sym, subst}
+use Rattle.std.specs.List.{AllByRecursion}
 use Rattle.acc_stamp.specs.declared.stamps.Stamp.{Stamp}
 use Rattle.acc_stamp.specs.declared.stamps.TxnId.{TxnId}
-use Rattle.acc_stamp.specs.declared.stamps.Ballot.{Ballot}
 use Rattle.acc_stamp.specs.declared.actors.Actor.{Actor}
-use Rattle.acc_stamp.specs.Actor.{actor_of, node_of, shard_of}
+use Rattle.acc_stamp.specs.Actor.{node_of, shard_of}
 use Rattle.acc_stamp.specs.Stamp.{stamp_lt}
-use Rattle.acc_stamp.specs.Rising.{IsRising, ids_union}
+use Rattle.acc_stamp.specs.Rising.{ids_union}
 use Rattle.acc_stamp.proofs.Order.{id_order}
 use Rattle.acc_stamp.proofs.Rising.{IsRisingBy-union, each_append, each_parts}
 use Rattle.acc_topology.specs.Layout.{Layout}
@@ -16,14 +14,13 @@ use Rattle.acc_deps.specs.declared.shards.ShardDeps.{ShardDeps}
 use Rattle.acc_deps.specs.declared.records.Accepted.{Accepted}
 use Rattle.acc_deps.specs.declared.records.Settled.{Settled}
 use Rattle.acc_deps.specs.declared.records.View.{View}
-use Rattle.acc_deps.specs.Deps.{AreDeps, deps_union}
+use Rattle.acc_deps.specs.Deps.{AreDeps}
 use Rattle.acc_deps.specs.Records.{Stably, stably_all, least_stably, Claim, claims_of, highest_claim, record_of, shown_as}
 use Rattle.acc_deps.proofs.Adopted.{stable_is_shown, claim_is_shown}
 use Rattle.acc_deps.proofs.ByShard.{AreDeps-nil, AreDeps-of, AreDeps-union}
 use Rattle.acc_quorum.specs.Answers.{Answer}
 use Rattle.acc_quorum.proofs.Together.{AreDeps-union_of}
 use Rattle.acc_txn.specs.declared.parts.BodyParts.{BodyParts}
-use Rattle.acc_txn.specs.declared.outcome.Outcome.{Outcome}
 use Rattle.acc_message.specs.declared.message.Message.{Message}
 use Rattle.acc_message.specs.declared.message.Message.TheVariants.{PreAccept, PreAcceptOk, Accept, AcceptOk, Commit, CommitOk, Stable, ReadOk, Apply, Recover, RecoverOk, Nack, Decided, Inform}
 use Rattle.acc_message.specs.declared.note.Path.{Path}
@@ -32,27 +29,27 @@ use Rattle.acc_message.specs.declared.entry.Emitted.{Emitted}
 use Rattle.acc_message.specs.declared.item.Item.{Item}
 use Rattle.acc_message.specs.Fields.{from_of, id_of}
 use Rattle.acc_message.specs.Taken.{Taken, Heard, taking, rivals}
-use Rattle.acc_message.specs.VoteRule.{Vote, vote_of, vote_given, vote_for, new_vote, known_below}
+use Rattle.acc_message.specs.VoteRule.{Vote, vote_of, vote_given, new_vote, known_below}
 use Rattle.acc_message.specs.BallotRules.{accepted_of, committed_of, stable_of}
 use Rattle.acc_message.specs.Evidence.{view_of}
-use Rattle.acc_message.specs.Attempts.{Attempt, Phase, Voting, Recovering, Accepting, Committing, Executing, deps_in_answer, plain, plainly, union_of}
+use Rattle.acc_message.specs.Attempts.{Attempt, Phase, Voting, Recovering, Accepting, Committing, Executing, deps_in_answer, plainly, union_of}
 use Rattle.acc_message.specs.RecoveryDecision.{view_in, views_in}
-use Rattle.acc_message.specs.Coordinator.{with_answer, in_phase}
-use Rattle.acc_message.specs.NodeRules.{Act, Slows, Takes, Deed, attempt_of}
-use Rattle.acc_message.specs.Run.{Cluster, clock_start, deeds_of, taken_of, is_node, EachStands}
+use Rattle.acc_message.specs.Coordinator.{with_answer}
+use Rattle.acc_message.specs.NodeRules.{Act, Slows, Takes, Deed}
+use Rattle.acc_message.specs.Run.{Cluster, clock_start, deeds_of, taken_of, EachStands}
 use Rattle.acc_actor_laws.proofs.Standing.{not_none}
 use Rattle.acc_actor_laws.proofs.OpeningFacts.{some_is}
 use Rattle.acc_safety.specs.Places.{IsIn, First, Later, StandsAt, Here, IsPast}
-use Rattle.acc_safety.specs.Histories.{EachAnswers, Sending, FromStore, FromNode, Sender, IsStore, IsNode, NotedBy}
+use Rattle.acc_safety.specs.Histories.{EachAnswers, Sending, Sender, IsStore, IsNode, NotedBy}
 use Rattle.acc_safety.specs.StoreSends.{StoreSends, Votes, Accepts, Commits, Reveals, ReadsAtOnce, ReadsOnOpening, Refuses, Tells}
 use Rattle.acc_safety.specs.NodeMoves.{Move, Wait, Propose, CommitTo, DecideBy, FinishWith, BlockBy, EndBy, Moves, WaitsForMore, DecidesFast, SlowsDown, AdoptsStable, AdoptsCommitted, AdoptsAccepted, ProposesGreatest, ProposesOwn, IsBlocked, CommitsIt, DecidesCommitted, HasOutcome, Hears, Ignores, Counts, IsEnded, TakesOver, Reacts, ToSlow, ToMessage, NodeSends, AsksForVotes, AsksForViews, Proposes, Commits as CommitsTo, Decides, Finishes, Informs, NodeNotes, NotesDecision}
-use Rattle.acc_safety.specs.Attempted.{Took, AnswerOf, AreAnswersOf}
+use Rattle.acc_safety.specs.Attempted.{Took, AreAnswersOf}
 use Rattle.acc_safety.specs.Statements.{deps_accepted, deps_settled, deps_in_view, deps_named, DepsAreSets}
 use Rattle.acc_safety.proofs.PlaceOrder.{StandsAt-behind, StandsAt-whole, StandsAt-IsPast, IsIn-filter_map, Contains-IsIn}
 use Rattle.acc_safety.proofs.Bridge.{each_answers, EachAnswers-past, Sending-past, sender, noted_by}
 use Rattle.acc_safety.proofs.Attempted.{doing, IsKept, of_moving, no_answers, answers_kept, Took-back}
 use Rattle.acc_safety.proofs.Frame.{store_sent, node_sent, node_noted, past_of}
-use Rattle.acc_safety.proofs.StoreNotions.{AcceptedIn, accepted_from, CommittedIn, committed_from, Settling, ByStable, ByApply, SettledIn, stable_from, votes_are_made}
+use Rattle.acc_safety.proofs.StoreNotions.{accepted_from, committed_from, Settling, ByStable, ByApply, stable_from, votes_are_made}
 use Rattle.acc_safety.proofs.Prefixes.{IsBefore-past, SentBefore, store_took_before, node_took_before, each_message}
 
 abbrev pub NamesSets : Message → Type 0
@@ -102,12 +99,13 @@ stable-sets history took x (Some s) is =
 
 view-sets : (layout : Layout) (own : Actor) (past now : List Taken) → EachAnswers layout own past → TookSets past → (x : TxnId) (body : BodyParts)
     → AllByRecursion AreDeps (deps_in_view (view_of layout own past now x body))
-view-sets layout own past now h took x body =
-    (given-sets layout own past now h x body (vote_of past x) refl,
-    each_append AreDeps (deps_accepted (accepted_of past x) ++ deps_accepted (committed_of past x)) (deps_settled (stable_of past x))
-    (each_append AreDeps (deps_accepted (accepted_of past x)) (deps_accepted (committed_of past x))
-    (accepted-sets past took x (accepted_of past x) refl) (committed-sets past took x (committed_of past x) refl))
-    (stable-sets past took x (stable_of past x) refl))
+view-sets layout own past now h took x body = (
+  given-sets layout own past now h x body (vote_of past x) refl,
+  each_append AreDeps (deps_accepted (accepted_of past x) ++ deps_accepted (committed_of past x)) (deps_settled (stable_of past x))
+      (each_append AreDeps (deps_accepted (accepted_of past x)) (deps_accepted (committed_of past x))
+      (accepted-sets past took x (accepted_of past x) refl) (committed-sets past took x (committed_of past x) refl))
+      (stable-sets past took x (stable_of past x) refl),
+)
 
 store_names : (layout : Layout) (own : Actor) (past : List Taken) (taken m : Message) → EachAnswers layout own past → TookSets past
     → StoreSends layout own past taken m → NamesSets m
@@ -258,19 +256,19 @@ module _ (layout : Layout) (x : TxnId) where
         begins = λ txn body emitted past is. record { answers = answers.begins txn body emitted past is; phase = λ took. tt };
         recovers = λ body emitted past. record { answers = answers.recovers body emitted past; phase = λ took. tt };
         counts = λ m emitted past a is about of_ballot counting h.
-          record {
-            answers = answers.counts m emitted past a is about of_ballot counting h.answers;
-            phase = λ took. h.phase (earlier_took (doing (Takes m) emitted) past took);
-          };
+            record {
+              answers = answers.counts m emitted past a is about of_ballot counting h.answers;
+              phase = λ took. h.phase (earlier_took (doing (Takes m) emitted) past took);
+            };
         proposes = λ deeds a s h moves. record { answers = no_answers layout x deeds a (Accepting s); phase = λ took. moves-sets deeds a (Propose s) h took moves };
         commits = λ deeds a s h moves. record { answers = no_answers layout x deeds a (Committing s); phase = λ took. moves-sets deeds a (CommitTo s) h took moves };
         decides = λ deeds a path s h moves. record { answers = no_answers layout x deeds a (Executing s); phase = λ took. moves-sets deeds a (DecideBy path s) h took moves };
         takes_over = λ from to id ballot t deps emitted past a is about h.
-          let deed : Deed = doing (Takes (Decided from to id ballot t deps)) emitted in
-          record {
-            answers = no_answers layout x (deed ∷ past) a (Executing (record { t = t; deps = deps }));
-            phase = λ took. (took (Decided from to id ballot t deps) (took_now (Decided from to id ballot t deps) emitted past)).0;
-          };
+            let deed : Deed = doing (Takes (Decided from to id ballot t deps)) emitted in
+            record {
+              answers = no_answers layout x (deed ∷ past) a (Executing (record { t = t; deps = deps }));
+              phase = λ took. (took (Decided from to id ballot t deps) (took_now (Decided from to id ballot t deps) emitted past)).0;
+            };
       }
 
   hears-sets : (deeds : List Deed) (before : Attempt) (m : Message) (a : Attempt) (move : Move) → InSets deeds a → NodeTookSets deeds → NamesSets m

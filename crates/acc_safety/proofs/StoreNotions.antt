@@ -1,16 +1,14 @@
 -- What a store's notions come from: the records from messages that it took, and a vote from the step that made it.
-use Rattle.std.proofs.Common.{◌≡◌, Bool, true, false, ◌&&◌, cond, List, [], ◌∷◌, Option, None, Some, refl, sym, ◌∙◌, ap, subst, ⊎_elim}
+use Rattle.std.proofs.Common.{◌≡◌, true, ◌&&◌, cond, List, [], ◌∷◌, Option, None, Some, refl, sym, ◌∙◌, ap, subst}
 use Rattle.std.specs.List.{list_any}
-use Rattle.std.proofs.lemmas.Bool.{true≢false, and_parts, cond_both}
+use Rattle.std.proofs.lemmas.Bool.{and_parts, cond_both}
 use Rattle.acc_base.specs.Faults.{or_else}
-use Rattle.acc_stamp.specs.declared.stamps.Stamp.{Stamp}
 use Rattle.acc_stamp.specs.declared.stamps.TxnId.{TxnId}
 use Rattle.acc_stamp.specs.declared.stamps.Ballot.{Ballot}
 use Rattle.acc_stamp.specs.declared.actors.Actor.{Actor}
 use Rattle.acc_stamp.specs.Stamp.{id_eq}
 use Rattle.acc_stamp.proofs.Order.{id_order}
 use Rattle.acc_topology.specs.Layout.{Layout}
-use Rattle.acc_deps.specs.declared.shards.ShardDeps.{ShardDeps}
 use Rattle.acc_deps.specs.declared.records.Accepted.{Accepted}
 use Rattle.acc_deps.specs.declared.records.Settled.{Settled}
 use Rattle.acc_deps.specs.declared.records.View.{View}
@@ -18,11 +16,9 @@ use Rattle.acc_txn.specs.declared.parts.BodyParts.{BodyParts}
 use Rattle.acc_txn.specs.declared.outcome.Outcome.{Outcome}
 use Rattle.acc_message.specs.declared.message.Message.{Message}
 use Rattle.acc_message.specs.declared.message.Message.TheVariants.{PreAccept, PreAcceptOk, Accept, AcceptOk, Commit, CommitOk, Stable, ReadOk, Apply, Recover, RecoverOk, Nack, Decided, Inform}
-use Rattle.acc_message.specs.Fields.{id_of}
 use Rattle.acc_message.specs.Taken.{Taken, taking, body_known}
 use Rattle.acc_message.specs.VoteRule.{Vote, vote_in, first_vote, vote_of, vote_given, vote_for, new_vote}
-use Rattle.acc_message.specs.BallotRules.{is_accept_ok, is_commit_ok, accepted_by, accepted_of, committed_by, committed_of, settled_in, stable_of, outcome_in, kept_outcome}
-use Rattle.acc_message.specs.Evidence.{view_of}
+use Rattle.acc_message.specs.BallotRules.{is_accept_ok, is_commit_ok, accepted_by, accepted_of, committed_by, committed_of, settled_in, stable_of}
 use Rattle.acc_actor_laws.proofs.Standing.{not_none}
 use Rattle.acc_actor_laws.proofs.OpeningFacts.{some_is}
 use Rattle.acc_safety.specs.Places.{IsIn, First, Later, StandsAt, Here, Back}
@@ -55,20 +51,20 @@ accepted_here x a (Accept from to id ballot body t deps) sent past =
     cond_both (id_eq id x && list_any is_accept_ok sent) (Some (record { ballot = ballot; t = t; deps = deps })) None
     (λ o. o ≡ Some a → AcceptedIn (record { message = Accept from to id ballot body t deps; sent = sent } ∷ past) x a)
     (λ both is.
-      let parts = and_parts (id_eq id x) (list_any is_accept_ok sent) both in
-      let same = some_is (record { ballot = ballot; t = t; deps = deps }) a is in
-      record {
-        step = record { message = Accept from to id ballot body t deps; sent = sent };
-        past = past;
-        at = Here (record { message = Accept from to id ballot body t deps; sent = sent }) past;
-        from = from;
-        to = to;
-        body = body;
-        message_is =
+    let parts = and_parts (id_eq id x) (list_any is_accept_ok sent) both in
+    let same = some_is (record { ballot = ballot; t = t; deps = deps }) a is in
+    record {
+      step = record { message = Accept from to id ballot body t deps; sent = sent };
+      past = past;
+      at = Here (record { message = Accept from to id ballot body t deps; sent = sent }) past;
+      from = from;
+      to = to;
+      body = body;
+      message_is =
           ap (λ y. Accept from to y ballot body t deps) ((id_order.decides id x).0 parts.0)
           ∙ ap (λ (r : Accepted). Accept from to x r.ballot body r.t r.deps) same;
-        granted = parts.1;
-      })
+      granted = parts.1;
+    })
     (λ _ is. absurd (not_none a is))
 accepted_here x a (PreAccept from to id ballot body) sent past = λ is. absurd (not_none a is)
 accepted_here x a (PreAcceptOk from to id ballot vote deps) sent past = λ is. absurd (not_none a is)
@@ -113,20 +109,20 @@ committed_here x a (Commit from to id ballot body t deps) sent past =
     cond_both (id_eq id x && list_any is_commit_ok sent) (Some (record { ballot = ballot; t = t; deps = deps })) None
     (λ o. o ≡ Some a → CommittedIn (record { message = Commit from to id ballot body t deps; sent = sent } ∷ past) x a)
     (λ both is.
-      let parts = and_parts (id_eq id x) (list_any is_commit_ok sent) both in
-      let same = some_is (record { ballot = ballot; t = t; deps = deps }) a is in
-      record {
-        step = record { message = Commit from to id ballot body t deps; sent = sent };
-        past = past;
-        at = Here (record { message = Commit from to id ballot body t deps; sent = sent }) past;
-        from = from;
-        to = to;
-        body = body;
-        message_is =
+    let parts = and_parts (id_eq id x) (list_any is_commit_ok sent) both in
+    let same = some_is (record { ballot = ballot; t = t; deps = deps }) a is in
+    record {
+      step = record { message = Commit from to id ballot body t deps; sent = sent };
+      past = past;
+      at = Here (record { message = Commit from to id ballot body t deps; sent = sent }) past;
+      from = from;
+      to = to;
+      body = body;
+      message_is =
           ap (λ y. Commit from to y ballot body t deps) ((id_order.decides id x).0 parts.0)
           ∙ ap (λ (r : Accepted). Commit from to x r.ballot body r.t r.deps) same;
-        granted = parts.1;
-      })
+      granted = parts.1;
+    })
     (λ _ is. absurd (not_none a is))
 committed_here x a (PreAccept from to id ballot body) sent past = λ is. absurd (not_none a is)
 committed_here x a (PreAcceptOk from to id ballot vote deps) sent past = λ is. absurd (not_none a is)
@@ -164,18 +160,18 @@ settled_here : (x : TxnId) (s : Settled) (m : Message) → settled_in x m ≡ So
 settled_here x s (Stable from to id ballot body t deps) =
     cond_both (id_eq id x) (Some (record { t = t; deps = deps })) None (λ o. o ≡ Some s → Settling x s (Stable from to id ballot body t deps))
     (λ same is.
-      subst (Settling x s)
-      (sym (ap (λ y. Stable from to y ballot body t deps) ((id_order.decides id x).0 same)
-      ∙ ap (λ (r : Settled). Stable from to x ballot body r.t r.deps) (some_is (record { t = t; deps = deps }) s is)))
-      (ByStable from to ballot body))
+    subst (Settling x s)
+    (sym (ap (λ y. Stable from to y ballot body t deps) ((id_order.decides id x).0 same)
+    ∙ ap (λ (r : Settled). Stable from to x ballot body r.t r.deps) (some_is (record { t = t; deps = deps }) s is)))
+    (ByStable from to ballot body))
     (λ _ is. absurd (not_none s is))
 settled_here x s (Apply from to id ballot body t deps outcome) =
     cond_both (id_eq id x) (Some (record { t = t; deps = deps })) None (λ o. o ≡ Some s → Settling x s (Apply from to id ballot body t deps outcome))
     (λ same is.
-      subst (Settling x s)
-      (sym (ap (λ y. Apply from to y ballot body t deps outcome) ((id_order.decides id x).0 same)
-      ∙ ap (λ (r : Settled). Apply from to x ballot body r.t r.deps outcome) (some_is (record { t = t; deps = deps }) s is)))
-      (ByApply from to ballot body outcome))
+    subst (Settling x s)
+    (sym (ap (λ y. Apply from to y ballot body t deps outcome) ((id_order.decides id x).0 same)
+    ∙ ap (λ (r : Settled). Apply from to x ballot body r.t r.deps outcome) (some_is (record { t = t; deps = deps }) s is)))
+    (ByApply from to ballot body outcome))
     (λ _ is. absurd (not_none s is))
 settled_here x s (PreAccept from to id ballot body) = λ is. absurd (not_none s is)
 settled_here x s (PreAcceptOk from to id ballot vote deps) = λ is. absurd (not_none s is)
@@ -201,8 +197,8 @@ stable_from [] x s is = absurd (not_none s is)
 stable_from (step ∷ past) x s is =
     or_cases_of (stable_of past x) (settled_in x step.message) s is
     (λ before.
-      let h = stable_from past x s before in
-      record { step = h.step; past = h.past; at = Back h.step step h.past past h.at; settling = h.settling })
+    let h = stable_from past x s before in
+    record { step = h.step; past = h.past; at = Back h.step step h.past past h.at; settling = h.settling })
     (λ _ now. record { step = step; past = past; at = Here step past; settling = settled_here x s step.message now })
 
 -- ---- the vote
@@ -244,8 +240,8 @@ made_by layout own past taken m sent x v (Votes from to id b body counting w s p
       body = counting;
       body_is = ap (body_known (taking (PreAccept from to id b body) past)) (sym same.0) ∙ k;
       made =
-        sym same.1 ∙ e ∙ ap (λ y. vote_for layout own past (taking (PreAccept from to id b body) past) y counting) same.0
-        ∙ new_where_none layout own past (taking (PreAccept from to id b body) past) x counting none;
+          sym same.1 ∙ e ∙ ap (λ y. vote_for layout own past (taking (PreAccept from to id b body) past) y counting) same.0
+          ∙ new_where_none layout own past (taking (PreAccept from to id b body) past) x counting none;
     }
 made_by layout own past taken m sent x v (Reveals from to id b body counting view p k e) is none =
     let same = vote_same id x (record { vote = view.vote; deps = view.vote_deps }) v is in
@@ -258,9 +254,9 @@ made_by layout own past taken m sent x v (Reveals from to id b body counting vie
       body = counting;
       body_is = ap (body_known (taking (Recover from to id b body) past)) (sym same.0) ∙ k;
       made =
-        sym same.1 ∙ ap (λ (w : View). record { vote = w.vote; deps = w.vote_deps }) e
-        ∙ ap (λ y. vote_for layout own past (taking (Recover from to id b body) past) y counting) same.0
-        ∙ new_where_none layout own past (taking (Recover from to id b body) past) x counting none;
+          sym same.1 ∙ ap (λ (w : View). record { vote = w.vote; deps = w.vote_deps }) e
+          ∙ ap (λ y. vote_for layout own past (taking (Recover from to id b body) past) y counting) same.0
+          ∙ new_where_none layout own past (taking (Recover from to id b body) past) x counting none;
     }
 made_by layout own past taken m sent x v (Accepts from to id b body counting t proposed deps s p k e) is none = absurd (not_none v is)
 made_by layout own past taken m sent x v (Commits from to id b body t deps s p) is none = absurd (not_none v is)
@@ -281,6 +277,6 @@ votes_are_made layout own (step ∷ past) h x v is =
     or_cases_of (vote_of past x) (first_vote x step.sent) v is
     (λ before. vote_back layout own step past x v (votes_are_made layout own past h.1 x v before))
     (λ none now.
-      let s = first_vote_sent step.sent x v now in
-      made_by layout own past step.message s.message step.sent x v
-      (store_sends layout own past step.message s.message (subst (IsIn s.message) h.0 s.there)) s.votes none)
+    let s = first_vote_sent step.sent x v now in
+    made_by layout own past step.message s.message step.sent x v
+    (store_sends layout own past step.message s.message (subst (IsIn s.message) h.0 s.there)) s.votes none)

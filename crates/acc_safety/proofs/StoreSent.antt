@@ -1,14 +1,12 @@
 -- Whatever a store sends is one of seven answers, with its reason.
-use Rattle.std.proofs.Common.{◌≡◌, Bool, true, false, ◌||◌, cond, List, [], ◌∷◌, ◌++◌, Option, None, Some, map, refl, sym, ◌∙◌, ap, subst, ⊎_elim}
-use Rattle.std.specs.List.{list_any}
-use Rattle.std.proofs.lemmas.Bool.{true≢false, or_cases, cond_both, cases_Bool}
-use Rattle.acc_stamp.specs.declared.stamps.Stamp.{Stamp}
+use Rattle.std.proofs.Common.{◌≡◌, Bool, true, false, ◌||◌, cond, List, [], ◌∷◌, ◌++◌, Option, None, Some, refl, sym, ◌∙◌, ap, subst, ⊎_elim}
+use Rattle.std.proofs.lemmas.Bool.{true≢false}
 use Rattle.acc_stamp.specs.declared.stamps.TxnId.{TxnId}
 use Rattle.acc_stamp.specs.declared.stamps.Ballot.{Ballot}
 use Rattle.acc_stamp.specs.declared.actors.Actor.{Actor}
 use Rattle.acc_stamp.specs.Actor.{shard_of, home_of}
 use Rattle.acc_stamp.specs.Stamp.{id_eq, ballot_lt, zero_ballot}
-use Rattle.acc_stamp.proofs.Order.{id_order, ballot_order, eq_itself}
+use Rattle.acc_stamp.proofs.Order.{id_order, eq_itself}
 use Rattle.acc_topology.specs.Layout.{Layout}
 use Rattle.acc_deps.specs.declared.shards.ShardDeps.{ShardDeps}
 use Rattle.acc_deps.specs.declared.records.Settled.{Settled}
@@ -26,7 +24,7 @@ use Rattle.acc_message.specs.Opening.{Change, changes_of, is_opened, cells_at, w
 use Rattle.acc_message.specs.StoreRules.{body_or, body_counting, nack, unless_stable, unless_promised, voted, read_ok, read_by, stable_ballots, opening_of, release, released, at_once, store_answer}
 use Rattle.acc_actor_laws.proofs.StoreFacts.{zero_promise}
 use Rattle.acc_safety.specs.Places.{IsIn}
-use Rattle.acc_safety.specs.StoreSends.{taking_step, ChangeAmong, StoreSends, Votes, Accepts, Commits, Reveals, ReadsAtOnce, ReadsOnOpening, Refuses, Tells}
+use Rattle.acc_safety.specs.StoreSends.{taking_step, StoreSends, Votes, Accepts, Commits, Reveals, ReadsAtOnce, ReadsOnOpening, Refuses, Tells}
 use Rattle.acc_safety.proofs.PlaceOrder.{only, none_is_in, IsIn-append_cases, IsIn-cond_cases, IsIn-map}
 
 -- ---- the body that counts is the one that is known
@@ -46,7 +44,7 @@ learnt_some : (x : TxnId) (body : BodyParts) (before : List Heard) (b : Bool) �
 learnt_some x body before true is = heard_some x before body is
 learnt_some x body before false is =
     let same : cond (id_eq x x) (Some body) (heard_body x before) ≡ Some body =
-      ap (λ b. cond b (Some body) (heard_body x before)) (eq_itself id_order x) in
+    ap (λ b. cond b (Some body) (heard_body x before)) (eq_itself id_order x) in
     same ∙ ap (λ o. Some (body_or o body)) (sym same)
 
 -- a message that brings a body makes its transaction known, by the body that counts
@@ -105,10 +103,10 @@ module _ (layout : Layout) (own : Actor) (past : List Taken) where
   opening_sent m before rest c s is h =
       ⊎_elim
       (λ opens.
-        let from = IsIn-map (λ b. read_ok own c.id b (read_by layout (shard_of own) (heard_body c.id (known (taking m past))) cells)) s (stable_ballots (taking m past) c.id) opens.1 in
-        subst (StoreSends layout own past m) (sym from.is)
-        (ReadsOnOpening m c from.source (read_by layout (shard_of own) (heard_body c.id (known (taking m past))) cells) before
-        (record { rest = rest; changes_are = is }) opens.0 from.there refl))
+      let from = IsIn-map (λ b. read_ok own c.id b (read_by layout (shard_of own) (heard_body c.id (known (taking m past))) cells)) s (stable_ballots (taking m past) c.id) opens.1 in
+      subst (StoreSends layout own past m) (sym from.is)
+      (ReadsOnOpening m c from.source (read_by layout (shard_of own) (heard_body c.id (known (taking m past))) cells) before
+      (record { rest = rest; changes_are = is }) opens.0 from.there refl))
       (λ closed. absurd (none_is_in s closed.1))
       (IsIn-cond_cases s c.opens _ [] h)
     where
@@ -122,9 +120,9 @@ module _ (layout : Layout) (own : Actor) (past : List Taken) where
   release_sent m before (c ∷ rest) s is h =
       ⊎_elim (opening_sent m before rest c s is)
       (λ later.
-        release_sent m (before ++ c ∷ []) rest s (is ∙ sym (append_one before c rest))
-        (subst (λ cells. IsIn s (release layout own (taking m past) rest cells))
-        (sym (written_by_all-more layout own (taking m past) before c (cells_at layout (shard_of own) past))) later))
+      release_sent m (before ++ c ∷ []) rest s (is ∙ sym (append_one before c rest))
+      (subst (λ cells. IsIn s (release layout own (taking m past) rest cells))
+      (sym (written_by_all-more layout own (taking m past) before c (cells_at layout (shard_of own) past))) later))
       (IsIn-append_cases s
       (opening_of layout own (taking m past) c (written_by_all layout (shard_of own) (taking m past) before (cells_at layout (shard_of own) past)))
       (release layout own (taking m past) rest (written_by layout (shard_of own) (taking m past) c (written_by_all layout (shard_of own) (taking m past) before (cells_at layout (shard_of own) past)))) h)
@@ -140,8 +138,8 @@ module _ (layout : Layout) (own : Actor) (past : List Taken) where
       unless_told m (unless_promised own id ballot (promise_of past id) zero_ballot (voted own id ballot v)) s (stable_of past id) refl h
       (λ unstable rest. unless_refused m zero_ballot (voted own id ballot v) s rest
       (λ unpromised there.
-        subst (StoreSends layout own past m) (sym (only s (PreAcceptOk own (home_of id ballot) id ballot v.vote v.deps) there))
-        (Votes from to id ballot body count v unstable (zero_promise (promise_of past id) unpromised) (counting m past body refl) refl)))
+      subst (StoreSends layout own past m) (sym (only s (PreAcceptOk own (home_of id ballot) id ballot v.vote v.deps) there))
+      (Votes from to id ballot body count v unstable (zero_promise (promise_of past id) unpromised) (counting m past body refl) refl)))
   store_sends (Accept from to id ballot body t deps) s h =
       let m : Message = Accept from to id ballot body t deps in
       let count : BodyParts = body_counting (taking m past) id body in
@@ -149,23 +147,23 @@ module _ (layout : Layout) (own : Actor) (past : List Taken) where
       unless_told m (unless_promised own id ballot (promise_of past id) ballot (AcceptOk own (home_of id ballot) id ballot named ∷ [])) s (stable_of past id) refl h
       (λ unstable rest. unless_refused m ballot (AcceptOk own (home_of id ballot) id ballot named ∷ []) s rest
       (λ granted there.
-        subst (StoreSends layout own past m) (sym (only s (AcceptOk own (home_of id ballot) id ballot named) there))
-        (Accepts from to id ballot body count t deps named unstable granted (counting m past body refl) refl)))
+      subst (StoreSends layout own past m) (sym (only s (AcceptOk own (home_of id ballot) id ballot named) there))
+      (Accepts from to id ballot body count t deps named unstable granted (counting m past body refl) refl)))
   store_sends (Commit from to id ballot body t deps) s h =
       let m : Message = Commit from to id ballot body t deps in
       unless_told m (unless_promised own id ballot (promise_of past id) ballot (CommitOk own (home_of id ballot) id ballot ∷ [])) s (stable_of past id) refl h
       (λ unstable rest. unless_refused m ballot (CommitOk own (home_of id ballot) id ballot ∷ []) s rest
       (λ granted there.
-        subst (StoreSends layout own past m) (sym (only s (CommitOk own (home_of id ballot) id ballot) there))
-        (Commits from to id ballot body t deps unstable granted)))
+      subst (StoreSends layout own past m) (sym (only s (CommitOk own (home_of id ballot) id ballot) there))
+      (Commits from to id ballot body t deps unstable granted)))
   store_sends (Recover from to id ballot body) s h =
       let m : Message = Recover from to id ballot body in
       let count : BodyParts = body_counting (taking m past) id body in
       let shown = view_of layout own past (taking m past) id count in
       ⊎_elim
       (λ granted.
-        subst (StoreSends layout own past m) (sym (only s (RecoverOk own (home_of id ballot) id ballot shown) granted.1))
-        (Reveals from to id ballot body count shown granted.0 (counting m past body refl) refl))
+      subst (StoreSends layout own past m) (sym (only s (RecoverOk own (home_of id ballot) id ballot shown) granted.1))
+      (Reveals from to id ballot body count shown granted.0 (counting m past body refl) refl))
       (λ refused. refuses m s refused.1)
       (IsIn-cond_cases s (ballot_lt (promise_of past id) ballot) (RecoverOk own (home_of id ballot) id ballot shown ∷ []) (nack own id ballot (promise_of past id)) h)
   store_sends (Stable from to id ballot body t deps) s h =
@@ -176,8 +174,8 @@ module _ (layout : Layout) (own : Actor) (past : List Taken) where
       at_once_sent k =
           ⊎_elim
           (λ opened.
-            subst (StoreSends layout own past (Stable from to id ballot body t deps)) (sym (only s _ opened.1))
-            (ReadsAtOnce from to id ballot body t deps _ opened.0 refl))
+          subst (StoreSends layout own past (Stable from to id ballot body t deps)) (sym (only s _ opened.1))
+          (ReadsAtOnce from to id ballot body t deps _ opened.0 refl))
           (λ closed. absurd (none_is_in s closed.1))
           (IsIn-cond_cases s (is_opened (shard_of own) past id) _ [] k)
   store_sends (Apply from to id ballot body t deps outcome) s h = released_sent (Apply from to id ballot body t deps outcome) s h

@@ -1,12 +1,13 @@
 -- What holds of an attempt of a node: where it comes from, and its answers.
-use Rattle.std.specs.Prelude.{◌≡◌, ℕ, true, List, Option, None, Some}
+use Rattle.std.specs.Prelude.{◌≡◌, ℕ, Bool, true, List, Option, None, Some}
 use Rattle.acc_stamp.specs.declared.stamps.TxnId.{TxnId}
 use Rattle.acc_stamp.specs.Stamp.{zero_ballot}
 use Rattle.acc_topology.specs.Layout.{Layout}
 use Rattle.acc_message.specs.declared.message.Message.{Message}
 use Rattle.acc_message.specs.Fields.{from_of, id_of, ballot_of}
 use Rattle.acc_message.specs.Shares.{is_store_of}
-use Rattle.acc_message.specs.Attempts.{Attempt, fits}
+use Rattle.acc_message.specs.Attempts.{Attempt, Phase, Voting, Recovering, Accepting, Committing, Executing, fits, is_preaccept_ok, is_read_ok}
+use Rattle.acc_message.specs.BallotRules.{is_accept_ok, is_commit_ok, is_recover_ok}
 use Rattle.acc_message.specs.NodeRules.{Begins, Recovers, Takes, Deed, next_id, next_ballot}
 use Rattle.acc_safety.specs.Places.{IsIn, StandsAt}
 
@@ -41,3 +42,11 @@ pub data Origin (layout : Layout) (node start : ℕ) (x : TxnId) (deeds : List D
   FromRecover :
       (deed : Deed) (past : List Deed) → StandsAt deed past deeds → deed.act ≡ Recovers x a.body
       → a.ballot ≡ next_ballot node start past → Origin layout node start x deeds a
+
+-- the kind of the answers of a phase
+abbrev pub kind_of : Phase → Message → Bool
+kind_of Voting m = is_preaccept_ok m
+kind_of Recovering m = is_recover_ok m
+kind_of (Accepting s) m = is_accept_ok m
+kind_of (Committing s) m = is_commit_ok m
+kind_of (Executing s) m = is_read_ok m
