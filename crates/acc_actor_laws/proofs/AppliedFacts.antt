@@ -9,7 +9,6 @@ use Rattle.acc_message.specs.Taken.{Taken}
 use Rattle.acc_message.specs.BallotRules.{kept_outcome}
 use Rattle.acc_message.specs.Opening.{opened_of, is_applied, applied_of}
 
-
 swapped : (a b : Bool) → (a && b) ≡ (b && a)
 swapped true true = refl
 swapped true false = refl

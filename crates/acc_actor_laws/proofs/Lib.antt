@@ -5,3 +5,5 @@ pub mod WaiterFacts
 pub mod QuietFacts
 pub mod PhaseFacts
 pub mod AppliedFacts
+pub mod OpeningOrder
+pub mod TakenAlone

@@ -42,11 +42,11 @@ module _ (shard : ℕ) (history : List Taken) (before : List TxnId) where
 
   -- ---- readiness
 
-  past_is_stable : (t : Stamp) (b : Bool) (o : Option Settled) → is_past t b o ≡ true → is_some o ≡ true
+  pub past_is_stable : (t : Stamp) (b : Bool) (o : Option Settled) → is_past t b o ≡ true → is_some o ≡ true
   past_is_stable t b None h = h
   past_is_stable t b (Some s) h = refl
 
-  past_is_applied : (t : Stamp) (b : Bool) (s : Settled) (o : Option Settled) → o ≡ Some s → comes_first t s ≡ true → is_past t b o ≡ true → b ≡ true
+  pub past_is_applied : (t : Stamp) (b : Bool) (s : Settled) (o : Option Settled) → o ≡ Some s → comes_first t s ≡ true → is_past t b o ≡ true → b ≡ true
   past_is_applied t b s None e first h = absurd (not_none s e)
   past_is_applied t b s (Some u) e first h =
       ⊎_elim (λ late. absurd (true≢false (sym late ∙ ap not (ap (λ (v : Settled). comes_first t v) (some_is u s e) ∙ first)))) (λ is. is)
@@ -148,12 +148,12 @@ module _ (shard : ℕ) (history : List Taken) (before : List TxnId) where
           (or_cases (id_eq r.id y) (stands y list) k)
 
   -- each opened stable transaction with an outcome was applied by now, or stands from here on
-  abbrev Covers : List TxnId → List Standing → Type 0
+  abbrev pub Covers : List TxnId → List Standing → Type 0
   Covers applied list =
       (y : TxnId) (theirs : Settled) → stable_of history y ≡ Some theirs → Opened y → HasOutcome y
       → (id_among y applied ≡ true) ⊎ (stands y list ≡ true)
 
-  ready_by : (applied : List TxnId) (s : Standing) (rest : List Standing) → Sorted (s ∷ rest) → Truly history (s ∷ rest)
+  pub ready_by : (applied : List TxnId) (s : Standing) (rest : List Standing) → Sorted (s ∷ rest) → Truly history (s ∷ rest)
       → Covers applied (s ∷ rest) → Opened s.id → (id_among s.id before ≡ true) ⊎ (is_ready shard history applied s.settled ≡ true)
   ready_by applied s rest sorted truly covers opened = by opened refl
     where
@@ -177,10 +177,10 @@ module _ (shard : ℕ) (history : List Taken) (before : List TxnId) where
           let same : mine ≡ s.settled = some_is mine s.settled (sym is ∙ ap (stable_of history) e ∙ truly.0) in
           inr (subst (λ (u : Settled). is_ready shard history applied u ≡ true) same (ready_with mine same stable outcome opens))
 
-  or_of : (a b : Bool) → (a ≡ true) ⊎ (b ≡ true) → (a || b) ≡ true
+  pub or_of : (a b : Bool) → (a ≡ true) ⊎ (b ≡ true) → (a || b) ≡ true
   or_of a b h = ⊎_elim (or_left a b) (or_right a b) h
 
-  covers_next : (b : Bool) (applied : List TxnId) (s : Standing) (rest : List Standing) → Covers applied (s ∷ rest)
+  pub covers_next : (b : Bool) (applied : List TxnId) (s : Standing) (rest : List Standing) → Covers applied (s ∷ rest)
       → (Opened s.id → HasOutcome s.id → b ≡ true) → Covers (with_applied b s.id applied) rest
   covers_next true applied s rest covers turn y theirs e opened outcome =
       ⊎_elim (λ done. inl (or_right (id_eq s.id y) _ done))

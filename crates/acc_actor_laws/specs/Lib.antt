@@ -1,0 +1,2 @@
+pub mod OpeningOrder
+pub mod TakenAlone

@@ -15,6 +15,8 @@ ghost use Rattle.acc_message.specs.Taken.{Taken};
 ghost use Rattle.acc_message.specs.BallotRules.{promise_of, grants};
 ghost use Rattle.acc_message.specs.Attempts.{Attempt, Voting, votes_for};
 ghost use Rattle.acc_message.specs.NodeRules.{Deed, attempt_of};
+ghost use Rattle.acc_actor_laws.specs.OpeningOrder.{OpensInOrder};
+ghost use Rattle.acc_actor_laws.specs.TakenAlone.{messages_taken, AgreeInParts};
 ghost use Rattle.acc_message.specs.StoreRules.{store_answer, stable_ballots_in, stable_ballots, waiters_of};
 ghost use Rattle.acc_message.specs.Opening.{Change, IsOpened, opened_of, is_opened, applied_of, is_applied, may_open, changes_of};
 
@@ -25,6 +27,19 @@ pub fn opening_is_least()
         IsTrue (is_opened shard (step ∷ past) x) → IsOpened shard (step ∷ past) (opened_of shard past) x }
     ensures complete { (shard : ℕ) (step : Taken) (past : List Taken) (x : TxnId) →
         IsOpened shard (step ∷ past) (opened_of shard past) x → IsTrue (is_opened shard (step ∷ past) x) }
+{}
+
+/// The changes of a step open just what is newly opened and apply just what is newly applied. They rise by the timestamps of
+/// their transactions, and of equal ones by their ids, so each transaction has one. Each comes when every dependency of its
+/// transaction in the shard is stable and, where its timestamp is smaller, applied.
+pub fn changes_are_in_order()
+    ensures { (shard : ℕ) (step : Taken) (past : List Taken) → OpensInOrder shard step past }
+{}
+
+/// What a store knows, what is stable at it, opened and applied, who waits and the cells depend on the messages that it took
+/// alone: what it sent doesn't matter.
+pub fn taken_messages_decide()
+    ensures { (one other : List Taken) → messages_taken one ≡ messages_taken other → AgreeInParts one other }
 {}
 
 /// Applied is opened with an outcome.

@@ -7,15 +7,18 @@ use Rattle.acc_value.specs.declared.key.Key.{Key}
 use Rattle.acc_txn.specs.declared.parts.Let.{Let}
 use Rattle.acc_txn.specs.declared.parts.Select.{Select}
 use Rattle.acc_txn.specs.declared.parts.Select.TheVariants.{Nothing, Names, Get}
+use Rattle.acc_txn.specs.declared.parts.Term.{Term}
+use Rattle.acc_txn.specs.declared.parts.Term.TheVariants.{Number, Name, Null, Text}
+use Rattle.acc_txn.specs.declared.parts.Part.{Part}
 use Rattle.acc_txn.specs.declared.parts.Condition.{Condition}
 use Rattle.acc_txn.specs.declared.parts.Condition.TheVariants.{Compare, IsNull, IsNotNull}
 use Rattle.acc_txn.specs.declared.parts.Update.{Update}
 use Rattle.acc_txn.specs.declared.parts.Update.TheVariants.{Set, Delete}
 use Rattle.acc_txn.specs.declared.parts.BodyParts.{BodyParts}
-use Rattle.acc_txn.specs.Words.{is_name, is_key}
+use Rattle.acc_txn.specs.Words.{is_name, is_key, is_text_value}
 use Rattle.acc_txn.specs.Uses.{selected_keys, updated_key, footprint_of}
-use Rattle.acc_txn.specs.Rules.{is_many, selected_names, condition_has, update_has, some_expression, is_long, has_no_key, has_bad_name, has_bad_key, IsBody}
-use Rattle.acc_code.specs.Short.{IsShortKey, IsShortLet, IsShortSelect, IsShortCondition, IsShortUpdate, IsShortBody}
+use Rattle.acc_txn.specs.Rules.{is_many, selected_names, condition_has, update_has, some_expression, is_long, is_bad_text, mentions_bad_text, has_no_key, has_bad_name, has_bad_key, IsBody}
+use Rattle.acc_code.specs.Short.{IsShortKey, IsShortLet, IsShortSelect, IsShortTerm, IsShortSum, IsShortCondition, IsShortUpdate, IsShortBody}
 use Rattle.acc_code.specs.BodyReading.{parts_at}
 use Rattle.acc_code.proofs.PartsFormat.{parts_field}
 use Rattle.acc_code.proofs.RulesKept.{rules_kept}
@@ -38,28 +41,44 @@ short_select Nothing size keys = tt
 short_select (Names names) size keys = omega arith
 short_select (Get key) size keys = short_key key (or_parts (not (is_key key)) false keys).0
 
-short_condition : (c : Condition) → condition_has is_long c ≡ false → IsShortCondition c
-short_condition (Compare op left right) h =
+short_term : (term : Term) → is_bad_text term ≡ false → IsShortTerm term
+short_term (Number number) h = tt
+short_term (Name name) h = tt
+short_term Null h = tt
+short_term (Text text) h = not-false (is_text_value text) h
+
+short_terms : (sum : List Part) → mentions_bad_text sum ≡ false → AllByRecursion (λ part. IsShortTerm part.term) sum
+short_terms [] h = tt
+short_terms (part ∷ sum) h = let o = or_parts (is_bad_text part.term) (mentions_bad_text sum) h in (short_term part.term o.0, short_terms sum o.1)
+
+short_sum : (sum : List Part) → is_long sum ≡ false → mentions_bad_text sum ≡ false → IsShortSum sum
+short_sum sum h t = let l = few (length sum) h in record { count = omega (arith, l); terms = short_terms sum t }
+
+short_condition : (c : Condition) → condition_has is_long c ≡ false → condition_has mentions_bad_text c ≡ false → IsShortCondition c
+short_condition (Compare op left right) h t =
     let s = or_parts (is_long left) (is_long right) h in
-    let l = few (length left) s.0 in let r = few (length right) s.1 in (omega (arith, l), omega (arith, r))
-short_condition (IsNull name) h = tt
-short_condition (IsNotNull name) h = tt
+    let u = or_parts (mentions_bad_text left) (mentions_bad_text right) t in (short_sum left s.0 u.0, short_sum right s.1 u.1)
+short_condition (IsNull name) h t = tt
+short_condition (IsNotNull name) h t = tt
 
-short_conditions : (cs : List Condition) → list_any (condition_has is_long) cs ≡ false → AllByRecursion IsShortCondition cs
-short_conditions [] h = tt
-short_conditions (c ∷ cs) h =
-    let s = or_parts (condition_has is_long c) (list_any (condition_has is_long) cs) h in (short_condition c s.0, short_conditions cs s.1)
+short_conditions : (cs : List Condition) → list_any (condition_has is_long) cs ≡ false → list_any (condition_has mentions_bad_text) cs ≡ false → AllByRecursion IsShortCondition cs
+short_conditions [] h t = tt
+short_conditions (c ∷ cs) h t =
+    let s = or_parts (condition_has is_long c) (list_any (condition_has is_long) cs) h in
+    let u = or_parts (condition_has mentions_bad_text c) (list_any (condition_has mentions_bad_text) cs) t in
+    (short_condition c s.0 u.0, short_conditions cs s.1 u.1)
 
-short_update : (u : Update) → update_has is_long u ≡ false → not (is_key (updated_key u)) ≡ false → IsShortUpdate u
-short_update (Set key value) h k = let l = few (length value) h in (short_key key k, omega (arith, l))
-short_update (Delete key) h k = short_key key k
+short_update : (u : Update) → update_has is_long u ≡ false → update_has mentions_bad_text u ≡ false → not (is_key (updated_key u)) ≡ false → IsShortUpdate u
+short_update (Set key value) h t k = (short_key key k, short_sum value h t)
+short_update (Delete key) h t k = short_key key k
 
-short_updates : (us : List Update) → list_any (update_has is_long) us ≡ false → list_any (λ u. not (is_key (updated_key u))) us ≡ false → AllByRecursion IsShortUpdate us
-short_updates [] h k = tt
-short_updates (u ∷ us) h k =
+short_updates : (us : List Update) → list_any (update_has is_long) us ≡ false → list_any (update_has mentions_bad_text) us ≡ false → list_any (λ u. not (is_key (updated_key u))) us ≡ false → AllByRecursion IsShortUpdate us
+short_updates [] h t k = tt
+short_updates (u ∷ us) h t k =
     let s = or_parts (update_has is_long u) (list_any (update_has is_long) us) h in
-    let t = or_parts (not (is_key (updated_key u))) (list_any (λ v. not (is_key (updated_key v))) us) k in
-    (short_update u s.0 t.0, short_updates us s.1 t.1)
+    let v = or_parts (update_has mentions_bad_text u) (list_any (update_has mentions_bad_text) us) t in
+    let w = or_parts (not (is_key (updated_key u))) (list_any (λ v. not (is_key (updated_key v))) us) k in
+    (short_update u s.0 v.0 w.0, short_updates us s.1 v.1 w.1)
 
 below_256 : (n : ℕ) → n ≤ 16 → n < 256
 below_256 n le = omega arith
@@ -73,6 +92,7 @@ short_body parts body =
     let many_guards = or_parts _ (is_many (length parts.guards)) many_updates.0 in
     let many = or_parts (is_many (length parts.lets)) (is_many (length (selected_names parts.select))) many_guards.0 in
     let long_parts = or_parts (list_any (condition_has is_long) parts.guards) (list_any (update_has is_long) parts.updates) long.1 in
+    let typed = or_parts (list_any (condition_has mentions_bad_text) parts.guards) (list_any (update_has mentions_bad_text) parts.updates) k.texts in
     let words = or_parts (has_bad_name parts.lets) (has_bad_key parts) k.words in
     let update_keys = or_parts _ (list_any (λ u. not (is_key (updated_key u))) parts.updates) words.1 in
     let read_keys = or_parts (list_any (λ l. not (is_key l.key)) parts.lets) (list_any (λ key. not (is_key key)) (selected_keys parts.select)) update_keys.0 in
@@ -81,9 +101,9 @@ short_body parts body =
       lets = short_lets parts.lets words.0 read_keys.0;
       select = short_select parts.select (few _ many.1) read_keys.1;
       guards_count = below_256 _ (few _ many_guards.1);
-      guards = short_conditions parts.guards long_parts.0;
+      guards = short_conditions parts.guards long_parts.0 typed.0;
       updates_count = below_256 _ (few _ many_updates.1);
-      updates = short_updates parts.updates long_parts.1 update_keys.1;
+      updates = short_updates parts.updates long_parts.1 typed.1 update_keys.1;
     }
 
 -- ---- what was read

@@ -12,14 +12,14 @@ use Rattle.acc_txn.specs.declared.parts.Let.{Let}
 use Rattle.acc_txn.specs.declared.parts.Select.{Select}
 use Rattle.acc_txn.specs.declared.parts.Select.TheVariants.{Nothing, Names, Get}
 use Rattle.acc_txn.specs.declared.parts.Term.{Term}
-use Rattle.acc_txn.specs.declared.parts.Term.TheVariants.{Number, Name, Null}
+use Rattle.acc_txn.specs.declared.parts.Term.TheVariants.{Number, Name, Null, Text}
 use Rattle.acc_txn.specs.declared.parts.Part.{Part}
 use Rattle.acc_txn.specs.declared.parts.Condition.{Condition}
 use Rattle.acc_txn.specs.declared.parts.Condition.TheVariants.{Compare, IsNull, IsNotNull}
 use Rattle.acc_txn.specs.declared.parts.Update.{Update}
 use Rattle.acc_txn.specs.declared.parts.Update.TheVariants.{Set, Delete}
 use Rattle.acc_txn.specs.declared.parts.BodyParts.{BodyParts}
-use Rattle.acc_txn.specs.Words.{is_name, is_key_text}
+use Rattle.acc_txn.specs.Words.{is_name, is_key_text, is_text_value}
 use Rattle.acc_txn.specs.Uses.{with_keys, updated_key}
 use Rattle.acc_txn.specs.Rules.{is_many}
 use Rattle.acc_code.specs.BodySpelling.{sign_number}
@@ -56,6 +56,7 @@ abbrev pub FitsTerm : ℕ → Term → Type 0
 FitsTerm lets (Number number) = FitsSigned w64 number
 FitsTerm lets (Name name) = FitsName lets name
 FitsTerm lets Null = Unit {0}
+FitsTerm lets (Text text) = IsTrue (is_text_value text)
 
 abbrev pub FitsPart : ℕ → List Part → Part → Type 0
 FitsPart lets front part = (sign_number part.minus ≤ greatest_sign front) × FitsTerm lets part.term

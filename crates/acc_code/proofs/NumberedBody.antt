@@ -5,7 +5,7 @@ use Rattle.std.proofs.lemmas.Bool.{not-true}
 use Rattle.acc_wire.proofs.Fields.{IsField}
 use Rattle.acc_value.specs.declared.key.Key.{Key}
 use Rattle.acc_txn.specs.declared.parts.Term.{Term}
-use Rattle.acc_txn.specs.declared.parts.Term.TheVariants.{Number, Name, Null}
+use Rattle.acc_txn.specs.declared.parts.Term.TheVariants.{Number, Name, Null, Text}
 use Rattle.acc_txn.specs.declared.parts.Part.{Part}
 use Rattle.acc_txn.specs.declared.parts.Condition.{Condition}
 use Rattle.acc_txn.specs.declared.parts.Condition.TheVariants.{Compare, IsNull, IsNotNull}
@@ -26,6 +26,7 @@ term_numbered : (lets : ℕ) (term : Term) → FitsTerm lets term → IsTerm ter
 term_numbered lets (Number number) fits = fits
 term_numbered lets (Name name) fits = tt
 term_numbered lets Null fits = tt
+term_numbered lets (Text text) fits = fits
 
 terms_numbered : (lets : ℕ) (front xs : List Part) → EachFits (FitsPart lets) front xs → AreTerms xs
 terms_numbered lets front [] h = tt

@@ -12,7 +12,7 @@ use Rattle.acc_txn.specs.declared.parts.Let.{Let}
 use Rattle.acc_txn.specs.declared.parts.Select.{Select}
 use Rattle.acc_txn.specs.declared.parts.Select.TheVariants.{Nothing, Names, Get}
 use Rattle.acc_txn.specs.declared.parts.Term.{Term}
-use Rattle.acc_txn.specs.declared.parts.Term.TheVariants.{Number, Name, Null}
+use Rattle.acc_txn.specs.declared.parts.Term.TheVariants.{Number, Name, Null, Text}
 use Rattle.acc_txn.specs.declared.parts.Part.{Part}
 use Rattle.acc_txn.specs.declared.parts.Condition.{Condition}
 use Rattle.acc_txn.specs.declared.parts.Condition.TheVariants.{Compare, IsNull, IsNotNull}
@@ -22,7 +22,7 @@ use Rattle.acc_txn.specs.declared.parts.BodyParts.{BodyParts}
 use Rattle.acc_txn.specs.declared.error.BodyError.{BodyError}
 use Rattle.acc_txn.specs.Words.{is_name, is_key, is_key_text}
 use Rattle.acc_txn.specs.Uses.{with_keys, selected_keys, updated_key, footprint_of}
-use Rattle.acc_txn.specs.Rules.{is_many, selected_names, condition_has, update_has, some_expression, is_long, has_too_many, is_unbound, term_is_unbound, mentions_unbound, asks_unbound, has_unbound_name, has_name_twice, has_no_key, has_bad_name, has_bad_key, is_malformed, selects_nothing, has_bad_shape, IsBody}
+use Rattle.acc_txn.specs.Rules.{is_many, selected_names, condition_has, update_has, some_expression, is_long, has_too_many, is_unbound, term_is_unbound, mentions_unbound, asks_unbound, has_unbound_name, has_name_twice, has_no_key, has_bad_name, has_bad_key, is_malformed, selects_nothing, has_bad_shape, mentions_bad_text, IsBody}
 use Rattle.acc_code.specs.Short.{IsTerm, AreTerms, HasTerms, SetsTerms, IsNumberedBody}
 use Rattle.acc_code.specs.BodySpelling.{sign_number}
 use Rattle.acc_code.specs.BodyReading.{let_uses, greatest_sign, least_updates, read_uses}
@@ -47,6 +47,7 @@ pub record KeepsRules (parts : BodyParts) : Type 0 where
   pub keys : has_no_key parts ≡ false
   pub words : (has_bad_name parts.lets || has_bad_key parts) ≡ false
   pub shape : has_bad_shape parts ≡ false
+  pub texts : some_expression mentions_bad_text parts ≡ false
 
 pub keeps : (parts : BodyParts) → IsBody parts → KeepsRules parts
 keeps parts h =
@@ -56,7 +57,8 @@ keeps parts h =
     let d = not_refused (has_no_key parts) _ _ c.1 in
     let e = not_refused (has_bad_name parts.lets || has_bad_key parts) _ _ d.1 in
     let f = not_refused (has_bad_shape parts) _ _ e.1 in
-    record { size = a.0; bound = b.0; once = c.0; keys = d.0; words = e.0; shape = f.0 }
+    let g = not_refused (some_expression mentions_bad_text parts) _ _ f.1 in
+    record { size = a.0; bound = b.0; once = c.0; keys = d.0; words = e.0; shape = f.0; texts = g.0 }
 
 -- ---- words and keys
 
@@ -130,6 +132,7 @@ term_fits : (lets : ℕ) (term : Term) → lets ≤ 16 → term_is_unbound lets 
 term_fits lets (Number number) le bound numbered = numbered
 term_fits lets (Name name) le bound numbered = name_fits lets name le bound
 term_fits lets Null le bound numbered = tt
+term_fits lets (Text text) le bound numbered = numbered
 
 any_sign : (minus : Bool) → sign_number minus ≤ 1
 any_sign true = omega arith

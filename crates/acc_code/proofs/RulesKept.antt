@@ -13,7 +13,7 @@ use Rattle.acc_txn.specs.declared.parts.Let.{Let}
 use Rattle.acc_txn.specs.declared.parts.Select.{Select}
 use Rattle.acc_txn.specs.declared.parts.Select.TheVariants.{Nothing, Names, Get}
 use Rattle.acc_txn.specs.declared.parts.Term.{Term}
-use Rattle.acc_txn.specs.declared.parts.Term.TheVariants.{Number, Name, Null}
+use Rattle.acc_txn.specs.declared.parts.Term.TheVariants.{Number, Name, Null, Text}
 use Rattle.acc_txn.specs.declared.parts.Part.{Part}
 use Rattle.acc_txn.specs.declared.parts.Condition.{Condition}
 use Rattle.acc_txn.specs.declared.parts.Condition.TheVariants.{Compare, IsNull, IsNotNull}
@@ -22,7 +22,7 @@ use Rattle.acc_txn.specs.declared.parts.Update.TheVariants.{Set, Delete}
 use Rattle.acc_txn.specs.declared.parts.BodyParts.{BodyParts}
 use Rattle.acc_txn.specs.Words.{is_name, is_key, is_key_text}
 use Rattle.acc_txn.specs.Uses.{with_keys, selected_keys, updated_key, footprint_of}
-use Rattle.acc_txn.specs.Rules.{is_many, selected_names, condition_has, update_has, some_expression, is_long, has_too_many, is_unbound, term_is_unbound, mentions_unbound, asks_unbound, has_unbound_name, has_name_twice, has_no_key, has_bad_name, has_bad_key, is_malformed, selects_nothing, has_bad_shape, refusal_of}
+use Rattle.acc_txn.specs.Rules.{is_many, selected_names, condition_has, update_has, some_expression, is_long, has_too_many, is_unbound, term_is_unbound, mentions_unbound, asks_unbound, has_unbound_name, has_name_twice, has_no_key, has_bad_name, has_bad_key, is_malformed, selects_nothing, has_bad_shape, is_bad_text, mentions_bad_text, refusal_of}
 use Rattle.acc_code.specs.BodySpelling.{sign_number}
 use Rattle.acc_code.specs.BodyReading.{let_uses, least_updates, read_uses}
 use Rattle.acc_code.proofs.Formats.{EachFits}
@@ -52,6 +52,13 @@ term_bound : (lets : ℕ) (term : Term) → FitsTerm lets term → term_is_unbou
 term_bound lets (Number number) fits = refl
 term_bound lets (Name name) fits = not_unbound lets name fits.1
 term_bound lets Null fits = refl
+term_bound lets (Text text) fits = refl
+
+term_typed : (lets : ℕ) (term : Term) → FitsTerm lets term → is_bad_text term ≡ false
+term_typed lets (Number number) fits = refl
+term_typed lets (Name name) fits = refl
+term_typed lets Null fits = refl
+term_typed lets (Text text) fits = ap not fits
 
 plus_first : (minus : Bool) → sign_number minus ≤ 0 → minus ≡ false
 plus_first true h = absurd (omega arith)
@@ -65,12 +72,14 @@ pub record SumIsFine (lets : ℕ) (sum : List Part) : Type 0 where
   pub short : is_long sum ≡ false
   pub bound : mentions_unbound lets sum ≡ false
   pub formed : is_malformed sum ≡ false
+  pub typed : mentions_bad_text sum ≡ false
 
 fine : (lets : ℕ) (sum : List Part) → FitsSum lets sum → SumIsFine lets sum
 fine lets sum fits = record {
   short = not_many (length sum) fits.1;
   bound = each_false (λ part. term_is_unbound lets part.term) (λ front part h. term_bound lets part.term h.1) [] sum fits.2;
   formed = well_formed lets sum fits;
+  typed = each_false (λ part. is_bad_text part.term) (λ front part h. term_typed lets part.term h.1) [] sum fits.2;
 }
 
 -- a test that fine sums fail
@@ -192,8 +201,8 @@ updates_follow (guard ∷ guards) (update ∷ updates) h = and_false (nat_lt 0 (
 
 -- ---- all rules
 
-none_refused : (parts : BodyParts) → has_too_many parts ≡ false → has_unbound_name parts ≡ false → has_name_twice parts.lets ≡ false → has_no_key parts ≡ false → (has_bad_name parts.lets || has_bad_key parts) ≡ false → has_bad_shape parts ≡ false → refusal_of parts ≡ None
-none_refused parts a b c d e f = rw (a, b, c, d, e, f) refl
+none_refused : (parts : BodyParts) → has_too_many parts ≡ false → has_unbound_name parts ≡ false → has_name_twice parts.lets ≡ false → has_no_key parts ≡ false → (has_bad_name parts.lets || has_bad_key parts) ≡ false → has_bad_shape parts ≡ false → some_expression mentions_bad_text parts ≡ false → refusal_of parts ≡ None
+none_refused parts a b c d e f g = rw (a, b, c, d, e, f, g) refl
 
 module _ (parts : BodyParts) (fits : FitsParts parts) where
   few_enough : has_too_many parts ≡ false
@@ -236,3 +245,4 @@ module _ (parts : BodyParts) (fits : FitsParts parts) where
   -- parts that were read are refused for want of a key alone
   pub rules_kept : has_no_key parts ≡ false → refusal_of parts ≡ None
   rules_kept some = none_refused parts few_enough all_bound (never_twice [] parts.lets refl fits.lets.2) some all_words all_shaped
+      (some_fails parts mentions_bad_text fits (λ sum h. h.typed))

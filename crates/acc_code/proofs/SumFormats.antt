@@ -1,5 +1,5 @@
 -- Words, keys and sums of a body: what is read is what is spelled.
-use Rattle.std.proofs.Common.{◌≡◌, ℕ, ℤ, zero, suc, ◌≤◌, Bool, true, false, not, List, [], ◌∷◌, ◌++◌, length, refl, sym, ap, subst, arith}
+use Rattle.std.proofs.Common.{◌≡◌, ℕ, ℤ, zero, suc, ◌≤◌, Bool, true, false, not, List, [], ◌∷◌, ◌++◌, length, refl, sym, ap, subst, IsTrue, arith}
 use Rattle.std.specs.Prelude.{◌==◌, nat_lt}
 use Rattle.std.specs.Int.{w64}
 use Rattle.std.specs.Int.RustNames.{FitsSigned}
@@ -8,15 +8,15 @@ use Rattle.acc_wire.proofs.Fields.{IsField, u8_field, i64_field, text_field}
 use Rattle.acc_value.specs.declared.key.Key.{Key}
 use Rattle.acc_value.specs.Footprint.{used}
 use Rattle.acc_txn.specs.declared.parts.Term.{Term}
-use Rattle.acc_txn.specs.declared.parts.Term.TheVariants.{Number, Name, Null}
+use Rattle.acc_txn.specs.declared.parts.Term.TheVariants.{Number, Name, Null, Text}
 use Rattle.acc_txn.specs.declared.parts.Part.{Part}
-use Rattle.acc_txn.specs.Words.{is_name, is_key_text}
+use Rattle.acc_txn.specs.Words.{is_name, is_key_text, is_text_value}
 use Rattle.acc_txn.specs.Rules.{is_many}
 use Rattle.acc_code.specs.Spelling.{key_bytes}
 use Rattle.acc_code.specs.BodySpelling.{term_bytes, sign_number, part_bytes, sum_bytes}
 use Rattle.acc_code.specs.BodyReading.{word_at, key_text_at, key_at, use_at, let_number_at, term_behind, term_at, greatest_sign, part_at, sum_at}
 use Rattle.acc_code.proofs.Formats.{made_field, made_of_two, tagged_field, done_field, same_field, passing_field, between_field, listed_field}
-use Rattle.acc_code.proofs.CellFormats.{key_of_texts}
+use Rattle.acc_code.proofs.CellFormats.{key_of_texts, text_value_field}
 use Rattle.acc_code.proofs.BodyFits.{FitsWord, FitsKeyText, FitsKey, FitsUse, FitsName, FitsTerm, FitsPart, FitsSum}
 
 pub word_field : IsField FitsWord text_bytes word_at
@@ -45,39 +45,52 @@ abbrev term_tag : Term → ℕ
 term_tag (Number number) = 0
 term_tag (Name name) = 1
 term_tag Null = 2
+term_tag (Text text) = 3
 
 abbrev term_tail : Term → List ℕ
 term_tail (Number number) = i64_bytes number
 term_tail (Name name) = u8_bytes name
 term_tail Null = []
+term_tail (Text text) = text_bytes text
 
 term_bytes_are : (t : Term) → u8_bytes (term_tag t) ++ term_tail t ≡ term_bytes t
 unfolding term_bytes
 term_bytes_are (Number number) = refl
 term_bytes_are (Name name) = refl
 term_bytes_are Null = refl
+term_bytes_are (Text text) = refl
 
-term_within : (t : Term) → (0 ≤ term_tag t) × (term_tag t ≤ 2)
+term_within : (t : Term) → (0 ≤ term_tag t) × (term_tag t ≤ 3)
 term_within (Number number) = (omega arith, omega arith)
 term_within (Name name) = (omega arith, omega arith)
 term_within Null = (omega arith, omega arith)
+term_within (Text text) = (omega arith, omega arith)
 
 number_only : (lets : ℕ) (t : Term) → FitsTerm lets t → term_tag t ≡ 0 → (n : ℤ) × FitsSigned w64 n × (t ≡ Number n)
 number_only lets (Number number) fits e = (number, fits, refl)
 number_only lets (Name name) fits e = absurd (omega (arith, e))
 number_only lets Null fits e = absurd (omega (arith, e))
+number_only lets (Text text) fits e = absurd (omega (arith, e))
 
 name_only : (lets : ℕ) (t : Term) → FitsTerm lets t → term_tag t ≡ 1 → (n : ℕ) × FitsName lets n × (t ≡ Name n)
 name_only lets (Number number) fits e = absurd (omega (arith, e))
 name_only lets (Name name) fits e = (name, fits, refl)
 name_only lets Null fits e = absurd (omega (arith, e))
+name_only lets (Text text) fits e = absurd (omega (arith, e))
 
 null_only : (t : Term) → term_tag t ≡ 2 → t ≡ Null
 null_only (Number number) e = absurd (omega (arith, e))
 null_only (Name name) e = absurd (omega (arith, e))
 null_only Null e = refl
+null_only (Text text) e = absurd (omega (arith, e))
 
-term_behind_field : (lets n : ℕ) → (0 ≤ n) × (n ≤ 2) → IsField (λ t. FitsTerm lets t × (term_tag t ≡ n)) term_tail (term_behind lets n)
+text_only : (lets : ℕ) (t : Term) → FitsTerm lets t → term_tag t ≡ 3 → (text : List ℕ) × IsTrue (is_text_value text) × (t ≡ Text text)
+text_only lets (Number number) fits e = absurd (omega (arith, e))
+text_only lets (Name name) fits e = absurd (omega (arith, e))
+text_only lets Null fits e = absurd (omega (arith, e))
+text_only lets (Text text) fits e = (text, fits, refl)
+
+term_behind_field : (lets n : ℕ) → (0 ≤ n) × (n ≤ 3) → IsField (λ t. FitsTerm lets t × (term_tag t ≡ n)) term_tail (term_behind lets n)
 term_behind_field lets zero h = same_field (made_field Number term_tail (λ n fits. refl) i64_field) (record {
   to = λ t m. subst (λ (x : Term). FitsTerm lets x × (term_tag x ≡ 0)) (sym m.2) (m.1, refl);
   from = λ t f. number_only lets t f.0 f.1;
@@ -93,11 +106,16 @@ term_behind_field lets (suc (suc zero)) h = same_field (done_field Null) (record
   from = λ t f. null_only t f.1;
   bytes_are = λ t f. ap term_tail (sym (null_only t f.1));
 })
-term_behind_field lets (suc (suc (suc n))) h = absurd (omega (arith, h.1))
+term_behind_field lets (suc (suc (suc zero))) h = same_field (made_field Text term_tail (λ t fits. refl) text_value_field) (record {
+  to = λ t m. subst (λ (x : Term). FitsTerm lets x × (term_tag x ≡ 3)) (sym m.2) (m.1, refl);
+  from = λ t f. text_only lets t f.0 f.1;
+  bytes_are = λ t f. refl;
+})
+term_behind_field lets (suc (suc (suc (suc n)))) h = absurd (omega (arith, h.1))
 
 term_field : (lets : ℕ) → IsField (FitsTerm lets) term_bytes (term_at lets)
 unfolding term_at
-term_field lets = same_field (tagged_field 0 2 term_tag term_tail (omega arith) (λ t fits. term_within t) (term_behind_field lets)) (record { to = λ t h. h; from = λ t h. h; bytes_are = λ t h. term_bytes_are t })
+term_field lets = same_field (tagged_field 0 3 term_tag term_tail (omega arith) (λ t fits. term_within t) (term_behind_field lets)) (record { to = λ t h. h; from = λ t h. h; bytes_are = λ t h. term_bytes_are t })
 
 -- ---- sums
 

@@ -12,7 +12,7 @@ use Rattle.acc_txn.specs.declared.parts.Select.TheVariants.{Nothing, Names, Get}
 use Rattle.acc_txn.specs.declared.parts.Operator.{Operator}
 use Rattle.acc_txn.specs.declared.parts.Operator.TheVariants.{Equal, Differs, Less, AtMost, More, AtLeast}
 use Rattle.acc_txn.specs.declared.parts.Term.{Term}
-use Rattle.acc_txn.specs.declared.parts.Term.TheVariants.{Number, Name, Null}
+use Rattle.acc_txn.specs.declared.parts.Term.TheVariants.{Number, Name, Null, Text}
 use Rattle.acc_txn.specs.declared.parts.Part.{Part}
 use Rattle.acc_txn.specs.declared.parts.Condition.{Condition}
 use Rattle.acc_txn.specs.declared.parts.Condition.TheVariants.{Compare, IsNull, IsNotNull}
@@ -22,6 +22,7 @@ use Rattle.acc_txn.specs.declared.parts.BodyParts.{BodyParts}
 use Rattle.acc_txn.specs.Words.{is_name, is_key_text}
 use Rattle.acc_txn.specs.Uses.{selected_keys, updated_key, with_keys}
 use Rattle.acc_txn.specs.Rules.{is_many, has_no_key}
+use Rattle.acc_code.specs.CellReading.{text_value_at}
 use Rattle.acc_code.specs.Reading.{passing, between_at, listed_at}
 
 -- ---- keys
@@ -93,11 +94,14 @@ term_behind lets zero u = do
 term_behind lets (suc zero) u = do
   name ← let_number_at lets u
   Ok (Name name.0, name.1)
-term_behind lets (suc (suc _)) u = Ok (Null, u)
+term_behind lets (suc (suc zero)) u = Ok (Null, u)
+term_behind lets (suc (suc (suc _))) u = do
+  text ← text_value_at u
+  Ok (Text text.0, text.1)
 
 unfoldable pub term_at : ℕ → Unread → Read Term
 term_at lets u = do
-  tag ← between_at 0 2 u
+  tag ← between_at 0 3 u
   term_behind lets tag.0 tag.1
 
 -- the first term has no minus

@@ -7,7 +7,7 @@ use Rattle.acc_txn.specs.declared.parts.Select.TheVariants.{Nothing, Names, Get}
 use Rattle.acc_txn.specs.declared.parts.Operator.{Operator}
 use Rattle.acc_txn.specs.declared.parts.Operator.TheVariants.{Equal, Differs, Less, AtMost, More, AtLeast}
 use Rattle.acc_txn.specs.declared.parts.Term.{Term}
-use Rattle.acc_txn.specs.declared.parts.Term.TheVariants.{Number, Name, Null}
+use Rattle.acc_txn.specs.declared.parts.Term.TheVariants.{Number, Name, Null, Text}
 use Rattle.acc_txn.specs.declared.parts.Part.{Part}
 use Rattle.acc_txn.specs.declared.parts.Condition.{Condition}
 use Rattle.acc_txn.specs.declared.parts.Condition.TheVariants.{Compare, IsNull, IsNotNull}
@@ -25,11 +25,12 @@ select_bytes Nothing = u8_bytes 0
 select_bytes (Names names) = u8_bytes 1 ++ listed u8_bytes names
 select_bytes (Get key) = u8_bytes 2 ++ key_bytes key
 
--- a term is 0 and a number, or 1 and the number of a LET, or 2 for null
+-- a term is 0 and a number, or 1 and the number of a LET, or 2 for null, or 3 and a text
 unfoldable pub term_bytes : Term → List ℕ
 term_bytes (Number number) = u8_bytes 0 ++ i64_bytes number
 term_bytes (Name name) = u8_bytes 1 ++ u8_bytes name
 term_bytes Null = u8_bytes 2
+term_bytes (Text text) = u8_bytes 3 ++ text_bytes text
 
 -- a sign is 0 for plus, and 1 for minus
 abbrev pub sign_number : Bool → ℕ

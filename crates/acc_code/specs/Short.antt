@@ -1,17 +1,21 @@
--- What has a spelling: texts of at most 255 bytes, and lists of at most 255 elements.
-use Rattle.std.specs.Prelude.{ℤ, List, length, ◌<◌, Option, IfSome}
+-- What has a spelling: texts of at most 255 bytes, lists of at most 255 elements, and cells whose texts are such as a cell may
+-- hold.
+use Rattle.std.specs.Prelude.{List, length, ◌<◌, Option, None, Some, IsTrue}
 use Rattle.std.specs.Int.{w64}
 use Rattle.std.specs.Int.RustNames.{FitsSigned}
 use Rattle.std.specs.List.{AllByRecursion}
 use Rattle.acc_wire.specs.Spelling.{IsShortText}
 use Rattle.acc_value.specs.declared.key.Key.{Key}
+use Rattle.acc_value.specs.declared.value.Value.{Value}
+use Rattle.acc_value.specs.declared.value.Value.TheVariants.{Number as NumberValue, Text as TextValue}
 use Rattle.acc_value.specs.Pairs.{IsRising}
 use Rattle.acc_txn.specs.declared.parts.Let.{Let}
 use Rattle.acc_txn.specs.declared.parts.Select.{Select}
 use Rattle.acc_txn.specs.declared.parts.Select.TheVariants.{Nothing, Names, Get}
+use Rattle.acc_txn.specs.Words.{is_text_value}
 use Rattle.acc_txn.specs.Rules.{IsBody}
 use Rattle.acc_txn.specs.declared.parts.Term.{Term}
-use Rattle.acc_txn.specs.declared.parts.Term.TheVariants.{Number, Name, Null}
+use Rattle.acc_txn.specs.declared.parts.Term.TheVariants.{Number, Name, Null, Text}
 use Rattle.acc_txn.specs.declared.parts.Part.{Part}
 use Rattle.acc_txn.specs.declared.parts.Condition.{Condition}
 use Rattle.acc_txn.specs.declared.parts.Condition.TheVariants.{Compare, IsNull, IsNotNull}
@@ -33,13 +37,23 @@ IsShortSelect Nothing = Unit {0}
 IsShortSelect (Names names) = length names < 256
 IsShortSelect (Get key) = IsShortKey key
 
+abbrev pub IsShortTerm : Term → Type 0
+IsShortTerm (Number number) = Unit {0}
+IsShortTerm (Name name) = Unit {0}
+IsShortTerm Null = Unit {0}
+IsShortTerm (Text text) = IsTrue (is_text_value text)
+
+pub record IsShortSum (sum : List Part) : Type 0 where
+  pub count : length sum < 256
+  pub terms : AllByRecursion (λ part. IsShortTerm part.term) sum
+
 abbrev pub IsShortCondition : Condition → Type 0
-IsShortCondition (Compare op left right) = (length left < 256) × (length right < 256)
+IsShortCondition (Compare op left right) = IsShortSum left × IsShortSum right
 IsShortCondition (IsNull name) = Unit {0}
 IsShortCondition (IsNotNull name) = Unit {0}
 
 abbrev pub IsShortUpdate : Update → Type 0
-IsShortUpdate (Set key value) = IsShortKey key × (length value < 256)
+IsShortUpdate (Set key value) = IsShortKey key × IsShortSum value
 IsShortUpdate (Delete key) = IsShortKey key
 
 pub record IsShortBody (parts : BodyParts) : Type 0 where
@@ -51,21 +65,31 @@ pub record IsShortBody (parts : BodyParts) : Type 0 where
   pub updates_count : length parts.updates < 256
   pub updates : AllByRecursion IsShortUpdate parts.updates
 
-pub record AreShortCells (pairs : List (Key × Option ℤ)) : Type 0 where
+-- the text of a cell, if it has one, is such as a cell may hold
+abbrev pub HoldsText : Option Value → Type 0
+HoldsText None = Unit {0}
+HoldsText (Some (NumberValue number)) = Unit {0}
+HoldsText (Some (TextValue text)) = IsTrue (is_text_value text)
+
+pub record AreShortCells (pairs : List (Key × Option Value)) : Type 0 where
   pub count : length pairs < 256
   pub keys : AllByRecursion (λ p. IsShortKey p.0) pairs
+  pub texts : AllByRecursion (λ p. HoldsText p.1) pairs
 
 pub record IsShortOutcome (o : Outcome) : Type 0 where
   pub values : length o.reply.values < 256
+  pub texts : AllByRecursion HoldsText o.reply.values
   pub writes : AreShortCells o.writes
 
--- ---- numbers of 64 bits
+-- ---- numbers of 64 bits, and texts that a cell may hold
 
-abbrev pub IsCell : Option ℤ → Type 0
-IsCell cell = IfSome cell (FitsSigned w64)
+abbrev pub IsCell : Option Value → Type 0
+IsCell None = Unit {0}
+IsCell (Some (NumberValue number)) = FitsSigned w64 number
+IsCell (Some (TextValue text)) = IsTrue (is_text_value text)
 
 -- a list of cells that has a spelling
-pub record AreCells (pairs : List (Key × Option ℤ)) : Type 0 where
+pub record AreCells (pairs : List (Key × Option Value)) : Type 0 where
   pub short : AreShortCells pairs
   pub cells : AllByRecursion (λ p. IsCell p.1) pairs
   pub rises : IsRising pairs
@@ -80,6 +104,7 @@ abbrev pub IsTerm : Term → Type 0
 IsTerm (Number number) = FitsSigned w64 number
 IsTerm (Name name) = Unit {0}
 IsTerm Null = Unit {0}
+IsTerm (Text text) = IsTrue (is_text_value text)
 
 abbrev pub AreTerms : List Part → Type 0
 AreTerms sum = AllByRecursion (λ part. IsTerm part.term) sum

@@ -1,8 +1,10 @@
 -- The spelling of cells, of lists of them, and of outcomes.
-use Rattle.std.specs.Prelude.{ℕ, ℤ, List, ◌++◌, length, Option, Some, None}
+use Rattle.std.specs.Prelude.{ℕ, List, ◌++◌, length, Option, Some, None}
 use Rattle.std.specs.List.{flat_map}
 use Rattle.acc_wire.specs.Spelling.{u8_bytes, i64_bytes, text_bytes}
 use Rattle.acc_value.specs.declared.key.Key.{Key}
+use Rattle.acc_value.specs.declared.value.Value.{Value}
+use Rattle.acc_value.specs.declared.value.Value.TheVariants.{Number as NumberValue, Text as TextValue}
 use Rattle.acc_txn.specs.declared.outcome.Verdict.{Verdict}
 use Rattle.acc_txn.specs.declared.outcome.Verdict.TheVariants.{Ok as Done, Skipped, Overflow}
 use Rattle.acc_txn.specs.declared.outcome.Outcome.{Outcome}
@@ -11,20 +13,21 @@ use Rattle.acc_txn.specs.declared.outcome.Outcome.{Outcome}
 unfoldable pub listed : {A : Type 0} → (A → List ℕ) → List A → List ℕ
 listed spelling xs = u8_bytes (length xs) ++ flat_map spelling xs
 
--- a cell is 0, or 1 and its number
-unfoldable pub cell_bytes : Option ℤ → List ℕ
+-- a cell is 0, or 1 and its number, or 2 and its text
+unfoldable pub cell_bytes : Option Value → List ℕ
 cell_bytes None = u8_bytes 0
-cell_bytes (Some number) = u8_bytes 1 ++ i64_bytes number
+cell_bytes (Some (NumberValue number)) = u8_bytes 1 ++ i64_bytes number
+cell_bytes (Some (TextValue text)) = u8_bytes 2 ++ text_bytes text
 
 -- a key is its table and its text
 unfoldable pub key_bytes : Key → List ℕ
 key_bytes key = text_bytes key.table ++ text_bytes key.key
 
-unfoldable pub pair_bytes : Key × Option ℤ → List ℕ
+unfoldable pub pair_bytes : Key × Option Value → List ℕ
 pair_bytes pair = key_bytes pair.0 ++ cell_bytes pair.1
 
 -- cells by their keys
-unfoldable pub cells_bytes : List (Key × Option ℤ) → List ℕ
+unfoldable pub cells_bytes : List (Key × Option Value) → List ℕ
 cells_bytes pairs = listed pair_bytes pairs
 
 abbrev pub verdict_number : Verdict → ℕ

@@ -79,7 +79,7 @@ fn take_fields(alloc: Global, reader: &mut Reader<'_>) -> Result<Body, CodeError
     if !has_key(&parts) {
         return Err(out_of_range(place));
     }
-    Ok(Body::new_unchecked(parts))
+    Ok(Body::new_unchecked(parts)?)
 }
 
 /// A body, read by a second reader, so that an error leaves this one where it is.
@@ -112,7 +112,8 @@ pub fn put_body(out: &mut Bytes, body: &Body) -> Result<(), OutOfMemory>
 /// A body. The error is that of the first field at fault, with the place of its first byte: Short where the bytes end
 /// inside the field, and Range where it holds what isn't allowed. That is a count, a sign or the number of a kind outside
 /// its bounds; the number of no LET; a name of a LET or of a table that may not be one (`is_free_word`), or that a LET before
-/// has; a key's text without its form (`is_free_key_text`); and the seventeenth different key, at its table. A body whose
+/// has; a key's text without its form (`is_free_key_text`); a text that no cell can
+/// hold (`is_free_text_value`); and the seventeenth different key, at its table. A body whose
 /// parts are allowed and that has no key is Range at its own first byte. After an error the reader is unchanged.
 pub fn take_body(alloc: Global, reader: &mut Reader<'_>) -> Result<Body, CodeError>
     // What is read is spelled so.

@@ -4,39 +4,43 @@ ghost use Rattle.std.specs.List.{flat_map, AllByRecursion};
 ghost use Rattle.acc_wire.specs.Spelling.{u8_bytes};
 ghost use Rattle.acc_code.specs.Spelling.{listed};
 ghost use Rattle.acc_code.specs.BodySpelling.{let_bytes, select_bytes, term_bytes, part_bytes, sum_bytes, condition_bytes, update_bytes, body_bytes};
-ghost use Rattle.acc_code.specs.Short.{IsShortLet, IsShortSelect, IsShortCondition, IsShortUpdate, IsShortBody};
+ghost use Rattle.acc_code.specs.Short.{IsShortLet, IsShortSelect, IsShortTerm, IsShortSum, IsShortCondition, IsShortUpdate, IsShortBody};
 
 use crate::lengths::{key_length, text_length};
 use acc_txn::{Body, BodyParts, Condition, Expr, Let, Numbers, Part, Select, Term, Update};
 
-#[tactic(auto, unfolding(crate::specs::BodySpelling::term_bytes, acc_wire::specs::Spelling::i64_bytes, acc_wire::specs::Spelling::u64_bytes))]
-fn term_length(term: Term) -> u64
-    ensures exact { result ≡ length (term_bytes term) }
-    ensures most { result ≤ 9 }
+#[tactic(auto, using(crate::proofs::Shortness::short_text), unfolding(crate::specs::BodySpelling::term_bytes, acc_wire::specs::Spelling::i64_bytes, acc_wire::specs::Spelling::u64_bytes))]
+fn term_length(term: &Term) -> u64
+    requires { IsShortTerm term.now }
+    ensures exact { result ≡ length (term_bytes term.now) }
+    ensures most { result ≤ 257 }
 {
     match term {
         Term::Number(_) => 9,
         Term::Name(_) => 2,
         Term::Null => 1,
+        Term::Text(text) => 1 + text_length(text.as_slice()),
     }
 }
 
 #[tactic(auto, unfolding(crate::specs::BodySpelling::part_bytes))]
-fn part_length(part: Part) -> u64
-    ensures exact { result ≡ length (part_bytes part) }
-    ensures most { result ≤ 10 }
+fn part_length(part: &Part) -> u64
+    requires { IsShortTerm part.now.term }
+    ensures exact { result ≡ length (part_bytes part.now) }
+    ensures most { result ≤ 258 }
 {
-    1 + term_length(part.term)
+    1 + term_length(&part.term)
 }
 
 fn each_part_length(parts: &[Part]) -> u64
-    requires { length parts.now < 256 }
+    requires count { length parts.now < 256 }
+    requires short { AllByRecursion (λ part. IsShortTerm part.term) parts.now }
     ensures exact { result ≡ length (flat_map part_bytes parts.now) }
-    ensures most { result ≤ 10 * length parts.now }
+    ensures most { result ≤ 258 * length parts.now }
 {
     let mut total = 0;
     for part in parts {
-        total += part_length(*part);
+        total += part_length(part);
     }
     total
 }
@@ -44,9 +48,9 @@ fn each_part_length(parts: &[Part]) -> u64
 /// How many bytes a sum takes.
 #[tactic(auto, unfolding(crate::specs::BodySpelling::sum_bytes, crate::specs::Spelling::listed))]
 fn sum_length(sum: &Expr) -> u64
-    requires { length sum.now < 256 }
+    requires { IsShortSum sum.now }
     ensures exact { result ≡ length (sum_bytes sum.now) }
-    ensures most { result < 2 ^ 12 }
+    ensures most { result < 2 ^ 17 }
 {
     1 + each_part_length(sum.as_slice())
 }
@@ -99,7 +103,7 @@ fn select_length(select: &Select) -> u64
 fn condition_length(guard: &Condition) -> u64
     requires { IsShortCondition guard.now }
     ensures exact { result ≡ length (condition_bytes guard.now) }
-    ensures most { result ≤ 8192 }
+    ensures most { result ≤ 262144 }
 {
     match guard {
         Condition::Compare { left, right, .. } => 1 + sum_length(left) + sum_length(right),
@@ -111,7 +115,7 @@ fn conditions_length(guards: &[Condition]) -> u64
     requires count { length guards.now < 256 }
     requires short { AllByRecursion IsShortCondition guards.now }
     ensures exact { result ≡ length (flat_map condition_bytes guards.now) }
-    ensures most { result ≤ 8192 * length guards.now }
+    ensures most { result ≤ 262144 * length guards.now }
 {
     let mut total = 0;
     for guard in guards {
@@ -124,7 +128,7 @@ fn conditions_length(guards: &[Condition]) -> u64
 fn update_length(update: &Update) -> u64
     requires { IsShortUpdate update.now }
     ensures exact { result ≡ length (update_bytes update.now) }
-    ensures most { result ≤ 8192 }
+    ensures most { result ≤ 262144 }
 {
     match update {
         Update::Set { key, value } => 1 + key_length(key) + sum_length(value),
@@ -136,7 +140,7 @@ fn updates_length(updates: &[Update]) -> u64
     requires count { length updates.now < 256 }
     requires short { AllByRecursion IsShortUpdate updates.now }
     ensures exact { result ≡ length (flat_map update_bytes updates.now) }
-    ensures most { result ≤ 8192 * length updates.now }
+    ensures most { result ≤ 262144 * length updates.now }
 {
     let mut total = 0;
     for update in updates {
@@ -149,7 +153,7 @@ fn updates_length(updates: &[Update]) -> u64
 fn parts_length(parts: &BodyParts) -> u64
     requires { IsShortBody parts.now }
     ensures exact { result ≡ length (body_bytes parts.now) }
-    ensures most { result < 2 ^ 23 }
+    ensures most { result < 2 ^ 27 }
 {
     3 + lets_length(parts.lets.as_slice())
         + select_length(&parts.select)
@@ -160,7 +164,7 @@ fn parts_length(parts: &BodyParts) -> u64
 /// How many bytes a body takes.
 pub fn body_length(body: &Body) -> u64
     ensures exact { result ≡ length (body_bytes body.now) }
-    ensures most { result < 2 ^ 23 }
+    ensures most { result < 2 ^ 27 }
 {
     parts_length(body.parts())
 }

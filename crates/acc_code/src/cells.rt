@@ -1,60 +1,69 @@
 //! Cells, and lists of them.
-ghost use Rattle.std.specs.Prelude.{◌≡◌, ◌<◌, ◌++◌, ◌∷◌, [], ℤ, Option, List, length, OnOk, OnErr, IfOk, IsTrue};
+ghost use Rattle.std.specs.Prelude.{◌≡◌, ◌<◌, ◌++◌, ◌∷◌, [], Option, List, length, OnOk, OnErr, IfOk, IsTrue};
 ghost use Rattle.std.specs.List.{list_all, flat_map, AllByRecursion};
 ghost use Rattle.acc_wire.specs.Reading.{Unread, Passes, AreBytes};
 ghost use Rattle.acc_value.specs.declared.key.Key.{Key};
+ghost use Rattle.acc_value.specs.declared.value.Value.{Value};
 ghost use Rattle.acc_value.specs.Key.{key_lt};
 ghost use Rattle.acc_value.specs.Pairs.{IsRising};
 ghost use Rattle.acc_code.specs.Spelling.{listed, cell_bytes, pair_bytes, cells_bytes};
-ghost use Rattle.acc_code.specs.Short.{IsShortKey, AreShortCells, AreCells, IsCell};
+ghost use Rattle.acc_code.specs.Short.{IsShortKey, HoldsText, AreShortCells, AreCells, IsCell};
 ghost use Rattle.acc_code.specs.Reading.{Reads, each_at, listed_at};
-ghost use Rattle.acc_code.specs.CellReading.{cell_at, next_key_at, pair_at, cells_at};
+ghost use Rattle.acc_code.specs.CellReading.{text_value_at, cell_at, next_key_at, pair_at, cells_at};
 ghost use Rattle.acc_code.specs.Writing.{Keeps};
 
 use crate::error::CodeError;
 use crate::fields::{out_of_range, take_between};
 use crate::keys::{put_key, take_any_key};
-use acc_base::{Bytes, OutOfMemory};
-use acc_value::{CellList, Cells, Key};
-use acc_wire::{Reader, put_i64, put_u8};
+use acc_base::{Bytes, OutOfMemory, Text};
+use acc_txn::is_free_text_value;
+use acc_value::{CellList, Cells, Key, Value};
+use acc_wire::{Reader, put_i64, put_text, put_u8};
 use std::alloc::Global;
 
-/// Appends a cell: 0, or 1 and its number.
-#[tactic(auto, using(crate::proofs::Kept::keeps_all, crate::proofs::Kept::keeps_front, crate::proofs::Kept::keeps_more), unfolding(crate::specs::Spelling::cell_bytes))]
-pub(crate) fn put_cell(out: &mut Bytes, cell: Option<i64>) -> Result<(), OutOfMemory>
-    ensures ok { OnOk result (out.new ≡ out.old ++ cell_bytes cell) }
+/// Appends a cell: 0, or 1 and its number, or 2 and its text.
+#[tactic(auto, using(crate::proofs::Kept::keeps_all, crate::proofs::Kept::keeps_front, crate::proofs::Kept::keeps_more, crate::proofs::Shortness::short_text), unfolding(crate::specs::Spelling::cell_bytes))]
+fn put_cell(out: &mut Bytes, cell: &Option<Value>) -> Result<(), OutOfMemory>
+    requires { HoldsText cell.now }
+    ensures ok { OnOk result (out.new ≡ out.old ++ cell_bytes cell.now) }
     ensures kept { OnErr result (Keeps out.old out.new) }
-    ensures fits { IsCell cell }
+    ensures fits { OnOk result (IsCell cell.now) }
 {
     match cell {
         None => put_u8(out, 0),
-        Some(number) => {
+        Some(Value::Number(number)) => {
             put_u8(out, 1)?;
-            put_i64(out, number)
+            put_i64(out, *number)
+        }
+        Some(Value::Text(text)) => {
+            put_u8(out, 2)?;
+            put_text(out, text.as_slice())
         }
     }
 }
 
 #[tactic(auto, using(crate::proofs::Kept::keeps_all, crate::proofs::Kept::keeps_front, crate::proofs::Kept::keeps_more), unfolding(crate::specs::Spelling::pair_bytes))]
-fn put_pair(out: &mut Bytes, key: &Key, cell: Option<i64>) -> Result<(), OutOfMemory>
-    requires { IsShortKey key.now }
-    ensures ok { OnOk result (out.new ≡ out.old ++ pair_bytes (key.now, cell)) }
+fn put_pair(out: &mut Bytes, key: &Key, cell: &Option<Value>) -> Result<(), OutOfMemory>
+    requires key { IsShortKey key.now }
+    requires text { HoldsText cell.now }
+    ensures ok { OnOk result (out.new ≡ out.old ++ pair_bytes (key.now, cell.now)) }
     ensures kept { OnErr result (Keeps out.old out.new) }
-    ensures fits { IsCell cell }
+    ensures fits { OnOk result (IsCell cell.now) }
 {
     put_key(out, key)?;
     put_cell(out, cell)
 }
 
 #[tactic(auto, using(crate::proofs::Kept::keeps_all, crate::proofs::Kept::keeps_front, crate::proofs::Kept::keeps_more))]
-fn put_pairs(out: &mut Bytes, pairs: &[(Key, Option<i64>)]) -> Result<(), OutOfMemory>
-    requires { AllByRecursion (λ p. IsShortKey p.0) pairs.now }
+fn put_pairs(out: &mut Bytes, pairs: &[(Key, Option<Value>)]) -> Result<(), OutOfMemory>
+    requires keys { AllByRecursion (λ p. IsShortKey p.0) pairs.now }
+    requires texts { AllByRecursion (λ p. HoldsText p.1) pairs.now }
     ensures ok { OnOk result (out.new ≡ out.old ++ flat_map pair_bytes pairs.now) }
     ensures kept { OnErr result (Keeps out.old out.new) }
     ensures fits { OnOk result (AllByRecursion (λ p. IsCell p.1) pairs.now) }
 {
     for (key, cell) in pairs {
-        put_pair(out, key, *cell)?;
+        put_pair(out, key, cell)?;
     }
     Ok(())
 }
@@ -87,21 +96,35 @@ pub fn put_cells(out: &mut Bytes, cells: &CellList) -> Result<(), OutOfMemory>
     appended
 }
 
+/// A text that a cell may hold.
+#[tactic(auto, unfolding(crate::specs::CellReading::text_value_at))]
+pub(crate) fn take_text_value(alloc: Global, reader: &mut Reader<'_>) -> Result<Text, CodeError>
+    ensures { Reads result reader.new (text_value_at reader.old) }
+{
+    let field = reader.place();
+    let text = reader.take_text()?;
+    if !is_free_text_value(text) {
+        return Err(out_of_range(field));
+    }
+    Ok(Text::from_slice(alloc, text)?)
+}
+
 /// A cell.
 #[tactic(auto, unfolding(crate::specs::CellReading::cell_at))]
-pub(crate) fn take_cell(reader: &mut Reader<'_>) -> Result<Option<i64>, CodeError>
+fn take_cell(alloc: Global, reader: &mut Reader<'_>) -> Result<Option<Value>, CodeError>
     ensures { Reads result reader.new (cell_at reader.old) }
 {
-    match take_between(reader, 0, 1)? {
+    match take_between(reader, 0, 2)? {
         0 => Ok(None),
-        _ => Ok(Some(reader.take_i64()?)),
+        1 => Ok(Some(Value::Number(reader.take_i64()?))),
+        _ => Ok(Some(Value::Text(take_text_value(alloc, reader)?))),
     }
 }
 
 /// Whether a key may follow the pairs.
 fn is_behind(pairs: &CellList, key: &Key) -> bool
     ensures value { result ≡ list_all (λ p. key_lt p.0 key.now) pairs.now }
-    ensures rising { IsTrue result → (cell : Option ℤ) → IsRising (pairs.now ++ (key.now, cell) ∷ []) }
+    ensures rising { IsTrue result → (cell : Option Value) → IsRising (pairs.now ++ (key.now, cell) ∷ []) }
 {
     match pairs.pairs().last() {
         Some((last, _)) => last < key,
@@ -112,7 +135,7 @@ fn is_behind(pairs: &CellList, key: &Key) -> bool
 #[tactic(auto, unfolding(crate::specs::CellReading::next_key_at))]
 fn take_next_key(alloc: Global, reader: &mut Reader<'_>, front: &CellList) -> Result<Key, CodeError>
     ensures read { Reads result reader.new (next_key_at front.now reader.old) }
-    ensures rising { IfOk result (λ key. (cell : Option ℤ) → IsRising (front.now ++ (key, cell) ∷ [])) }
+    ensures rising { IfOk result (λ key. (cell : Option Value) → IsRising (front.now ++ (key, cell) ∷ [])) }
 {
     let field = reader.place();
     let key = take_any_key(alloc, reader)?;
@@ -127,12 +150,12 @@ fn take_pair(
     alloc: Global,
     reader: &mut Reader<'_>,
     front: &CellList,
-) -> Result<(Key, Option<i64>), CodeError>
+) -> Result<(Key, Option<Value>), CodeError>
     ensures read { Reads result reader.new (pair_at front.now reader.old) }
     ensures rising { IfOk result (λ pair. IsRising (front.now ++ pair ∷ [])) }
 {
     let key = take_next_key(alloc, reader, front)?;
-    let cell = take_cell(reader)?;
+    let cell = take_cell(alloc, reader)?;
     Ok((key, cell))
 }
 
@@ -162,14 +185,14 @@ fn take_counted_pairs(alloc: Global, reader: &mut Reader<'_>) -> Result<CellList
 }
 
 /// A list of cells. The error is that of the first field at fault, with the place of its first byte: Short where the bytes
-/// end inside the field, and Range where it holds what isn't allowed, which is a cell that begins with neither 0 nor 1, or
+/// end inside the field, and Range where it holds what isn't allowed, which is a cell that begins with none of 0, 1 and 2, a text that no cell can hold, or
 /// a key that isn't greater than the one before it. After an error the reader is unchanged.
 pub fn take_cells(alloc: Global, reader: &mut Reader<'_>) -> Result<CellList, CodeError>
     // What is read is spelled so.
     ensures found { IfOk result (λ cells. Passes reader.old reader.new (cells_bytes cells)) }
     ensures fits { IfOk result AreCells }
     // What is spelled so is read, unless memory runs out.
-    ensures only { (cells : List (Key × Option ℤ)) (rest : Unread) → AreCells cells → Passes reader.old rest (cells_bytes cells)
+    ensures only { (cells : List (Key × Option Value)) (rest : Unread) → AreCells cells → Passes reader.old rest (cells_bytes cells)
         → Reads result reader.new (Ok (cells, rest)) }
     // Which fault it is.
     ensures exact { Reads result reader.new (cells_at reader.old) }
@@ -180,13 +203,14 @@ pub fn take_cells(alloc: Global, reader: &mut Reader<'_>) -> Result<CellList, Co
 
 /// Appends cells one after the other.
 #[tactic(auto, using(crate::proofs::Kept::keeps_all, crate::proofs::Kept::keeps_front, crate::proofs::Kept::keeps_more))]
-fn put_each_cell(out: &mut Bytes, cells: &[Option<i64>]) -> Result<(), OutOfMemory>
+fn put_each_cell(out: &mut Bytes, cells: &[Option<Value>]) -> Result<(), OutOfMemory>
+    requires { AllByRecursion HoldsText cells.now }
     ensures ok { OnOk result (out.new ≡ out.old ++ flat_map cell_bytes cells.now) }
     ensures kept { OnErr result (Keeps out.old out.new) }
     ensures fits { OnOk result (AllByRecursion IsCell cells.now) }
 {
     for cell in cells {
-        put_cell(out, *cell)?;
+        put_cell(out, cell)?;
     }
     Ok(())
 }
@@ -194,7 +218,8 @@ fn put_each_cell(out: &mut Bytes, cells: &[Option<i64>]) -> Result<(), OutOfMemo
 /// Appends a count in one byte, and as many cells.
 #[tactic(auto, using(crate::proofs::Kept::keeps_all, crate::proofs::Kept::keeps_front, crate::proofs::Kept::keeps_more), unfolding(crate::specs::Spelling::listed))]
 pub(crate) fn put_values(out: &mut Bytes, values: &Cells) -> Result<(), OutOfMemory>
-    requires { length values.now < 256 }
+    requires count { length values.now < 256 }
+    requires texts { AllByRecursion HoldsText values.now }
     ensures ok { OnOk result (out.new ≡ out.old ++ listed cell_bytes values.now) }
     ensures kept { OnErr result (Keeps out.old out.new) }
     ensures fits { OnOk result (AllByRecursion IsCell values.now) }
@@ -210,7 +235,7 @@ fn take_each_cell(alloc: Global, reader: &mut Reader<'_>, count: u8) -> Result<C
     let mut values = Cells::new(alloc);
     values.reserve(usize::from(count))?;
     for _ in 0..count {
-        let cell = take_cell(reader)?;
+        let cell = take_cell(alloc, reader)?;
         values.push(cell)?;
     }
     Ok(values)

@@ -3,10 +3,10 @@ ghost use Rattle.std.specs.Prelude.{◌≡◌, ◌<◌, ◌≤◌, ◌*◌, ◌^
 ghost use Rattle.std.specs.List.{flat_map, AllByRecursion};
 ghost use Rattle.acc_wire.specs.Spelling.{text_bytes, IsShortText};
 ghost use Rattle.acc_code.specs.Spelling.{listed, cell_bytes, key_bytes, pair_bytes, cells_bytes, outcome_bytes};
-ghost use Rattle.acc_code.specs.Short.{IsShortKey, AreShortCells, IsShortOutcome};
+ghost use Rattle.acc_code.specs.Short.{IsShortKey, HoldsText, AreShortCells, IsShortOutcome};
 
 use acc_txn::Outcome;
-use acc_value::{CellList, Cells, Key};
+use acc_value::{CellList, Cells, Key, Value};
 
 /// How many bytes a text takes.
 #[tactic(auto, unfolding(acc_wire::specs::Spelling::text_bytes))]
@@ -28,35 +28,39 @@ pub(crate) fn key_length(key: &Key) -> u64
     text_length(key.table.as_slice()) + text_length(key.key.as_slice())
 }
 
-#[tactic(auto, unfolding(crate::specs::Spelling::cell_bytes, acc_wire::specs::Spelling::i64_bytes, acc_wire::specs::Spelling::u64_bytes))]
-fn cell_length(cell: Option<i64>) -> u64
-    ensures exact { result ≡ length (cell_bytes cell) }
-    ensures most { result ≤ 9 }
+#[tactic(auto, using(crate::proofs::Shortness::short_text), unfolding(crate::specs::Spelling::cell_bytes, acc_wire::specs::Spelling::i64_bytes, acc_wire::specs::Spelling::u64_bytes))]
+fn cell_length(cell: &Option<Value>) -> u64
+    requires { HoldsText cell.now }
+    ensures exact { result ≡ length (cell_bytes cell.now) }
+    ensures most { result ≤ 257 }
 {
     match cell {
         None => 1,
-        Some(_) => 9,
+        Some(Value::Number(_)) => 9,
+        Some(Value::Text(text)) => 1 + text_length(text.as_slice()),
     }
 }
 
 #[tactic(auto, unfolding(crate::specs::Spelling::pair_bytes))]
-fn pair_length(key: &Key, cell: Option<i64>) -> u64
-    requires { IsShortKey key.now }
-    ensures exact { result ≡ length (pair_bytes (key.now, cell)) }
-    ensures most { result ≤ 521 }
+fn pair_length(key: &Key, cell: &Option<Value>) -> u64
+    requires key { IsShortKey key.now }
+    requires text { HoldsText cell.now }
+    ensures exact { result ≡ length (pair_bytes (key.now, cell.now)) }
+    ensures most { result ≤ 769 }
 {
     key_length(key) + cell_length(cell)
 }
 
-fn pairs_length(pairs: &[(Key, Option<i64>)]) -> u64
+fn pairs_length(pairs: &[(Key, Option<Value>)]) -> u64
     requires count { length pairs.now < 256 }
     requires short { AllByRecursion (λ p. IsShortKey p.0) pairs.now }
+    requires texts { AllByRecursion (λ p. HoldsText p.1) pairs.now }
     ensures exact { result ≡ length (flat_map pair_bytes pairs.now) }
-    ensures most { result ≤ 521 * length pairs.now }
+    ensures most { result ≤ 769 * length pairs.now }
 {
     let mut total = 0;
     for (key, cell) in pairs {
-        total += pair_length(key, *cell);
+        total += pair_length(key, cell);
     }
     total
 }
@@ -71,14 +75,15 @@ pub fn cells_length(cells: &CellList) -> u64
     1 + pairs_length(cells.pairs())
 }
 
-fn each_cell_length(cells: &[Option<i64>]) -> u64
-    requires { length cells.now < 256 }
+fn each_cell_length(cells: &[Option<Value>]) -> u64
+    requires count { length cells.now < 256 }
+    requires texts { AllByRecursion HoldsText cells.now }
     ensures exact { result ≡ length (flat_map cell_bytes cells.now) }
-    ensures most { result ≤ 9 * length cells.now }
+    ensures most { result ≤ 257 * length cells.now }
 {
     let mut total = 0;
     for cell in cells {
-        total += cell_length(*cell);
+        total += cell_length(cell);
     }
     total
 }
@@ -86,9 +91,10 @@ fn each_cell_length(cells: &[Option<i64>]) -> u64
 /// How many bytes the selected cells take.
 #[tactic(auto, unfolding(crate::specs::Spelling::listed))]
 fn values_length(values: &Cells) -> u64
-    requires { length values.now < 256 }
+    requires count { length values.now < 256 }
+    requires texts { AllByRecursion HoldsText values.now }
     ensures exact { result ≡ length (listed cell_bytes values.now) }
-    ensures most { result < 2 ^ 12 }
+    ensures most { result < 2 ^ 17 }
 {
     1 + each_cell_length(values.as_slice())
 }

@@ -23,6 +23,3 @@ pub use error::CodeError;
 pub use fields::{out_of_range, take_between};
 pub use lengths::{cells_length, outcome_length};
 pub use outcome::{put_outcome, take_outcome};
-
-#[cfg(test)]
-mod tests;

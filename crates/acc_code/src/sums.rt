@@ -1,56 +1,64 @@
 //! Sums of terms.
-ghost use Rattle.std.specs.Prelude.{◌≡◌, ◌<◌, ◌++◌, [], length, OnOk, OnErr};
-ghost use Rattle.std.specs.List.{flat_map};
+ghost use Rattle.std.specs.Prelude.{◌≡◌, ◌++◌, [], OnOk, OnErr};
+ghost use Rattle.std.specs.List.{flat_map, AllByRecursion};
 ghost use Rattle.acc_code.specs.BodySpelling.{term_bytes, part_bytes, sum_bytes, sign_number};
-ghost use Rattle.acc_code.specs.Short.{IsTerm, AreTerms};
+ghost use Rattle.acc_code.specs.Short.{IsShortTerm, IsShortSum, IsTerm, AreTerms};
 ghost use Rattle.acc_code.specs.Reading.{Reads, each_at};
 ghost use Rattle.acc_code.specs.BodyReading.{let_number_at, term_at, part_at, sum_at, greatest_sign};
 ghost use Rattle.acc_code.specs.Writing.{Keeps};
 
+use crate::cells::take_text_value;
 use crate::error::CodeError;
 use crate::fields::{out_of_range, take_between};
 use acc_base::{Bytes, OutOfMemory};
 use acc_txn::{Expr, Part, Term};
-use acc_wire::{Reader, put_i64, put_u8};
+use acc_wire::{Reader, put_i64, put_text, put_u8};
 use std::alloc::Global;
 
-#[tactic(auto, using(crate::proofs::Kept::keeps_all, crate::proofs::Kept::keeps_front, crate::proofs::Kept::keeps_more), unfolding(crate::specs::BodySpelling::term_bytes))]
-fn put_term(out: &mut Bytes, term: Term) -> Result<(), OutOfMemory>
-    ensures ok { OnOk result (out.new ≡ out.old ++ term_bytes term) }
+#[tactic(auto, using(crate::proofs::Kept::keeps_all, crate::proofs::Kept::keeps_front, crate::proofs::Kept::keeps_more, crate::proofs::Shortness::short_text), unfolding(crate::specs::BodySpelling::term_bytes))]
+fn put_term(out: &mut Bytes, term: &Term) -> Result<(), OutOfMemory>
+    requires { IsShortTerm term.now }
+    ensures ok { OnOk result (out.new ≡ out.old ++ term_bytes term.now) }
     ensures kept { OnErr result (Keeps out.old out.new) }
-    ensures fits { IsTerm term }
+    ensures fits { OnOk result (IsTerm term.now) }
 {
     match term {
         Term::Number(number) => {
             put_u8(out, 0)?;
-            put_i64(out, number)
+            put_i64(out, *number)
         }
         Term::Name(name) => {
             put_u8(out, 1)?;
-            put_u8(out, name)
+            put_u8(out, *name)
         }
         Term::Null => put_u8(out, 2),
+        Term::Text(text) => {
+            put_u8(out, 3)?;
+            put_text(out, text.as_slice())
+        }
     }
 }
 
 #[tactic(auto, using(crate::proofs::Kept::keeps_all, crate::proofs::Kept::keeps_front, crate::proofs::Kept::keeps_more), unfolding(crate::specs::BodySpelling::part_bytes))]
-fn put_part(out: &mut Bytes, part: Part) -> Result<(), OutOfMemory>
-    ensures ok { OnOk result (out.new ≡ out.old ++ part_bytes part) }
+fn put_part(out: &mut Bytes, part: &Part) -> Result<(), OutOfMemory>
+    requires { IsShortTerm part.now.term }
+    ensures ok { OnOk result (out.new ≡ out.old ++ part_bytes part.now) }
     ensures kept { OnErr result (Keeps out.old out.new) }
-    ensures fits { IsTerm part.term }
+    ensures fits { OnOk result (IsTerm part.now.term) }
 {
     put_u8(out, u8::from(part.minus))?;
-    put_term(out, part.term)
+    put_term(out, &part.term)
 }
 
 #[tactic(auto, using(crate::proofs::Kept::keeps_all, crate::proofs::Kept::keeps_front, crate::proofs::Kept::keeps_more))]
 fn put_each_part(out: &mut Bytes, parts: &[Part]) -> Result<(), OutOfMemory>
+    requires { AllByRecursion (λ part. IsShortTerm part.term) parts.now }
     ensures ok { OnOk result (out.new ≡ out.old ++ flat_map part_bytes parts.now) }
     ensures kept { OnErr result (Keeps out.old out.new) }
     ensures fits { OnOk result (AreTerms parts.now) }
 {
     for part in parts {
-        put_part(out, *part)?;
+        put_part(out, part)?;
     }
     Ok(())
 }
@@ -58,7 +66,7 @@ fn put_each_part(out: &mut Bytes, parts: &[Part]) -> Result<(), OutOfMemory>
 /// Appends a sum: a count, and each term with its sign.
 #[tactic(auto, using(crate::proofs::Kept::keeps_all, crate::proofs::Kept::keeps_front, crate::proofs::Kept::keeps_more), unfolding(crate::specs::BodySpelling::sum_bytes, crate::specs::Spelling::listed))]
 pub(crate) fn put_sum(out: &mut Bytes, sum: &Expr) -> Result<(), OutOfMemory>
-    requires { length sum.now < 256 }
+    requires { IsShortSum sum.now }
     ensures ok { OnOk result (out.new ≡ out.old ++ sum_bytes sum.now) }
     ensures kept { OnErr result (Keeps out.old out.new) }
     ensures fits { OnOk result (AreTerms sum.now) }
@@ -81,13 +89,14 @@ pub(crate) fn take_let_number(reader: &mut Reader<'_>, lets: usize) -> Result<u8
 }
 
 #[tactic(auto, unfolding(crate::specs::BodyReading::term_at))]
-fn take_term(reader: &mut Reader<'_>, lets: usize) -> Result<Term, CodeError>
+fn take_term(alloc: Global, reader: &mut Reader<'_>, lets: usize) -> Result<Term, CodeError>
     ensures { Reads result reader.new (term_at lets reader.old) }
 {
-    match take_between(reader, 0, 2)? {
+    match take_between(reader, 0, 3)? {
         0 => Ok(Term::Number(reader.take_i64()?)),
         1 => Ok(Term::Name(take_let_number(reader, lets)?)),
-        _ => Ok(Term::Null),
+        2 => Ok(Term::Null),
+        _ => Ok(Term::Text(take_text_value(alloc, reader)?)),
     }
 }
 
@@ -98,11 +107,16 @@ fn most_of_sign(front: &[Part]) -> u8
 }
 
 #[tactic(auto, unfolding(crate::specs::BodyReading::part_at))]
-fn take_part(reader: &mut Reader<'_>, lets: usize, front: &[Part]) -> Result<Part, CodeError>
+fn take_part(
+    alloc: Global,
+    reader: &mut Reader<'_>,
+    lets: usize,
+    front: &[Part],
+) -> Result<Part, CodeError>
     ensures { Reads result reader.new (part_at lets front.now reader.old) }
 {
     let sign = take_between(reader, 0, most_of_sign(front))?;
-    let term = take_term(reader, lets)?;
+    let term = take_term(alloc, reader, lets)?;
     Ok(Part {
         minus: sign == 1,
         term,
@@ -121,7 +135,7 @@ fn take_parts(
     let mut parts = Expr::new(alloc);
     parts.reserve(usize::from(count))?;
     for _ in 0..count {
-        let part = take_part(reader, lets, parts.as_slice())?;
+        let part = take_part(alloc, reader, lets, parts.as_slice())?;
         parts.push(part)?;
     }
     Ok(parts)

@@ -1,7 +1,7 @@
 -- The lines that are written.
 use Rattle.std.specs.Prelude.{◌≡◌, ℕ, List, [], ◌∷◌, ◌++◌, length, codes, decimal}
 use Rattle.acc_schedule.specs.declared.error.PlanKind.{PlanKind}
-use Rattle.acc_schedule.specs.declared.error.PlanKind.TheVariants.{Json, Shape, Limit, Topology, Text, Name, Step, Unbuilt}
+use Rattle.acc_schedule.specs.declared.error.PlanKind.TheVariants.{Json, Shape, Limit, Topology, Text, Name, Step, Unbuilt, Journal, Report}
 use Rattle.acc_schedule.specs.declared.error.PlanError.{PlanError}
 use Rattle.acc_schedule.specs.declared.error.PlanError.TheVariants.{Bad, OutOfMemory}
 use Rattle.acc_schedule.specs.Content.{Content as Plan}
@@ -27,11 +27,18 @@ number_of Text = 5
 number_of Name = 6
 number_of Step = 7
 number_of Unbuilt = 8
+number_of Journal = 9
+number_of Report = 10
 
--- what stands behind the place
+abbrev pub place_text : ℕ → ℕ → List ℕ
+place_text detail at = codes " " ++ decimal detail ++ codes " at " ++ decimal at
+
+-- what stands behind the path
 abbrev pub detail_text : PlanKind → ℕ → ℕ → List ℕ
 detail_text Topology detail at = codes " " ++ decimal detail
-detail_text Text detail at = codes " " ++ decimal detail ++ codes " at " ++ decimal at
+detail_text Text detail at = place_text detail at
+detail_text Journal detail at = place_text detail at
+detail_text Report detail at = place_text detail at
 detail_text _ detail at = []
 
 abbrev pub refusal_text : PlanKind → List ℕ → ℕ → ℕ → List ℕ

@@ -1,8 +1,8 @@
 //! The lines of a document that is refused, and of one that is accepted.
-ghost use Rattle.std.specs.Prelude.{◌≡◌, ◌++◌, decimal, IfOk, OnOk};
+ghost use Rattle.std.specs.Prelude.{◌≡◌, ◌++◌, IfOk, OnOk};
 ghost use Rattle.acc_command.specs.Lines.{detail_text, line, number_of, ok_text, refusal_text, IsRefusalOf};
 
-use acc_base::{Bytes, OutOfMemory, Text};
+use acc_base::{Bytes, OutOfMemory, Text, push_number};
 use acc_schedule::{Plan, PlanError, PlanKind};
 use std::alloc::Global;
 
@@ -64,7 +64,7 @@ fn number(kind: PlanKind) -> u64
     kind as u64
 }
 
-// What stands behind the place.
+// What stands behind the path.
 fn push_detail(text: &mut Vec<u8>, kind: PlanKind, detail: u32, at: u64) -> Result<(), OutOfMemory>
     ensures { OnOk result (text.new.items ≡ text.old.items ++ detail_text kind detail at) }
 {
@@ -73,7 +73,7 @@ fn push_detail(text: &mut Vec<u8>, kind: PlanKind, detail: u32, at: u64) -> Resu
             text.extend_from_slice(b" ")?;
             push_number(text, u64::from(detail))?;
         }
-        PlanKind::Text => {
+        PlanKind::Text | PlanKind::Journal | PlanKind::Report => {
             text.extend_from_slice(b" ")?;
             push_number(text, u64::from(detail))?;
             text.extend_from_slice(b" at ")?;
@@ -81,13 +81,5 @@ fn push_detail(text: &mut Vec<u8>, kind: PlanKind, detail: u32, at: u64) -> Resu
         }
         _ => {}
     }
-    Ok(())
-}
-
-fn push_number(text: &mut Vec<u8>, number: u64) -> Result<(), OutOfMemory>
-    ensures { OnOk result (text.new.items ≡ text.old.items ++ decimal number) }
-{
-    let digits = number.to_string(*text.allocator())?;
-    text.extend_from_slice(digits.as_bytes())?;
     Ok(())
 }

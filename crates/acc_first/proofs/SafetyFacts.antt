@@ -1,5 +1,5 @@
 -- What a history that leaves nothing under way decided, answered and replied: agreement, coverage and serial outcomes.
-use Rattle.std.proofs.Common.{◌≡◌, ℕ, ℤ, ◌<◌, Bool, true, false, not, ◌&&◌, ◌||◌, cond, List, [], ◌∷◌, ◌++◌, Option, None, Some, Contains, refl, sym, ◌∙◌, ap, subst, ⊎_elim, inl, inr, ◌⊎◌, map, filter, append_assoc, append-nil, arith}
+use Rattle.std.proofs.Common.{◌≡◌, ℕ, ◌<◌, Bool, true, false, not, ◌&&◌, ◌||◌, cond, List, [], ◌∷◌, ◌++◌, Option, None, Some, Contains, refl, sym, ◌∙◌, ap, subst, ⊎_elim, inl, inr, ◌⊎◌, map, filter, append_assoc, append-nil, arith}
 use Rattle.std.specs.List.{list_any}
 use Rattle.std.proofs.lemmas.Bool.{true≢false, or_parts, or_left, or_right, or_from, and_from, not_from_false, false_from_ne_true, cond_both}
 use Rattle.std.proofs.lemmas.List.{map-append}
@@ -11,6 +11,7 @@ use Rattle.acc_stamp.specs.Rising.{id_among}
 use Rattle.acc_stamp.proofs.Order.{stamp_order, id_order, stamp_lt-h}
 use Rattle.acc_stamp.proofs.Rising.{is_among-union}
 use Rattle.acc_value.specs.declared.key.Key.{Key}
+use Rattle.acc_value.specs.declared.value.Value.{Value}
 use Rattle.acc_value.specs.Cells.{applied}
 use Rattle.acc_value.specs.Footprint.{clashes}
 use Rattle.acc_txn.specs.declared.parts.BodyParts.{BodyParts}
@@ -236,16 +237,16 @@ bodies_settled body (k ∷ done) bodies =
     ∙ sym (map-append (λ (b : BodyParts). Some b) (bodies_after done) (k.body ∷ []))
 
 -- the cells that these bodies leave when they are run in their order
-abbrev cells_from : (Key → Option ℤ) → List BodyParts → Key → Option ℤ
+abbrev cells_from : (Key → Option Value) → List BodyParts → Key → Option Value
 cells_from cells [] = cells
 cells_from cells (b ∷ bs) = cells_from (applied cells (outcome_of b cells).writes) bs
 
-cells_from-push : (cells : Key → Option ℤ) (bs : List BodyParts) (b : BodyParts)
+cells_from-push : (cells : Key → Option Value) (bs : List BodyParts) (b : BodyParts)
     → cells_from cells (bs ++ b ∷ []) ≡ applied (cells_from cells bs) (outcome_of b (cells_from cells bs)).writes
 cells_from-push cells [] b = refl
 cells_from-push cells (c ∷ bs) b = cells_from-push (applied cells (outcome_of c cells).writes) bs b
 
-replies_from-push : (cells : Key → Option ℤ) (bs : List BodyParts) (b : BodyParts)
+replies_from-push : (cells : Key → Option Value) (bs : List BodyParts) (b : BodyParts)
     → replies_from cells (bs ++ b ∷ []) ≡ replies_from cells bs ++ (outcome_of b (cells_from cells bs)).reply ∷ []
 replies_from-push cells [] b = refl
 replies_from-push cells (c ∷ bs) b =
@@ -255,7 +256,7 @@ cells_settled : (done : List Heard) → cells_from (λ k. None) (bodies_after do
 cells_settled [] = refl
 cells_settled (k ∷ done) =
     cells_from-push (λ k. None) (bodies_after done) k.body
-    ∙ ap (λ (m : Key → Option ℤ). applied m (outcome_of k.body m).writes) (cells_settled done)
+    ∙ ap (λ (m : Key → Option Value). applied m (outcome_of k.body m).writes) (cells_settled done)
     ∙ ap (λ (o : Outcome). applied (cells_after done) o.writes) (sym (outcome_on-is (cells_after done) k.body))
 
 run_settled : (done : List Heard) → map (λ (a : Answered). a.reply) (answers_after done) ≡ serial (bodies_after done)
@@ -264,7 +265,7 @@ run_settled (k ∷ done) =
     map-append (λ (a : Answered). a.reply) (answers_after done) (answered_of done k ∷ [])
     ∙ push_same (run_settled done)
     (ap (λ (o : Outcome). o.reply) (outcome_on-is (cells_after done) k.body)
-    ∙ ap (λ (m : Key → Option ℤ). (outcome_of k.body m).reply) (sym (cells_settled done)))
+    ∙ ap (λ (m : Key → Option Value). (outcome_of k.body m).reply) (sym (cells_settled done)))
     ∙ sym (replies_from-push (λ k. None) (bodies_after done) k.body)
 
 -- ---- first outcomes in their place

@@ -1,11 +1,12 @@
 -- A history that leaves nothing under way, told by the transactions that it finished, and how the next one goes on.
-use Rattle.std.proofs.Common.{◌≡◌, ℕ, ℤ, ◌<◌, Bool, true, false, cond, List, [], ◌∷◌, ◌++◌, length, Option, None, Some, refl, sym, ap, subst, map, filter, nat_lt, arith}
+use Rattle.std.proofs.Common.{◌≡◌, ℕ, ◌<◌, Bool, true, false, cond, List, [], ◌∷◌, ◌++◌, length, Option, None, Some, refl, sym, ap, subst, map, filter, nat_lt, arith}
 use Rattle.std.specs.List.{list_all}
 use Rattle.std.proofs.lemmas.Bool.{or_from, and_from, and_parts}
 use Rattle.acc_stamp.specs.declared.stamps.TxnId.{TxnId}
 use Rattle.acc_stamp.specs.Stamp.{id_eq, stamp_lt, id_lt, zero_ballot}
 use Rattle.acc_stamp.specs.Rising.{ids_union, rising_with}
 use Rattle.acc_value.specs.declared.key.Key.{Key}
+use Rattle.acc_value.specs.declared.value.Value.{Value}
 use Rattle.acc_value.specs.Cells.{applied, cell_of}
 use Rattle.acc_txn.specs.declared.parts.BodyParts.{BodyParts}
 use Rattle.acc_txn.specs.declared.outcome.Outcome.{Outcome}
@@ -28,11 +29,11 @@ use Rattle.acc_first.proofs.NodeFacts.{IsUnbegun, on_vote-begun, on_read-decided
 use Rattle.acc_first.proofs.Round.{node_past, store_past, drawn, deps_at, answer_at, result_at, stack1, stack2, stack3, stack4, stack5, out2, emitted3, out4, emitted5, node2, node4, store1, store3, store5, answer_at_node, answer_at_store, message1, message2, message3, message4, message5}
 
 -- the outcome of a body on these cells, as a node comes to it
-abbrev pub outcome_on : (Key → Option ℤ) → BodyParts → Outcome
+abbrev pub outcome_on : (Key → Option Value) → BodyParts → Outcome
 outcome_on cells body = outcome_of body (cell_of (read_cells body cells))
 
 -- the cells that the finished transactions leave, the newest first
-abbrev pub cells_after : List Heard → Key → Option ℤ
+abbrev pub cells_after : List Heard → Key → Option Value
 cells_after [] = λ k. None
 cells_after (k ∷ done) = let before = cells_after done in applied before (outcome_on before k.body).writes
 

@@ -1,9 +1,10 @@
 -- The store's steps: from a PreAccept to its answer, from a Stable to the cells, and from the Apply to rest.
-use Rattle.std.proofs.Common.{◌≡◌, ℕ, ℤ, ◌+◌, Bool, max, List, [], ◌∷◌, ◌++◌, length, Option, refl, sym, ◌∙◌, ap, length-append, arith}
+use Rattle.std.proofs.Common.{◌≡◌, ℕ, ◌+◌, Bool, max, List, [], ◌∷◌, ◌++◌, length, Option, refl, sym, ◌∙◌, ap, length-append, arith}
 use Rattle.acc_stamp.specs.declared.stamps.TxnId.{TxnId}
 use Rattle.acc_stamp.specs.declared.stamps.Stamp.{Stamp}
 use Rattle.acc_stamp.specs.declared.actors.Actor.{Actor}
 use Rattle.acc_value.specs.declared.key.Key.{Key}
+use Rattle.acc_value.specs.declared.value.Value.{Value}
 use Rattle.acc_value.specs.Cells.{applied}
 use Rattle.acc_value.specs.Cells as value
 use Rattle.acc_txn.specs.declared.parts.BodyParts.{BodyParts}
@@ -25,7 +26,7 @@ use Rattle.acc_first.proofs.Next.{sent5, sent6, settled_next, highest_next}
 use Rattle.acc_first.proofs.Phases.{IsAt, AtRest, newest, Phase1, Phase2, Phase3, Phase4, Phase5}
 use Rattle.acc_first.proofs.Steps.{at_next, stands2, stands4, stands6, turn2, turn4, turn6, vote_made, entry_made, takes_it, items_are, taken_next, out_only}
 
-same_function : (f g : Key → Option ℤ) → ((key : Key) → f key ≡ g key) → f ≡ g
+same_function : (f g : Key → Option Value) → ((key : Key) → f key ≡ g key) → f ≡ g
 same_function f g h = λ i key. h key i
 
 vote_from : ℕ → ℕ → TxnId → List (Key × Bool) → List Known → Vote
@@ -101,7 +102,7 @@ module _ (plan : Plan) (w w' : World) (h : List Item) (done : List Heard) (txn :
 
       emitted_is : d ≡ out_only (out4 plan h body)
       emitted_is = v.emits ∙ ap (λ (a : Actor). out_only (read_ok a (drawn plan h) (Values (read_cells body (value.cells_of w.store.cells))))) p.at.own
-          ∙ ap (λ (c : Key → Option ℤ). out_only (read_ok (store_actor plan.node) (drawn plan h) (Values (read_cells body c)))) cells_same
+          ∙ ap (λ (c : Key → Option Value). out_only (read_ok (store_actor plan.node) (drawn plan h) (Values (read_cells body c)))) cells_same
 
   pub phase3 : Phase3 plan w h done txn body begun → Delivers w w' → Phase4 plan w' h done txn body begun
   phase3 p d =
@@ -127,8 +128,8 @@ module _ (plan : Plan) (w w' : World) (h : List Item) (done : List Heard) (txn :
     keeps = record {
       known_are = v.known ∙ p.keeps.known_are;
       cells_are = λ key. v.cells key
-          ∙ ap (λ (c : Key → Option ℤ). applied c (result_at plan h body).writes key) (same_function _ _ p.keeps.cells_are)
-          ∙ ap (λ (c : Key → Option ℤ). applied (cells_after done) (outcome_on c body).writes key) p.at.settled.cells;
+          ∙ ap (λ (c : Key → Option Value). applied c (result_at plan h body).writes key) (same_function _ _ p.keeps.cells_are)
+          ∙ ap (λ (c : Key → Option Value). applied (cells_after done) (outcome_on c body).writes key) p.at.settled.cells;
     };
   }
     where

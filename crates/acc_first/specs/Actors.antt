@@ -1,10 +1,11 @@
 -- What a store and a node keep, and how a step changes it.
-use Rattle.std.specs.Prelude.{◌≡◌, ◌≢◌, ℕ, ℤ, Bool, true, false, not, slice_get, ◌+◌, ◌&&◌, ◌||◌, if◌then◌else◌, max, List, [], ◌∷◌, ◌++◌, Option, None, Some, map, filter}
+use Rattle.std.specs.Prelude.{◌≡◌, ◌≢◌, ℕ, Bool, true, false, not, slice_get, ◌+◌, ◌&&◌, ◌||◌, if◌then◌else◌, max, List, [], ◌∷◌, ◌++◌, Option, None, Some, map, filter}
 use Rattle.std.specs.List.{list_all}
 use Rattle.acc_stamp.specs.declared.stamps.Stamp.{Stamp}
 use Rattle.acc_stamp.specs.declared.stamps.TxnId.{TxnId}
 use Rattle.acc_stamp.specs.Stamp.{stamp_lt}
 use Rattle.acc_value.specs.declared.key.Key.{Key}
+use Rattle.acc_value.specs.declared.value.Value.{Value}
 use Rattle.acc_value.specs.Cells.{cells_of, applied}
 use Rattle.acc_value.specs.Footprint.{clashes}
 use Rattle.acc_stamp.specs.Actor.{actor_of}
@@ -79,7 +80,7 @@ pub record Reads (old new : Store) (m : Message) (x : TxnId) (body : BodyParts) 
   pub greatest : new.greatest ≡ max old.greatest (top m)
 
 -- a store makes the writes of an outcome
-pub record Writes (old new : Store) (m : Message) (writes : List (Key × Option ℤ)) (emitted : Emitted) : Type 0 where
+pub record Writes (old new : Store) (m : Message) (writes : List (Key × Option Value)) (emitted : Emitted) : Type 0 where
   pub emits : emitted ≡ record { notes = []; out = [] }
   pub own : new.own ≡ old.own
   pub known : new.known ≡ old.known

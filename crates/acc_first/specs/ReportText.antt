@@ -1,8 +1,10 @@
 -- The printed report of a run: a line for each note, in the order of the notes, and a last line with their counts.
 -- The items stand with the oldest first.
-use Rattle.std.specs.Prelude.{ℕ, ◌-◌, Bool, true, false, List, [], ◌∷◌, ◌++◌, Option, None, Some, ℤ, unwrap_or, slice_get, flat_map, count_by, codes, decimal}
+use Rattle.std.specs.Prelude.{ℕ, ◌-◌, Bool, true, false, List, [], ◌∷◌, ◌++◌, Option, None, Some, unwrap_or, slice_get, flat_map, count_by, codes, decimal}
 use Rattle.std.specs.Fmt.{signed_decimal}
 use Rattle.std.specs.List.{join_by}
+use Rattle.acc_value.specs.declared.value.Value.{Value}
+use Rattle.acc_value.specs.declared.value.Value.TheVariants.{Number as NumberValue, Text as TextValue}
 use Rattle.acc_stamp.specs.declared.stamps.Stamp.{Stamp}
 use Rattle.acc_stamp.specs.declared.stamps.TxnId.{TxnId}
 use Rattle.acc_txn.specs.declared.outcome.Verdict.{Verdict}
@@ -50,12 +52,14 @@ verdict_text Done = codes "ok"
 verdict_text Skipped = codes "skipped"
 verdict_text Overflow = codes "overflow"
 
-abbrev pub cell_text : Option ℤ → List ℕ
+abbrev pub cell_text : Option Value → List ℕ
 cell_text None = codes "null"
-cell_text (Some number) = signed_decimal number
+cell_text (Some (NumberValue number)) = signed_decimal number
+-- the first form has no texts, since its documents are of version 1
+cell_text (Some (TextValue text)) = text
 
 -- a reply has values where something was selected and nothing overflowed
-abbrev pub values_text : List (Option ℤ) → List ℕ
+abbrev pub values_text : List (Option Value) → List ℕ
 values_text [] = []
 values_text (cell ∷ cells) = codes " " ++ join_by cell_text (codes ",") (cell ∷ cells)
 

@@ -2,7 +2,7 @@
 -- sent then. The store has the one shard, so it has every key. A transaction is drained before the next is begun, so a
 -- step opens no other transaction than its own.
 use Rattle.std.specs.List.{list_any, list_all, fold}
-use Rattle.std.specs.Prelude.{ℕ, ℤ, ◌+◌, Bool, true, false, not, cond, max, ◌==◌, ◌&&◌, ◌||◌, List, [], ◌∷◌, ◌++◌, Option, None, Some, is_some, filter, map, flat_map}
+use Rattle.std.specs.Prelude.{ℕ, ◌+◌, Bool, true, false, not, cond, max, ◌==◌, ◌&&◌, ◌||◌, List, [], ◌∷◌, ◌++◌, Option, None, Some, is_some, filter, map, flat_map}
 use Rattle.acc_stamp.specs.declared.stamps.Stamp.{Stamp}
 use Rattle.acc_stamp.specs.declared.stamps.TxnId.{TxnId}
 use Rattle.acc_stamp.specs.declared.actors.Actor.{Actor}
@@ -10,6 +10,7 @@ use Rattle.acc_stamp.specs.Stamp.{stamp_lt, id_eq, zero_ballot}
 use Rattle.acc_stamp.specs.Actor.{home_of}
 use Rattle.acc_stamp.specs.Rising.{ids_union}
 use Rattle.acc_value.specs.declared.key.Key.{Key}
+use Rattle.acc_value.specs.declared.value.Value.{Value}
 use Rattle.acc_value.specs.Cells.{applied}
 use Rattle.acc_value.specs.Pairs.{put}
 use Rattle.acc_value.specs.Footprint.{clashes}
@@ -198,12 +199,12 @@ is_opened (step ∷ past) x =
 abbrev pub is_applied : List Taken → TxnId → Bool
 is_applied past x = is_opened past x && is_some (outcome_at past x)
 
-abbrev pub writes_of : Option Outcome → List (Key × Option ℤ)
+abbrev pub writes_of : Option Outcome → List (Key × Option Value)
 writes_of None = []
 writes_of (Some outcome) = outcome.writes
 
 -- the cells of a store: the writes of each transaction in the order in which they were applied
-abbrev pub cells_of : List Taken → Key → Option ℤ
+abbrev pub cells_of : List Taken → Key → Option Value
 cells_of [] = λ k. None
 cells_of (step ∷ past) =
     let before = cells_of past in
@@ -222,7 +223,7 @@ abbrev pub read_ok : Actor → TxnId → ReadAnswer → List Message
 read_ok own x answer = ReadOk own (coordinator_of x) x zero_ballot answer ∷ []
 
 -- the cells of the keys that a body reads, in the order of the keys
-abbrev pub read_cells : BodyParts → (Key → Option ℤ) → List (Key × Option ℤ)
+abbrev pub read_cells : BodyParts → (Key → Option Value) → List (Key × Option Value)
 read_cells body cells = fold (λ so_far key. put so_far key (cells key)) [] (read_keys body)
 
 -- the cells that a transaction reads, before its own writes

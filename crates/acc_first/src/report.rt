@@ -1,14 +1,14 @@
 //! The printed report of a run.
-ghost use Rattle.std.specs.Prelude.{◌≡◌, ◌+◌, ◌≤◌, [], ◌∷◌, ◌++◌, codes, count_by, decimal, flat_map, vec_len, IfOk, OnOk};
+ghost use Rattle.std.specs.Prelude.{◌≡◌, ◌+◌, ◌≤◌, [], ◌∷◌, ◌++◌, codes, count_by, flat_map, vec_len, IfOk, OnOk};
 ghost use Rattle.acc_first.specs.ReportText.{stamp_text, names_text, path_text, verdict_text, cell_text, values_text, reply_text, line_of, last_line, is_begin, is_reply, report_text};
 ghost use Rattle.acc_first.specs.Roll.{name_in};
 
 use crate::items::{Item, Items, Note, Path};
 use crate::roll::{Roll, begun_in};
-use acc_base::{Bytes, OutOfMemory};
+use acc_base::{Bytes, OutOfMemory, push_number, push_signed_number};
 use acc_plan::Names;
 use acc_stamp::{Ids, Stamp, TxnId};
-use acc_txn::{Cells, Reply, Verdict};
+use acc_txn::{Cells, Reply, Value, Verdict};
 use std::alloc::Global;
 
 /// The report of items that stand with the oldest first: a line for each note, in the order of the notes, and the last
@@ -210,25 +210,22 @@ fn push_values(text: &mut Vec<u8>, values: &Cells) -> Result<(), OutOfMemory>
         return Ok(());
     };
     text.extend_from_slice(b" ")?;
-    push_cell(text, *first)?;
+    push_cell(text, first)?;
     for cell in others {
         text.extend_from_slice(b",")?;
-        push_cell(text, *cell)?;
+        push_cell(text, cell)?;
     }
     Ok(())
 }
 
-fn push_cell(text: &mut Vec<u8>, cell: Option<i64>) -> Result<(), OutOfMemory>
-    ensures { OnOk result (text.new.items ≡ text.old.items ++ cell_text cell) }
+fn push_cell(text: &mut Vec<u8>, cell: &Option<Value>) -> Result<(), OutOfMemory>
+    ensures { OnOk result (text.new.items ≡ text.old.items ++ cell_text cell.now) }
 {
     match cell {
-        Some(number) => {
-            let digits = number.to_string(*text.allocator())?;
-            text.extend_from_slice(digits.as_bytes())?;
-        }
-        None => text.extend_from_slice(b"null")?,
+        Some(Value::Number(number)) => push_signed_number(text, *number),
+        Some(Value::Text(value)) => Ok(text.extend_from_slice(value.as_slice())?),
+        None => Ok(text.extend_from_slice(b"null")?),
     }
-    Ok(())
 }
 
 fn push_names(text: &mut Vec<u8>, roll: &Roll<'_>, ids: &Ids) -> Result<(), OutOfMemory>
@@ -253,115 +250,4 @@ fn push_stamp(text: &mut Vec<u8>, stamp: Stamp) -> Result<(), OutOfMemory>
     text.extend_from_slice(b".")?;
     push_number(text, u64::from(stamp.origin))?;
     Ok(())
-}
-
-fn push_number(text: &mut Vec<u8>, number: u64) -> Result<(), OutOfMemory>
-    ensures { OnOk result (text.new.items ≡ text.old.items ++ decimal number) }
-{
-    let digits = number.to_string(*text.allocator())?;
-    text.extend_from_slice(digits.as_bytes())?;
-    Ok(())
-}
-
-#[cfg(test)]
-mod tests {
-    use super::text;
-    use crate::items::{Emitted, Entry, Event, Item, Note, Notes, Path};
-    use acc_base::{OutOfMemory, Sequence};
-    use acc_stamp::{Stamp, TxnId, actor};
-    use acc_txn::{Reply, Verdict};
-    use std::alloc::Global;
-    use std::test::Fail;
-
-    fn step(alloc: Global, event: Event, notes: Notes) -> Item {
-        Item::Step(Entry {
-            actor: actor(1, 0),
-            event,
-            emitted: Emitted {
-                notes,
-                out: Sequence::new(alloc),
-            },
-            lost: false,
-        })
-    }
-
-    fn answer(
-        alloc: Global,
-        verdict: Verdict,
-        values: &[Option<i64>],
-    ) -> Result<Reply, OutOfMemory> {
-        Ok(Reply {
-            verdict,
-            values: Sequence::from_slice(alloc, values)?,
-        })
-    }
-
-    #[test]
-    fn one_transaction(rt: HostRuntime) -> Result<(), Fail> {
-        let alloc = rt.alloc();
-        let id = TxnId(Stamp { h: 1, origin: 64 });
-        let mut begun: Notes = Sequence::new(alloc);
-        begun.push(Note::Begin { id })?;
-        let mut decided: Notes = Sequence::new(alloc);
-        decided.push(Note::Decide {
-            id,
-            t: id.0,
-            path: Path::Fast,
-            deps: Sequence::new(alloc),
-        })?;
-        let mut ended: Notes = Sequence::new(alloc);
-        let reply = answer(alloc, Verdict::Ok, &[])?;
-        ended.push(Note::Outcome {
-            id,
-            reply: reply.copy()?,
-        })?;
-        ended.push(Note::Reply { id, reply })?;
-        let mut items = Sequence::new(alloc);
-        items.push(step(alloc, Event::Begin { txn: 0 }, begun))?;
-        items.push(step(alloc, Event::Message { number: 1 }, decided))?;
-        items.push(step(alloc, Event::Message { number: 3 }, ended))?;
-        let mut names = Sequence::new(alloc);
-        names.push(Sequence::from_slice(alloc, b"a")?)?;
-        assert_eq!(rt;
-            text(alloc, &items, &names)?.as_slice(),
-            b"begin a 1.64\ndecide a 1.64 fast deps -\noutcome a ok\nreply a ok\nend txns=1 replied=1 open=0\n".as_slice()
-        );
-        Ok(())
-    }
-
-    #[test]
-    fn names_and_values(rt: HostRuntime) -> Result<(), Fail> {
-        let alloc = rt.alloc();
-        let first = TxnId(Stamp { h: 1, origin: 64 });
-        let second = TxnId(Stamp { h: 20, origin: 128 });
-        let mut one: Notes = Sequence::new(alloc);
-        one.push(Note::Begin { id: first })?;
-        let mut two: Notes = Sequence::new(alloc);
-        two.push(Note::Begin { id: second })?;
-        two.push(Note::Decide {
-            id: second,
-            t: Stamp { h: 21, origin: 65 },
-            path: Path::Fast,
-            deps: Sequence::from_slice(alloc, &[first, second])?,
-        })?;
-        two.push(Note::Outcome {
-            id: second,
-            reply: answer(alloc, Verdict::Skipped, &[None, Some(-3), Some(40)])?,
-        })?;
-        two.push(Note::Reply {
-            id: first,
-            reply: answer(alloc, Verdict::Overflow, &[])?,
-        })?;
-        let mut items = Sequence::new(alloc);
-        items.push(step(alloc, Event::Begin { txn: 1 }, one))?;
-        items.push(step(alloc, Event::Begin { txn: 0 }, two))?;
-        let mut names = Sequence::new(alloc);
-        names.push(Sequence::from_slice(alloc, b"later")?)?;
-        names.push(Sequence::from_slice(alloc, b"sooner")?)?;
-        assert_eq!(rt;
-            text(alloc, &items, &names)?.as_slice(),
-            b"begin sooner 1.64\nbegin later 20.128\ndecide later 21.65 fast deps sooner,later\noutcome later skipped null,-3,40\nreply sooner overflow\nend txns=2 replied=1 open=1\n".as_slice()
-        );
-        Ok(())
-    }
 }

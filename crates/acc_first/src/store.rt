@@ -1,6 +1,7 @@
 //! A store: the transactions that it knows, and its cells.
 ghost use Rattle.std.specs.Prelude.{◌≡◌, ◌+◌, ◌<◌, ◌^◌, map, max, [], ◌∷◌, ◌++◌, None, IfOk, OnOk};
 ghost use Rattle.std.specs.List.{fold};
+ghost use Rattle.std.specs.Option.{option_copied};
 ghost use Rattle.acc_value.specs.declared.key.Key.{Key};
 ghost use Rattle.acc_value.specs.Pairs.{put};
 ghost use Rattle.acc_value.specs.Cells.{cells_of, applied};
@@ -11,7 +12,7 @@ ghost use Rattle.acc_first.specs.StoreRules.{read_cells};
 use acc_base::{OutOfMemory, Sequence};
 use acc_stamp::{Actor, Ids, Stamp, TxnId};
 use acc_txn::{Body, Let, Select};
-use acc_value::{CellList, CellMap, Footprint, conflicts};
+use acc_value::{CellList, CellMap, Footprint, Value, conflicts};
 use std::alloc::Global;
 
 /// What a store keeps of a transaction: its keys, and the greatest of its timestamps.
@@ -59,12 +60,22 @@ fn scan(
     Ok(below)
 }
 
+/// An equal cell, in memory of its own.
+fn copy_of(cell: Option<&Value>) -> Result<Option<Value>, OutOfMemory>
+    ensures { IfOk result (λ copy. copy ≡ option_copied cell.entry) }
+{
+    match cell {
+        Some(value) => Ok(Some(value.copy()?)),
+        None => Ok(None),
+    }
+}
+
 /// The cells of these keys, in the order of the keys.
 fn cells_at(cells: &CellMap, lets: &[Let], found: &mut CellList) -> Result<(), OutOfMemory>
     ensures { OnOk result (found.new ≡ fold (λ so_far key. put so_far key (cells_of cells.now key)) found.old (map (λ l. l.key) lets.now)) }
 {
     for bound in lets {
-        found.set(bound.key.copy()?, cells.get(&bound.key))?;
+        found.set(bound.key.copy()?, copy_of(cells.get(&bound.key))?)?;
     }
     Ok(())
 }
@@ -77,7 +88,7 @@ fn read(cells: &CellMap, body: &Body) -> Result<CellList, OutOfMemory>
     let mut found = CellList::new(parts.lets.allocator());
     cells_at(cells, parts.lets.as_slice(), &mut found)?;
     if let Select::Get(key) = &parts.select {
-        found.set(key.copy()?, cells.get(key))?;
+        found.set(key.copy()?, copy_of(cells.get(key))?)?;
     }
     Ok(found)
 }

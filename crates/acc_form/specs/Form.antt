@@ -28,10 +28,11 @@ abbrev pub IsLone : Whole → Option ℕ → Type 0
 IsLone whole (Some node) = IsAlone whole node
 IsLone whole None = (node : ℕ) → ¬ (IsAlone whole node)
 
--- The document with this data, which says the whole plan, is of the first form, and this plan is run: there are one node
--- without a clock, one shard and at most 64 transactions, nothing is said of what is printed, and the schedule begins
+-- The document with this data, which says the whole plan, is of the first form, and this plan is run: it is of version 1,
+-- there are one node without a clock, one shard and at most 64 transactions, nothing is said of what is printed, and the schedule begins
 -- transactions one after another, none of them twice, each drained before the next.
 pub record IsFirstForm (d : Data) (whole : Whole) (plan : Plan) : Type 0 where
+  pub version : whole.version ≡ 1
   pub cluster : IsAlone whole plan.node
   pub no_clock : has_clock d ≡ false
   pub few : length whole.bodies ≤ 64

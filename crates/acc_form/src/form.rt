@@ -25,7 +25,7 @@ pub(crate) fn narrowed(
 ) -> Result<Option<Plan>, OutOfMemory>
     ensures { IfOk result (Narrows (view root.now) whole) }
 {
-    if has_clock(root) || has_print(root) {
+    if whole.version != 1 || has_clock(root) || has_print(root) {
         return Ok(None);
     }
     let Some(node) = lone_node(&whole) else {

@@ -10,6 +10,3 @@ mod document;
 mod form;
 
 pub use document::read;
-
-#[cfg(test)]
-mod tests;

@@ -19,8 +19,7 @@ use Rattle.acc_txn.specs.Uses.{read_keys, written_keys, with_keys, footprint_of}
 use Rattle.acc_txn.specs.Rules.{is_many, is_long, condition_has, update_has, selected_names, has_name_twice, IsBody}
 use Rattle.acc_lang.specs.Reading.{key_written, reading}
 use Rattle.acc_lang.specs.Grammar.{ActionSpelled, Spelled, IsTextOf}
-use Rattle.acc_lang.proofs.Fits.{IsFitLet, IsFitSelect, IsFitCondition, IsFitUpdate, IsFitBody, Uses, after, InTurn, at_end, with_let, with_update, uses_after_select}
-use Rattle.acc_lang.proofs.FoundText.{ThisCondition}
+use Rattle.acc_lang.proofs.Fits.{ThisCondition, IsFitLet, IsFitSelect, IsFitCondition, IsFitUpdate, IsFitBody, Uses, after, InTurn, at_end, with_let, with_update, uses_after_select}
 use Rattle.acc_lang.proofs.FoundBody.{reading_found}
 use Rattle.acc_lang.proofs.Counts.{all_uses}
 use Rattle.acc_lang.proofs.Obeys.{neither, not_many, at_most, is_body, bytes_differ, none_is_zero}
@@ -85,7 +84,7 @@ updates_room so_far (u ∷ updates) fit few = updates_room (with_update so_far u
 
 -- counts of terms
 condition_short : (c : Condition) → IsFitCondition c → condition_has is_long c ≡ false
-condition_short (Compare op left right) fit = rw (not_many (length left) fit.0) (not_many (length right) fit.1)
+condition_short (Compare op left right) fit = rw (not_many (length left) fit.0.few) (not_many (length right) fit.1.few)
 condition_short (IsNull name) fit = refl
 condition_short (IsNotNull name) fit = refl
 
@@ -94,7 +93,7 @@ guards_short so_far [] fit = refl
 guards_short so_far (c ∷ guards) fit = rw (condition_short c fit.0) (guards_short (so_far ++ c ∷ []) guards fit.1)
 
 update_short : (so_far : List Update × Uses) (u : Update) → IsFitUpdate so_far u → update_has is_long u ≡ false
-update_short so_far (Set key value) fit = not_many (length value) fit.1
+update_short so_far (Set key value) fit = not_many (length value) fit.1.few
 update_short so_far (Delete key) fit = refl
 
 updates_short : (so_far : List Update × Uses) (updates : List Update) → InTurn with_update IsFitUpdate so_far updates → list_any (update_has is_long) updates ≡ false
@@ -116,56 +115,57 @@ pub record IsSoundAction (lets : ℕ) (guards : List Condition) (updates : List 
   pub changes : AreSoundUpdates lets updates
   pub shape : (nat_lt 0 (length guards) && length updates == 0) ≡ false
 
-action_sound : (lets : List Let) (uses : Uses) (guards : List Condition) (updates : List Update) (from to : List ℕ) → ActionSpelled lets guards updates from to
-    → InTurn with_update IsFitUpdate ([], uses) updates → IsUtf8 from → IsSoundAction (length lets) guards updates
-action_sound lets uses [] updates from to spelled fit utf8 =
-    let u = updates_sound lets ([], uses) updates from to spelled fit utf8 in
-    record { conditions = record { mentions = refl; asks = refl; shape = refl }; changes = u.0; shape = refl }
-action_sound lets uses (guard ∷ guards) [] from to spelled fit utf8 = absurd spelled
-action_sound lets uses (guard ∷ guards) (update ∷ updates) from to spelled fit utf8 =
-    let a = all_say (Word (codes "if") ∷ []) from spelled.5.0 spelled.5.1 utf8 in
-    let c = condition_sound lets guard spelled.5.0 spelled.0 spelled.5.2 a.1 in
-    let g = guards_sound lets guards spelled.0 spelled.1 spelled.6 c.1 in
-    let t = all_say (Word (codes "then") ∷ []) spelled.1 spelled.7.0 spelled.7.1 g.1 in
-    let f = update_sound lets ([], uses) update spelled.7.0 spelled.2 spelled.7.2 fit.0 t.1 in
-    let u = updates_sound lets (with_update ([], uses) update) updates spelled.2 spelled.3 spelled.8 fit.1 f.1 in
-    let some : (length (update ∷ updates) == 0) ≡ false = none_is_zero (length (update ∷ updates)) (omega arith) in
-    record {
-      conditions = record { mentions = rw c.0.mentions g.0.mentions; asks = rw c.0.asks g.0.asks; shape = rw c.0.shape g.0.shape };
-      changes = record { mentions = rw f.0.mentions u.0.mentions; shape = rw f.0.shape u.0.shape; keys = rw f.0.key u.0.keys };
-      shape = ap (λ b. nat_lt 0 (length (guard ∷ guards)) && b) some ∙ and-false (nat_lt 0 (length (guard ∷ guards)));
-    }
-
 -- none of several
 none : (a b : Bool) → a ≡ false → b ≡ false → (a || b) ≡ false
 none a b left right = rw left right
 
-pub sound : (text : List ℕ) (parts : BodyParts) → IsUtf8 text → Spelled text parts → IsFitBody parts → IsBody parts
-sound text parts utf8 spelled fit =
-    let begins = all_say (Word (codes "begin") ∷ Word (codes "transaction") ∷ []) text spelled.lets_place spelled.begins utf8 in
-    let l = lets_sound ([], []) parts.lets spelled.lets_place spelled.select_place spelled.lets fit.lets begins.1 in
-    let uses = (after with_let ([], []) parts.lets).1 in
-    let others = uses_after_select uses parts.select in
-    let s = select_sound parts.lets uses parts.select spelled.select_place spelled.action_place spelled.select fit.select l.1 in
-    let a = action_sound parts.lets others parts.guards parts.updates spelled.action_place spelled.commit_place spelled.action fit.updates s.1 in
-    let all = (after with_update ([], others) parts.updates).1 in
-    let room : length all ≤ 16 = updates_room ([], others) parts.updates fit.updates (select_room uses parts.select fit.select (lets_room ([], []) parts.lets fit.lets (omega arith))) in
-    let total : is_many (length (footprint_of parts)) ≡ false = subst (λ uses. is_many (length uses) ≡ false) (all_uses parts) (not_many (length all) room) in
-    let keyed : (length (footprint_of parts) == 0) ≡ false = subst (λ uses. (length uses == 0) ≡ false) (all_uses parts) fit.some_key in
-    is_body parts record {
-      few =
-          none _ _
-          (none _ _
-          (none _ _ (none _ _ (none _ _ (not_many (length parts.lets) fit.few_lets) (select_short uses parts.select fit.select)) (not_many (length parts.guards) fit.few_guards)) (not_many (length parts.updates) fit.few_updates))
-          (none _ _ (guards_short [] parts.guards fit.guards) (updates_short ([], others) parts.updates fit.updates)))
-          total;
-      bound = none _ _ (none _ _ s.0.bound (none _ _ a.conditions.mentions a.changes.mentions)) a.conditions.asks;
-      once = (lets_distinct [] [] parts.lets fit.lets).0;
-      keyed = no_keys (read_keys parts) (written_keys parts) keyed;
-      well_named = l.0.names;
-      well_keyed = none _ _ (none _ _ l.0.keys s.0.keys) a.changes.keys;
-      shaped = none _ _ (none _ _ (none _ _ a.conditions.shape a.changes.shape) s.0.shape) a.shape;
-    }
+module _ (texts : Bool) where
+  action_sound : (lets : List Let) (uses : Uses) (guards : List Condition) (updates : List Update) (from to : List ℕ) → ActionSpelled texts lets guards updates from to
+      → InTurn at_end ThisCondition [] guards → InTurn with_update IsFitUpdate ([], uses) updates → IsUtf8 from → IsSoundAction (length lets) guards updates
+  action_sound lets uses [] updates from to spelled fits fit utf8 =
+      let u = updates_sound texts lets ([], uses) updates from to spelled fit utf8 in
+      record { conditions = record { mentions = refl; asks = refl; shape = refl; values = refl }; changes = u.0; shape = refl }
+  action_sound lets uses (guard ∷ guards) [] from to spelled fits fit utf8 = absurd spelled
+  action_sound lets uses (guard ∷ guards) (update ∷ updates) from to spelled fits fit utf8 =
+      let a = all_say (Word (codes "if") ∷ []) from spelled.5.0 spelled.5.1 utf8 in
+      let c = condition_sound texts lets guard spelled.5.0 spelled.0 spelled.5.2 fits.0 a.1 in
+      let g = guards_sound texts lets (guard ∷ []) guards spelled.0 spelled.1 spelled.6 fits.1 c.1 in
+      let t = all_say (Word (codes "then") ∷ []) spelled.1 spelled.7.0 spelled.7.1 g.1 in
+      let f = update_sound texts lets ([], uses) update spelled.7.0 spelled.2 spelled.7.2 fit.0 t.1 in
+      let u = updates_sound texts lets (with_update ([], uses) update) updates spelled.2 spelled.3 spelled.8 fit.1 f.1 in
+      let some : (length (update ∷ updates) == 0) ≡ false = none_is_zero (length (update ∷ updates)) (omega arith) in
+      record {
+        conditions = record { mentions = rw c.0.mentions g.0.mentions; asks = rw c.0.asks g.0.asks; shape = rw c.0.shape g.0.shape; values = rw c.0.values g.0.values };
+        changes = record { mentions = rw f.0.mentions u.0.mentions; shape = rw f.0.shape u.0.shape; values = rw f.0.values u.0.values; keys = rw f.0.key u.0.keys };
+        shape = ap (λ b. nat_lt 0 (length (guard ∷ guards)) && b) some ∙ and-false (nat_lt 0 (length (guard ∷ guards)));
+      }
 
-pub read_sound : (text : List ℕ) (parts : BodyParts) → IsUtf8 text → reading text ≡ Ok parts → IsTextOf text parts
-read_sound text parts utf8 is = let f = reading_found text parts is in (f.0, sound text parts utf8 f.0 f.1)
+  pub sound : (text : List ℕ) (parts : BodyParts) → IsUtf8 text → Spelled texts text parts → IsFitBody parts → IsBody parts
+  sound text parts utf8 spelled fit =
+      let begins = all_say (Word (codes "begin") ∷ Word (codes "transaction") ∷ []) text spelled.lets_place spelled.begins utf8 in
+      let l = lets_sound ([], []) parts.lets spelled.lets_place spelled.select_place spelled.lets fit.lets begins.1 in
+      let uses = (after with_let ([], []) parts.lets).1 in
+      let others = uses_after_select uses parts.select in
+      let s = select_sound parts.lets uses parts.select spelled.select_place spelled.action_place spelled.select fit.select l.1 in
+      let a = action_sound parts.lets others parts.guards parts.updates spelled.action_place spelled.commit_place spelled.action fit.guards fit.updates s.1 in
+      let all = (after with_update ([], others) parts.updates).1 in
+      let room : length all ≤ 16 = updates_room ([], others) parts.updates fit.updates (select_room uses parts.select fit.select (lets_room ([], []) parts.lets fit.lets (omega arith))) in
+      let total : is_many (length (footprint_of parts)) ≡ false = subst (λ uses. is_many (length uses) ≡ false) (all_uses parts) (not_many (length all) room) in
+      let keyed : (length (footprint_of parts) == 0) ≡ false = subst (λ uses. (length uses == 0) ≡ false) (all_uses parts) fit.some_key in
+      is_body parts record {
+        few =
+            none _ _
+            (none _ _
+            (none _ _ (none _ _ (none _ _ (not_many (length parts.lets) fit.few_lets) (select_short uses parts.select fit.select)) (not_many (length parts.guards) fit.few_guards)) (not_many (length parts.updates) fit.few_updates))
+            (none _ _ (guards_short [] parts.guards fit.guards) (updates_short ([], others) parts.updates fit.updates)))
+            total;
+        bound = none _ _ (none _ _ s.0.bound (none _ _ a.conditions.mentions a.changes.mentions)) a.conditions.asks;
+        once = (lets_distinct [] [] parts.lets fit.lets).0;
+        keyed = no_keys (read_keys parts) (written_keys parts) keyed;
+        worded = none _ _ l.0.names (none _ _ (none _ _ l.0.keys s.0.keys) a.changes.keys);
+        shaped = none _ _ (none _ _ (none _ _ a.conditions.shape a.changes.shape) s.0.shape) a.shape;
+        texts = none _ _ a.conditions.values a.changes.values;
+      }
+
+  pub read_sound : (text : List ℕ) (parts : BodyParts) → IsUtf8 text → reading texts text ≡ Ok parts → IsTextOf texts text parts
+  read_sound text parts utf8 is = let f = reading_found texts text parts is in (f.0, sound text parts utf8 f.0 f.1)

@@ -56,7 +56,7 @@ pub lets_uses : (lets so_far : List Let) (uses : Uses) → (after with_let (so_f
 lets_uses [] so_far uses = refl
 lets_uses (l ∷ lets) so_far uses = lets_uses lets (so_far ++ l ∷ []) (used uses l.key false)
 
-select_uses : (uses : Uses) (s : Select) → uses_after_select uses s ≡ with_keys false uses (selected_keys s)
+pub select_uses : (uses : Uses) (s : Select) → uses_after_select uses s ≡ with_keys false uses (selected_keys s)
 select_uses uses Nothing = refl
 select_uses uses (Names names) = refl
 select_uses uses (Get key) = refl

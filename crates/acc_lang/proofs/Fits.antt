@@ -1,5 +1,5 @@
 -- What reading checks of the parts of a body, one after the other, beside that they are spelled by the grammar.
-use Rattle.std.proofs.Common.{◌≡◌, ◌≤◌, ℕ, Bool, true, false, ◌==◌, List, [], ◌∷◌, ◌++◌, length, nat_le, nat_lt, Some, None, sym, ◌∙◌, append_assoc}
+use Rattle.std.proofs.Common.{◌≡◌, ◌≤◌, ℕ, Bool, true, false, ◌==◌, List, [], ◌∷◌, ◌++◌, length, nat_lt, Some, None, sym, ◌∙◌, append_assoc}
 use Rattle.std.proofs.lemmas.List.{append-nil}
 use Rattle.std.specs.Prelude.{slice_get}
 use Rattle.acc_value.specs.declared.key.Key.{Key}
@@ -7,12 +7,16 @@ use Rattle.acc_value.specs.Footprint.{used}
 use Rattle.acc_txn.specs.declared.parts.Let.{Let}
 use Rattle.acc_txn.specs.declared.parts.Select.{Select}
 use Rattle.acc_txn.specs.declared.parts.Select.TheVariants.{Nothing, Names, Get}
+use Rattle.acc_txn.specs.declared.parts.Term.{Term}
+use Rattle.acc_txn.specs.declared.parts.Term.TheVariants.{Number, Name, Null, Text}
+use Rattle.acc_txn.specs.declared.parts.Part.{Part}
 use Rattle.acc_txn.specs.declared.parts.Condition.{Condition}
 use Rattle.acc_txn.specs.declared.parts.Condition.TheVariants.{Compare, IsNull, IsNotNull}
 use Rattle.acc_txn.specs.declared.parts.Update.{Update}
 use Rattle.acc_txn.specs.declared.parts.Update.TheVariants.{Set, Delete}
 use Rattle.acc_txn.specs.declared.parts.BodyParts.{BodyParts}
 use Rattle.acc_txn.specs.Words.{is_reserved}
+use Rattle.acc_lang.specs.Faults.{has_form}
 use Rattle.acc_lang.specs.Reading.{are_many, let_of, key_written}
 
 -- a name that may stand there: a word that isn't reserved, of at most 32 bytes
@@ -23,8 +27,7 @@ pub record IsFreeWord (name : List ℕ) : Type 0 where
 -- a key of at most 16
 pub record IsFitKey (writes : Bool) (uses : List (Key × Bool)) (key : Key) : Type 0 where
   pub table : IsFreeWord key.table
-  pub some : nat_le 1 (length key.key) ≡ true
-  pub few : nat_le (length key.key) 64 ≡ true
+  pub form : has_form true key.key ≡ true
   pub room : are_many (used uses key writes) ≡ false
 
 -- a state after these items, and what each of them meets at its turn
@@ -64,16 +67,34 @@ uses_after_select uses Nothing = uses
 uses_after_select uses (Names names) = uses
 uses_after_select uses (Get key) = used uses key false
 
+-- a text value that says what it may
+abbrev pub IsFitTerm : Term → Type 0
+IsFitTerm (Number number) = Unit {0}
+IsFitTerm (Name name) = Unit {0}
+IsFitTerm Null = Unit {0}
+IsFitTerm (Text text) = has_form false text ≡ true
+
+abbrev pub IsFitPart : List Part → Part → Type 0
+IsFitPart so_far part = IsFitTerm part.term
+
+-- at most 16 terms
+pub record IsFitSum (sum : List Part) : Type 0 where
+  pub few : length sum ≤ 16
+  pub terms : InTurn at_end IsFitPart [] sum
+
 abbrev pub IsFitCondition : Condition → Type 0
-IsFitCondition (Compare op left right) = (length left ≤ 16) × (length right ≤ 16)
+IsFitCondition (Compare op left right) = IsFitSum left × IsFitSum right
 IsFitCondition (IsNull name) = Unit {0}
 IsFitCondition (IsNotNull name) = Unit {0}
+
+abbrev pub ThisCondition : List Condition → Condition → Type 0
+ThisCondition so_far c = IsFitCondition c
 
 abbrev pub with_update : List Update × Uses → Update → List Update × Uses
 with_update so_far update = (so_far.0 ++ update ∷ [], used so_far.1 (key_written update) true)
 
 abbrev pub IsFitUpdate : List Update × Uses → Update → Type 0
-IsFitUpdate so_far (Set key value) = IsFitKey true so_far.1 key × (length value ≤ 16)
+IsFitUpdate so_far (Set key value) = IsFitKey true so_far.1 key × IsFitSum value
 IsFitUpdate so_far (Delete key) = IsFitKey true so_far.1 key
 
 pub record IsFitBody (parts : BodyParts) : Type 0 where

@@ -172,9 +172,9 @@ passed_follows judge = record {
       );
 }
 
-pub one_token : (standing : Token → Standing) → Follows 1 places (λ a. step (standing (token_at a)) a)
+pub one_token : (as_key : Bool) (standing : Token → Standing) → Follows 1 places (λ a. step as_key (standing (token_at a)) a)
 unfolding step
-one_token standing = passed_follows (λ token. fault_of (standing token) token)
+one_token as_key standing = passed_follows (λ token. fault_of as_key (standing token) token)
 
 -- by the next token
 module _ {R : Type 0} (least : ℕ) (s : Shape R) (test : Token → Bool) (F G : List ℕ → Result R Fault) (yes : Follows least s F) (no : Follows least s G) where

@@ -56,67 +56,6 @@ none_is : {X : Type 0} (o : Option X) → not (is_some o) ≡ true → o ≡ Non
 none_is (Some x) is = cc
 none_is None is = refl
 
--- a new name, and what is read behind it
-pub new_name_first : {B : Type 0} (lets : List Let) (text : List ℕ) (next : List ℕ × List ℕ → Result B Fault) (y : B) → (new_name lets text >>= next) ≡ Ok y
-    → (name : List ℕ) × (token_at text ≡ Word name) × IsFreeWord name × (let_of lets name ≡ None) × (next (name, behind text) ≡ Ok y)
-unfolding new_name
-new_name_first lets text next y is =
-    let name = word_of (token_at text) in
-    let p = both (new_name lets text) next y is in
-    let q = both (step (standing_of (is_free (token_at text)) false (not (is_some (let_of lets name)))) text) _ p.0 p.1 in
-    let t = taken (is_free (token_at text)) false (not (is_some (let_of lets name))) text q.0 q.1 in
-    let f = free_token (token_at text) t.allows in
-    let same : (name, behind text) ≡ p.0 = ap (λ rest. (name, rest)) t.follows ∙ ok_same _ _ q.2 in
-    (name, f.0, free_found text f t.sound, none_is (let_of lets name) t.fits, subst (λ x. next x ≡ Ok y) (sym same) p.2)
-
--- the tokens of a LET behind its first
-abbrev pub let_tokens : Let → List Token
-let_tokens l =
-    Word l.name ∷ Mark (codes "=") ∷ Mark (codes "(") ∷ Word (codes "select") ∷ Word (codes "v")
-    ∷ (from_tokens l.key ++ Mark (codes ")") ∷ Mark (codes ";") ∷ [])
-
-pub binding_found : (uses : Uses) (lets : List Let) (text : List ℕ) (x : Let × List ℕ) → binding uses lets text ≡ Ok x
-    → Spells (let_tokens x.0) text x.1 × IsFitLet (lets, uses) x.0
-unfolding binding
-binding_found uses lets text x is =
-    let p = new_name_first lets text _ x is in
-    let a = mark_first (codes "=") (behind text) _ x p.4 in
-    let b = mark_first (codes "(") (behind (behind text)) _ x a.1 in
-    let c = word_first (codes "select") (behind (behind (behind text))) _ x b.1 in
-    let d = word_first (codes "v") (behind (behind (behind (behind text)))) _ x c.1 in
-    let e = both (from_key false uses (behind (behind (behind (behind (behind text)))))) _ x d.1 in
-    let k = from_key_found false uses (behind (behind (behind (behind (behind text))))) e.0 e.1 in
-    let g = mark_first (codes ")") e.0.1 _ x e.2 in
-    let h = mark_first (codes ";") (behind e.0.1) _ x g.1 in
-    let l : Let = record { name = p.0; key = e.0.0 } in
-    subst (λ (x : Let × List ℕ). Spells (let_tokens x.0) text x.1 × IsFitLet (lets, uses) x.0) (ok_same (l, behind (behind e.0.1)) x h.1) (
-      (p.1, (a.0, (b.0, (c.0, (d.0, join (from_tokens e.0.0) (Mark (codes ")") ∷ Mark (codes ";") ∷ []) _ _ _ k.0 (g.0, (h.0, refl))))))),
-      record { name = p.2; new = p.3; key = k.1 },
-    )
-
-pub one_let_found : (so_far : List Let × Uses) (text : List ℕ) (y : (List Let × Uses) × List ℕ) → one_let false so_far text ≡ Ok y
-    → (l : Let) × (y.0 ≡ with_let so_far l) × LetSpelled l text y.1 × IsFitLet so_far l
-unfolding one_let
-one_let_found so_far text y is =
-    let p = both (step (standing_of (is_word (codes "let") (token_at text)) false true) text) _ y is in
-    let t = taken (is_word (codes "let") (token_at text)) false true text p.0 p.1 in
-    let b = both (binding so_far.1 so_far.0 p.0) _ y p.2 in
-    let f = binding_found so_far.1 so_far.0 p.0 b.0 b.1 in
-    let same = ok_same (with_let so_far b.0.0, b.0.1) y b.2 in
-    (b.0.0, ap (λ y. y.0) (sym same), subst (λ place. LetSpelled b.0.0 text place) (ap (λ y. y.1) same) (word_token _ _ t.allows, subst (λ place. Spells (let_tokens b.0.0) place b.0.1) (sym t.follows) f.0), f.1)
-
-pub one_let_full : (so_far : List Let × Uses) (text : List ℕ) (y : (List Let × Uses) × List ℕ) → one_let true so_far text ≡ Ok y → ⊥
-unfolding one_let
-one_let_full so_far text y is =
-    let p = both (step (standing_of (is_word (codes "let") (token_at text)) true true) text) _ y is in
-    let t = taken (is_word (codes "let") (token_at text)) true true text p.0 p.1 in
-    absurd (true≢false t.room)
-
-pub lets_found : (text : List ℕ) (y : (List Let × Uses) × List ℕ) → more_lets 16 ([], []) text ≡ Ok y
-    → (lets : List Let) × (y.0 ≡ after with_let ([], []) lets) × Each LetSpelled lets text y.1 × InTurn with_let IsFitLet ([], []) lets × (length lets ≤ 16)
-unfolding more_lets
-lets_found text y is = each_found (is_word (codes "let")) one_let with_let LetSpelled IsFitLet one_let_found one_let_full 16 ([], []) text y is
-
 -- a name that a LET binds
 pub some_is : {X : Type 0} (o : Option X) → is_some o ≡ true → (x : X) × (o ≡ Some x)
 some_is (Some x) is = (x, refl)
@@ -129,24 +68,86 @@ let_at (l ∷ lets) name number is =
     let p = position-Some (λ l. bytes_eq name l.name) (l ∷ lets) number l is in
     (get_or (l ∷ lets) number l, slice_get-get_or (l ∷ lets) number l p.0, sym ((bytes_eq-Decides name (get_or (l ∷ lets) number l).name).0 p.1))
 
-pub named_found : (extra : Bool) (lets : List Let) (text : List ℕ) (y : ℕ × List ℕ) → named extra lets text ≡ Ok y → NameSpelled lets y.0 text y.1 × (extra ≡ false)
-unfolding named bound_name
-named_found extra lets text y is =
-    let name = word_of (token_at text) in
-    let p = both (bound_name extra lets text) _ y is in
-    let q = both (step (standing_of (is_free (token_at text)) extra (is_some (let_of lets name))) text) _ p.0 p.1 in
-    let t = taken (is_free (token_at text)) extra (is_some (let_of lets name)) text q.0 q.1 in
-    let f = free_token (token_at text) t.allows in
-    let n = some_is (let_of lets name) t.fits in
-    let same : (unwrap_or (let_of lets name) 0, behind text) ≡ p.0 = ap (λ rest. (unwrap_or (let_of lets name) 0, rest)) t.follows ∙ ok_same _ _ q.2 in
-    let number : n.0 ≡ p.0.0 = sym (ap (λ o. unwrap_or o 0) n.1) ∙ ap (λ x. x.0) same in
-    let l = let_at lets name n.0 n.1 in
-    let a = mark_first (codes ".") p.0.1 _ y p.2 in
-    let b = word_first (codes "v") (behind p.0.1) _ y a.1 in
-    let place : behind text ≡ p.0.1 = ap (λ x. x.1) same in
-    let spelled : Spells (Word l.0.name ∷ Mark (codes ".") ∷ Word (codes "v") ∷ []) text (behind (behind p.0.1)) =
-    (f.0 ∙ ap Word (sym l.2), subst (λ at. Spells (Mark (codes ".") ∷ Word (codes "v") ∷ []) at (behind (behind p.0.1))) (sym place) (a.0, (b.0, refl))) in (
-      subst (λ (y : ℕ × List ℕ). NameSpelled lets y.0 text y.1) (ok_same (p.0.0, behind (behind p.0.1)) y b.1)
-          (l.0, subst (λ number. slice_get lets number ≡ Some l.0) number l.1, spelled),
-      t.room,
-    )
+-- the tokens of a LET behind its first
+abbrev pub let_tokens : Let → List Token
+let_tokens l =
+    Word l.name ∷ Mark (codes "=") ∷ Mark (codes "(") ∷ Word (codes "select") ∷ Word (codes "v")
+    ∷ (from_tokens l.key ++ Mark (codes ")") ∷ Mark (codes ";") ∷ [])
+
+module _ (texts : Bool) where
+  -- a new name, and what is read behind it
+  pub new_name_first : {B : Type 0} (lets : List Let) (text : List ℕ) (next : List ℕ × List ℕ → Result B Fault) (y : B) → (new_name texts lets text >>= next) ≡ Ok y
+      → (name : List ℕ) × (token_at text ≡ Word name) × IsFreeWord name × (let_of lets name ≡ None) × (next (name, behind text) ≡ Ok y)
+  unfolding new_name
+  new_name_first lets text next y is =
+      let name = word_of (token_at text) in
+      let p = both (new_name texts lets text) next y is in
+      let q = both (step (not texts) (standing_of (is_free (token_at text)) false (not (is_some (let_of lets name)))) text) _ p.0 p.1 in
+      let t = taken (not texts) (is_free (token_at text)) false (not (is_some (let_of lets name))) text q.0 q.1 in
+      let f = free_token (token_at text) t.allows in
+      let same : (name, behind text) ≡ p.0 = ap (λ rest. (name, rest)) t.follows ∙ ok_same _ _ q.2 in
+      (name, f.0, free_found texts text f t.sound, none_is (let_of lets name) t.fits, subst (λ x. next x ≡ Ok y) (sym same) p.2)
+
+  pub binding_found : (uses : Uses) (lets : List Let) (text : List ℕ) (x : Let × List ℕ) → binding texts uses lets text ≡ Ok x
+      → Spells (let_tokens x.0) text x.1 × IsFitLet (lets, uses) x.0
+  unfolding binding
+  binding_found uses lets text x is =
+      let p = new_name_first lets text _ x is in
+      let a = mark_first texts (codes "=") (behind text) _ x p.4 in
+      let b = mark_first texts (codes "(") (behind (behind text)) _ x a.1 in
+      let c = word_first texts (codes "select") (behind (behind (behind text))) _ x b.1 in
+      let d = word_first texts (codes "v") (behind (behind (behind (behind text)))) _ x c.1 in
+      let e = both (from_key texts false uses (behind (behind (behind (behind (behind text)))))) _ x d.1 in
+      let k = from_key_found texts false uses (behind (behind (behind (behind (behind text))))) e.0 e.1 in
+      let g = mark_first texts (codes ")") e.0.1 _ x e.2 in
+      let h = mark_first texts (codes ";") (behind e.0.1) _ x g.1 in
+      let l : Let = record { name = p.0; key = e.0.0 } in
+      subst (λ (x : Let × List ℕ). Spells (let_tokens x.0) text x.1 × IsFitLet (lets, uses) x.0) (ok_same (l, behind (behind e.0.1)) x h.1) (
+        (p.1, (a.0, (b.0, (c.0, (d.0, join (from_tokens e.0.0) (Mark (codes ")") ∷ Mark (codes ";") ∷ []) _ _ _ k.0 (g.0, (h.0, refl))))))),
+        record { name = p.2; new = p.3; key = k.1 },
+      )
+
+  pub one_let_found : (so_far : List Let × Uses) (text : List ℕ) (y : (List Let × Uses) × List ℕ) → one_let texts false so_far text ≡ Ok y
+      → (l : Let) × (y.0 ≡ with_let so_far l) × LetSpelled l text y.1 × IsFitLet so_far l
+  unfolding one_let
+  one_let_found so_far text y is =
+      let p = both (step (not texts) (standing_of (is_word (codes "let") (token_at text)) false true) text) _ y is in
+      let t = taken (not texts) (is_word (codes "let") (token_at text)) false true text p.0 p.1 in
+      let b = both (binding texts so_far.1 so_far.0 p.0) _ y p.2 in
+      let f = binding_found so_far.1 so_far.0 p.0 b.0 b.1 in
+      let same = ok_same (with_let so_far b.0.0, b.0.1) y b.2 in
+      (b.0.0, ap (λ y. y.0) (sym same), subst (λ place. LetSpelled b.0.0 text place) (ap (λ y. y.1) same) (word_token _ _ t.allows, subst (λ place. Spells (let_tokens b.0.0) place b.0.1) (sym t.follows) f.0), f.1)
+
+  pub one_let_full : (so_far : List Let × Uses) (text : List ℕ) (y : (List Let × Uses) × List ℕ) → one_let texts true so_far text ≡ Ok y → ⊥
+  unfolding one_let
+  one_let_full so_far text y is =
+      let p = both (step (not texts) (standing_of (is_word (codes "let") (token_at text)) true true) text) _ y is in
+      let t = taken (not texts) (is_word (codes "let") (token_at text)) true true text p.0 p.1 in
+      absurd (true≢false t.room)
+
+  pub lets_found : (text : List ℕ) (y : (List Let × Uses) × List ℕ) → more_lets texts 16 ([], []) text ≡ Ok y
+      → (lets : List Let) × (y.0 ≡ after with_let ([], []) lets) × Each LetSpelled lets text y.1 × InTurn with_let IsFitLet ([], []) lets × (length lets ≤ 16)
+  unfolding more_lets
+  lets_found text y is = each_found (is_word (codes "let")) (one_let texts) with_let LetSpelled IsFitLet one_let_found one_let_full 16 ([], []) text y is
+
+  pub named_found : (extra : Bool) (lets : List Let) (text : List ℕ) (y : ℕ × List ℕ) → named texts extra lets text ≡ Ok y → NameSpelled lets y.0 text y.1 × (extra ≡ false)
+  unfolding named bound_name
+  named_found extra lets text y is =
+      let name = word_of (token_at text) in
+      let p = both (bound_name texts extra lets text) _ y is in
+      let q = both (step (not texts) (standing_of (is_free (token_at text)) extra (is_some (let_of lets name))) text) _ p.0 p.1 in
+      let t = taken (not texts) (is_free (token_at text)) extra (is_some (let_of lets name)) text q.0 q.1 in
+      let f = free_token (token_at text) t.allows in
+      let n = some_is (let_of lets name) t.fits in
+      let same : (unwrap_or (let_of lets name) 0, behind text) ≡ p.0 = ap (λ rest. (unwrap_or (let_of lets name) 0, rest)) t.follows ∙ ok_same _ _ q.2 in
+      let number : n.0 ≡ p.0.0 = sym (ap (λ o. unwrap_or o 0) n.1) ∙ ap (λ x. x.0) same in
+      let l = let_at lets name n.0 n.1 in
+      let a = mark_first texts (codes ".") p.0.1 _ y p.2 in
+      let b = word_first texts (codes "v") (behind p.0.1) _ y a.1 in
+      let place : behind text ≡ p.0.1 = ap (λ x. x.1) same in
+      let spelled : Spells (Word l.0.name ∷ Mark (codes ".") ∷ Word (codes "v") ∷ []) text (behind (behind p.0.1)) =
+      (f.0 ∙ ap Word (sym l.2), subst (λ at. Spells (Mark (codes ".") ∷ Word (codes "v") ∷ []) at (behind (behind p.0.1))) (sym place) (a.0, (b.0, refl))) in (
+        subst (λ (y : ℕ × List ℕ). NameSpelled lets y.0 text y.1) (ok_same (p.0.0, behind (behind p.0.1)) y b.1)
+            (l.0, subst (λ number. slice_get lets number ≡ Some l.0) number l.1, spelled),
+        t.room,
+      )

@@ -19,8 +19,11 @@ pub mod Lexical
 pub mod Saying
 pub mod Sound
 pub mod Bodies
+pub mod NoTexts
 pub mod Answering
 pub mod Following
 pub mod FollowText
 pub mod FollowBody
 pub mod FirstFault
+pub mod Versions
+pub mod UsesRead

@@ -1,28 +1,31 @@
 -- What keeps the rules of bodies fits.
-use Rattle.std.proofs.Common.{◌≡◌, ◌≤◌, ◌==◌, ℕ, zero, suc, Bool, true, false, not, ◌||◌, ◌&&◌, cond, List, [], ◌∷◌, ◌++◌, length, map, nat_le, nat_lt, Some, None, is_none, position, refl, sym, ap, ◌∙◌, subst, lt-ltb, arith}
+use Rattle.std.proofs.Common.{◌≡◌, ◌≤◌, ◌==◌, ℕ, zero, suc, Bool, true, false, not, ◌||◌, ◌&&◌, List, [], ◌∷◌, ◌++◌, length, map, nat_le, nat_lt, Some, None, position, refl, sym, ap, ◌∙◌, subst, lt-ltb, arith}
 use Rattle.std.specs.Prelude.{slice_get}
-use Rattle.std.specs.List.{list_any, prefix_len}
+use Rattle.std.specs.List.{list_any, list_all, prefix_len}
 use Rattle.std.specs.Str.{bytes_eq, is_utf8}
 use Rattle.std.proofs.lemmas.List.Folds.{list_any-append}
 use Rattle.std.proofs.lemmas.Option.{slice_get_within}
 use Rattle.std.proofs.lemmas.Slice.Eq.{bytes_eq-Decides}
+use Rattle.acc_token.specs.Tokens.{is_plain}
 use Rattle.acc_value.specs.declared.key.Key.{Key}
 use Rattle.acc_value.specs.Footprint.{used}
 use Rattle.acc_txn.specs.declared.parts.Let.{Let}
 use Rattle.acc_txn.specs.declared.parts.Select.{Select}
 use Rattle.acc_txn.specs.declared.parts.Select.TheVariants.{Nothing, Names, Get}
+use Rattle.acc_txn.specs.declared.parts.Term.{Term}
+use Rattle.acc_txn.specs.declared.parts.Term.TheVariants.{Number, Name, Null, Text}
+use Rattle.acc_txn.specs.declared.parts.Part.{Part}
 use Rattle.acc_txn.specs.declared.parts.Condition.{Condition}
 use Rattle.acc_txn.specs.declared.parts.Condition.TheVariants.{Compare, IsNull, IsNotNull}
 use Rattle.acc_txn.specs.declared.parts.Update.{Update}
 use Rattle.acc_txn.specs.declared.parts.Update.TheVariants.{Set, Delete}
 use Rattle.acc_txn.specs.declared.parts.BodyParts.{BodyParts}
-use Rattle.acc_txn.specs.declared.error.BodyError.{BodyError}
-use Rattle.acc_txn.specs.Words.{is_reserved, is_lower_word, is_name, is_key}
+use Rattle.acc_txn.specs.Words.{is_reserved, is_lower_word, is_name, is_key, is_text_value}
 use Rattle.acc_txn.specs.Uses.{selected_keys, updated_key, read_keys, written_keys, with_keys, footprint_of}
-use Rattle.acc_txn.specs.Rules.{is_many, is_long, condition_has, update_has, some_expression, selected_names, has_too_many, has_unbound_name, has_name_twice, has_no_key, has_bad_name, has_bad_key, has_bad_shape, IsBody}
+use Rattle.acc_txn.specs.Rules.{is_many, is_long, condition_has, update_has, some_expression, selected_names, has_name_twice, has_bad_name, has_bad_key, is_bad_text, mentions_bad_text, IsBody}
+use Rattle.acc_txn.proofs.Keeps.{KeepsRules, IsBody-keeps}
 use Rattle.acc_lang.specs.Reading.{key_written}
-use Rattle.acc_lang.proofs.Fits.{IsFreeWord, IsFitKey, IsFitLet, IsFitSelect, IsFitCondition, IsFitUpdate, IsFitBody, AreNamed, Uses, after, InTurn, at_end, with_let, with_update, uses_after_select}
-use Rattle.acc_lang.proofs.FoundText.{ThisCondition}
+use Rattle.acc_lang.proofs.Fits.{ThisCondition, IsFreeWord, IsFitKey, IsFitLet, IsFitSelect, IsFitTerm, IsFitPart, IsFitSum, IsFitCondition, IsFitUpdate, IsFitBody, AreNamed, Uses, after, InTurn, at_end, with_let, with_update, uses_after_select}
 use Rattle.acc_lang.proofs.Counts.{used_keeps, with_keys_keeps, with_keys_some, lets_uses, updates_uses, all_uses}
 
 pub neither : (a b : Bool) → (a || b) ≡ false → (a ≡ false) × (b ≡ false)
@@ -43,36 +46,9 @@ at_most n few = grind arith
 pub not_many : (n : ℕ) → n ≤ 16 → is_many n ≡ false
 not_many n few = grind arith
 
--- none of the rules is broken
-pub record Obeys (parts : BodyParts) : Type 0 where
-  pub few : has_too_many parts ≡ false
-  pub bound : has_unbound_name parts ≡ false
-  pub once : has_name_twice parts.lets ≡ false
-  pub keyed : has_no_key parts ≡ false
-  pub well_named : has_bad_name parts.lets ≡ false
-  pub well_keyed : has_bad_key parts ≡ false
-  pub shaped : has_bad_shape parts ≡ false
-
-six : (a b c d e f g : Bool) (u v w x y z : BodyError)
-    → is_none (cond a (Some u) (cond b (Some v) (cond c (Some w) (cond d (Some x) (cond (e || f) (Some y) (cond g (Some z) None)))))) ≡ true
-    → (a ≡ false) × (b ≡ false) × (c ≡ false) × (d ≡ false) × (e ≡ false) × (f ≡ false) × (g ≡ false)
-six true b c d e f g u v w x y z is = cc
-six false true c d e f g u v w x y z is = cc
-six false false true d e f g u v w x y z is = cc
-six false false false true e f g u v w x y z is = cc
-six false false false false true f g u v w x y z is = cc
-six false false false false false true g u v w x y z is = cc
-six false false false false false false true u v w x y z is = cc
-six false false false false false false false u v w x y z is = (refl, refl, refl, refl, refl, refl, refl)
-
-pub obeys : (parts : BodyParts) → IsBody parts → Obeys parts
-obeys parts is =
-    let p = six (has_too_many parts) (has_unbound_name parts) (has_name_twice parts.lets) (has_no_key parts) (has_bad_name parts.lets) (has_bad_key parts) (has_bad_shape parts) _ _ _ _ _ _ is in
-    record { few = p.0; bound = p.1; once = p.2; keyed = p.3; well_named = p.4; well_keyed = p.5; shaped = p.6 }
-
--- and then they are parts of a body
-pub is_body : (parts : BodyParts) → Obeys parts → IsBody parts
-is_body parts o = rw o.few (rw o.bound (rw o.once (rw o.keyed (rw o.well_named (rw o.well_keyed (rw o.shaped refl))))))
+-- what breaks no rule is the parts of a body
+pub is_body : (parts : BodyParts) → KeepsRules parts → IsBody parts
+is_body parts o = rw o.few (rw o.bound (rw o.once (rw o.keyed (rw o.worded (rw o.shaped (rw o.texts refl))))))
 
 pub name_fits : (name : List ℕ) → is_name name ≡ true → IsFreeWord name
 name_fits name is =
@@ -90,8 +66,7 @@ pub key_fits : (writes : Bool) (uses : Uses) (key : Key) → is_key key ≡ true
 key_fits writes uses key is room =
     let p = each_of (is_name key.table) _ is in
     let q = each_of (nat_le 1 (length key.key) && nat_le (length key.key) 64) (is_utf8 key.key) p.1 in
-    let r = each_of (nat_le 1 (length key.key)) (nat_le (length key.key) 64) q.0 in
-    record { table = name_fits key.table p.0; some = r.0; few = r.1; room = not_many (length (used uses key writes)) room }
+    record { table = name_fits key.table p.0; form = q.0; room = not_many (length (used uses key writes)) room }
 
 pub bytes_differ : (a b : List ℕ) → bytes_eq a b ≡ false → bytes_eq b a ≡ false
 bytes_differ a b differ = tested (bytes_eq b a) refl where
@@ -152,32 +127,56 @@ select_fits uses (Get key) few keys room =
     let k = neither (not (is_key key)) false keys in
     key_fits false uses key (not_false (is_key key) k.0) room
 
-guard_fits : (c : Condition) → condition_has is_long c ≡ false → IsFitCondition c
-guard_fits (Compare op left right) short =
+term_fits : (t : Term) → is_bad_text t ≡ false → IsFitTerm t
+term_fits (Number number) good = tt
+term_fits (Name name) good = tt
+term_fits Null good = tt
+term_fits (Text text) good =
+    let p = each_of (nat_le (length text) 255 && list_all is_plain text) (is_utf8 text) (not_false (is_text_value text) good) in
+    p.0
+
+parts_fit : (so_far parts : List Part) → mentions_bad_text parts ≡ false → InTurn at_end IsFitPart so_far parts
+parts_fit so_far [] good = tt
+parts_fit so_far (part ∷ parts) good =
+    let g = neither (is_bad_text part.term) (mentions_bad_text parts) good in
+    (term_fits part.term g.0, parts_fit (at_end so_far part) parts g.1)
+
+sum_fits : (sum : List Part) → is_long sum ≡ false → mentions_bad_text sum ≡ false → IsFitSum sum
+sum_fits sum short good = record { few = at_most (length sum) short; terms = parts_fit [] sum good }
+
+guard_fits : (c : Condition) → condition_has is_long c ≡ false → condition_has mentions_bad_text c ≡ false → IsFitCondition c
+guard_fits (Compare op left right) short good =
     let s = neither (is_long left) (is_long right) short in
-    (at_most (length left) s.0, at_most (length right) s.1)
-guard_fits (IsNull name) short = tt
-guard_fits (IsNotNull name) short = tt
+    let g = neither (mentions_bad_text left) (mentions_bad_text right) good in
+    (sum_fits left s.0 g.0, sum_fits right s.1 g.1)
+guard_fits (IsNull name) short good = tt
+guard_fits (IsNotNull name) short good = tt
 
-pub guards_fit : (guards so_far : List Condition) → list_any (condition_has is_long) guards ≡ false → InTurn at_end ThisCondition so_far guards
-guards_fit [] so_far short = tt
-guards_fit (c ∷ guards) so_far short =
+pub guards_fit : (guards so_far : List Condition) → list_any (condition_has is_long) guards ≡ false → list_any (condition_has mentions_bad_text) guards ≡ false
+    → InTurn at_end ThisCondition so_far guards
+guards_fit [] so_far short good = tt
+guards_fit (c ∷ guards) so_far short good =
     let s = neither (condition_has is_long c) _ short in
-    (guard_fits c s.0, guards_fit guards (so_far ++ c ∷ []) s.1)
+    let g = neither (condition_has mentions_bad_text c) _ good in
+    (guard_fits c s.0 g.0, guards_fit guards (so_far ++ c ∷ []) s.1 g.1)
 
-update_fits : (so_far : List Update × Uses) (u : Update) → is_key (updated_key u) ≡ true → update_has is_long u ≡ false → length (used so_far.1 (key_written u) true) ≤ 16 → IsFitUpdate so_far u
-update_fits so_far (Set key value) good short room = (key_fits true so_far.1 key good room, at_most (length value) short)
-update_fits so_far (Delete key) good short room = key_fits true so_far.1 key good room
+update_fits : (so_far : List Update × Uses) (u : Update) → is_key (updated_key u) ≡ true → update_has is_long u ≡ false → update_has mentions_bad_text u ≡ false
+    → length (used so_far.1 (key_written u) true) ≤ 16 → IsFitUpdate so_far u
+update_fits so_far (Set key value) good short valued room = (key_fits true so_far.1 key good room, sum_fits value short valued)
+update_fits so_far (Delete key) good short valued room = key_fits true so_far.1 key good room
 
 pub updates_fit : (updates so_far : List Update) (uses : Uses) → list_any (λ u. not (is_key (updated_key u))) updates ≡ false → list_any (update_has is_long) updates ≡ false
-    → length (after with_update (so_far, uses) updates).1 ≤ 16 → InTurn with_update IsFitUpdate (so_far, uses) updates
-updates_fit [] so_far uses keys short room = tt
-updates_fit (u ∷ updates) so_far uses keys short room =
+    → list_any (update_has mentions_bad_text) updates ≡ false → length (after with_update (so_far, uses) updates).1 ≤ 16 → InTurn with_update IsFitUpdate (so_far, uses) updates
+updates_fit [] so_far uses keys short valued room = tt
+updates_fit (u ∷ updates) so_far uses keys short valued room =
     let k = neither (not (is_key (updated_key u))) _ keys in
     let s = neither (update_has is_long u) _ short in
+    let v = neither (update_has mentions_bad_text u) _ valued in
     let more = with_keys_keeps true (map updated_key updates) (used uses (key_written u) true) in
-    let all = ap length (updates_uses updates (so_far ++ u ∷ []) (used uses (key_written u) true)) in
-    (update_fits (so_far, uses) u (not_false (is_key (updated_key u)) k.0) s.0 (omega arith), updates_fit updates (so_far ++ u ∷ []) (used uses (key_written u) true) k.1 s.1 room)
+    let all = ap length (updates_uses updates (so_far ++ u ∷ []) (used uses (key_written u) true)) in (
+      update_fits (so_far, uses) u (not_false (is_key (updated_key u)) k.0) s.0 v.0 (omega arith),
+      updates_fit updates (so_far ++ u ∷ []) (used uses (key_written u) true) k.1 s.1 v.1 room,
+    )
 
 -- an element of a list of which none passes
 passes_not : {X : Type 0} (p : X → Bool) (xs : List X) (n : ℕ) (x : X) → list_any p xs ≡ false → slice_get xs n ≡ Some x → p x ≡ false
@@ -215,14 +214,16 @@ none_is_zero n some = grind arith
 
 pub fits_from_rules : (parts : BodyParts) → IsBody parts → AreNamed parts.lets × IsFitBody parts
 fits_from_rules parts body =
-    let o = obeys parts body in
+    let o = IsBody-keeps parts body in
+    let w = neither (has_bad_name parts.lets) (has_bad_key parts) o.worded in
     let many = neither _ (is_many (length (footprint_of parts))) o.few in
     let m4 = neither _ (some_expression is_long parts) many.0 in
     let m3 = neither _ (is_many (length parts.updates)) m4.0 in
     let m2 = neither _ (is_many (length parts.guards)) m3.0 in
     let m1 = neither (is_many (length parts.lets)) (is_many (length (selected_names parts.select))) m2.0 in
     let long = neither (list_any (condition_has is_long) parts.guards) (list_any (update_has is_long) parts.updates) m4.1 in
-    let k2 = neither _ (list_any (λ update. not (is_key (updated_key update))) parts.updates) o.well_keyed in
+    let valued = neither (list_any (condition_has mentions_bad_text) parts.guards) (list_any (update_has mentions_bad_text) parts.updates) o.texts in
+    let k2 = neither _ (list_any (λ update. not (is_key (updated_key update))) parts.updates) w.1 in
     let k1 = neither (list_any (λ l. not (is_key l.key)) parts.lets) (list_any (λ key. not (is_key key)) (selected_keys parts.select)) k2.0 in
     let uses = (after with_let ([], []) parts.lets).1 in
     let others = uses_after_select uses parts.select in
@@ -233,15 +234,15 @@ fits_from_rules parts body =
     let before_select : length uses ≤ 16 =
     (let h = select_keeps uses parts.select in omega arith) in
     let keys : 1 ≤ length (read_keys parts ++ written_keys parts) = some_keys (length (read_keys parts ++ written_keys parts)) o.keyed in (
-      names_lead parts.lets o.well_named o.once,
+      names_lead parts.lets w.0 o.once,
       record {
         few_lets = at_most (length parts.lets) m1.0;
-        lets = lets_fit parts.lets [] [] o.well_named k1.0 (nothing_fresh parts.lets) o.once before_select;
+        lets = lets_fit parts.lets [] [] w.0 k1.0 (nothing_fresh parts.lets) o.once before_select;
         select = select_fits uses parts.select m1.1 k1.1 before_updates;
         few_guards = at_most (length parts.guards) m2.1;
-        guards = guards_fit parts.guards [] long.0;
+        guards = guards_fit parts.guards [] long.0 valued.0;
         few_updates = at_most (length parts.updates) m3.1;
-        updates = updates_fit parts.updates [] others k2.1 long.1 total;
+        updates = updates_fit parts.updates [] others k2.1 long.1 valued.1 total;
         some_key = none_is_zero (length all) (subst (λ uses. 1 ≤ length uses) (sym (all_uses parts)) (some_used (read_keys parts) (written_keys parts) keys));
       },
     ) where

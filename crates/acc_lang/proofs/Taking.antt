@@ -40,31 +40,31 @@ chain false false true x y z w none = cc
 chain false false false x y z w none = cc
 
 -- what isn't allowed is at fault
-pub misplaced : {A : Type 0} (token : Token) → greatest_fault Misplaced token ≡ None → A
-misplaced token none = absurd (chain (is_long token) (is_broken token) (is_large token) _ _ _ _ none)
+pub misplaced : {A : Type 0} (as_key : Bool) (token : Token) → greatest_fault as_key Misplaced token ≡ None → A
+misplaced as_key token none = absurd (chain (is_long token) (is_broken as_key token) (is_large token) _ _ _ _ none)
 
 -- what is one too many is at fault
-pub fits : (allowed extra suits : Bool) (token : Token) → fault_of (standing_of allowed extra suits) token ≡ None → extra ≡ false
+pub fits : (as_key allowed extra suits : Bool) (token : Token) → fault_of as_key (standing_of allowed extra suits) token ≡ None → extra ≡ false
 unfolding fault_of standing_of
-fits true true suits (Word letters) none = cc
-fits true true suits (Mark mark) none = cc
-fits true true suits (Number number) none = cc
-fits true true suits (Quoted text closed) none = cc
-fits true true suits Strange none = cc
-fits true true suits End none = cc
-fits true false suits token none = refl
-fits false true suits (Word letters) none = misplaced (Word letters) none
-fits false true suits (Mark mark) none = misplaced (Mark mark) none
-fits false true suits (Number number) none = misplaced (Number number) none
-fits false true suits (Quoted text closed) none = misplaced (Quoted text closed) none
-fits false true suits Strange none = cc
-fits false true suits End none = cc
-fits false false suits token none = refl
+fits as_key true true suits (Word letters) none = cc
+fits as_key true true suits (Mark mark) none = cc
+fits as_key true true suits (Number number) none = cc
+fits as_key true true suits (Quoted text closed) none = cc
+fits as_key true true suits Strange none = cc
+fits as_key true true suits End none = cc
+fits as_key true false suits token none = refl
+fits as_key false true suits (Word letters) none = misplaced as_key (Word letters) none
+fits as_key false true suits (Mark mark) none = misplaced as_key (Mark mark) none
+fits as_key false true suits (Number number) none = misplaced as_key (Number number) none
+fits as_key false true suits (Quoted text closed) none = misplaced as_key (Quoted text closed) none
+fits as_key false true suits Strange none = cc
+fits as_key false true suits End none = cc
+fits as_key false false suits token none = refl
 
 -- what holds in any case holds of a success
 pub on_ok : {X E P : Type 0} (result : Result X E) → P → OnOk result P
 on_ok (Ok x) holds = holds
 on_ok (Err e) holds = tt
 
-pub fits_at : (standing : Standing) (allowed extra suits : Bool) (token : Token) → standing ≡ standing_of allowed extra suits → fault_of standing token ≡ None → extra ≡ false
-fits_at standing allowed extra suits token is none = fits allowed extra suits token (ap (λ s. fault_of s token) (sym is) ∙ none)
+pub fits_at : (as_key : Bool) (standing : Standing) (allowed extra suits : Bool) (token : Token) → standing ≡ standing_of allowed extra suits → fault_of as_key standing token ≡ None → extra ≡ false
+fits_at as_key standing allowed extra suits token is none = fits as_key allowed extra suits token (ap (λ s. fault_of as_key s token) (sym is) ∙ none)

@@ -1,5 +1,5 @@
 -- What a call that reads on answers, against what reading gives. It may run out of memory at any text.
-use Rattle.std.specs.Prelude.{◌≡◌, ℕ, ◌-◌, ⊤, List, Option, Some, None, Result, Ok, Err}
+use Rattle.std.specs.Prelude.{◌≡◌, ℕ, ◌-◌, ⊤, Bool, List, Option, Some, None, Result, Ok, Err}
 use Rattle.acc_lang.specs.declared.error.LangKind.{LangKind}
 use Rattle.acc_lang.specs.declared.fault.Fault.{Fault}
 use Rattle.acc_lang.specs.declared.fault.ReadError.{ReadError}
@@ -43,6 +43,6 @@ IsPlaced length (At fault) error = error ≡ FaultAt (length - fault.left) fault
 IsPlaced length OutOfMemory error = error ≡ NoMemory
 
 -- this is the first fault of the text. Memory may run out at any text
-abbrev pub IsFaultIn : List ℕ → LangError → Type 0
-IsFaultIn text (FaultAt at kind) = reading_fault text ≡ Some (kind, at)
-IsFaultIn text NoMemory = ⊤
+abbrev pub IsFaultIn : Bool → List ℕ → LangError → Type 0
+IsFaultIn texts text (FaultAt at kind) = reading_fault texts text ≡ Some (kind, at)
+IsFaultIn texts text NoMemory = ⊤

@@ -1,6 +1,8 @@
 -- The grammar: which texts are transactions, and which body each of them says. A production relates two places of a text, each
--- given by what follows it: from the one to the other stands such a part, and nothing else but blanks.
-use Rattle.std.specs.Prelude.{◌≡◌, ◌⊎◌, ◌≤◌, ℕ, true, false, ℤ, pos, neg_ℤ, List, [], ◌∷◌, codes, Some, slice_get, if◌then◌else◌}
+-- given by what follows it: from the one to the other stands such a part, and nothing else but blanks. There are two versions of the
+-- language: in version 2 a term may be a text, in version 1 it may not.
+use Rattle.std.specs.Prelude.{◌≡◌, ◌⊎◌, ◌≤◌, ◌+◌, ℕ, Bool, true, false, ℤ, pos, neg_ℤ, List, [], ◌∷◌, codes, Some, slice_get, if◌then◌else◌}
+use Rattle.acc_base.specs.Numbers.{greatest_i64}
 use Rattle.acc_token.specs.Tokens.{Token, Word, Mark, Number as Digits, Quoted, End, token_at, behind}
 use Rattle.acc_txn.specs.declared.parts.Let.{Let}
 use Rattle.acc_txn.specs.declared.parts.Select.{Select}
@@ -8,7 +10,7 @@ use Rattle.acc_txn.specs.declared.parts.Select.TheVariants.{Nothing, Names, Get}
 use Rattle.acc_txn.specs.declared.parts.Operator.{Operator}
 use Rattle.acc_txn.specs.declared.parts.Operator.TheVariants.{Equal, Differs, Less, AtMost, More, AtLeast}
 use Rattle.acc_txn.specs.declared.parts.Term.{Term}
-use Rattle.acc_txn.specs.declared.parts.Term.TheVariants.{Number, Name, Null}
+use Rattle.acc_txn.specs.declared.parts.Term.TheVariants.{Number, Name, Null, Text}
 use Rattle.acc_txn.specs.declared.parts.Part.{Part}
 use Rattle.acc_txn.specs.declared.parts.Condition.{Condition}
 use Rattle.acc_txn.specs.declared.parts.Condition.TheVariants.{Compare, IsNull, IsNotNull}
@@ -64,25 +66,8 @@ SelectSpelled lets (Get key) from to =
 -- [ - ] number, which with its sign fits 64 bits
 abbrev pub NumberSpelled : ℤ → List ℕ → List ℕ → Type 0
 NumberSpelled number from to =
-    ((n : ℕ) × (n ≤ 9223372036854775807) × (number ≡ pos n) × Spells (Digits (Some n) ∷ []) from to)
-    ⊎ ((n : ℕ) × (n ≤ 9223372036854775808) × (number ≡ neg_ℤ (pos n)) × Spells (Mark (codes "-") ∷ Digits (Some n) ∷ []) from to)
-
--- [ - ] number | name . v | NULL
-abbrev pub TermSpelled : List Let → Term → List ℕ → List ℕ → Type 0
-TermSpelled lets (Number number) from to = NumberSpelled number from to
-TermSpelled lets (Name name) from to = NameSpelled lets name from to
-TermSpelled lets Null from to = Spells (Word (codes "null") ∷ []) from to
-
--- ( + | - ) term
-abbrev pub PartSpelled : List Let → Part → List ℕ → List ℕ → Type 0
-PartSpelled lets part from to =
-    Behind (Mark (if part.minus then codes "-" else codes "+") ∷ []) (TermSpelled lets) part.term from to
-
--- term { ( + | - ) term }
-abbrev pub ExpressionSpelled : List Let → List Part → List ℕ → List ℕ → Type 0
-ExpressionSpelled lets [] from to = ⊥
-ExpressionSpelled lets (first ∷ parts) from to =
-    (next : List ℕ) × (first.minus ≡ false) × TermSpelled lets first.term from next × Each (PartSpelled lets) parts next to
+    ((n : ℕ) × (n ≤ greatest_i64) × (number ≡ pos n) × Spells (Digits (Some n) ∷ []) from to)
+    ⊎ ((n : ℕ) × (n ≤ greatest_i64 + 1) × (number ≡ neg_ℤ (pos n)) × Spells (Mark (codes "-") ∷ Digits (Some n) ∷ []) from to)
 
 abbrev pub operator_mark : Operator → List ℕ
 operator_mark Equal = codes "="
@@ -92,61 +77,81 @@ operator_mark AtMost = codes "<="
 operator_mark More = codes ">"
 operator_mark AtLeast = codes ">="
 
--- expression ( = | != | < | <= | > | >= ) expression | name . v IS NULL | name . v IS NOT NULL
-abbrev pub ConditionSpelled : List Let → Condition → List ℕ → List ℕ → Type 0
-ConditionSpelled lets (Compare op left right) from to =
-    (next : List ℕ) × ExpressionSpelled lets left from next
-    × Behind (Mark (operator_mark op) ∷ []) (ExpressionSpelled lets) right next to
-ConditionSpelled lets (IsNull name) from to =
-    (next : List ℕ) × NameSpelled lets name from next × Spells (Word (codes "is") ∷ Word (codes "null") ∷ []) next to
-ConditionSpelled lets (IsNotNull name) from to =
-    (next : List ℕ) × NameSpelled lets name from next
-    × Spells (Word (codes "is") ∷ Word (codes "not") ∷ Word (codes "null") ∷ []) next to
+-- Text values are allowed where the flag is set
+module _ (texts : Bool) where
+  -- [ - ] number | name . v | NULL | 'text', the last in version 2 alone
+  abbrev pub TermSpelled : List Let → Term → List ℕ → List ℕ → Type 0
+  TermSpelled lets (Number number) from to = NumberSpelled number from to
+  TermSpelled lets (Name name) from to = NameSpelled lets name from to
+  TermSpelled lets Null from to = Spells (Word (codes "null") ∷ []) from to
+  TermSpelled lets (Text text) from to = (texts ≡ true) × Spells (Quoted text true ∷ []) from to
 
--- UPDATE table SET v = expression WHERE k = 'key' ; | DELETE FROM table WHERE k = 'key' ;
-abbrev pub UpdateSpelled : List Let → Update → List ℕ → List ℕ → Type 0
-UpdateSpelled lets (Set key value) from to =
-    (next : List ℕ)
-    × Behind (Word (codes "update") ∷ Word key.table ∷ Word (codes "set") ∷ Word (codes "v") ∷ Mark (codes "=") ∷ []) (ExpressionSpelled lets) value from next
-    × Spells (Word (codes "where") ∷ Word (codes "k") ∷ Mark (codes "=") ∷ Quoted key.key true ∷ Mark (codes ";") ∷ []) next to
-UpdateSpelled lets (Delete key) from to =
-    Spells
-    (Word (codes "delete") ∷ Word (codes "from") ∷ Word key.table ∷ Word (codes "where") ∷ Word (codes "k") ∷ Mark (codes "=")
-    ∷ Quoted key.key true ∷ Mark (codes ";") ∷ [])
-    from to
+  -- ( + | - ) term
+  abbrev pub PartSpelled : List Let → Part → List ℕ → List ℕ → Type 0
+  PartSpelled lets part from to =
+      Behind (Mark (if part.minus then codes "-" else codes "+") ∷ []) (TermSpelled lets) part.term from to
 
--- IF condition { AND condition } THEN update { update } END IF [ ; ]
-abbrev pub GuardedSpelled : List Let → Condition → List Condition → List Update → List ℕ → List ℕ → Type 0
-GuardedSpelled lets guard guards [] from to = ⊥
-GuardedSpelled lets guard guards (update ∷ updates) from to =
-    (a : List ℕ) × (b : List ℕ) × (c : List ℕ) × (d : List ℕ) × (e : List ℕ)
-    × Behind (Word (codes "if") ∷ []) (ConditionSpelled lets) guard from a
-    × Each (Behind (Word (codes "and") ∷ []) (ConditionSpelled lets)) guards a b
-    × Behind (Word (codes "then") ∷ []) (UpdateSpelled lets) update b c
-    × Each (UpdateSpelled lets) updates c d
-    × Spells (Word (codes "end") ∷ Word (codes "if") ∷ []) d e × MaybeSemicolon e to
+  -- term { ( + | - ) term }
+  abbrev pub ExpressionSpelled : List Let → List Part → List ℕ → List ℕ → Type 0
+  ExpressionSpelled lets [] from to = ⊥
+  ExpressionSpelled lets (first ∷ parts) from to =
+      (next : List ℕ) × (first.minus ≡ false) × TermSpelled lets first.term from next × Each (PartSpelled lets) parts next to
 
--- { update } | IF condition { AND condition } THEN update { update } END IF [ ; ]
-abbrev pub ActionSpelled : List Let → List Condition → List Update → List ℕ → List ℕ → Type 0
-ActionSpelled lets [] updates from to = Each (UpdateSpelled lets) updates from to
-ActionSpelled lets (guard ∷ guards) updates from to = GuardedSpelled lets guard guards updates from to
+  -- expression ( = | != | < | <= | > | >= ) expression | name . v IS NULL | name . v IS NOT NULL
+  abbrev pub ConditionSpelled : List Let → Condition → List ℕ → List ℕ → Type 0
+  ConditionSpelled lets (Compare op left right) from to =
+      (next : List ℕ) × ExpressionSpelled lets left from next
+      × Behind (Mark (operator_mark op) ∷ []) (ExpressionSpelled lets) right next to
+  ConditionSpelled lets (IsNull name) from to =
+      (next : List ℕ) × NameSpelled lets name from next × Spells (Word (codes "is") ∷ Word (codes "null") ∷ []) next to
+  ConditionSpelled lets (IsNotNull name) from to =
+      (next : List ℕ) × NameSpelled lets name from next
+      × Spells (Word (codes "is") ∷ Word (codes "not") ∷ Word (codes "null") ∷ []) next to
 
--- BEGIN TRANSACTION { let } [ select ] action COMMIT TRANSACTION [ ; ]
-pub record Spelled (text : List ℕ) (parts : BodyParts) : Type 0 where
-  pub lets_place : List ℕ
-  pub select_place : List ℕ
-  pub action_place : List ℕ
-  pub commit_place : List ℕ
-  pub end_place : List ℕ
-  pub last_place : List ℕ
-  pub begins : Spells (Word (codes "begin") ∷ Word (codes "transaction") ∷ []) text lets_place
-  pub lets : Each LetSpelled parts.lets lets_place select_place
-  pub select : SelectSpelled parts.lets parts.select select_place action_place
-  pub action : ActionSpelled parts.lets parts.guards parts.updates action_place commit_place
-  pub commits : Spells (Word (codes "commit") ∷ Word (codes "transaction") ∷ []) commit_place end_place
-  pub semicolon : MaybeSemicolon end_place last_place
-  pub ends : token_at last_place ≡ End
+  -- UPDATE table SET v = expression WHERE k = 'key' ; | DELETE FROM table WHERE k = 'key' ;
+  abbrev pub UpdateSpelled : List Let → Update → List ℕ → List ℕ → Type 0
+  UpdateSpelled lets (Set key value) from to =
+      (next : List ℕ)
+      × Behind (Word (codes "update") ∷ Word key.table ∷ Word (codes "set") ∷ Word (codes "v") ∷ Mark (codes "=") ∷ []) (ExpressionSpelled lets) value from next
+      × Spells (Word (codes "where") ∷ Word (codes "k") ∷ Mark (codes "=") ∷ Quoted key.key true ∷ Mark (codes ";") ∷ []) next to
+  UpdateSpelled lets (Delete key) from to =
+      Spells
+      (Word (codes "delete") ∷ Word (codes "from") ∷ Word key.table ∷ Word (codes "where") ∷ Word (codes "k") ∷ Mark (codes "=")
+      ∷ Quoted key.key true ∷ Mark (codes ";") ∷ [])
+      from to
 
--- the text is spelled by the grammar, and says these parts, which keep the rules of bodies
-abbrev pub IsTextOf : List ℕ → BodyParts → Type 0
-IsTextOf text parts = Spelled text parts × IsBody parts
+  -- IF condition { AND condition } THEN update { update } END IF [ ; ]
+  abbrev pub GuardedSpelled : List Let → Condition → List Condition → List Update → List ℕ → List ℕ → Type 0
+  GuardedSpelled lets guard guards [] from to = ⊥
+  GuardedSpelled lets guard guards (update ∷ updates) from to =
+      (a : List ℕ) × (b : List ℕ) × (c : List ℕ) × (d : List ℕ) × (e : List ℕ)
+      × Behind (Word (codes "if") ∷ []) (ConditionSpelled lets) guard from a
+      × Each (Behind (Word (codes "and") ∷ []) (ConditionSpelled lets)) guards a b
+      × Behind (Word (codes "then") ∷ []) (UpdateSpelled lets) update b c
+      × Each (UpdateSpelled lets) updates c d
+      × Spells (Word (codes "end") ∷ Word (codes "if") ∷ []) d e × MaybeSemicolon e to
+
+  -- { update } | IF condition { AND condition } THEN update { update } END IF [ ; ]
+  abbrev pub ActionSpelled : List Let → List Condition → List Update → List ℕ → List ℕ → Type 0
+  ActionSpelled lets [] updates from to = Each (UpdateSpelled lets) updates from to
+  ActionSpelled lets (guard ∷ guards) updates from to = GuardedSpelled lets guard guards updates from to
+
+  -- BEGIN TRANSACTION { let } [ select ] action COMMIT TRANSACTION [ ; ]
+  pub record Spelled (text : List ℕ) (parts : BodyParts) : Type 0 where
+    pub lets_place : List ℕ
+    pub select_place : List ℕ
+    pub action_place : List ℕ
+    pub commit_place : List ℕ
+    pub end_place : List ℕ
+    pub last_place : List ℕ
+    pub begins : Spells (Word (codes "begin") ∷ Word (codes "transaction") ∷ []) text lets_place
+    pub lets : Each LetSpelled parts.lets lets_place select_place
+    pub select : SelectSpelled parts.lets parts.select select_place action_place
+    pub action : ActionSpelled parts.lets parts.guards parts.updates action_place commit_place
+    pub commits : Spells (Word (codes "commit") ∷ Word (codes "transaction") ∷ []) commit_place end_place
+    pub semicolon : MaybeSemicolon end_place last_place
+    pub ends : token_at last_place ≡ End
+
+  -- the text is spelled by the grammar, and says these parts, which keep the rules of bodies
+  abbrev pub IsTextOf : List ℕ → BodyParts → Type 0
+  IsTextOf text parts = Spelled text parts × IsBody parts

@@ -3,3 +3,4 @@ pub mod Reading
 pub mod Grammar
 pub mod Answer
 pub mod First
+pub mod Texts

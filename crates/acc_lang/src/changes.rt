@@ -23,18 +23,19 @@ const MOST_UPDATES: usize = 16;
 pub fn more_updates(
     alloc: Global,
     cursor: &mut Cursor<'_>,
+    texts: bool,
     uses: &mut Footprint,
     lets: &[Let],
     updates: Updates,
 ) -> Result<Updates, ReadError>
     requires lets { length lets.now ≤ 16 }
     requires updates { length updates ≤ 16 }
-    ensures { Gives (λ all. (all, uses.new)) result cursor.new.rest.now (more_updates_from lets.now (16 - length updates) (updates, uses.old) cursor.old.rest.now) }
+    ensures { Gives (λ all. (all, uses.new)) result cursor.new.rest.now (more_updates_from texts lets.now (16 - length updates) (updates, uses.old) cursor.old.rest.now) }
 {
     let mut all = updates;
-    'updates: while begins_update(&cursor.peek().lexeme) {
+    'updates: while begins_update(cursor.peek()) {
         let extra = all.len() == MOST_UPDATES;
-        let next = update(alloc, cursor, uses, lets, extra)?;
+        let next = update(alloc, cursor, texts, uses, lets, extra)?;
         all.push(next)?;
     }
     Ok(all)
@@ -45,24 +46,26 @@ pub fn more_updates(
 pub fn update(
     alloc: Global,
     cursor: &mut Cursor<'_>,
+    texts: bool,
     uses: &mut Footprint,
     lets: &[Let],
     extra: bool,
 ) -> Result<Update, ReadError>
     requires { length lets.now ≤ 16 }
-    ensures update { Gives (λ update. update) result cursor.new.rest.now (update_from extra uses.old lets.now cursor.old.rest.now) }
+    ensures update { Gives (λ update. update) result cursor.new.rest.now (update_from texts extra uses.old lets.now cursor.old.rest.now) }
     ensures uses { IfOk result (λ update. uses.new ≡ used uses.old (key_written update) true) }
     ensures room { OnOk result (extra ≡ false) }
 {
     let shown = cursor.next();
     check(
         &shown,
+        !texts,
         standing_of(begins_update(&shown.lexeme), extra, true),
     )?;
     if is_word(&shown.lexeme, "update") {
-        assignment(alloc, cursor, uses, lets)
+        assignment(alloc, cursor, texts, uses, lets)
     } else {
-        removal(alloc, cursor, uses)
+        removal(alloc, cursor, texts, uses)
     }
 }
 
@@ -71,20 +74,21 @@ pub fn update(
 fn assignment(
     alloc: Global,
     cursor: &mut Cursor<'_>,
+    texts: bool,
     uses: &mut Footprint,
     lets: &[Let],
 ) -> Result<Update, ReadError>
     requires { length lets.now ≤ 16 }
-    ensures update { Gives (λ update. update) result cursor.new.rest.now (assignment_from uses.old lets.now cursor.old.rest.now) }
+    ensures update { Gives (λ update. update) result cursor.new.rest.now (assignment_from texts uses.old lets.now cursor.old.rest.now) }
     ensures uses { IfOk result (λ update. uses.new ≡ used uses.old (key_written update) true) }
 {
-    let name = table(alloc, cursor)?;
-    take_word(cursor, "set")?;
-    take_word(cursor, "v")?;
-    take_mark(cursor, "=")?;
-    let value = expression(alloc, cursor, lets)?;
-    let key = where_key(alloc, cursor, uses, true, name)?;
-    take_mark(cursor, ";")?;
+    let name = table(alloc, cursor, texts)?;
+    take_word(cursor, texts, "set")?;
+    take_word(cursor, texts, "v")?;
+    take_mark(cursor, texts, "=")?;
+    let value = expression(alloc, cursor, texts, lets)?;
+    let key = where_key(alloc, cursor, texts, uses, true, name)?;
+    take_mark(cursor, texts, ";")?;
     Ok(Update::Set { key, value })
 }
 
@@ -93,12 +97,13 @@ fn assignment(
 fn removal(
     alloc: Global,
     cursor: &mut Cursor<'_>,
+    texts: bool,
     uses: &mut Footprint,
 ) -> Result<Update, ReadError>
-    ensures update { Gives (λ update. update) result cursor.new.rest.now (removal_from uses.old cursor.old.rest.now) }
+    ensures update { Gives (λ update. update) result cursor.new.rest.now (removal_from texts uses.old cursor.old.rest.now) }
     ensures uses { IfOk result (λ update. uses.new ≡ used uses.old (key_written update) true) }
 {
-    let key = from_key(alloc, cursor, uses, true)?;
-    take_mark(cursor, ";")?;
+    let key = from_key(alloc, cursor, texts, uses, true)?;
+    take_mark(cursor, texts, ";")?;
     Ok(Update::Delete { key })
 }

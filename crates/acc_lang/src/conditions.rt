@@ -23,31 +23,33 @@ const MOST_CONDITIONS: usize = 16;
 pub fn conditions(
     alloc: Global,
     cursor: &mut Cursor<'_>,
+    texts: bool,
     lets: &[Let],
 ) -> Result<Conditions, ReadError>
     requires { length lets.now ≤ 16 }
-    ensures { Gives (λ all. all) result cursor.new.rest.now (conditions_from lets.now cursor.old.rest.now) }
+    ensures { Gives (λ all. all) result cursor.new.rest.now (conditions_from texts lets.now cursor.old.rest.now) }
 {
-    let first = condition(alloc, cursor, lets, false)?;
-    let all = more_conditions(alloc, cursor, lets, first)?;
-    take_word(cursor, "then")?;
+    let first = condition(alloc, cursor, texts, lets, false)?;
+    let all = more_conditions(alloc, cursor, texts, lets, first)?;
+    take_word(cursor, texts, "then")?;
     Ok(all)
 }
 
 fn more_conditions(
     alloc: Global,
     cursor: &mut Cursor<'_>,
+    texts: bool,
     lets: &[Let],
     first: Condition,
 ) -> Result<Conditions, ReadError>
     requires { length lets.now ≤ 16 }
-    ensures { Gives (λ all. all) result cursor.new.rest.now (more_conditions_from lets.now 15 (first ∷ []) cursor.old.rest.now) }
+    ensures { Gives (λ all. all) result cursor.new.rest.now (more_conditions_from texts lets.now 15 (first ∷ []) cursor.old.rest.now) }
 {
     let mut all = Sequence::new(alloc);
     all.push(first)?;
-    'conditions: while is_word(&cursor.peek().lexeme, "and") {
+    'conditions: while is_word(cursor.peek(), "and") {
         let extra = all.len() == MOST_CONDITIONS;
-        let next = one_condition(alloc, cursor, lets, extra)?;
+        let next = one_condition(alloc, cursor, texts, lets, extra)?;
         all.push(next)?;
     }
     Ok(all)
@@ -58,30 +60,32 @@ fn more_conditions(
 fn one_condition(
     alloc: Global,
     cursor: &mut Cursor<'_>,
+    texts: bool,
     lets: &[Let],
     extra: bool,
 ) -> Result<Condition, ReadError>
     requires { length lets.now ≤ 16 }
-    ensures next { (all : List Condition) → Gives (λ next. all ++ next ∷ []) result cursor.new.rest.now (one_condition_from lets.now extra all cursor.old.rest.now) }
+    ensures next { (all : List Condition) → Gives (λ next. all ++ next ∷ []) result cursor.new.rest.now (one_condition_from texts lets.now extra all cursor.old.rest.now) }
     ensures room { OnOk result (extra ≡ false) }
 {
-    take_word(cursor, "and")?;
-    condition(alloc, cursor, lets, extra)
+    take_word(cursor, texts, "and")?;
+    condition(alloc, cursor, texts, lets, extra)
 }
 
 #[tactic(auto, using(crate::proofs::Taking::fails_on), unfolding(crate::specs::Reading::condition))]
 fn condition(
     alloc: Global,
     cursor: &mut Cursor<'_>,
+    texts: bool,
     lets: &[Let],
     extra: bool,
 ) -> Result<Condition, ReadError>
     requires { length lets.now ≤ 16 }
-    ensures condition { Gives (λ condition. condition) result cursor.new.rest.now (condition_from extra lets.now cursor.old.rest.now) }
+    ensures condition { Gives (λ condition. condition) result cursor.new.rest.now (condition_from texts extra lets.now cursor.old.rest.now) }
     ensures room { OnOk result (extra ≡ false) }
 {
-    let first = term(cursor, lets, extra)?;
-    condition_from(alloc, cursor, lets, first)
+    let first = term(alloc, cursor, texts, lets, extra)?;
+    condition_from(alloc, cursor, texts, lets, first)
 }
 
 // Behind the first term: IS NULL and IS NOT NULL only behind a name.
@@ -89,32 +93,33 @@ fn condition(
 fn condition_from(
     alloc: Global,
     cursor: &mut Cursor<'_>,
+    texts: bool,
     lets: &[Let],
     first: Term,
 ) -> Result<Condition, ReadError>
     requires { length lets.now ≤ 16 }
-    ensures { Gives (λ condition. condition) result cursor.new.rest.now (condition_from_term lets.now first cursor.old.rest.now) }
+    ensures { Gives (λ condition. condition) result cursor.new.rest.now (condition_from_term texts lets.now first cursor.old.rest.now) }
 {
     match first {
-        Term::Name(name) if is_word(&cursor.peek().lexeme, "is") => {
+        Term::Name(name) if is_word(cursor.peek(), "is") => {
             cursor.next();
-            null_test(cursor, name)
+            null_test(cursor, texts, name)
         }
-        _ => comparison(alloc, cursor, lets, first),
+        _ => comparison(alloc, cursor, texts, lets, first),
     }
 }
 
 /// `NULL` or `NOT NULL`
 #[tactic(auto, using(crate::proofs::Taking::fails_on), unfolding(crate::specs::Reading::null_test))]
-fn null_test(cursor: &mut Cursor<'_>, name: u8) -> Result<Condition, ReadError>
-    ensures { Gives (λ condition. condition) result cursor.new.rest.now (null_test_from name cursor.old.rest.now) }
+fn null_test(cursor: &mut Cursor<'_>, texts: bool, name: u8) -> Result<Condition, ReadError>
+    ensures { Gives (λ condition. condition) result cursor.new.rest.now (null_test_from texts name cursor.old.rest.now) }
 {
-    if is_word(&cursor.peek().lexeme, "not") {
+    if is_word(cursor.peek(), "not") {
         cursor.next();
-        take_word(cursor, "null")?;
+        take_word(cursor, texts, "null")?;
         Ok(Condition::IsNotNull(name))
     } else {
-        take_word(cursor, "null")?;
+        take_word(cursor, texts, "null")?;
         Ok(Condition::IsNull(name))
     }
 }
@@ -123,25 +128,26 @@ fn null_test(cursor: &mut Cursor<'_>, name: u8) -> Result<Condition, ReadError>
 fn comparison(
     alloc: Global,
     cursor: &mut Cursor<'_>,
+    texts: bool,
     lets: &[Let],
     first: Term,
 ) -> Result<Condition, ReadError>
     requires { length lets.now ≤ 16 }
-    ensures { Gives (λ condition. condition) result cursor.new.rest.now (comparison_from lets.now first cursor.old.rest.now) }
+    ensures { Gives (λ condition. condition) result cursor.new.rest.now (comparison_from texts lets.now first cursor.old.rest.now) }
 {
-    let left = more_parts(alloc, cursor, lets, first)?;
-    let op = operator(cursor)?;
-    let right = expression(alloc, cursor, lets)?;
+    let left = more_parts(alloc, cursor, texts, lets, first)?;
+    let op = operator(cursor, texts)?;
+    let right = expression(alloc, cursor, texts, lets)?;
     Ok(Condition::Compare { op, left, right })
 }
 
 #[tactic(auto, using(crate::proofs::Taking::fails_at_once), unfolding(crate::specs::Reading::operator, crate::specs::Reading::step))]
-fn operator(cursor: &mut Cursor<'_>) -> Result<Operator, ReadError>
-    ensures { Gives (λ op. op) result cursor.new.rest.now (operator_from cursor.old.rest.now) }
+fn operator(cursor: &mut Cursor<'_>, texts: bool) -> Result<Operator, ReadError>
+    ensures { Gives (λ op. op) result cursor.new.rest.now (operator_from texts cursor.old.rest.now) }
 {
     let shown = cursor.next();
     let op = operator_of(&shown.lexeme);
-    check(&shown, standing_of(op.is_some(), false, true))?;
+    check(&shown, !texts, standing_of(op.is_some(), false, true))?;
     Ok(op.unwrap_or(Operator::Equal))
 }
 

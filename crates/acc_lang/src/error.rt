@@ -12,7 +12,8 @@ pub enum LangKind {
     Word = 2,
     /// A number that with its sign doesn't fit 64 bits.
     Number = 3,
-    /// No quote closes the text, or it is empty or longer than 64 bytes.
+    /// No quote closes the text, or it says what it mustn't. Where the grammar wants a key that is nothing or more than 64
+    /// bytes. Everywhere else it is the same in version 1, and in version 2 more than 255 bytes or a control character of ASCII.
     Text = 4,
     /// Nothing follows, though the grammar wants a token.
     Missing = 5,
@@ -45,7 +46,7 @@ impl fmt::Display for LangKind {
             LangKind::Char => "a byte that begins no token",
             LangKind::Word => "a token that isn't allowed here",
             LangKind::Number => "a number that doesn't fit 64 bits",
-            LangKind::Text => "a text in quotes that isn't 1 to 64 bytes and a closing quote",
+            LangKind::Text => "a text in quotes without its closing quote, or of another length or other bytes than it may have",
             LangKind::Missing => "the text ends too early",
             LangKind::Name => "a name that is too long, bound twice or not bound",
             LangKind::Size => "more than 16 of a kind, or no key",

@@ -1,5 +1,5 @@
 //! Tables and keys.
-ghost use Rattle.std.specs.Prelude.{◌≡◌, IfOk, length, false};
+ghost use Rattle.std.specs.Prelude.{◌≡◌, Bool, IfOk, length, false};
 ghost use Rattle.acc_value.specs.Footprint.{used};
 ghost use Rattle.acc_lang.specs.Answer.{Gives};
 ghost use Rattle.acc_lang.specs.Reading.{table as table_from, key_text as key_text_from, where_key as where_key_from, from_key as from_key_from};
@@ -18,11 +18,15 @@ const MOST_KEYS: usize = 16;
 
 /// The name of a table.
 #[tactic(auto, using(crate::proofs::Taking::fails_at_once), unfolding(crate::specs::Reading::table, crate::specs::Reading::step))]
-pub fn table(alloc: Global, cursor: &mut Cursor<'_>) -> Result<Text, ReadError>
-    ensures { Gives (λ name. name) result cursor.new.rest.now (table_from cursor.old.rest.now) }
+pub fn table(alloc: Global, cursor: &mut Cursor<'_>, texts: bool) -> Result<Text, ReadError>
+    ensures { Gives (λ name. name) result cursor.new.rest.now (table_from texts cursor.old.rest.now) }
 {
     let shown = cursor.next();
-    check(&shown, standing_of(is_free(&shown.lexeme), false, true))?;
+    check(
+        &shown,
+        !texts,
+        standing_of(is_free(&shown.lexeme), false, true),
+    )?;
     Ok(folded(alloc, letters_of(&shown.lexeme))?)
 }
 
@@ -35,7 +39,7 @@ fn key_text(
     writes: bool,
     table: Text,
 ) -> Result<Key, ReadError>
-    ensures key { Gives (λ key. key) result cursor.new.rest.now (key_text_from writes uses.old table cursor.old.rest.now) }
+    ensures key { (texts : Bool) → Gives (λ key. key) result cursor.new.rest.now (key_text_from texts writes uses.old table cursor.old.rest.now) }
     ensures uses { IfOk result (λ key. uses.new ≡ used uses.old key writes) }
 {
     let shown = cursor.next();
@@ -45,7 +49,11 @@ fn key_text(
     };
     uses.add(&key, writes)?;
     let extra = uses.len() > MOST_KEYS;
-    check(&shown, standing_of(is_quoted(&shown.lexeme), extra, true))?;
+    check(
+        &shown,
+        true,
+        standing_of(is_quoted(&shown.lexeme), extra, true),
+    )?;
     Ok(key)
 }
 
@@ -54,16 +62,17 @@ fn key_text(
 pub fn where_key(
     alloc: Global,
     cursor: &mut Cursor<'_>,
+    texts: bool,
     uses: &mut Footprint,
     writes: bool,
     table: Text,
 ) -> Result<Key, ReadError>
-    ensures key { Gives (λ key. key) result cursor.new.rest.now (where_key_from writes uses.old table cursor.old.rest.now) }
+    ensures key { Gives (λ key. key) result cursor.new.rest.now (where_key_from texts writes uses.old table cursor.old.rest.now) }
     ensures uses { IfOk result (λ key. uses.new ≡ used uses.old key writes) }
 {
-    take_word(cursor, "where")?;
-    take_word(cursor, "k")?;
-    take_mark(cursor, "=")?;
+    take_word(cursor, texts, "where")?;
+    take_word(cursor, texts, "k")?;
+    take_mark(cursor, texts, "=")?;
     key_text(alloc, cursor, uses, writes, table)
 }
 
@@ -72,13 +81,14 @@ pub fn where_key(
 pub fn from_key(
     alloc: Global,
     cursor: &mut Cursor<'_>,
+    texts: bool,
     uses: &mut Footprint,
     writes: bool,
 ) -> Result<Key, ReadError>
-    ensures key { Gives (λ key. key) result cursor.new.rest.now (from_key_from writes uses.old cursor.old.rest.now) }
+    ensures key { Gives (λ key. key) result cursor.new.rest.now (from_key_from texts writes uses.old cursor.old.rest.now) }
     ensures uses { IfOk result (λ key. uses.new ≡ used uses.old key writes) }
 {
-    take_word(cursor, "from")?;
-    let name = table(alloc, cursor)?;
-    where_key(alloc, cursor, uses, writes, name)
+    take_word(cursor, texts, "from")?;
+    let name = table(alloc, cursor, texts)?;
+    where_key(alloc, cursor, texts, uses, writes, name)
 }

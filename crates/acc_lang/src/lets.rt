@@ -20,14 +20,19 @@ use std::alloc::Global;
 const MOST_LETS: usize = 16;
 
 /// All LETs, up to the first token that begins none.
-pub fn lets(alloc: Global, cursor: &mut Cursor<'_>, uses: &mut Footprint) -> Result<Lets, ReadError>
-    ensures lets { Gives (λ lets. (lets, uses.new)) result cursor.new.rest.now (more_lets 16 ([], uses.old) cursor.old.rest.now) }
+pub fn lets(
+    alloc: Global,
+    cursor: &mut Cursor<'_>,
+    texts: bool,
+    uses: &mut Footprint,
+) -> Result<Lets, ReadError>
+    ensures lets { Gives (λ lets. (lets, uses.new)) result cursor.new.rest.now (more_lets texts 16 ([], uses.old) cursor.old.rest.now) }
     ensures few { IfOk result (λ lets. length lets ≤ 16) }
 {
     let mut lets = Sequence::new(alloc);
-    'lets: while is_word(&cursor.peek().lexeme, "let") {
+    'lets: while is_word(cursor.peek(), "let") {
         let extra = lets.len() == MOST_LETS;
-        let next = one_let(alloc, cursor, uses, lets.as_slice(), extra)?;
+        let next = one_let(alloc, cursor, texts, uses, lets.as_slice(), extra)?;
         lets.push(next)?;
     }
     Ok(lets)
@@ -37,19 +42,21 @@ pub fn lets(alloc: Global, cursor: &mut Cursor<'_>, uses: &mut Footprint) -> Res
 fn one_let(
     alloc: Global,
     cursor: &mut Cursor<'_>,
+    texts: bool,
     uses: &mut Footprint,
     lets: &[Let],
     extra: bool,
 ) -> Result<Let, ReadError>
-    ensures next { Gives (λ l. (lets.now ++ l ∷ [], uses.new)) result cursor.new.rest.now (one_let_from extra (lets.now, uses.old) cursor.old.rest.now) }
+    ensures next { Gives (λ l. (lets.now ++ l ∷ [], uses.new)) result cursor.new.rest.now (one_let_from texts extra (lets.now, uses.old) cursor.old.rest.now) }
     ensures room { OnOk result (extra ≡ false) }
 {
     let shown = cursor.next();
     check(
         &shown,
+        !texts,
         standing_of(is_word(&shown.lexeme, "let"), extra, true),
     )?;
-    binding(alloc, cursor, uses, lets)
+    binding(alloc, cursor, texts, uses, lets)
 }
 
 /// `name = ( SELECT v FROM table WHERE k = 'key' ) ;`
@@ -57,19 +64,20 @@ fn one_let(
 fn binding(
     alloc: Global,
     cursor: &mut Cursor<'_>,
+    texts: bool,
     uses: &mut Footprint,
     lets: &[Let],
 ) -> Result<Let, ReadError>
-    ensures binding { Gives (λ l. l) result cursor.new.rest.now (binding_from uses.old lets.now cursor.old.rest.now) }
+    ensures binding { Gives (λ l. l) result cursor.new.rest.now (binding_from texts uses.old lets.now cursor.old.rest.now) }
     ensures uses { IfOk result (λ l. uses.new ≡ used uses.old l.key false) }
 {
-    let name = new_name(alloc, cursor, lets)?;
-    take_mark(cursor, "=")?;
-    take_mark(cursor, "(")?;
-    take_word(cursor, "select")?;
-    take_word(cursor, "v")?;
-    let key = from_key(alloc, cursor, uses, false)?;
-    take_mark(cursor, ")")?;
-    take_mark(cursor, ";")?;
+    let name = new_name(alloc, cursor, texts, lets)?;
+    take_mark(cursor, texts, "=")?;
+    take_mark(cursor, texts, "(")?;
+    take_word(cursor, texts, "select")?;
+    take_word(cursor, texts, "v")?;
+    let key = from_key(alloc, cursor, texts, uses, false)?;
+    take_mark(cursor, texts, ")")?;
+    take_mark(cursor, texts, ";")?;
     Ok(Let { name, key })
 }

@@ -11,27 +11,6 @@ use acc_base::{OutOfMemory, Sequence, Text};
 use acc_token::Lexeme;
 use std::alloc::Global;
 
-/// The words that name no LET and no table, since they belong to the language.
-const RESERVED: [&str; 17] = [
-    "begin",
-    "transaction",
-    "let",
-    "select",
-    "from",
-    "where",
-    "if",
-    "then",
-    "end",
-    "update",
-    "set",
-    "delete",
-    "commit",
-    "and",
-    "is",
-    "not",
-    "null",
-];
-
 /// Whether letters of either case spell a word in small letters.
 pub fn spells(letters: &[u8], word: &[u8]) -> bool
     ensures { result ≡ bytes_eq (map to_ascii_lowercase letters.now) word.now }
@@ -88,15 +67,30 @@ pub fn is_free(lexeme: &Lexeme<'_>) -> bool
     ensures { result ≡ is_free_of (token_shown lexeme.now) }
 {
     match lexeme {
-        Lexeme::Word(letters) => !is_reserved(letters, &RESERVED),
+        Lexeme::Word(letters) => !is_reserved(letters),
         _ => false,
     }
 }
 
-fn is_reserved(letters: &[u8], reserved: &[&str]) -> bool
-    ensures { result ≡ list_any (λ word. bytes_eq (map to_ascii_lowercase letters.now) word.now) reserved.now }
+// Whether a word names no LET and no table, since it belongs to the language.
+fn is_reserved(letters: &[u8]) -> bool
+    ensures { result ≡ is_reserved_word (map to_ascii_lowercase letters.now) }
 {
-    reserved.iter().any(|word| spells(letters, word.as_bytes()))
+    match letters.len() {
+        2 => is_any(letters, &["if", "is"]),
+        3 => is_any(letters, &["let", "end", "set", "and", "not"]),
+        4 => is_any(letters, &["from", "then", "null"]),
+        5 => is_any(letters, &["begin", "where"]),
+        6 => is_any(letters, &["select", "update", "delete", "commit"]),
+        11 => is_any(letters, &["transaction"]),
+        _ => false,
+    }
+}
+
+fn is_any(letters: &[u8], words: &[&str]) -> bool
+    ensures { result ≡ list_any (λ word. bytes_eq (map to_ascii_lowercase letters.now) word.now) words.now }
+{
+    words.iter().any(|word| spells(letters, word.as_bytes()))
 }
 
 /// Whether the token is a plus or a minus.

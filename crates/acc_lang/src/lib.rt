@@ -17,8 +17,5 @@ mod selects;
 mod sums;
 mod take;
 
-pub use body::parse;
+pub use body::{parse, parse_v2};
 pub use error::{LangError, LangKind};
-
-#[cfg(test)]
-mod tests;

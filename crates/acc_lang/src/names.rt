@@ -24,40 +24,60 @@ fn let_of(lets: &[Let], letters: &[u8]) -> Option<usize>
 
 /// A name that no LET binds yet.
 #[tactic(auto, using(crate::proofs::Taking::fails_at_once), unfolding(crate::specs::Reading::new_name, crate::specs::Reading::step))]
-pub fn new_name(alloc: Global, cursor: &mut Cursor<'_>, lets: &[Let]) -> Result<Text, ReadError>
-    ensures { Gives (λ name. name) result cursor.new.rest.now (new_name_from lets.now cursor.old.rest.now) }
+pub fn new_name(
+    alloc: Global,
+    cursor: &mut Cursor<'_>,
+    texts: bool,
+    lets: &[Let],
+) -> Result<Text, ReadError>
+    ensures { Gives (λ name. name) result cursor.new.rest.now (new_name_from texts lets.now cursor.old.rest.now) }
 {
     let shown = cursor.next();
     let letters = letters_of(&shown.lexeme);
     let is_new = let_of(lets, letters).is_none();
-    check(&shown, standing_of(is_free(&shown.lexeme), false, is_new))?;
+    check(
+        &shown,
+        !texts,
+        standing_of(is_free(&shown.lexeme), false, is_new),
+    )?;
     Ok(folded(alloc, letters)?)
 }
 
 /// `name . v`, which gives the number of the LET that binds the name.
 #[tactic(auto, using(crate::proofs::Taking::fails_on), unfolding(crate::specs::Reading::named))]
-pub fn named(cursor: &mut Cursor<'_>, lets: &[Let], extra: bool) -> Result<u8, ReadError>
+pub fn named(
+    cursor: &mut Cursor<'_>,
+    texts: bool,
+    lets: &[Let],
+    extra: bool,
+) -> Result<u8, ReadError>
     requires { length lets.now ≤ 16 }
-    ensures name { Gives (λ number. number) result cursor.new.rest.now (named_from extra lets.now cursor.old.rest.now) }
+    ensures name { Gives (λ number. number) result cursor.new.rest.now (named_from texts extra lets.now cursor.old.rest.now) }
     ensures room { OnOk result (extra ≡ false) }
 {
-    let number = bound_name(cursor, lets, extra)?;
-    take_mark(cursor, ".")?;
-    take_word(cursor, "v")?;
+    let number = bound_name(cursor, texts, lets, extra)?;
+    take_mark(cursor, texts, ".")?;
+    take_word(cursor, texts, "v")?;
     Ok(number)
 }
 
 // The name alone.
 #[tactic(auto, using(crate::proofs::Taking::fails_at_once, crate::proofs::Taking::fits), unfolding(crate::specs::Reading::bound_name, crate::specs::Reading::step))]
-fn bound_name(cursor: &mut Cursor<'_>, lets: &[Let], extra: bool) -> Result<u8, ReadError>
+fn bound_name(
+    cursor: &mut Cursor<'_>,
+    texts: bool,
+    lets: &[Let],
+    extra: bool,
+) -> Result<u8, ReadError>
     requires { length lets.now ≤ 16 }
-    ensures name { Gives (λ number. number) result cursor.new.rest.now (bound_name_from extra lets.now cursor.old.rest.now) }
+    ensures name { Gives (λ number. number) result cursor.new.rest.now (bound_name_from texts extra lets.now cursor.old.rest.now) }
     ensures room { OnOk result (extra ≡ false) }
 {
     let shown = cursor.next();
     let number = let_of(lets, letters_of(&shown.lexeme));
     check(
         &shown,
+        !texts,
         standing_of(is_free(&shown.lexeme), extra, number.is_some()),
     )?;
     Ok(number.unwrap_or(0) as u8)

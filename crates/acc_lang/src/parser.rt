@@ -1,7 +1,8 @@
 //! The whole text.
-ghost use Rattle.std.specs.Prelude.{◌≡◌, ◌≤◌, length};
+ghost use Rattle.std.specs.Prelude.{◌≡◌, ◌≤◌, [], true, false, length, IfOk};
+ghost use Rattle.acc_txn.specs.Uses.{selected_keys, written_keys, with_keys, footprint_of};
 ghost use Rattle.acc_lang.specs.Answer.{Gives, Passes, Answers};
-ghost use Rattle.acc_lang.specs.Reading.{guarded as guarded_from, unguarded as unguarded_from, action as action_from, commit as commit_from, finish as finish_from, opening, closing, behind_lets as behind_lets_from, reading};
+ghost use Rattle.acc_lang.specs.Reading.{guarded as guarded_from, unguarded as unguarded_from, action as action_from, commit_word as commit_word_from, commit as commit_from, finish as finish_from, opening, closing, behind_lets as behind_lets_from, reading};
 
 use crate::changes::{more_updates, update};
 use crate::conditions::conditions;
@@ -17,40 +18,50 @@ use acc_txn::{BodyParts, Conditions, Let, Lets, Updates};
 use acc_value::Footprint;
 use std::alloc::Global;
 
-/// `BEGIN TRANSACTION { let } [ select ] action COMMIT TRANSACTION [ ; ]`, and nothing behind it.
+/// `BEGIN TRANSACTION { let } [ select ] action COMMIT TRANSACTION [ ; ]`, and nothing behind it. `texts` tells whether text
+/// values are allowed. The keys that the body uses are added to the footprint.
 #[tactic(auto, using(crate::proofs::Taking::fails_on), unfolding(crate::specs::Reading::reading))]
-pub fn read(alloc: Global, text: &[u8]) -> Result<BodyParts, ReadError>
-    ensures { Answers result (reading text.now) }
+pub fn read(
+    alloc: Global,
+    text: &[u8],
+    texts: bool,
+    uses: &mut Footprint,
+) -> Result<BodyParts, ReadError>
+    requires { uses.old ≡ [] }
+    ensures parts { Answers result (reading texts text.now) }
+    ensures uses { IfOk result (λ parts. uses.new ≡ footprint_of parts) }
 {
     let mut cursor = Cursor::new(text);
-    let mut uses = Footprint::new(alloc);
-    open(&mut cursor)?;
-    let lets = lets(alloc, &mut cursor, &mut uses)?;
-    behind_lets(alloc, &mut cursor, &mut uses, lets)
+    open(&mut cursor, texts)?;
+    let lets = lets(alloc, &mut cursor, texts, uses)?;
+    behind_lets(alloc, &mut cursor, texts, uses, lets)
 }
 
 /// `BEGIN TRANSACTION`
 #[tactic(auto, using(crate::proofs::Taking::fails_on), unfolding(crate::specs::Reading::opening))]
-fn open(cursor: &mut Cursor<'_>) -> Result<(), ReadError>
-    ensures { Passes result cursor.new.rest.now (opening cursor.old.rest.now) }
+fn open(cursor: &mut Cursor<'_>, texts: bool) -> Result<(), ReadError>
+    ensures { Passes result cursor.new.rest.now (opening texts cursor.old.rest.now) }
 {
-    take_word(cursor, "begin")?;
-    take_word(cursor, "transaction")
+    take_word(cursor, texts, "begin")?;
+    take_word(cursor, texts, "transaction")
 }
 
 #[tactic(auto, using(crate::proofs::Taking::fails_on), unfolding(crate::specs::Reading::behind_lets))]
 fn behind_lets(
     alloc: Global,
     cursor: &mut Cursor<'_>,
+    texts: bool,
     uses: &mut Footprint,
     lets: Lets,
 ) -> Result<BodyParts, ReadError>
     requires { length lets ≤ 16 }
-    ensures { Answers result (behind_lets_from uses.old lets cursor.old.rest.now) }
+    ensures parts { Answers result (behind_lets_from texts uses.old lets cursor.old.rest.now) }
+    ensures lets { IfOk result (λ parts. parts.lets ≡ lets) }
+    ensures uses { IfOk result (λ parts. uses.new ≡ with_keys true (with_keys false uses.old (selected_keys parts.select)) (written_keys parts)) }
 {
-    let select = select(alloc, cursor, uses, lets.as_slice())?;
-    let (guards, updates) = action(alloc, cursor, uses, lets.as_slice())?;
-    close(cursor, uses)?;
+    let select = select(alloc, cursor, texts, uses, lets.as_slice())?;
+    let (guards, updates) = action(alloc, cursor, texts, uses, lets.as_slice())?;
+    close(cursor, texts, uses)?;
     Ok(BodyParts {
         lets,
         select,
@@ -61,10 +72,10 @@ fn behind_lets(
 
 /// `COMMIT TRANSACTION [ ; ]`, and nothing behind it.
 #[tactic(auto, using(crate::proofs::Taking::fails_on), unfolding(crate::specs::Reading::closing))]
-fn close(cursor: &mut Cursor<'_>, uses: &Footprint) -> Result<(), ReadError>
-    ensures { Passes result cursor.new.rest.now (closing uses.now cursor.old.rest.now) }
+fn close(cursor: &mut Cursor<'_>, texts: bool, uses: &Footprint) -> Result<(), ReadError>
+    ensures { Passes result cursor.new.rest.now (closing texts uses.now cursor.old.rest.now) }
 {
-    commit(cursor, uses)?;
+    commit(cursor, texts, uses)?;
     finish(cursor)
 }
 
@@ -72,17 +83,18 @@ fn close(cursor: &mut Cursor<'_>, uses: &Footprint) -> Result<(), ReadError>
 fn action(
     alloc: Global,
     cursor: &mut Cursor<'_>,
+    texts: bool,
     uses: &mut Footprint,
     lets: &[Let],
 ) -> Result<(Conditions, Updates), ReadError>
     requires { length lets.now ≤ 16 }
-    ensures { Gives (λ both. (both, uses.new)) result cursor.new.rest.now (action_from uses.old lets.now cursor.old.rest.now) }
+    ensures { Gives (λ both. (both, uses.new)) result cursor.new.rest.now (action_from texts uses.old lets.now cursor.old.rest.now) }
 {
-    if is_word(&cursor.peek().lexeme, "if") {
+    if is_word(cursor.peek(), "if") {
         cursor.next();
-        guarded(alloc, cursor, uses, lets)
+        guarded(alloc, cursor, texts, uses, lets)
     } else {
-        unguarded(alloc, cursor, uses, lets)
+        unguarded(alloc, cursor, texts, uses, lets)
     }
 }
 
@@ -91,18 +103,19 @@ fn action(
 fn guarded(
     alloc: Global,
     cursor: &mut Cursor<'_>,
+    texts: bool,
     uses: &mut Footprint,
     lets: &[Let],
 ) -> Result<(Conditions, Updates), ReadError>
     requires { length lets.now ≤ 16 }
-    ensures { Gives (λ both. (both, uses.new)) result cursor.new.rest.now (guarded_from uses.old lets.now cursor.old.rest.now) }
+    ensures { Gives (λ both. (both, uses.new)) result cursor.new.rest.now (guarded_from texts uses.old lets.now cursor.old.rest.now) }
 {
-    let guards = conditions(alloc, cursor, lets)?;
+    let guards = conditions(alloc, cursor, texts, lets)?;
     let mut first = Sequence::new(alloc);
-    first.push(update(alloc, cursor, uses, lets, false)?)?;
-    let updates = more_updates(alloc, cursor, uses, lets, first)?;
-    take_word(cursor, "end")?;
-    take_word(cursor, "if")?;
+    first.push(update(alloc, cursor, texts, uses, lets, false)?)?;
+    let updates = more_updates(alloc, cursor, texts, uses, lets, first)?;
+    take_word(cursor, texts, "end")?;
+    take_word(cursor, texts, "if")?;
     skip_mark(cursor, ";");
     Ok((guards, updates))
 }
@@ -111,30 +124,40 @@ fn guarded(
 fn unguarded(
     alloc: Global,
     cursor: &mut Cursor<'_>,
+    texts: bool,
     uses: &mut Footprint,
     lets: &[Let],
 ) -> Result<(Conditions, Updates), ReadError>
     requires { length lets.now ≤ 16 }
-    ensures { Gives (λ both. (both, uses.new)) result cursor.new.rest.now (unguarded_from uses.old lets.now cursor.old.rest.now) }
+    ensures { Gives (λ both. (both, uses.new)) result cursor.new.rest.now (unguarded_from texts uses.old lets.now cursor.old.rest.now) }
 {
-    let updates = more_updates(alloc, cursor, uses, lets, Sequence::new(alloc))?;
+    let updates = more_updates(alloc, cursor, texts, uses, lets, Sequence::new(alloc))?;
     Ok((Sequence::new(alloc), updates))
 }
 
-/// `COMMIT`, where there is a key, `TRANSACTION [ ; ]`
-#[tactic(auto, using(crate::proofs::Taking::fails_at_once, crate::proofs::Taking::fails_on), unfolding(crate::specs::Reading::commit, crate::specs::Reading::step))]
-fn commit(cursor: &mut Cursor<'_>, uses: &Footprint) -> Result<(), ReadError>
-    ensures { Passes result cursor.new.rest.now (commit_from uses.now cursor.old.rest.now) }
+/// `COMMIT TRANSACTION [ ; ]`
+#[tactic(auto, using(crate::proofs::Taking::fails_on), unfolding(crate::specs::Reading::commit))]
+fn commit(cursor: &mut Cursor<'_>, texts: bool, uses: &Footprint) -> Result<(), ReadError>
+    ensures { Passes result cursor.new.rest.now (commit_from texts uses.now cursor.old.rest.now) }
 {
-    let shown = cursor.next();
-    let extra = uses.is_empty();
-    check(
-        &shown,
-        standing_of(is_word(&shown.lexeme, "commit"), extra, true),
-    )?;
-    take_word(cursor, "transaction")?;
+    commit_word(cursor, texts, uses)?;
+    take_word(cursor, texts, "transaction")?;
     skip_mark(cursor, ";");
     Ok(())
+}
+
+/// `COMMIT`, where there is a key.
+#[tactic(auto, using(crate::proofs::Taking::passes), unfolding(crate::specs::Reading::commit_word, crate::specs::Reading::step))]
+fn commit_word(cursor: &mut Cursor<'_>, texts: bool, uses: &Footprint) -> Result<(), ReadError>
+    ensures { Passes result cursor.new.rest.now (commit_word_from texts uses.now cursor.old.rest.now) }
+{
+    let shown = cursor.next();
+    let keyless = uses.is_empty();
+    check(
+        &shown,
+        !texts,
+        standing_of(is_word(&shown.lexeme, "commit"), keyless, true),
+    )
 }
 
 #[tactic(auto, using(crate::proofs::Taking::passes), unfolding(crate::specs::Reading::finish))]

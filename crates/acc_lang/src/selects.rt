@@ -22,15 +22,16 @@ const MOST_ITEMS: usize = 16;
 pub fn select(
     alloc: Global,
     cursor: &mut Cursor<'_>,
+    texts: bool,
     uses: &mut Footprint,
     lets: &[Let],
 ) -> Result<Select, ReadError>
     requires { length lets.now ≤ 16 }
-    ensures { Gives (λ select. (select, uses.new)) result cursor.new.rest.now (select_from uses.old lets.now cursor.old.rest.now) }
+    ensures { Gives (λ select. (select, uses.new)) result cursor.new.rest.now (select_from texts uses.old lets.now cursor.old.rest.now) }
 {
-    if is_word(&cursor.peek().lexeme, "select") {
+    if is_word(cursor.peek(), "select") {
         cursor.next();
-        selected(alloc, cursor, uses, lets)
+        selected(alloc, cursor, texts, uses, lets)
     } else {
         Ok(Select::Nothing)
     }
@@ -41,16 +42,17 @@ pub fn select(
 fn selected(
     alloc: Global,
     cursor: &mut Cursor<'_>,
+    texts: bool,
     uses: &mut Footprint,
     lets: &[Let],
 ) -> Result<Select, ReadError>
     requires { length lets.now ≤ 16 }
-    ensures { Gives (λ select. (select, uses.new)) result cursor.new.rest.now (selected_from uses.old lets.now cursor.old.rest.now) }
+    ensures { Gives (λ select. (select, uses.new)) result cursor.new.rest.now (selected_from texts uses.old lets.now cursor.old.rest.now) }
 {
     if begins_get(cursor) {
-        get(alloc, cursor, uses)
+        get(alloc, cursor, texts, uses)
     } else {
-        let names = items(alloc, cursor, lets)?;
+        let names = items(alloc, cursor, texts, lets)?;
         Ok(Select::Names(names))
     }
 }
@@ -64,41 +66,52 @@ fn begins_get(cursor: &Cursor<'_>) -> bool
 
 /// `v FROM table WHERE k = 'key' ;`
 #[tactic(auto, using(crate::proofs::Taking::fails_on), unfolding(crate::specs::Reading::get))]
-fn get(alloc: Global, cursor: &mut Cursor<'_>, uses: &mut Footprint) -> Result<Select, ReadError>
-    ensures { Gives (λ select. (select, uses.new)) result cursor.new.rest.now (get_from uses.old cursor.old.rest.now) }
+fn get(
+    alloc: Global,
+    cursor: &mut Cursor<'_>,
+    texts: bool,
+    uses: &mut Footprint,
+) -> Result<Select, ReadError>
+    ensures { Gives (λ select. (select, uses.new)) result cursor.new.rest.now (get_from texts uses.old cursor.old.rest.now) }
 {
-    take_word(cursor, "v")?;
-    let key = from_key(alloc, cursor, uses, false)?;
-    take_mark(cursor, ";")?;
+    take_word(cursor, texts, "v")?;
+    let key = from_key(alloc, cursor, texts, uses, false)?;
+    take_mark(cursor, texts, ";")?;
     Ok(Select::Get(key))
 }
 
 /// `name . v { , name . v } ;`
 #[tactic(auto, using(crate::proofs::Taking::fails_on), unfolding(crate::specs::Reading::items))]
-fn items(alloc: Global, cursor: &mut Cursor<'_>, lets: &[Let]) -> Result<Numbers, ReadError>
+fn items(
+    alloc: Global,
+    cursor: &mut Cursor<'_>,
+    texts: bool,
+    lets: &[Let],
+) -> Result<Numbers, ReadError>
     requires { length lets.now ≤ 16 }
-    ensures { Gives (λ names. names) result cursor.new.rest.now (items_from lets.now cursor.old.rest.now) }
+    ensures { Gives (λ names. names) result cursor.new.rest.now (items_from texts lets.now cursor.old.rest.now) }
 {
-    let first = named(cursor, lets, false)?;
-    let names = more_items(alloc, cursor, lets, first)?;
-    take_mark(cursor, ";")?;
+    let first = named(cursor, texts, lets, false)?;
+    let names = more_items(alloc, cursor, texts, lets, first)?;
+    take_mark(cursor, texts, ";")?;
     Ok(names)
 }
 
 fn more_items(
     alloc: Global,
     cursor: &mut Cursor<'_>,
+    texts: bool,
     lets: &[Let],
     first: u8,
 ) -> Result<Numbers, ReadError>
     requires { length lets.now ≤ 16 }
-    ensures { Gives (λ names. names) result cursor.new.rest.now (more_items_from lets.now 15 (first ∷ []) cursor.old.rest.now) }
+    ensures { Gives (λ names. names) result cursor.new.rest.now (more_items_from texts lets.now 15 (first ∷ []) cursor.old.rest.now) }
 {
     let mut names = Sequence::new(alloc);
     names.push(first)?;
-    'items: while is_mark(&cursor.peek().lexeme, ",") {
+    'items: while is_mark(cursor.peek(), ",") {
         let extra = names.len() == MOST_ITEMS;
-        let next = one_item(cursor, lets, extra)?;
+        let next = one_item(cursor, texts, lets, extra)?;
         names.push(next)?;
     }
     Ok(names)
@@ -106,11 +119,16 @@ fn more_items(
 
 /// `, name . v`
 #[tactic(auto, using(crate::proofs::Taking::fails_on), unfolding(crate::specs::Reading::one_item))]
-fn one_item(cursor: &mut Cursor<'_>, lets: &[Let], extra: bool) -> Result<u8, ReadError>
+fn one_item(
+    cursor: &mut Cursor<'_>,
+    texts: bool,
+    lets: &[Let],
+    extra: bool,
+) -> Result<u8, ReadError>
     requires { length lets.now ≤ 16 }
-    ensures next { (names : List ℕ) → Gives (λ name. names ++ name ∷ []) result cursor.new.rest.now (one_item_from lets.now extra names cursor.old.rest.now) }
+    ensures next { (names : List ℕ) → Gives (λ name. names ++ name ∷ []) result cursor.new.rest.now (one_item_from texts lets.now extra names cursor.old.rest.now) }
     ensures room { OnOk result (extra ≡ false) }
 {
-    take_mark(cursor, ",")?;
-    named(cursor, lets, extra)
+    take_mark(cursor, texts, ",")?;
+    named(cursor, texts, lets, extra)
 }

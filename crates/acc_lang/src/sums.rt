@@ -1,12 +1,12 @@
 //! Expressions, which are sums of terms.
-ghost use Rattle.std.specs.Prelude.{◌≡◌, ◌≤◌, [], ◌∷◌, ◌++◌, List, length, false, pos, neg_ℤ, OnOk};
+ghost use Rattle.std.specs.Prelude.{◌≡◌, ◌≤◌, [], ◌∷◌, ◌++◌, Bool, List, length, false, pos, neg_ℤ, OnOk};
 ghost use Rattle.acc_txn.specs.declared.parts.Part.{Part};
 ghost use Rattle.acc_lang.specs.Answer.{Gives};
-ghost use Rattle.acc_lang.specs.Reading.{term as term_from, negative as negative_from, plain as plain_from, null as null_from, one_part as one_part_from, more_parts as more_parts_from, expression as expression_from, part_of};
+ghost use Rattle.acc_lang.specs.Reading.{term as term_from, text_value as text_value_from, negative as negative_from, plain as plain_from, null as null_from, one_part as one_part_from, more_parts as more_parts_from, expression as expression_from, part_of};
 
 use crate::fault::ReadError;
 use crate::judge::{check, check_behind_minus, standing_of};
-use crate::lexemes::{is_mark, is_number, is_sign, is_word, number_of};
+use crate::lexemes::{is_mark, is_number, is_quoted, is_sign, is_word, number_of, text_of};
 use crate::names::named;
 use acc_base::Sequence;
 use acc_token::Cursor;
@@ -21,32 +21,38 @@ const LARGEST_NEGATIVE: u64 = 9223372036854775808;
 
 /// `term { ( + | - ) term }`
 #[tactic(auto, using(crate::proofs::Taking::fails_on), unfolding(crate::specs::Reading::expression))]
-pub fn expression(alloc: Global, cursor: &mut Cursor<'_>, lets: &[Let]) -> Result<Expr, ReadError>
+pub fn expression(
+    alloc: Global,
+    cursor: &mut Cursor<'_>,
+    texts: bool,
+    lets: &[Let],
+) -> Result<Expr, ReadError>
     requires { length lets.now ≤ 16 }
-    ensures { Gives (λ sum. sum) result cursor.new.rest.now (expression_from lets.now cursor.old.rest.now) }
+    ensures { Gives (λ sum. sum) result cursor.new.rest.now (expression_from texts lets.now cursor.old.rest.now) }
 {
-    let first = term(cursor, lets, false)?;
-    more_parts(alloc, cursor, lets, first)
+    let first = term(alloc, cursor, texts, lets, false)?;
+    more_parts(alloc, cursor, texts, lets, first)
 }
 
 /// The sum of a first term and the terms that follow it.
 pub fn more_parts(
     alloc: Global,
     cursor: &mut Cursor<'_>,
+    texts: bool,
     lets: &[Let],
     first: Term,
 ) -> Result<Expr, ReadError>
     requires { length lets.now ≤ 16 }
-    ensures { Gives (λ sum. sum) result cursor.new.rest.now (more_parts_from lets.now 15 (part_of false first ∷ []) cursor.old.rest.now) }
+    ensures { Gives (λ sum. sum) result cursor.new.rest.now (more_parts_from texts lets.now 15 (part_of false first ∷ []) cursor.old.rest.now) }
 {
     let mut sum = Sequence::new(alloc);
     sum.push(Part {
         minus: false,
         term: first,
     })?;
-    'parts: while is_sign(&cursor.peek().lexeme) {
+    'parts: while is_sign(cursor.peek()) {
         let extra = sum.len() == MOST_TERMS;
-        let next = one_part(cursor, lets, extra)?;
+        let next = one_part(alloc, cursor, texts, lets, extra)?;
         sum.push(next)?;
     }
     Ok(sum)
@@ -54,50 +60,68 @@ pub fn more_parts(
 
 /// `( + | - ) term`
 #[tactic(auto, using(crate::proofs::Taking::fails_at_once, crate::proofs::Taking::fails_on), unfolding(crate::specs::Reading::one_part, crate::specs::Reading::step))]
-fn one_part(cursor: &mut Cursor<'_>, lets: &[Let], extra: bool) -> Result<Part, ReadError>
+fn one_part(
+    alloc: Global,
+    cursor: &mut Cursor<'_>,
+    texts: bool,
+    lets: &[Let],
+    extra: bool,
+) -> Result<Part, ReadError>
     requires { length lets.now ≤ 16 }
-    ensures next { (sum : List Part) → Gives (λ part. sum ++ part ∷ []) result cursor.new.rest.now (one_part_from lets.now extra sum cursor.old.rest.now) }
+    ensures next { (sum : List Part) → Gives (λ part. sum ++ part ∷ []) result cursor.new.rest.now (one_part_from texts lets.now extra sum cursor.old.rest.now) }
     ensures room { OnOk result (extra ≡ false) }
 {
     let shown = cursor.next();
-    check(&shown, standing_of(is_sign(&shown.lexeme), false, true))?;
-    let term = term(cursor, lets, extra)?;
+    check(
+        &shown,
+        !texts,
+        standing_of(is_sign(&shown.lexeme), false, true),
+    )?;
+    let term = term(alloc, cursor, texts, lets, extra)?;
     Ok(Part {
         minus: is_mark(&shown.lexeme, "-"),
         term,
     })
 }
 
-/// `[ - ] number | NULL | name . v`
+/// `[ - ] number | text | NULL | name . v`, a text where text values are allowed.
 #[tactic(auto, using(crate::proofs::Taking::fails_on), unfolding(crate::specs::Reading::term))]
-pub fn term(cursor: &mut Cursor<'_>, lets: &[Let], extra: bool) -> Result<Term, ReadError>
+pub fn term(
+    alloc: Global,
+    cursor: &mut Cursor<'_>,
+    texts: bool,
+    lets: &[Let],
+    extra: bool,
+) -> Result<Term, ReadError>
     requires { length lets.now ≤ 16 }
-    ensures term { Gives (λ term. term) result cursor.new.rest.now (term_from extra lets.now cursor.old.rest.now) }
+    ensures term { Gives (λ term. term) result cursor.new.rest.now (term_from texts extra lets.now cursor.old.rest.now) }
     ensures room { OnOk result (extra ≡ false) }
 {
-    let first = cursor.peek().lexeme;
-    if is_mark(&first, "-") {
-        negative(cursor, extra)
-    } else if is_number(&first) {
-        plain(cursor, extra)
-    } else if is_word(&first, "null") {
-        null(cursor, extra)
+    let first = cursor.peek();
+    if is_mark(first, "-") {
+        negative(cursor, texts, extra)
+    } else if is_number(first) {
+        plain(cursor, texts, extra)
+    } else if is_quoted(first) && texts {
+        text_value(alloc, cursor, extra)
+    } else if is_word(first, "null") {
+        null(cursor, texts, extra)
     } else {
-        let name = named(cursor, lets, extra)?;
+        let name = named(cursor, texts, lets, extra)?;
         Ok(Term::Name(name))
     }
 }
 
 /// `- number`
 #[tactic(auto, using(crate::proofs::Taking::fails_at_once, crate::proofs::Taking::fits, crate::proofs::Numbers::fits_behind_minus), unfolding(crate::specs::Reading::negative, crate::specs::Reading::step))]
-fn negative(cursor: &mut Cursor<'_>, extra: bool) -> Result<Term, ReadError>
-    ensures term { Gives (λ term. term) result cursor.new.rest.now (negative_from extra cursor.old.rest.now) }
+fn negative(cursor: &mut Cursor<'_>, texts: bool, extra: bool) -> Result<Term, ReadError>
+    ensures term { Gives (λ term. term) result cursor.new.rest.now (negative_from texts extra cursor.old.rest.now) }
     ensures room { OnOk result (extra ≡ false) }
 {
     let sign = cursor.next();
-    check(&sign, standing_of(true, extra, true))?;
+    check(&sign, !texts, standing_of(true, extra, true))?;
     let digits = cursor.next();
-    check_behind_minus(&digits)?;
+    check_behind_minus(&digits, !texts)?;
     Ok(Term::Number(negated(number_of(&digits.lexeme))))
 }
 
@@ -113,21 +137,31 @@ fn negated(number: u64) -> i64
 }
 
 #[tactic(auto, using(crate::proofs::Taking::fails_at_once, crate::proofs::Taking::fits, crate::proofs::Numbers::fits_plain), unfolding(crate::specs::Reading::plain, crate::specs::Reading::step))]
-fn plain(cursor: &mut Cursor<'_>, extra: bool) -> Result<Term, ReadError>
-    ensures term { Gives (λ term. term) result cursor.new.rest.now (plain_from extra cursor.old.rest.now) }
+fn plain(cursor: &mut Cursor<'_>, texts: bool, extra: bool) -> Result<Term, ReadError>
+    ensures term { Gives (λ term. term) result cursor.new.rest.now (plain_from texts extra cursor.old.rest.now) }
     ensures room { OnOk result (extra ≡ false) }
 {
     let digits = cursor.next();
-    check(&digits, standing_of(true, extra, true))?;
+    check(&digits, !texts, standing_of(true, extra, true))?;
     Ok(Term::Number(number_of(&digits.lexeme) as i64))
 }
 
-#[tactic(auto, using(crate::proofs::Taking::fails_at_once, crate::proofs::Taking::fits), unfolding(crate::specs::Reading::null, crate::specs::Reading::step))]
-fn null(cursor: &mut Cursor<'_>, extra: bool) -> Result<Term, ReadError>
-    ensures term { Gives (λ term. term) result cursor.new.rest.now (null_from extra cursor.old.rest.now) }
+#[tactic(auto, using(crate::proofs::Taking::fails_at_once, crate::proofs::Taking::fits), unfolding(crate::specs::Reading::text_value, crate::specs::Reading::step))]
+fn text_value(alloc: Global, cursor: &mut Cursor<'_>, extra: bool) -> Result<Term, ReadError>
+    ensures term { (texts : Bool) → Gives (λ term. term) result cursor.new.rest.now (text_value_from texts extra cursor.old.rest.now) }
     ensures room { OnOk result (extra ≡ false) }
 {
     let shown = cursor.next();
-    check(&shown, standing_of(true, extra, true))?;
+    check(&shown, false, standing_of(true, extra, true))?;
+    Ok(Term::Text(text_of(alloc, &shown.lexeme)?))
+}
+
+#[tactic(auto, using(crate::proofs::Taking::fails_at_once, crate::proofs::Taking::fits), unfolding(crate::specs::Reading::null, crate::specs::Reading::step))]
+fn null(cursor: &mut Cursor<'_>, texts: bool, extra: bool) -> Result<Term, ReadError>
+    ensures term { Gives (λ term. term) result cursor.new.rest.now (null_from texts extra cursor.old.rest.now) }
+    ensures room { OnOk result (extra ≡ false) }
+{
+    let shown = cursor.next();
+    check(&shown, !texts, standing_of(true, extra, true))?;
     Ok(Term::Null)
 }

@@ -10,24 +10,26 @@ use acc_token::Cursor;
 
 /// Takes this word, which is given in small letters.
 #[tactic(auto, using(crate::proofs::Taking::passes), unfolding(crate::specs::Reading::take_word, crate::specs::Reading::step))]
-pub fn take_word(cursor: &mut Cursor<'_>, word: &str) -> Result<(), ReadError>
-    ensures { Passes result cursor.new.rest.now (take_word_from word.now cursor.old.rest.now) }
+pub fn take_word(cursor: &mut Cursor<'_>, texts: bool, word: &str) -> Result<(), ReadError>
+    ensures { Passes result cursor.new.rest.now (take_word_from texts word.now cursor.old.rest.now) }
 {
     let shown = cursor.next();
     check(
         &shown,
+        !texts,
         standing_of(is_word(&shown.lexeme, word), false, true),
     )
 }
 
 /// Takes this mark.
 #[tactic(auto, using(crate::proofs::Taking::passes), unfolding(crate::specs::Reading::take_mark, crate::specs::Reading::step))]
-pub fn take_mark(cursor: &mut Cursor<'_>, mark: &str) -> Result<(), ReadError>
-    ensures { Passes result cursor.new.rest.now (take_mark_from mark.now cursor.old.rest.now) }
+pub fn take_mark(cursor: &mut Cursor<'_>, texts: bool, mark: &str) -> Result<(), ReadError>
+    ensures { Passes result cursor.new.rest.now (take_mark_from texts mark.now cursor.old.rest.now) }
 {
     let shown = cursor.next();
     check(
         &shown,
+        !texts,
         standing_of(is_mark(&shown.lexeme, mark), false, true),
     )
 }
@@ -37,7 +39,7 @@ pub fn take_mark(cursor: &mut Cursor<'_>, mark: &str) -> Result<(), ReadError>
 pub fn skip_mark(cursor: &mut Cursor<'_>, mark: &str)
     ensures { cursor.new.rest.now ≡ skip_mark_from mark.now cursor.old.rest.now }
 {
-    if is_mark(&cursor.peek().lexeme, mark) {
+    if is_mark(cursor.peek(), mark) {
         cursor.next();
     }
 }

@@ -23,7 +23,7 @@ use Rattle.acc_message.specs.BallotRules.{stable_of, kept_outcome}
 
 -- ---- the least set
 
--- a dependency at this stable record lets a transaction at t go first only where its own timestamp is not smaller
+-- whether the dependency's timestamp is the smaller one, so that it has to be applied first
 abbrev pub comes_first : Stamp → Settled → Bool
 comes_first t earlier = stamp_lt earlier.t t
 

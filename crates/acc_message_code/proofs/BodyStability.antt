@@ -4,12 +4,14 @@ use Rattle.std.specs.Prelude.{◌==◌, nat_lt}
 use Rattle.std.specs.List.{list_any, list_all}
 use Rattle.std.specs.Str.{bytes_eq}
 use Rattle.acc_value.specs.declared.key.Key.{Key}
+use Rattle.acc_value.specs.declared.value.Value.{Value}
+use Rattle.acc_value.specs.declared.value.Value.TheVariants.{Number as NumberValue, Text as TextValue}
 use Rattle.acc_value.specs.Key.{key_lt}
 use Rattle.acc_value.specs.Footprint.{used}
 use Rattle.acc_txn.specs.declared.parts.Let.{Let}
 use Rattle.acc_txn.specs.declared.parts.Select.{Select}
 use Rattle.acc_txn.specs.declared.parts.Select.TheVariants.{Nothing, Names, Get}
-use Rattle.acc_txn.specs.declared.parts.Term.TheVariants.{Number, Name, Null}
+use Rattle.acc_txn.specs.declared.parts.Term.TheVariants.{Number, Name, Null, Text}
 use Rattle.acc_txn.specs.declared.parts.Part.{Part}
 use Rattle.acc_txn.specs.declared.parts.Operator.{Operator}
 use Rattle.acc_txn.specs.declared.parts.Condition.{Condition}
@@ -18,21 +20,32 @@ use Rattle.acc_txn.specs.declared.parts.Update.{Update}
 use Rattle.acc_txn.specs.declared.parts.Update.TheVariants.{Set, Delete}
 use Rattle.acc_txn.specs.declared.parts.BodyParts.{BodyParts}
 use Rattle.acc_txn.specs.declared.outcome.Outcome.{Outcome}
-use Rattle.acc_txn.specs.Words.{is_name, is_key_text}
+use Rattle.acc_txn.specs.Words.{is_name, is_key_text, is_text_value}
 use Rattle.acc_txn.specs.Rules.{is_many, has_no_key}
-use Rattle.acc_code.specs.CellReading.{cell_behind, cell_at, any_key_at, next_key_at, pair_at, cells_at, outcome_at, verdict_of}
+use Rattle.acc_code.specs.CellReading.{text_value_at, cell_behind, cell_at, any_key_at, next_key_at, pair_at, cells_at, outcome_at, verdict_of}
 use Rattle.acc_code.specs.BodyReading.{word_at, key_text_at, key_at, use_at, let_uses, new_name_at, let_at, lets_at, let_number_at, select_behind, select_at, term_behind, term_at, greatest_sign, part_at, sum_at, operator_of, null_test, condition_behind, condition_at, conditions_at, update_with, update_at, next_update_at, least_updates, updates_at, read_uses, parts_at, body_at}
 use Rattle.acc_message_code.proofs.Stability.{IsStable, stable_then, stable_done, stable_passing, u8_stable, i64_stable, text_stable, between_stable, listed_stable}
 
 -- ---- cells and outcomes
 
+text_value_stable : IsStable text_value_at
+unfolding text_value_at
+text_value_stable = stable_passing is_text_value text_stable
+
+abbrev number_cell : ℤ → Option Value
+number_cell number = Some (NumberValue number)
+
+abbrev text_cell : List ℕ → Option Value
+text_cell text = Some (TextValue text)
+
 cell_behind_stable : (tag : ℕ) → IsStable (cell_behind tag)
 cell_behind_stable zero = stable_done None
-cell_behind_stable (suc _) = stable_then i64_stable (λ number. stable_done (Some number))
+cell_behind_stable (suc zero) = stable_then i64_stable (λ number. stable_done (number_cell number))
+cell_behind_stable (suc (suc _)) = stable_then text_value_stable (λ text. stable_done (text_cell text))
 
 cell_stable : IsStable cell_at
 unfolding cell_at
-cell_stable = stable_then (between_stable 0 1) cell_behind_stable
+cell_stable = stable_then (between_stable 0 2) cell_behind_stable
 
 abbrev make_key : List ℕ → List ℕ → Key
 make_key table key = record { table = table; key = key }
@@ -41,11 +54,11 @@ any_key_stable : IsStable any_key_at
 unfolding any_key_at
 any_key_stable = stable_then text_stable (λ table. stable_then text_stable (λ key. stable_done (make_key table key)))
 
-next_key_stable : (front : List (Key × Option ℤ)) → IsStable (next_key_at front)
+next_key_stable : (front : List (Key × Option Value)) → IsStable (next_key_at front)
 unfolding next_key_at
 next_key_stable front = stable_passing (λ key. list_all (λ p. key_lt p.0 key) front) any_key_stable
 
-pair_stable : (front : List (Key × Option ℤ)) → IsStable (pair_at front)
+pair_stable : (front : List (Key × Option Value)) → IsStable (pair_at front)
 unfolding pair_at
 pair_stable front = stable_then (next_key_stable front) (λ key. stable_then cell_stable (λ cell. stable_done (key, cell)))
 
@@ -53,7 +66,7 @@ pub cells_stable : IsStable cells_at
 unfolding cells_at
 cells_stable = listed_stable pair_stable 0 255
 
-abbrev make_outcome : ℕ → List (Option ℤ) → List (Key × Option ℤ) → Outcome
+abbrev make_outcome : ℕ → List (Option Value) → List (Key × Option Value) → Outcome
 make_outcome verdict values writes = record { reply = record { verdict = verdict_of verdict; values = values }; writes = writes }
 
 pub outcome_stable : IsStable outcome_at
@@ -116,11 +129,12 @@ select_stable lets = stable_then (between_stable 0 2) (select_behind_stable lets
 term_behind_stable : (lets tag : ℕ) → IsStable (term_behind lets tag)
 term_behind_stable lets zero = stable_then i64_stable (λ number. stable_done (Number number))
 term_behind_stable lets (suc zero) = stable_then (name_stable lets) (λ name. stable_done (Name name))
-term_behind_stable lets (suc (suc _)) = stable_done Null
+term_behind_stable lets (suc (suc zero)) = stable_done Null
+term_behind_stable lets (suc (suc (suc _))) = stable_then text_value_stable (λ text. stable_done (Text text))
 
 term_stable : (lets : ℕ) → IsStable (term_at lets)
 unfolding term_at
-term_stable lets = stable_then (between_stable 0 2) (term_behind_stable lets)
+term_stable lets = stable_then (between_stable 0 3) (term_behind_stable lets)
 
 part_stable : (lets : ℕ) (front : List Part) → IsStable (part_at lets front)
 unfolding part_at

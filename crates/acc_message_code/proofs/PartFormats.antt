@@ -1,5 +1,5 @@
 -- Envelopes, answers and proposals: what is read is what is spelled.
-use Rattle.std.proofs.Common.{◌≡◌, ℕ, ℤ, Option, zero, suc, ◌≤◌, List, ◌++◌, append_assoc, refl, sym, ap, subst, ◌∙◌, arith}
+use Rattle.std.proofs.Common.{◌≡◌, ℕ, Option, zero, suc, ◌≤◌, List, ◌++◌, append_assoc, refl, sym, ap, subst, ◌∙◌, arith}
 use Rattle.std.specs.Prelude.{◌==◌}
 use Rattle.acc_wire.specs.Spelling.{u8_bytes}
 use Rattle.acc_wire.proofs.Fields.{IsField}
@@ -8,6 +8,7 @@ use Rattle.acc_stamp.specs.declared.stamps.Ballot.{Ballot}
 use Rattle.acc_stamp.specs.declared.actors.Actor.{Actor}
 use Rattle.acc_deps.specs.declared.records.Settled.{Settled}
 use Rattle.acc_value.specs.declared.key.Key.{Key}
+use Rattle.acc_value.specs.declared.value.Value.{Value}
 use Rattle.acc_txn.specs.declared.parts.BodyParts.{BodyParts}
 use Rattle.acc_txn.specs.declared.outcome.Outcome.{Outcome}
 use Rattle.acc_message.specs.declared.answer.ReadAnswer.{ReadAnswer}
@@ -84,7 +85,7 @@ within : (a : ReadAnswer) → (1 ≤ tag a) × (tag a ≤ 2)
 within (Values cells) = (omega arith, omega arith)
 within (Known outcome) = (omega arith, omega arith)
 
-values_only : (a : ReadAnswer) → FitsAnswer a → tag a ≡ 1 → (cells : List (Key × Option ℤ)) × AreCells cells × (a ≡ Values cells)
+values_only : (a : ReadAnswer) → FitsAnswer a → tag a ≡ 1 → (cells : List (Key × Option Value)) × AreCells cells × (a ≡ Values cells)
 values_only (Values cells) fits e = (cells, fits, refl)
 values_only (Known outcome) fits e = absurd (omega (arith, e))
 

@@ -19,6 +19,3 @@ pub use acc_code::CodeError;
 pub use lengths::deps_length;
 pub use message::{decode, encode};
 pub use message_lengths::message_length;
-
-#[cfg(test)]
-mod tests;

@@ -30,7 +30,7 @@ fn answer_length(answer: &ReadAnswer) -> u64
 fn proposal_length(body: &Body, deps: &Deps) -> u64
     requires { AreShortDeps deps.now }
     ensures exact { result ≡ length (body_bytes body.now) + (12 + length (deps_bytes deps.now)) }
-    ensures most { result < 2 ^ 26 }
+    ensures most { result < 2 ^ 28 }
 {
     body_length(body) + dated_length(deps)
 }

@@ -15,7 +15,7 @@ pub type Begins = Sequence<u32>;
 
 /// A plan of the first form: one node, one shard on it, transactions, and the order in which they are begun,
 /// each drained before the next.
-#[derive(Debug, Drop, PartialEq, Eq)]
+#[derive(Debug, Drop)]
 pub struct Plan {
     /// The number of the node, from 1 to 15.
     pub node: u32,

@@ -1,5 +1,4 @@
 pub mod Joined
-pub mod RuleFacts
 pub mod QuotedUtf8
 pub mod WordUtf8
 pub mod CanonicalUtf8

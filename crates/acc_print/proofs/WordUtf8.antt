@@ -8,7 +8,7 @@ use Rattle.std.proofs.lemmas.Bool.{and_parts, cond_both}
 use Rattle.std.proofs.lemmas.Bool.Decides.{nat_tests}
 use Rattle.std.proofs.lemmas.Str.{IsUtf8-from_ascii, IsUtf8-from_is_utf8}
 use Rattle.std.proofs.lemmas.Str.Ascii.{IsAscii-cons, IsAscii-nil}
-use Rattle.acc_txn.specs.Words.{begins_word, continues_word, is_lower_word, is_word, is_name, is_key_text}
+use Rattle.acc_txn.specs.Words.{begins_word, continues_word, is_lower_word, is_word, is_name, is_key_text, is_text_value}
 
 continues-ascii : (c : ℕ) → continues_word c ≡ true → c < 128
 continues-ascii c h = grind (arith, nat_tests)
@@ -53,3 +53,6 @@ number-IsUtf8 (negsuc n) = IsUtf8-from_ascii _ (IsAscii-cons 45 _ (omega arith) 
 
 pub key_text-IsUtf8 : (text : List ℕ) → is_key_text text ≡ true → IsUtf8 text
 key_text-IsUtf8 text h = IsUtf8-from_is_utf8 text (and_parts _ (is_utf8 text) h).1
+
+pub value-IsUtf8 : (text : List ℕ) → is_text_value text ≡ true → IsUtf8 text
+value-IsUtf8 text h = IsUtf8-from_is_utf8 text (and_parts _ (is_utf8 text) h).1

@@ -12,7 +12,7 @@ use Rattle.acc_txn.specs.declared.parts.Select.TheVariants.{Nothing, Names, Get}
 use Rattle.acc_txn.specs.declared.parts.Operator.{Operator}
 use Rattle.acc_txn.specs.declared.parts.Operator.TheVariants.{Equal, Differs, Less, AtMost, More, AtLeast}
 use Rattle.acc_txn.specs.declared.parts.Term.{Term}
-use Rattle.acc_txn.specs.declared.parts.Term.TheVariants.{Number, Name, Null}
+use Rattle.acc_txn.specs.declared.parts.Term.TheVariants.{Number, Name, Null, Text}
 use Rattle.acc_txn.specs.declared.parts.Part.{Part}
 use Rattle.acc_txn.specs.declared.parts.Condition.{Condition}
 use Rattle.acc_txn.specs.declared.parts.Condition.TheVariants.{Compare, IsNull, IsNotNull}
@@ -52,6 +52,7 @@ abbrev pub term_text : List Let → Term → List ℕ
 term_text lets (Number number) = signed_decimal number
 term_text lets (Name number) = cell_text lets number
 term_text lets Null = codes "NULL"
+term_text lets (Text text) = quoted text
 
 abbrev pub sign_text : Bool → List ℕ
 sign_text true = codes " - "

@@ -38,7 +38,8 @@ pub fn push_where(text: &mut Vec<u8>, key: &Key) -> Result<(), OutOfMemory>
     push_quoted(text, key.key.as_slice())
 }
 
-fn push_quoted(text: &mut Vec<u8>, bytes: &[u8]) -> Result<(), OutOfMemory>
+/// Appends a text in quotes, with two quotes for one.
+pub fn push_quoted(text: &mut Vec<u8>, bytes: &[u8]) -> Result<(), OutOfMemory>
     ensures { OnOk result (text.new.items ≡ text.old.items ++ quoted bytes.now) }
 {
     text.extend_from_slice(b"'")?;

@@ -6,6 +6,3 @@ mod keys;
 mod sums;
 
 pub use body::print;
-
-#[cfg(test)]
-mod tests;

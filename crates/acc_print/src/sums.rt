@@ -1,9 +1,9 @@
 //! The text of sums and of the names in them.
 ghost use Rattle.std.specs.Prelude.{◌≡◌, ◌++◌, OnOk};
-ghost use Rattle.std.specs.Fmt.{signed_decimal};
 ghost use Rattle.acc_print.specs.Canonical.{name_of, cell_text, term_text, sign_text, signed_text, sum_text};
 
-use acc_base::OutOfMemory;
+use crate::keys::push_quoted;
+use acc_base::{OutOfMemory, push_signed_number};
 use acc_txn::{Let, Part, Term};
 
 /// Appends a sum. Its first term has no sign.
@@ -13,19 +13,19 @@ pub fn push_sum(text: &mut Vec<u8>, lets: &[Let], sum: &[Part]) -> Result<(), Ou
     let Some((first, others)) = sum.split_first() else {
         return Ok(());
     };
-    push_term(text, lets, first.term)?;
+    push_term(text, lets, &first.term)?;
     for part in others {
-        push_signed(text, lets, *part)?;
+        push_signed(text, lets, part)?;
     }
     Ok(())
 }
 
 /// Appends a term behind the first, with its sign.
-fn push_signed(text: &mut Vec<u8>, lets: &[Let], part: Part) -> Result<(), OutOfMemory>
-    ensures { OnOk result (text.new.items ≡ text.old.items ++ signed_text lets.now part) }
+fn push_signed(text: &mut Vec<u8>, lets: &[Let], part: &Part) -> Result<(), OutOfMemory>
+    ensures { OnOk result (text.new.items ≡ text.old.items ++ signed_text lets.now part.now) }
 {
     text.extend_from_slice(sign(part.minus))?;
-    push_term(text, lets, part.term)
+    push_term(text, lets, &part.term)
 }
 
 fn sign(minus: bool) -> &'static [u8]
@@ -34,22 +34,15 @@ fn sign(minus: bool) -> &'static [u8]
     if minus { b" - " } else { b" + " }
 }
 
-fn push_term(text: &mut Vec<u8>, lets: &[Let], term: Term) -> Result<(), OutOfMemory>
-    ensures { OnOk result (text.new.items ≡ text.old.items ++ term_text lets.now term) }
+fn push_term(text: &mut Vec<u8>, lets: &[Let], term: &Term) -> Result<(), OutOfMemory>
+    ensures { OnOk result (text.new.items ≡ text.old.items ++ term_text lets.now term.now) }
 {
     match term {
-        Term::Number(number) => push_number(text, number),
-        Term::Name(number) => push_cell(text, lets, number),
+        Term::Number(number) => push_signed_number(text, *number),
+        Term::Name(number) => push_cell(text, lets, *number),
         Term::Null => Ok(text.extend_from_slice(b"NULL")?),
+        Term::Text(value) => push_quoted(text, value.as_slice()),
     }
-}
-
-fn push_number(text: &mut Vec<u8>, number: i64) -> Result<(), OutOfMemory>
-    ensures { OnOk result (text.new.items ≡ text.old.items ++ signed_decimal number) }
-{
-    let digits = number.to_string(*text.allocator())?;
-    text.extend_from_slice(digits.as_bytes())?;
-    Ok(())
 }
 
 /// Appends the cell of a name, which is given by the number of its LET.

@@ -1,5 +1,5 @@
 -- The canonical text of a body is a text of the grammar that says this body.
-use Rattle.std.proofs.Common.{◌≡◌, ℕ, true, false, not, ◌&&◌, ◌||◌, List, [], ◌∷◌, ◌++◌, length, refl, sym, subst, append_assoc, inl, arith}
+use Rattle.std.proofs.Common.{◌≡◌, ℕ, Bool, true, false, not, ◌&&◌, ◌||◌, List, [], ◌∷◌, ◌++◌, length, refl, sym, subst, append_assoc, inl, arith}
 use Rattle.std.specs.Prelude.{codes, nat_lt, ◌==◌}
 use Rattle.std.specs.List.{flat_map, list_any}
 use Rattle.std.proofs.lemmas.Bool.{or_parts, not-false, both_ways, and_from, lt-ltb}
@@ -12,10 +12,10 @@ use Rattle.acc_txn.specs.declared.parts.Update.{Update}
 use Rattle.acc_txn.specs.declared.parts.BodyParts.{BodyParts}
 use Rattle.acc_txn.specs.Words.{is_name, is_key}
 use Rattle.acc_txn.specs.Uses.{selected_keys}
-use Rattle.acc_txn.specs.Rules.{has_bad_name, is_unbound, selected_names, selects_nothing, condition_has, is_malformed, mentions_unbound, asks_unbound, IsBody}
+use Rattle.acc_txn.specs.Rules.{has_bad_name, has_bad_key, is_unbound, selected_names, selects_nothing, condition_has, is_malformed, mentions_unbound, asks_unbound, IsBody}
 use Rattle.acc_print.specs.Canonical.{get_text, let_text, cell_text, condition_text, update_text, select_text, action_text, canonical_text}
-use Rattle.acc_print.proofs.RuleFacts.{KeepsRules, keeps_rules}
-use Rattle.acc_roundtrip.specs.Numbers.{has_wide_term, HasNarrowNumbers}
+use Rattle.acc_txn.proofs.Keeps.{KeepsRules, IsBody-keeps}
+use Rattle.acc_roundtrip.specs.Numbers.{has_unsaid_term, IsSaid}
 use Rattle.acc_lang.specs.Grammar.{Spells, Each, Behind, LetSpelled, NameSpelled, SelectSpelled, GuardedSpelled, ActionSpelled, Spelled}
 use Rattle.acc_roundtrip.proofs.TokenFacts.{stops, spaced, letters}
 use Rattle.acc_roundtrip.proofs.KeyFacts.{behind3, get_spelled, let_spelled}
@@ -42,7 +42,7 @@ unfolding let_text
 lets_stop [] rest stop = stop
 lets_stop (l ∷ lets) rest stop = refl
 
-module _ (lets : List Let) (named : has_bad_name lets ≡ false) where
+module _ (texts : Bool) (lets : List Let) (named : has_bad_name lets ≡ false) where
   -- ---- the select
 
   commas_stop : (names : List ℕ) (rest : List ℕ) → stops continues_word rest ≡ true → stops continues_word (flat_map (λ n. codes ", " ++ cell_text lets n) names ++ rest) ≡ true
@@ -94,8 +94,8 @@ module _ (lets : List Let) (named : has_bad_name lets ≡ false) where
   -- ---- the action
 
   guarded_spelled : (guard : Condition) (guards : List Condition) (update : Update) (updates : List Update) (rest : List ℕ) →
-      AreGoodConditions (length lets) (guard ∷ guards) → AreGoodUpdates (length lets) (update ∷ updates) → stops continues_word rest ≡ true →
-      GuardedSpelled lets guard guards (update ∷ updates)
+      AreGoodConditions texts (length lets) (guard ∷ guards) → AreGoodUpdates texts (length lets) (update ∷ updates) → stops continues_word rest ≡ true →
+      GuardedSpelled texts lets guard guards (update ∷ updates)
       (codes " IF " ++ (condition_text lets guard ++ (flat_map (λ c. codes " AND " ++ condition_text lets c) guards
       ++ (codes " THEN" ++ (update_text lets update ++ (flat_map (update_text lets) updates ++ (codes " END IF" ++ rest))))))) rest
   unfolding token_at token_of token_len behind after_blanks
@@ -105,12 +105,12 @@ module _ (lets : List Let) (named : has_bad_name lets ≡ false) where
       let c = flat_map (update_text lets) updates ++ d in
       let b = codes " THEN" ++ (update_text lets update ++ c) in
       let a = flat_map (λ c. codes " AND " ++ condition_text lets c) guards ++ b in
-      let first = condition_spelled lets named guard a (first_condition n guard guards conditions) (ands_stop lets named guards b refl) in
-      let others = ands_spelled lets named guards b (other_conditions n guard guards conditions) refl in
+      let first = condition_spelled texts lets named guard a (first_condition texts n guard guards conditions) (ands_stop texts lets named guards b refl) in
+      let others = ands_spelled texts lets named guards b (other_conditions texts n guard guards conditions) refl in
       let then_ = spaced (Word (codes "then")) [] (codes "THEN" ++ (update_text lets update ++ c)) (update_text lets update ++ c)
-      (letters 84 (codes "HEN") (update_text lets update ++ c) (update_text lets update ++ c) [] refl refl (update_stops lets named update c) refl) in
-      let made = update_spelled lets named update c (first_update n update updates good) in
-      let more = updates_spelled lets named updates d (other_updates n update updates good) in
+      (letters 84 (codes "HEN") (update_text lets update ++ c) (update_text lets update ++ c) [] refl refl (update_stops texts lets named update c) refl) in
+      let made = update_spelled texts lets named update c (first_update texts n update updates good) in
+      let more = updates_spelled texts lets named updates d (other_updates texts n update updates good) in
       let end_ = spaced (Word (codes "if")) [] (codes "IF" ++ rest) rest (letters 73 (codes "F") rest rest [] refl refl stop refl) in
       (a, b, c, d, rest, (32 ∷ condition_text lets guard ++ a, (refl, refl), first), others, (update_text lets update ++ c, then_, made), more, (refl, end_), inl refl)
 
@@ -118,22 +118,22 @@ module _ (lets : List Let) (named : has_bad_name lets ≡ false) where
   pieces : (i g gs t u us e rest : List ℕ) → (i ++ (g ++ gs) ++ t ++ (u ++ us) ++ e) ++ rest ≡ i ++ (g ++ (gs ++ (t ++ (u ++ (us ++ (e ++ rest))))))
   pieces i g gs t u us e rest = simp append_assoc
 
-  action_spelled : (guards : List Condition) (updates : List Update) (rest : List ℕ) → AreGoodConditions (length lets) guards → AreGoodUpdates (length lets) updates →
+  action_spelled : (guards : List Condition) (updates : List Update) (rest : List ℕ) → AreGoodConditions texts (length lets) guards → AreGoodUpdates texts (length lets) updates →
       (nat_lt 0 (length guards) && length updates == 0) ≡ false → stops continues_word rest ≡ true →
-      ActionSpelled lets guards updates (action_text lets guards updates ++ rest) rest
-  action_spelled [] updates rest conditions good shaped stop = updates_spelled lets named updates rest good
+      ActionSpelled texts lets guards updates (action_text lets guards updates ++ rest) rest
+  action_spelled [] updates rest conditions good shaped stop = updates_spelled texts lets named updates rest good
   action_spelled (guard ∷ guards) [] rest conditions good shaped stop =
       let some = lt-ltb 0 (length (guard ∷ guards)) (omega arith) in
       absurd (both_ways (nat_lt 0 (length (guard ∷ guards)) && true) shaped (and_from (nat_lt 0 (length (guard ∷ guards))) true some refl))
   action_spelled (guard ∷ guards) (update ∷ updates) rest conditions good shaped stop =
-      subst (λ from. GuardedSpelled lets guard guards (update ∷ updates) from rest)
+      subst (λ from. GuardedSpelled texts lets guard guards (update ∷ updates) from rest)
       (sym (pieces (codes " IF ") (condition_text lets guard) (flat_map (λ c. codes " AND " ++ condition_text lets c) guards) (codes " THEN") (update_text lets update)
       (flat_map (update_text lets) updates) (codes " END IF") rest))
       (guarded_spelled guard guards update updates rest conditions good stop)
 
   action_stops : (guards : List Condition) (updates : List Update) (rest : List ℕ) → stops continues_word rest ≡ true →
       stops continues_word (action_text lets guards updates ++ rest) ≡ true
-  action_stops [] updates rest stop = updates_stop lets named updates rest stop
+  action_stops [] updates rest stop = updates_stop texts lets named updates rest stop
   action_stops (guard ∷ guards) updates rest stop = refl
 
 -- ---- the body
@@ -147,15 +147,16 @@ commit_spelled : Spells (Word (codes "commit") ∷ Word (codes "transaction") �
 unfolding token_at token_of token_len behind after_blanks
 commit_spelled = (refl, (refl, refl))
 
-body_spelled : (parts : BodyParts) → KeepsRules parts → HasNarrowNumbers parts →
-    Spelled (codes "BEGIN TRANSACTION" ++ (flat_map let_text parts.lets ++ (select_text parts.lets parts.select
+body_spelled : (texts : Bool) (parts : BodyParts) → KeepsRules parts → IsSaid texts parts →
+    Spelled texts (codes "BEGIN TRANSACTION" ++ (flat_map let_text parts.lets ++ (select_text parts.lets parts.select
     ++ (action_text parts.lets parts.guards parts.updates ++ codes " COMMIT TRANSACTION")))) parts
 unfolding token_at token_of after_blanks
-body_spelled parts rules narrow =
+body_spelled texts parts rules said =
     let lets = parts.lets in
     let n = length lets in
-    let named = rules.named in
-    let keyed = or_parts (list_any (λ l. not (is_key l.key)) lets || list_any (λ key. not (is_key key)) (selected_keys parts.select)) _ rules.well_keyed in
+    let worded = or_parts (has_bad_name lets) (has_bad_key parts) rules.worded in
+    let named = worded.0 in
+    let keyed = or_parts (list_any (λ l. not (is_key l.key)) lets || list_any (λ key. not (is_key key)) (selected_keys parts.select)) _ worded.1 in
     let read = or_parts (list_any (λ l. not (is_key l.key)) lets) _ keyed.0 in
     let bound = or_parts _ (list_any (asks_unbound n) parts.guards) rules.bound in
     let mentioned = or_parts (list_any (is_unbound n) (selected_names parts.select)) _ bound.0 in
@@ -163,14 +164,14 @@ body_spelled parts rules narrow =
     let shaped = or_parts _ (nat_lt 0 (length parts.guards) && length parts.updates == 0) rules.shaped in
     let well_shaped = or_parts _ (selects_nothing parts.select) shaped.0 in
     let sums_shaped = or_parts (list_any (condition_has is_malformed) parts.guards) _ well_shaped.0 in
-    let sums_narrow = or_parts (list_any (condition_has has_wide_term) parts.guards) _ narrow in
-    let conditions : AreGoodConditions n parts.guards = record { shaped = sums_shaped.0; bound = sums_bound.0; asked = bound.1; narrow = sums_narrow.0 } in
-    let updates : AreGoodUpdates n parts.updates = record { shaped = sums_shaped.1; bound = sums_bound.1; narrow = sums_narrow.1; keyed = keyed.1 } in
+    let sums_said = or_parts (list_any (condition_has (has_unsaid_term texts)) parts.guards) _ said in
+    let conditions : AreGoodConditions texts n parts.guards = record { shaped = sums_shaped.0; bound = sums_bound.0; asked = bound.1; said = sums_said.0 } in
+    let updates : AreGoodUpdates texts n parts.updates = record { shaped = sums_shaped.1; bound = sums_bound.1; said = sums_said.1; keyed = keyed.1 } in
     let c = codes " COMMIT TRANSACTION" in
     let a = action_text lets parts.guards parts.updates ++ c in
     let s = select_text lets parts.select ++ a in
     let l = flat_map let_text lets ++ s in
-    let stop = lets_stop lets s (select_stops lets named parts.select a (action_stops lets named parts.guards parts.updates c refl)) in
+    let stop = lets_stop lets s (select_stops texts lets named parts.select a (action_stops texts lets named parts.guards parts.updates c refl)) in
     record {
       lets_place = l;
       select_place = s;
@@ -180,8 +181,8 @@ body_spelled parts rules narrow =
       last_place = [];
       begins = begin_spelled l stop;
       lets = lets_spelled lets s named read.0;
-      select = select_spelled lets named parts.select a well_shaped.1 mentioned.0 read.1;
-      action = action_spelled lets named parts.guards parts.updates c conditions updates shaped.1 refl;
+      select = select_spelled texts lets named parts.select a well_shaped.1 mentioned.0 read.1;
+      action = action_spelled texts lets named parts.guards parts.updates c conditions updates shaped.1 refl;
       commits = commit_spelled;
       semicolon = inl refl;
       ends = refl;
@@ -190,9 +191,9 @@ body_spelled parts rules narrow =
 pieces_joined : (a b c d z : List ℕ) → a ++ b ++ c ++ d ++ z ≡ a ++ (b ++ (c ++ (d ++ z)))
 pieces_joined a b c d z = simp append_assoc
 
-pub canonical_spelled : (parts : BodyParts) → IsBody parts → HasNarrowNumbers parts → Spelled (canonical_text parts) parts
-canonical_spelled parts rules narrow =
-    subst (λ text. Spelled text parts)
+pub canonical_spelled : (texts : Bool) (parts : BodyParts) → IsBody parts → IsSaid texts parts → Spelled texts (canonical_text parts) parts
+canonical_spelled texts parts rules said =
+    subst (λ text. Spelled texts text parts)
     (sym (pieces_joined (codes "BEGIN TRANSACTION") (flat_map let_text parts.lets) (select_text parts.lets parts.select)
     (action_text parts.lets parts.guards parts.updates) (codes " COMMIT TRANSACTION")))
-    (body_spelled parts (keeps_rules parts rules) narrow)
+    (body_spelled texts parts (IsBody-keeps parts rules) said)

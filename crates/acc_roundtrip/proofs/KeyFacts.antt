@@ -2,14 +2,14 @@
 use Rattle.std.proofs.Common.{◌≡◌, ℕ, true, List, [], ◌∷◌, ◌++◌, refl, sym, subst, append_assoc}
 use Rattle.std.specs.Prelude.{codes}
 use Rattle.std.proofs.lemmas.Bool.{and_parts}
-use Rattle.acc_token.specs.Tokens.{Token, Word, Mark, Quoted, is_quote, continues_word, token_at, token_of, token_len, behind, after_blanks}
+use Rattle.acc_token.specs.Tokens.{Token, Word, Mark, Quoted, is_quote, token_at, token_of, token_len, behind, after_blanks}
 use Rattle.acc_value.specs.declared.key.Key.{Key}
 use Rattle.acc_txn.specs.declared.parts.Let.{Let}
 use Rattle.acc_txn.specs.Words.{is_name, is_key, is_key_text, is_lower_word}
 use Rattle.acc_print.specs.Canonical.{quoted, where_text, get_text, let_text, delete_text}
 use Rattle.acc_print.proofs.WordUtf8.{lower_word}
 use Rattle.acc_lang.specs.Grammar.{Spells, LetSpelled}
-use Rattle.acc_roundtrip.proofs.TokenFacts.{stops, spaced, name_spelled}
+use Rattle.acc_roundtrip.proofs.TokenFacts.{stops, goes_on, word_stop, spaced, name_spelled}
 use Rattle.acc_roundtrip.proofs.QuotedFacts.{quoted_spelled}
 
 -- pieces that are joined from the left, with something behind them
@@ -25,7 +25,7 @@ behind5 a b c d z rest = simp append_assoc
 pub key_table : (key : Key) → is_key key ≡ true → is_lower_word key.table ≡ true
 key_table key h = lower_word key.table (and_parts (is_name key.table) (is_key_text key.key) h).0
 
-pub where_stops : (key : Key) (rest : List ℕ) → stops continues_word (where_text key ++ rest) ≡ true
+pub where_stops : (key : Key) (rest : List ℕ) → stops goes_on (where_text key ++ rest) ≡ true
 unfolding where_text
 where_stops key rest = refl
 
@@ -46,7 +46,7 @@ unfolding get_text token_at token_of token_len behind after_blanks
 get_spelled key rest to tokens keyed stop h =
     let chosen = where_spelled key rest to tokens stop h in
     let table = name_spelled key.table (where_text key ++ rest) to (Word (codes "where") ∷ Word (codes "k") ∷ Mark (codes "=") ∷ Quoted key.key true ∷ tokens)
-    (key_table key keyed) (where_stops key rest) chosen in
+    (key_table key keyed) (word_stop (where_text key ++ rest) (where_stops key rest)) chosen in
     subst
     (λ from. Spells
     (Word (codes "select") ∷ Word (codes "v") ∷ Word (codes "from") ∷ Word key.table ∷ Word (codes "where") ∷ Word (codes "k") ∷ Mark (codes "=")
@@ -76,7 +76,7 @@ delete_spelled key rest keyed =
     let chosen = where_spelled key (59 ∷ rest) rest (Mark (codes ";") ∷ []) refl (refl, refl) in
     let table = name_spelled key.table (where_text key ++ 59 ∷ rest) rest
     (Word (codes "where") ∷ Word (codes "k") ∷ Mark (codes "=") ∷ Quoted key.key true ∷ Mark (codes ";") ∷ [])
-    (key_table key keyed) (where_stops key (59 ∷ rest)) chosen in
+    (key_table key keyed) (word_stop (where_text key ++ 59 ∷ rest) (where_stops key (59 ∷ rest))) chosen in
     subst
     (λ from. Spells
     (Word (codes "delete") ∷ Word (codes "from") ∷ Word key.table ∷ Word (codes "where") ∷ Word (codes "k") ∷ Mark (codes "=") ∷ Quoted key.key true

@@ -6,3 +6,4 @@ pub mod SumFacts
 pub mod ConditionFacts
 pub mod UpdateFacts
 pub mod BodyFacts
+pub mod SaidFacts

@@ -1,6 +1,6 @@
 -- The digits of a number are read as the number.
-use Rattle.std.proofs.Common.{◌≡◌, ℕ, suc, ◌<◌, ◌^◌, true, false, List, [], ◌∷◌, ◌++◌, length, drop, ℤ, pos, negsuc, Some, refl, ap, ◌∙◌, inl, inr, lt-ltb, arith}
-use Rattle.std.specs.Prelude.{codes}
+use Rattle.std.proofs.Common.{◌≡◌, ℕ, suc, ◌<◌, ◌^◌, true, false, List, [], ◌∷◌, ◌++◌, length, drop, ℤ, pos, negsuc, Some, refl, ap, ◌∙◌, inl, inr, arith}
+use Rattle.std.specs.Prelude.{codes, nat_le}
 use Rattle.std.specs.Char.{is_ascii_digit, digit_value}
 use Rattle.std.specs.Fmt.{decimal, signed_decimal}
 use lib.Signed.{mag}
@@ -9,6 +9,7 @@ use Rattle.std.specs.Str.Parse.{AllDigits}
 use Rattle.std.proofs.lemmas.Bool.{and_parts, or_parts, not-true, cond-true}
 use Rattle.std.proofs.lemmas.Bool.Decides.{nat_tests}
 use Rattle.std.proofs.lemmas.Fmt.{decimal_is_IsNumeral}
+use Rattle.acc_base.specs.Numbers.{greatest_u64}
 use Rattle.acc_token.specs.Tokens.{Token, Mark, Number, is_blank, after_blanks, begins_word, continues_word, number_of, token_of, token_len, token_at, behind}
 use Rattle.acc_lang.specs.Grammar.{Spells, NumberSpelled}
 use Rattle.acc_roundtrip.proofs.TokenFacts.{stops, take-front, drop-front, after-none, spaced, one_token}
@@ -56,7 +57,8 @@ digits_spelled n rest to tokens small stop h =
     let numeral = decimal_is_IsNumeral n small in
     let all = all_digits (decimal n) numeral.0.1 in
     let ends = no_digit rest stop in
-    let value : number_of (decimal n) ≡ Some n = rw numeral.1 (rw (lt-ltb n (2 ^ 64) small) refl) in
+    let fits : nat_le n greatest_u64 ≡ true = grind arith in
+    let value : number_of (decimal n) ≡ Some n = rw numeral.1 (rw fits refl) in
     one_token (Number (Some n)) tokens (decimal n ++ rest) rest to
     (digits_at (decimal n) rest numeral.0.0 all ends ∙ ap (λ number. Number number) value) (behind_digits (decimal n) rest numeral.0.0 all ends) h
 

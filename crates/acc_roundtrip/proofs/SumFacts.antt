@@ -5,18 +5,19 @@ use Rattle.std.specs.Option.{option_map_or}
 use Rattle.std.specs.List.{flat_map}
 use Rattle.std.proofs.lemmas.Bool.{or_parts, not-false, ltb-true, leb-false}
 use lib.Signed.{mag}
-use Rattle.acc_token.specs.Tokens.{Word, Mark, continues_word, token_at, token_of, token_len, behind, after_blanks}
+use Rattle.acc_token.specs.Tokens.{Word, Mark, Quoted, continues_word, token_at, token_of, token_len, behind, after_blanks}
 use Rattle.acc_txn.specs.declared.parts.Let.{Let}
 use Rattle.acc_txn.specs.declared.parts.Term.{Term}
-use Rattle.acc_txn.specs.declared.parts.Term.TheVariants.{Number, Name, Null}
+use Rattle.acc_txn.specs.declared.parts.Term.TheVariants.{Number, Name, Null, Text}
 use Rattle.acc_txn.specs.declared.parts.Part.{Part}
 use Rattle.acc_txn.specs.Words.{is_name}
 use Rattle.acc_txn.specs.Rules.{has_bad_name, is_unbound, term_is_unbound, mentions_unbound, is_malformed}
-use Rattle.acc_print.specs.Canonical.{name_of, cell_text, term_text, sign_text, signed_text, sum_text}
+use Rattle.acc_print.specs.Canonical.{quoted, name_of, cell_text, term_text, sign_text, signed_text, sum_text}
 use Rattle.acc_print.proofs.WordUtf8.{lower_word}
-use Rattle.acc_roundtrip.specs.Numbers.{is_wide, term_is_wide, has_wide_term}
+use Rattle.acc_roundtrip.specs.Numbers.{is_wide, is_unsaid, has_unsaid_term}
 use Rattle.acc_lang.specs.Grammar.{Spells, Each, Behind, NameSpelled, TermSpelled, PartSpelled, ExpressionSpelled}
-use Rattle.acc_roundtrip.proofs.TokenFacts.{stops, spaced, letters, name_spelled}
+use Rattle.acc_roundtrip.proofs.TokenFacts.{stops, goes_on, word_stop, quote_stop, spaced, letters, name_spelled}
+use Rattle.acc_roundtrip.proofs.QuotedFacts.{quoted_spelled}
 use Rattle.acc_roundtrip.proofs.NumberFacts.{number_spelled}
 
 -- the LET of a number
@@ -44,57 +45,60 @@ module _ (lets : List Let) (named : has_bad_name lets ≡ false) where
       let joined = subst (λ from. Spells (Word name ∷ Mark (codes ".") ∷ Word (codes "v") ∷ []) (32 ∷ from) rest) (sym (append_assoc name (codes ".v") rest)) spelled in
       (binding.0, binding.1, subst (λ word. Spells (Word name ∷ Mark (codes ".") ∷ Word (codes "v") ∷ []) (32 ∷ (word ++ codes ".v") ++ rest) rest) (sym is) joined)
 
-  -- [ - ] number | name . v | NULL
-  pub term_spelled : (term : Term) (rest : List ℕ) → term_is_unbound (length lets) term ≡ false → term_is_wide term ≡ false → stops continues_word rest ≡ true →
-      TermSpelled lets term (32 ∷ term_text lets term ++ rest) rest
-  term_spelled (Number number) rest bound fits stop = number_spelled number rest (narrow number fits) stop
-  term_spelled (Name number) rest bound fits stop = cell_spelled number rest bound stop
+module _ (texts : Bool) (lets : List Let) (named : has_bad_name lets ≡ false) where
+  -- [ - ] number | name . v | NULL | 'text'
+  pub term_spelled : (term : Term) (rest : List ℕ) → term_is_unbound (length lets) term ≡ false → is_unsaid texts term ≡ false → stops goes_on rest ≡ true →
+      TermSpelled texts lets term (32 ∷ term_text lets term ++ rest) rest
+  term_spelled (Number number) rest bound fits stop = number_spelled number rest (narrow number fits) (word_stop rest stop)
+  term_spelled (Name number) rest bound fits stop = cell_spelled lets named number rest bound (word_stop rest stop)
   term_spelled Null rest bound fits stop =
-      spaced (Word (codes "null")) [] (codes "NULL" ++ rest) rest (letters 78 (codes "ULL") rest rest [] refl refl stop refl)
+      spaced (Word (codes "null")) [] (codes "NULL" ++ rest) rest (letters 78 (codes "ULL") rest rest [] refl refl (word_stop rest stop) refl)
+  term_spelled (Text text) rest bound fits stop =
+      (not-false texts fits, spaced (Quoted text true) [] (quoted text ++ rest) rest (quoted_spelled text rest rest [] (quote_stop rest stop) refl))
 
-  signed_spelled : (minus : Bool) (term : Term) (rest : List ℕ) → TermSpelled lets term (32 ∷ term_text lets term ++ rest) rest →
-      Behind (Mark (if minus then codes "-" else codes "+") ∷ []) (TermSpelled lets) term ((sign_text minus ++ term_text lets term) ++ rest) rest
+  signed_spelled : (minus : Bool) (term : Term) (rest : List ℕ) → TermSpelled texts lets term (32 ∷ term_text lets term ++ rest) rest →
+      Behind (Mark (if minus then codes "-" else codes "+") ∷ []) (TermSpelled texts lets) term ((sign_text minus ++ term_text lets term) ++ rest) rest
   unfolding token_at token_of token_len behind after_blanks
   signed_spelled true term rest h = (32 ∷ term_text lets term ++ rest, (refl, refl), h)
   signed_spelled false term rest h = (32 ∷ term_text lets term ++ rest, (refl, refl), h)
 
-  sign_stops : (minus : Bool) (text : List ℕ) → stops continues_word (sign_text minus ++ text) ≡ true
+  sign_stops : (minus : Bool) (text : List ℕ) → stops goes_on (sign_text minus ++ text) ≡ true
   sign_stops true text = refl
   sign_stops false text = refl
 
-  parts_stop : (parts : List Part) (rest : List ℕ) → stops continues_word rest ≡ true → stops continues_word (flat_map (signed_text lets) parts ++ rest) ≡ true
+  parts_stop : (parts : List Part) (rest : List ℕ) → stops goes_on rest ≡ true → stops goes_on (flat_map (signed_text lets) parts ++ rest) ≡ true
   parts_stop [] rest stop = stop
   parts_stop (part ∷ parts) rest stop =
       let others = flat_map (signed_text lets) parts in
       let apart : ((sign_text part.minus ++ term_text lets part.term) ++ others) ++ rest ≡ sign_text part.minus ++ (term_text lets part.term ++ (others ++ rest)) =
       simp append_assoc in
-      subst (λ from. stops continues_word from ≡ true) (sym apart) (sign_stops part.minus (term_text lets part.term ++ (others ++ rest)))
+      subst (λ from. stops goes_on from ≡ true) (sym apart) (sign_stops part.minus (term_text lets part.term ++ (others ++ rest)))
 
   -- { ( + | - ) term }
-  parts_spelled : (parts : List Part) (rest : List ℕ) → mentions_unbound (length lets) parts ≡ false → has_wide_term parts ≡ false → stops continues_word rest ≡ true →
-      Each (PartSpelled lets) parts (flat_map (signed_text lets) parts ++ rest) rest
+  parts_spelled : (parts : List Part) (rest : List ℕ) → mentions_unbound (length lets) parts ≡ false → has_unsaid_term texts parts ≡ false → stops goes_on rest ≡ true →
+      Each (PartSpelled texts lets) parts (flat_map (signed_text lets) parts ++ rest) rest
   parts_spelled [] rest bound fits stop = refl
   parts_spelled (part ∷ parts) rest bound fits stop =
       let bounds = or_parts (term_is_unbound (length lets) part.term) (mentions_unbound (length lets) parts) bound in
-      let sizes = or_parts (term_is_wide part.term) (has_wide_term parts) fits in
+      let sizes = or_parts (is_unsaid texts part.term) (has_unsaid_term texts parts) fits in
       let next = flat_map (signed_text lets) parts ++ rest in
       let first = signed_spelled part.minus part.term next (term_spelled part.term next bounds.0 sizes.0 (parts_stop parts rest stop)) in (
         next,
-        subst (λ from. PartSpelled lets part from next) (sym (append_assoc (signed_text lets part) (flat_map (signed_text lets) parts) rest)) first,
+        subst (λ from. PartSpelled texts lets part from next) (sym (append_assoc (signed_text lets part) (flat_map (signed_text lets) parts) rest)) first,
         parts_spelled parts rest bounds.1 sizes.1 stop,
       )
 
   -- term { ( + | - ) term }
-  pub sum_spelled : (sum : List Part) (rest : List ℕ) → is_malformed sum ≡ false → mentions_unbound (length lets) sum ≡ false → has_wide_term sum ≡ false →
-      stops continues_word rest ≡ true → ExpressionSpelled lets sum (32 ∷ sum_text lets sum ++ rest) rest
+  pub sum_spelled : (sum : List Part) (rest : List ℕ) → is_malformed sum ≡ false → mentions_unbound (length lets) sum ≡ false → has_unsaid_term texts sum ≡ false →
+      stops goes_on rest ≡ true → ExpressionSpelled texts lets sum (32 ∷ sum_text lets sum ++ rest) rest
   sum_spelled [] rest shaped bound fits stop = cc
   sum_spelled (part ∷ parts) rest shaped bound fits stop =
       let bounds = or_parts (term_is_unbound (length lets) part.term) (mentions_unbound (length lets) parts) bound in
-      let sizes = or_parts (term_is_wide part.term) (has_wide_term parts) fits in
+      let sizes = or_parts (is_unsaid texts part.term) (has_unsaid_term texts parts) fits in
       let next = flat_map (signed_text lets) parts ++ rest in
       let first = term_spelled part.term next bounds.0 sizes.0 (parts_stop parts rest stop) in (
         next,
         shaped,
-        subst (λ from. TermSpelled lets part.term (32 ∷ from) next) (sym (append_assoc (term_text lets part.term) (flat_map (signed_text lets) parts) rest)) first,
+        subst (λ from. TermSpelled texts lets part.term (32 ∷ from) next) (sym (append_assoc (term_text lets part.term) (flat_map (signed_text lets) parts) rest)) first,
         parts_spelled parts rest bounds.1 sizes.1 stop,
       )

@@ -1,13 +1,13 @@
 -- Which token words begin with, and what follows it.
-use Rattle.std.proofs.Common.{◌≡◌, ℕ, Bool, true, false, not, List, [], ◌∷◌, ◌++◌, length, drop, refl, sym, ap, subst, ◌∙◌, arith}
+use Rattle.std.proofs.Common.{◌≡◌, ℕ, Bool, true, false, not, ◌||◌, List, [], ◌∷◌, ◌++◌, length, drop, refl, sym, ap, subst, ◌∙◌, arith}
 use Rattle.std.specs.Prelude.{map}
 use Rattle.std.specs.Char.{to_ascii_lowercase}
 use Rattle.std.specs.List.{list_all, prefix_len, take_while}
 use Rattle.std.proofs.Math.Numerals.{one-add}
 use Rattle.std.proofs.Math.Seq.{take-append_seam, drop-append_seam}
-use Rattle.std.proofs.lemmas.Bool.{and_parts, not-true, cond-true}
+use Rattle.std.proofs.lemmas.Bool.{and_parts, or_parts, not-true, cond-true}
 use Rattle.std.proofs.lemmas.Bool.Decides.{nat_tests}
-use Rattle.acc_token.specs.Tokens.{Token, Word, is_blank, after_blanks, begins_word, continues_word, token_of, token_len, token_at, behind}
+use Rattle.acc_token.specs.Tokens.{Token, Word, is_quote, is_blank, after_blanks, begins_word, continues_word, token_of, token_len, token_at, behind}
 use Rattle.acc_txn.specs.Words.{begins_word as begins_lower, continues_word as continues_lower, is_lower_word}
 use Rattle.acc_lang.specs.Grammar.{Spells}
 
@@ -15,6 +15,18 @@ use Rattle.acc_lang.specs.Grammar.{Spells}
 abbrev pub stops : (ℕ → Bool) → List ℕ → Bool
 stops test [] = true
 stops test (c ∷ cs) = not (test c)
+
+-- what a word or a text in quotes goes on with
+abbrev pub goes_on : ℕ → Bool
+goes_on c = continues_word c || is_quote c
+
+pub word_stop : (text : List ℕ) → stops goes_on text ≡ true → stops continues_word text ≡ true
+word_stop [] stop = refl
+word_stop (c ∷ cs) stop = rw (or_parts (continues_word c) (is_quote c) (not-true (goes_on c) stop)).0 refl
+
+pub quote_stop : (text : List ℕ) → stops goes_on text ≡ true → stops is_quote text ≡ true
+quote_stop [] stop = refl
+quote_stop (c ∷ cs) stop = rw (or_parts (continues_word c) (is_quote c) (not-true (goes_on c) stop)).1 refl
 
 -- the front that passes a test ends where a byte fails it
 prefix-front : (test : ℕ → Bool) (front rest : List ℕ) → list_all test front ≡ true → stops test rest ≡ true → prefix_len test (front ++ rest) ≡ length front

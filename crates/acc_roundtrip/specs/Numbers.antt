@@ -1,8 +1,9 @@
--- The numbers of a body fit 64 bits with their signs, as their type has it.
+-- Terms that a text of the language can say. Numbers fit 64 bits with their signs, as their type has it; text values are said in
+-- version 2 alone, which the flag `texts` tells.
 use Rattle.std.specs.Prelude.{◌^◌, Bool, false, not, nat_lt, ℤ, pos, negsuc, List, ◌≡◌}
 use Rattle.std.specs.List.{list_any}
 use Rattle.acc_txn.specs.declared.parts.Term.{Term}
-use Rattle.acc_txn.specs.declared.parts.Term.TheVariants.{Number, Name, Null}
+use Rattle.acc_txn.specs.declared.parts.Term.TheVariants.{Number, Name, Null, Text}
 use Rattle.acc_txn.specs.declared.parts.Part.{Part}
 use Rattle.acc_txn.specs.declared.parts.BodyParts.{BodyParts}
 use Rattle.acc_txn.specs.Rules.{some_expression}
@@ -12,14 +13,16 @@ abbrev pub is_wide : ℤ → Bool
 is_wide (pos n) = not (nat_lt n (2 ^ 63))
 is_wide (negsuc n) = not (nat_lt n (2 ^ 63))
 
-abbrev pub term_is_wide : Term → Bool
-term_is_wide (Number number) = is_wide number
-term_is_wide (Name name) = false
-term_is_wide Null = false
+-- no text says the term
+abbrev pub is_unsaid : Bool → Term → Bool
+is_unsaid texts (Number number) = is_wide number
+is_unsaid texts (Name name) = false
+is_unsaid texts Null = false
+is_unsaid texts (Text text) = not texts
 
-abbrev pub has_wide_term : List Part → Bool
-has_wide_term sum = list_any (λ part. term_is_wide part.term) sum
+abbrev pub has_unsaid_term : Bool → List Part → Bool
+has_unsaid_term texts sum = list_any (λ part. is_unsaid texts part.term) sum
 
--- no number of the body is wide
-abbrev pub HasNarrowNumbers : BodyParts → Type 0
-HasNarrowNumbers parts = some_expression has_wide_term parts ≡ false
+-- each term of the body can be said
+abbrev pub IsSaid : Bool → BodyParts → Type 0
+IsSaid texts parts = some_expression (has_unsaid_term texts) parts ≡ false

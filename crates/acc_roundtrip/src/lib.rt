@@ -5,7 +5,4 @@ pub mod laws;
 mod numbers;
 mod reread;
 
-pub use reread::print_and_parse;
-
-#[cfg(test)]
-mod tests;
+pub use reread::{print_and_parse, print_and_parse_v2};

@@ -17,3 +17,4 @@ pub mod Meetings
 pub mod Polled
 pub mod Replays
 pub mod BegunBefore
+pub mod Underway

@@ -7,7 +7,8 @@ use Rattle.acc_message.specs.declared.entry.Emitted.{Emitted}
 use Rattle.acc_message.specs.Taken.{Taken}
 use Rattle.acc_message.specs.StoreRules.{store_answer, replay}
 use Rattle.acc_message.specs.NodeRules.{Deed, node_emits, node_replay}
-use Rattle.acc_safety.specs.RunLaws.{messages_taken, acts_done}
+use Rattle.acc_actor_laws.specs.TakenAlone.{messages_taken}
+use Rattle.acc_safety.specs.RunLaws.{acts_done}
 use Rattle.acc_safety.specs.Histories.{EachAnswers, EachEmits}
 
 pub store_is_replay : (layout : Layout) (own : Actor) (history : List Taken) → EachAnswers layout own history

@@ -15,3 +15,4 @@ pub mod Roots
 pub mod StoreFactStatements
 pub mod Statements
 pub mod Attempted
+pub mod Underway

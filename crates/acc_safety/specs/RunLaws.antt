@@ -11,7 +11,6 @@ use Rattle.acc_message.specs.declared.note.Note.TheVariants.{Begin as BeginNote,
 use Rattle.acc_message.specs.declared.item.Item.{Item}
 use Rattle.acc_message.specs.Fields.{to_of}
 use Rattle.acc_message.specs.Items.{sent_in, noted_in, message_at, same_actor}
-use Rattle.acc_message.specs.Taken.{Taken}
 use Rattle.acc_message.specs.NodeRules.{Act, Deed}
 
 -- ---- drawn stamps
@@ -47,10 +46,6 @@ pub record WasSent (earlier : List Item) (number : ℕ) (actor : Actor) : Type 0
   pub addressed : IsTrue (same_actor (to_of message) actor)
 
 -- ---- what an actor took
-
--- the messages that a store took
-abbrev pub messages_taken : List Taken → List Message
-messages_taken past = map (λ (step : Taken). step.message) past
 
 -- what a node took
 abbrev pub acts_done : List Deed → List Act

@@ -18,12 +18,14 @@ ghost use Rattle.acc_message.specs.Attempts.{Attempt, majority_everywhere, fast_
 ghost use Rattle.acc_message.specs.Run.{Cluster, clock_start, deeds_of, taken_of, is_node, EachStands, IsHomeOf};
 ghost use Rattle.acc_message.specs.NodeRules.{Act, Deed, attempt_after, attempt_of, node_emits, node_replay};
 ghost use Rattle.acc_message.specs.StoreRules.{store_answer, replay};
-ghost use Rattle.acc_safety.specs.RunLaws.{drawn_of, AreDistinct, WasSent, messages_taken, acts_done};
+ghost use Rattle.acc_safety.specs.RunLaws.{drawn_of, AreDistinct, WasSent, acts_done};
+ghost use Rattle.acc_actor_laws.specs.TakenAlone.{messages_taken};
 ghost use Rattle.acc_safety.specs.Places.{IsIn, StandsAt, IsPast};
 ghost use Rattle.acc_safety.specs.Histories.{EachAnswers, EachEmits, Sending, Noting, Sender};
 ghost use Rattle.acc_safety.specs.StoreSends.{StoreSends};
 ghost use Rattle.acc_safety.specs.NodeMoves.{AttemptMoves, NodeSends, NodeNotes};
 ghost use Rattle.acc_safety.specs.Attempted.{AreAnswersOf, Origin, kind_of};
+ghost use Rattle.acc_safety.specs.Underway.{underway, start_if};
 ghost use Rattle.acc_safety.specs.Polls.{AreAnswers, Meeting, IsAny, Kept, Changed};
 ghost use Rattle.acc_safety.specs.Statements.{BodiesAreBegun, HomesAreOne, DepsAreSets};
 
@@ -86,6 +88,13 @@ pub fn attempts_move_for_a_reason()
         IsIn s (node_emits layout node start past act).out → NodeSends layout node start past act s }
     ensures notes { (layout : Layout) (node start : ℕ) (past : List Deed) (act : Act) (note : Note) →
         IsIn note (node_emits layout node start past act).notes → NodeNotes layout node start past act note }
+{}
+
+/// The attempt at a transaction is that of its last begin or recover, with no restart since and no note that it was blocked,
+/// ended or had its outcome: it has the ballot and the body of that start.
+pub fn attempts_are_underway()
+    ensures { (layout : Layout) (node start : ℕ) (x : TxnId) (deeds : List Deed) → EachEmits layout node start deeds →
+        underway node start x deeds ≡ start_if (attempt_of layout node start x deeds) }
 {}
 
 /// An attempt comes from a begin or from a recover. Its answers were taken since, each of the kind of its phase, of its ballot

@@ -1,5 +1,5 @@
 -- Whether the nodes or the shards of a document make no cluster.
-use Rattle.std.proofs.Common.{◌≡◌, ℕ, zero, suc, ◌+◌, ◌<◌, ◌≤◌, ◌||◌, ◌⊎◌, Bool, true, false, not, eqb, List, [], ◌∷◌, length, take, get_or, Some, None, option_map, unwrap_or, nat_lt, refl, sym, ap, subst, ◌∙◌, arith, add-zero, zero-add, inl, inr}
+use Rattle.std.proofs.Common.{◌≡◌, ℕ, ◌+◌, ◌<◌, ◌≤◌, ◌&&◌, ◌||◌, ◌⊎◌, Bool, true, false, not, eqb, List, [], ◌∷◌, length, take, get_or, Option, Some, None, option_map, unwrap_or, nat_lt, nat_le, refl, sym, ap, subst, ◌∙◌, arith, zero-add, inl, inr}
 use Rattle.std.specs.List.{list_any}
 use Rattle.std.proofs.lemmas.Bool.{cases_lt, lt-ltb, ne_eqb, not-true, true≢false}
 use Rattle.std.proofs.lemmas.List.{take-map}
@@ -7,64 +7,23 @@ use Rattle.std.proofs.lemmas.Option.{slice_get-get_or, slice_get_past, slice_get
 use Rattle.acc_topology.specs.declared.error.TopologyError.{TopologyError}
 use Rattle.acc_topology.specs.declared.error.TopologyError.TheVariants.{Wrong, OutOfMemory}
 use Rattle.acc_topology.specs.declared.error.TopologyKind.{TopologyKind}
-use Rattle.acc_topology.specs.declared.error.TopologyKind.TheVariants.{NoNode, NoShard, Order, Replicas, Twice, UnknownNode}
+use Rattle.acc_topology.specs.declared.error.TopologyKind.TheVariants.{NoNode, NoShard, Order, Replicas, Twice, UnknownNode, Electorate}
 use Rattle.acc_topology.specs.declared.given.NodeSpec.{NodeSpec}
 use Rattle.acc_topology.specs.declared.given.ShardSpec.{ShardSpec}
 use Rattle.acc_topology.specs.Layout.{is_replica_count}
 use Rattle.acc_topology.specs.Sets.{is_among}
-use Rattle.acc_topology.specs.Faults.{Fault as TopologyFault, ◌then◌, must, each, ids, is_new, node_fault, nodes_fault, ends_well, end_before, replica_fault, replica_faults, shard_fault, shards_fault, fault_of, IsFault as IsTopologyFault}
+use Rattle.acc_base.specs.Faults.{◌then◌, must, each}
+use Rattle.acc_base.proofs.Faults.{then_none, both_none, then_broken, must_none, must_broken, each_from_0, broken}
+use Rattle.acc_topology.specs.Faults.{Fault as TopologyFault, ids, is_new, node_fault, nodes_fault, ends_well, end_before, replica_fault, least_electors, elector_fault, electorate_fault, replica_faults, shard_fault, shards_fault, fault_of, IsFault as IsTopologyFault}
 use Rattle.acc_schedule.specs.declared.error.PlanError.{PlanError}
 use Rattle.acc_schedule.specs.Paths.{Path}
 use Rattle.acc_schedule.specs.Faults.{IsFault}
 use Rattle.acc_schedule.specs.Cluster.{cluster_fault, node_path, placed, shard_path, stands_twice}
 use Rattle.acc_schedule.proofs.FieldFacts.{list_any-map}
-use Rattle.acc_schedule.proofs.EachFacts.{behind, before, both}
+use Rattle.acc_schedule.proofs.EachFacts.{behind, before}
 
 abbrev pub none_at : NodeSpec
 none_at = record { id = 0; clock = 0 }
-
-split : (f g : TopologyFault) (e : TopologyError) → (f then g) ≡ Some e → (f ≡ Some e) ⊎ ((f ≡ None) × (g ≡ Some e))
-split None g e h = inr (refl, h)
-split (Some other) g e h = inl h
-
--- the element whose rule is broken
-record Broken (rule : ℕ → NodeSpec → TopologyFault) (xs : List NodeSpec) (from : ℕ) (e : TopologyError) : Type 0 where
-  place : ℕ
-  within : place < length xs
-  here : rule (from + place) (get_or xs place none_at) ≡ Some e
-
-broken : (rule : ℕ → NodeSpec → TopologyFault) (xs : List NodeSpec) (from : ℕ) (e : TopologyError) → each rule from xs ≡ Some e → Broken rule xs from e
-broken rule [] from e h = absurd cc
-broken rule (x ∷ xs) from e h =
-    elim (split (rule from x) (each rule (from + 1) xs) e h) [
-      | inl here ↦ record { place = 0; within = omega arith; here = rw add-zero here }
-      | inr later ↦ let b = broken rule xs (from + 1) e later.1 in
-          let there : from + 1 + b.place ≡ from + suc b.place = omega arith in
-          record { place = suc b.place; within = omega (arith, b.within); here = subst (λ (k : ℕ). rule k (get_or xs b.place none_at) ≡ Some e) there b.here }
-    ]
-
-holding : (rule : ℕ → NodeSpec → TopologyFault) (xs : List NodeSpec) (from i : ℕ) → each rule from xs ≡ None → i < length xs → rule (from + i) (get_or xs i none_at) ≡ None
-holding rule [] from i h lt = absurd (omega arith)
-holding rule (x ∷ xs) from zero h lt = rw add-zero (first_none (rule from x) (each rule (from + 1) xs) h)
-  where
-    first_none : (f g : TopologyFault) → (f then g) ≡ None → f ≡ None
-    first_none None g e = refl
-    first_none (Some other) g e = absurd cc
-holding rule (x ∷ xs) from (suc i) h lt =
-    let there : from + 1 + i ≡ from + suc i = omega arith in
-    subst (λ (k : ℕ). rule k (get_or xs i none_at) ≡ None) there (holding rule xs (from + 1) i (other_none (rule from x) (each rule (from + 1) xs) h) (omega arith))
-  where
-    other_none : (f g : TopologyFault) → (f then g) ≡ None → g ≡ None
-    other_none None g e = e
-    other_none (Some other) g e = absurd cc
-
-test_broken : (test : Bool) (kind other : TopologyKind) (shard item shard' item' : ℕ) → must test kind shard item ≡ Some (Wrong other shard' item') → (test ≡ false) × (item ≡ item')
-test_broken true kind other shard item shard' item' h = absurd cc
-test_broken false kind other shard item shard' item' h = (refl, cc)
-
-test_held : (test : Bool) (kind : TopologyKind) (shard item : ℕ) → must test kind shard item ≡ None → test ≡ true
-test_held true kind shard item h = refl
-test_held false kind shard item h = absurd cc
 
 twice_within : (nodes : List NodeSpec) (item : ℕ) → item < length nodes → stands_twice nodes item ≡ not (is_new (ids nodes) item (get_or nodes item none_at).id)
 twice_within nodes item lt = ap (λ found. unwrap_or (option_map (λ node. not (is_new (ids nodes) item node.id)) found) false) (slice_get-get_or nodes item none_at lt)
@@ -72,19 +31,18 @@ twice_within nodes item lt = ap (λ found. unwrap_or (option_map (λ node. not (
 -- a node that is refused stands twice
 stands : (nodes : List NodeSpec) (kind : TopologyKind) (shard item : ℕ) → each (node_fault nodes) 0 nodes ≡ Some (Wrong kind shard item) → stands_twice nodes item ≡ true
 stands nodes kind shard item h =
-    let b = broken (node_fault nodes) nodes 0 (Wrong kind shard item) h in
+    let b = broken (node_fault nodes) nodes 0 none_at (Wrong kind shard item) h in
     let here : node_fault nodes b.place (get_or nodes b.place none_at) ≡ Some (Wrong kind shard item) =
     subst (λ (k : ℕ). node_fault nodes k (get_or nodes b.place none_at) ≡ Some (Wrong kind shard item)) (zero-add b.place) b.here in
-    let t = test_broken _ Twice kind 0 b.place shard item here in
-    subst (λ (k : ℕ). stands_twice nodes k ≡ true) t.1 (twice_within nodes b.place b.within ∙ ap not t.0)
+    let t = must_broken _ (Wrong Twice 0 b.place) (Wrong kind shard item) here in
+    let same : b.place ≡ item = let e = t.1 in cc in
+    subst (λ (k : ℕ). stands_twice nodes k ≡ true) same (twice_within nodes b.place b.within ∙ ap not t.0)
 
 -- where no node is refused, none stands twice
 stands_not : (nodes : List NodeSpec) (item : ℕ) → each (node_fault nodes) 0 nodes ≡ None → stands_twice nodes item ≡ false
 stands_not nodes item h =
     elim (cases_lt item (length nodes)) [
-      | inl lt ↦ let here : node_fault nodes item (get_or nodes item none_at) ≡ None =
-          subst (λ (k : ℕ). node_fault nodes k (get_or nodes item none_at) ≡ None) (zero-add item) (holding (node_fault nodes) nodes 0 item h lt) in
-          twice_within nodes item lt ∙ ap not (test_held _ Twice 0 item here)
+      | inl lt ↦ twice_within nodes item lt ∙ ap not (must_none _ (Wrong Twice 0 item) (each_from_0 (node_fault nodes) nodes item none_at h lt))
       | inr past ↦ ap (λ found. unwrap_or (option_map (λ node. not (is_new (ids nodes) item node.id)) found) false) (slice_get_past nodes item past)
     ]
 
@@ -96,7 +54,7 @@ abbrev nodes_tested : List NodeSpec → ℕ → Bool
 nodes_tested nodes item = eqb (length nodes) 0 || stands_twice nodes item
 
 nonempty : (node : NodeSpec) (nodes : List NodeSpec) → nodes_fault (node ∷ nodes) ≡ each (node_fault (node ∷ nodes)) 0 (node ∷ nodes)
-nonempty node nodes = ap (λ b. must b NoNode 0 0 then each (node_fault (node ∷ nodes)) 0 (node ∷ nodes)) (lt-ltb 0 (length (node ∷ nodes)) (omega arith))
+nonempty node nodes = ap (λ b. must b (Wrong NoNode 0 0) then each (node_fault (node ∷ nodes)) 0 (node ∷ nodes)) (lt-ltb 0 (length (node ∷ nodes)) (omega arith))
 
 blamed : (nodes : List NodeSpec) (shards : List ShardSpec) (kind : TopologyKind) (shard item : ℕ) → fault_of nodes shards ≡ the_fault kind shard item
     → ((nodes_tested nodes item ≡ true) × (nodes_fault nodes ≡ the_fault kind shard item))
@@ -104,7 +62,7 @@ blamed : (nodes : List NodeSpec) (shards : List ShardSpec) (kind : TopologyKind)
 blamed [] shards kind shard item h = inl (refl, h)
 blamed (node ∷ nodes) shards kind shard item h =
     let some : eqb (length (node ∷ nodes)) 0 ≡ false = ne_eqb _ _ (λ e. absurd (omega arith)) in
-    elim (split (nodes_fault (node ∷ nodes)) (shards_fault (is_among (ids (node ∷ nodes))) shards) (Wrong kind shard item) h) [
+    elim (then_broken (nodes_fault (node ∷ nodes)) (shards_fault (is_among (ids (node ∷ nodes))) shards) (Wrong kind shard item) h) [
       | inl here ↦ inl (ap (λ b. b || stands_twice (node ∷ nodes) item) some ∙ stands (node ∷ nodes) kind shard item (sym (nonempty node nodes) ∙ here), here)
       | inr later ↦ inr (ap (λ b. b || stands_twice (node ∷ nodes) item) some ∙ stands_not (node ∷ nodes) item (sym (nonempty node nodes) ∙ later.0), later.0, later.1)
     ]
@@ -141,12 +99,8 @@ placed_at_shards nodes shards kind shard item e is test h =
 -- no list is
 pub none_blamed : (nodes : List NodeSpec) (shards : List ShardSpec) → fault_of nodes shards ≡ None → cluster_fault nodes shards ≡ None
 none_blamed nodes shards h =
-    let parts = both_none (nodes_fault nodes) (shards_fault (is_among (ids nodes)) shards) h in
-    both _ _ (ap (placed node_path) parts.0) (ap (placed shard_path) parts.1)
-  where
-    both_none : (f g : TopologyFault) → (f then g) ≡ None → (f ≡ None) × (g ≡ None)
-    both_none None g e = (refl, e)
-    both_none (Some other) g e = absurd cc
+    let parts = then_none (nodes_fault nodes) (shards_fault (is_among (ids nodes)) shards) h in
+    both_none _ _ (ap (placed node_path) parts.0) (ap (placed shard_path) parts.1)
 
 -- the code's look for the node in front
 among_before : (nodes : List NodeSpec) (item : ℕ) (id : ℕ) → list_any (λ node. eqb node.id id) (take item nodes) ≡ not (is_new (ids nodes) item id)
@@ -179,7 +133,7 @@ OfGiven None = Unit {0}
 OfGiven (Some OutOfMemory) = ⊥
 OfGiven (Some (Wrong kind shard item)) = Unit {0}
 
-given_must : (test : Bool) (kind : TopologyKind) (shard item : ℕ) → OfGiven (must test kind shard item)
+given_must : (test : Bool) (kind : TopologyKind) (shard item : ℕ) → OfGiven (must test (Wrong kind shard item))
 given_must true kind shard item = tt
 given_must false kind shard item = tt
 
@@ -196,32 +150,37 @@ given_nodes nodes = given_then _ _ (given_must _ NoNode 0 0) (given_each (node_f
 
 given_replica : (is_node : ℕ → Bool) (shard : ℕ) (replicas : List ℕ) (item n : ℕ) → OfGiven (replica_fault is_node shard replicas item n)
 given_replica is_node shard replicas item n =
-    given_then (must (is_node n) UnknownNode shard item) (must (is_new replicas item n) Twice shard item) (given_must (is_node n) UnknownNode shard item) (given_must (is_new replicas item n) Twice shard item)
+    given_then (must (is_node n) (Wrong UnknownNode shard item)) (must (is_new replicas item n) (Wrong Twice shard item)) (given_must (is_node n) UnknownNode shard item) (given_must (is_new replicas item n) Twice shard item)
+
+given_electorate : (is_replica : ℕ → Bool) (least shard : ℕ) (electorate : Option (List ℕ)) → OfGiven (electorate_fault is_replica least shard electorate)
+given_electorate is_replica least shard None = tt
+given_electorate is_replica least shard (Some electorate) =
+    given_then (must (nat_le least (length electorate)) (Wrong Electorate shard 0)) (each (elector_fault is_replica shard electorate) 0 electorate) (given_must (nat_le least (length electorate)) Electorate shard 0)
+    (given_each (elector_fault is_replica shard electorate) (λ item n. given_must (is_replica n && is_new electorate item n) Electorate shard 0) electorate 0)
 
 given_replicas : (is_node : ℕ → Bool) (place : ℕ) (s : ShardSpec) → OfGiven (replica_faults is_node place s)
 given_replicas is_node place s =
     let count = is_replica_count (length s.replicas) in
-    given_then (must count Replicas place 0) (each (replica_fault is_node place s.replicas) 0 s.replicas) (given_must count Replicas place 0)
-    (given_each (replica_fault is_node place s.replicas) (given_replica is_node place s.replicas) s.replicas 0)
+    let electorate = electorate_fault (is_among s.replicas) (least_electors s) place s.electorate in
+    given_then (must count (Wrong Replicas place 0) then each (replica_fault is_node place s.replicas) 0 s.replicas) electorate
+    (given_then (must count (Wrong Replicas place 0)) (each (replica_fault is_node place s.replicas) 0 s.replicas) (given_must count Replicas place 0)
+    (given_each (replica_fault is_node place s.replicas) (given_replica is_node place s.replicas) s.replicas 0))
+    (given_electorate (is_among s.replicas) (least_electors s) place s.electorate)
 
 given_shard : (is_node : ℕ → Bool) (shards : List ShardSpec) (place : ℕ) (s : ShardSpec) → OfGiven (shard_fault is_node shards place s)
 given_shard is_node shards place s =
     let ends = ends_well (eqb (place + 1) (length shards)) (end_before shards place) s.end in
-    given_then (must ends Order place 0) (replica_faults is_node place s) (given_must ends Order place 0) (given_replicas is_node place s)
+    given_then (must ends (Wrong Order place 0)) (replica_faults is_node place s) (given_must ends Order place 0) (given_replicas is_node place s)
 
 given_shards : (is_node : ℕ → Bool) (shards : List ShardSpec) → OfGiven (shards_fault is_node shards)
 given_shards is_node shards =
     let some = nat_lt 0 (length shards) in
-    given_then (must some NoShard 0 0) (each (shard_fault is_node shards) 0 shards) (given_must some NoShard 0 0) (given_each (shard_fault is_node shards) (given_shard is_node shards) shards 0)
+    given_then (must some (Wrong NoShard 0 0)) (each (shard_fault is_node shards) 0 shards) (given_must some NoShard 0 0) (given_each (shard_fault is_node shards) (given_shard is_node shards) shards 0)
 
 placed_none : (path : TopologyKind → ℕ → ℕ → Path) (f : TopologyFault) → OfGiven f → placed path f ≡ None → f ≡ None
 placed_none path None g h = refl
 placed_none path (Some OutOfMemory) g h = absurd g
 placed_none path (Some (Wrong kind shard item)) g h = absurd cc
-
-both_none : (f g : TopologyFault) → (f then g) ≡ None → (f ≡ None) × (g ≡ None)
-both_none None g e = (refl, e)
-both_none (Some other) g e = absurd cc
 
 -- nodes and shards of which each placed fault is none have none
 pub no_fault : (nodes : List NodeSpec) (shards : List ShardSpec) → placed node_path (nodes_fault nodes) ≡ None → placed shard_path (shards_fault (is_among (ids nodes)) shards) ≡ None → fault_of nodes shards ≡ None
@@ -230,11 +189,10 @@ no_fault nodes shards a b =
     ∙ placed_none shard_path (shards_fault (is_among (ids nodes)) shards) (given_shards (is_among (ids nodes)) shards) b
 
 pub nodes_fine : (nodes : List NodeSpec) (shards : List ShardSpec) → fault_of nodes shards ≡ None → nodes_fault nodes ≡ None
-nodes_fine nodes shards h = (both_none (nodes_fault nodes) (shards_fault (is_among (ids nodes)) shards) h).0
+nodes_fine nodes shards h = (then_none (nodes_fault nodes) (shards_fault (is_among (ids nodes)) shards) h).0
 
 -- a node that is not refused is new
 pub fine_node : (nodes : List NodeSpec) (i : ℕ) → nodes_fault nodes ≡ None → i < length nodes → is_among (take i (ids nodes)) (get_or nodes i none_at).id ≡ false
 fine_node nodes i h lt =
-    let each_none : each (node_fault nodes) 0 nodes ≡ None = (both_none _ (each (node_fault nodes) 0 nodes) h).1 in
-    let here : node_fault nodes i (get_or nodes i none_at) ≡ None = subst (λ (k : ℕ). node_fault nodes k (get_or nodes i none_at) ≡ None) (zero-add i) (holding (node_fault nodes) nodes 0 i each_none lt) in
-    not-true _ (test_held _ Twice 0 i here)
+    let each_none : each (node_fault nodes) 0 nodes ≡ None = (then_none _ (each (node_fault nodes) 0 nodes) h).1 in
+    not-true _ (must_none _ (Wrong Twice 0 i) (each_from_0 (node_fault nodes) nodes i none_at each_none lt))

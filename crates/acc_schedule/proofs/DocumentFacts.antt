@@ -1,5 +1,5 @@
 -- The rules of a document, one after another.
-use Rattle.std.proofs.Common.{◌≡◌, ℕ, List, None, Result, ap, subst, ◌∙◌}
+use Rattle.std.proofs.Common.{◌≡◌, ℕ, List, None, Result, Ok, Err, sym, ap, subst, ◌∙◌}
 use Rattle.acc_stamp.specs.declared.actors.Actor.{Actor}
 use Rattle.acc_topology.specs.Layout.{Layout}
 use Rattle.acc_topology.specs.Sets.{in_set, is_among}
@@ -10,8 +10,10 @@ use Rattle.acc_schedule.specs.Actors.{actor_named, actors, at_name}
 use Rattle.acc_schedule.specs.Seen.{seen}
 use Rattle.acc_schedule.specs.Steps.{Cast, cast_in, schedule_fault, steps_of}
 use Rattle.acc_schedule.specs.declared.error.PlanError.{PlanError}
-use Rattle.acc_schedule.specs.Faults.{Fault, ◌then◌, Gives, IsFault}
-use Rattle.acc_schedule.proofs.EachFacts.{before, behind, both}
+use Rattle.acc_base.specs.Faults.{◌then◌}
+use Rattle.acc_base.proofs.Faults.{both_none}
+use Rattle.acc_schedule.specs.Faults.{Fault, Gives, IsFault}
+use Rattle.acc_schedule.proofs.EachFacts.{before, behind}
 
 -- a fault of the first, second, .. of five rules
 module _ (a b c d f : Fault) (e : PlanError) where
@@ -22,33 +24,40 @@ module _ (a b c d f : Fault) (e : PlanError) where
   second_of_five n h = before (a then b then c then d) f e (before (a then b then c) d e (before (a then b) c e (behind a b e n h)))
 
   pub third_of_five : a ≡ None → b ≡ None → IsFault c e → IsFault (a then b then c then d then f) e
-  third_of_five n m h = before (a then b then c then d) f e (before (a then b then c) d e (behind (a then b) c e (both a b n m) h))
+  third_of_five n m h = before (a then b then c then d) f e (before (a then b then c) d e (behind (a then b) c e (both_none a b n m) h))
 
   pub fourth_of_five : a ≡ None → b ≡ None → c ≡ None → IsFault d e → IsFault (a then b then c then d then f) e
-  fourth_of_five n m k h = before (a then b then c then d) f e (behind (a then b then c) d e (both (a then b) c (both a b n m) k) h)
+  fourth_of_five n m k h = before (a then b then c then d) f e (behind (a then b then c) d e (both_none (a then b) c (both_none a b n m) k) h)
 
   pub fifth_of_five : a ≡ None → b ≡ None → c ≡ None → d ≡ None → IsFault f e → IsFault (a then b then c then d then f) e
-  fifth_of_five n m k l h = behind (a then b then c then d) f e (both (a then b then c) d (both (a then b) c (both a b n m) k) l) h
+  fifth_of_five n m k l h = behind (a then b then c then d) f e (both_none (a then b then c) d (both_none (a then b) c (both_none a b n m) k) l) h
 
 pub none_of_five : (a b c d f : Fault) → a ≡ None → b ≡ None → c ≡ None → d ≡ None → f ≡ None → (a then b then c then d then f) ≡ None
-none_of_five a b c d f n m k l j = both (a then b then c then d) f (both (a then b then c) d (both (a then b) c (both a b n m) k) l) j
+none_of_five a b c d f n m k l j = both_none (a then b then c then d) f (both_none (a then b then c) d (both_none (a then b) c (both_none a b n m) k) l) j
 
--- of four rules
-module _ (a b c d : Fault) (e : PlanError) where
-  pub first_of_four : IsFault a e → IsFault (a then b then c then d) e
-  first_of_four h = before (a then b then c) d e (before (a then b) c e (before a b e h))
+-- of three rules
+module _ (a b c : Fault) (e : PlanError) where
+  pub first_of_three : IsFault a e → IsFault (a then b then c) e
+  first_of_three h = before (a then b) c e (before a b e h)
 
-  pub second_of_four : a ≡ None → IsFault b e → IsFault (a then b then c then d) e
-  second_of_four n h = before (a then b then c) d e (before (a then b) c e (behind a b e n h))
+  pub second_of_three : a ≡ None → IsFault b e → IsFault (a then b then c) e
+  second_of_three n h = before (a then b) c e (behind a b e n h)
 
-  pub third_of_four : a ≡ None → b ≡ None → IsFault c e → IsFault (a then b then c then d) e
-  third_of_four n m h = before (a then b then c) d e (behind (a then b) c e (both a b n m) h)
+  pub third_of_three : a ≡ None → b ≡ None → IsFault c e → IsFault (a then b then c) e
+  third_of_three n m h = behind (a then b) c e (both_none a b n m) h
 
-  pub fourth_of_four : a ≡ None → b ≡ None → c ≡ None → IsFault d e → IsFault (a then b then c then d) e
-  fourth_of_four n m k h = behind (a then b then c) d e (both (a then b) c (both a b n m) k) h
+pub none_of_three : (a b c : Fault) → a ≡ None → b ≡ None → c ≡ None → (a then b then c) ≡ None
+none_of_three a b c n m k = both_none (a then b) c (both_none a b n m) k
 
-pub none_of_four : (a b c d : Fault) → a ≡ None → b ≡ None → c ≡ None → d ≡ None → (a then b then c then d) ≡ None
-none_of_four a b c d n m k l = both (a then b then c) d (both (a then b) c (both a b n m) k) l
+-- what is answered behind a rule that holds
+pub given_behind : {X : Type 0} (first second : Fault) (P : X → Type 0) (r : Result X PlanError) → first ≡ None → Gives second P r → Gives (first then second) P r
+given_behind first second P (Ok x) n h = (both_none first second n h.0, h.1)
+given_behind first second P (Err e) n h = behind first second e n h
+
+-- what is answered, by an equal fault and an equal value
+pub given_same : {X : Type 0} (first second : Fault) (said told : X) (r : Result X PlanError) → first ≡ second → said ≡ told → Gives first (λ x. x ≡ said) r → Gives second (λ x. x ≡ told) r
+given_same first second said told (Ok x) f v h = (sym f ∙ h.0, h.1 ∙ v)
+given_same first second said told (Err e) f v h = subst (λ (g : Fault). IsFault g e) f h
 
 -- ---- what the steps of a document may speak of
 

@@ -6,7 +6,9 @@ use Rattle.serde_json.specs.View.{view}
 use Rattle.serde_json.specs.declared.value.Value.{Value}
 use Rattle.acc_schedule.specs.declared.error.PlanError.{PlanError}
 use Rattle.acc_schedule.specs.declared.error.PlanError.TheVariants.{Bad, OutOfMemory}
-use Rattle.acc_schedule.specs.Faults.{Fault, ◌then◌, each, IsFault}
+use Rattle.acc_base.specs.Faults.{◌then◌, each}
+use Rattle.acc_base.proofs.Faults.{both_none}
+use Rattle.acc_schedule.specs.Faults.{Fault, IsFault}
 
 -- a fault behind a rule that holds
 pub behind : (first second : Fault) (e : PlanError) → first ≡ None → IsFault second e → IsFault (first then second) e
@@ -16,9 +18,6 @@ behind first second e holds h = subst (λ (f : Fault). IsFault (f then second) e
 pub before : (first second : Fault) (e : PlanError) → IsFault first e → IsFault (first then second) e
 before first second OutOfMemory h = tt
 before first second (Bad kind path detail at) h = ap (λ f. f then second) h
-
-pub both : (first second : Fault) → first ≡ None → second ≡ None → (first then second) ≡ None
-both first second a b = ap (λ f. f then second) a ∙ b
 
 -- the first i elements break no rule, and say this
 pub record AreRead {X : Type 0} (rule : ℕ → Data → Fault) (value : Data → X) (vs : List Value) (i : ℕ) (out : List X) : Type 0 where
@@ -74,7 +73,7 @@ module _ {X : Type 0} where
       → AreRead rule value vs i out → length vs ≤ i → ((first then each rule 0 ds) ≡ None) × (out ≡ map value ds)
   list_read first rule value vs ds i out holds are all long =
       let read = all_read rule value vs i out all long in (
-        both first (each rule 0 ds) holds (ap (each rule 0) (sym are) ∙ read.0),
+        both_none first (each rule 0 ds) holds (ap (each rule 0) (sym are) ∙ read.0),
         read.1 ∙ ap (map value) are,
       )
 

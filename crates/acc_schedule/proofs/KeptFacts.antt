@@ -1,6 +1,5 @@
 -- What rules that are kept say of the data, and of the steps.
-use Rattle.std.proofs.Common.{◌≡◌, ℕ, zero, suc, ◌+◌, ◌<◌, ◌≤◌, List, [], ◌∷◌, length, map, position, get_or, Bool, true, false, cond, Option, Some, None, is_some, unwrap_or, option_map, Contains, refl, subst, arith, add-zero}
-use Rattle.std.specs.List.{AllByRecursion}
+use Rattle.std.proofs.Common.{◌≡◌, ℕ, suc, ◌<◌, ◌≤◌, List, [], ◌∷◌, length, position, Bool, true, false, cond, Option, Some, None, is_some, unwrap_or, option_map, Contains, refl, arith}
 use Rattle.std.specs.Option.{option_and_then}
 use Rattle.std.specs.Str.{bytes_eq}
 use Rattle.std.proofs.lemmas.Bool.{and_parts, leb-true}
@@ -11,39 +10,17 @@ use Rattle.acc_stamp.specs.declared.actors.Actor.{Actor}
 use Rattle.acc_stamp.specs.Actor.{actor_of}
 use Rattle.acc_topology.specs.Layout.{Layout}
 use Rattle.acc_topology.specs.Sets.{is_among}
-use Rattle.acc_schedule.specs.declared.error.PlanKind.{PlanKind}
 use Rattle.acc_schedule.specs.declared.error.PlanKind.TheVariants.{Name, Step}
 use Rattle.acc_schedule.specs.declared.words.Word.{Word}
 use Rattle.acc_schedule.specs.declared.words.Word.TheVariants.{Begin as BeginWord, Deliver as DeliverWord, Drop as DropWord, Recover as RecoverWord, Slow as SlowWord, Restart as RestartWord, Fail as FailWord, Drain as DrainWord}
 use Rattle.acc_schedule.specs.Paths.{Path}
-use Rattle.acc_schedule.specs.Faults.{Fault, ◌then◌, each, must}
+use Rattle.acc_base.proofs.Faults.{then_none, must_none}
+use Rattle.acc_schedule.specs.Faults.{bad}
 use Rattle.acc_schedule.specs.Fields.{is_from_to, is_number_from_to, items, natural, number}
 use Rattle.acc_schedule.specs.Actors.{actor_named, actor_text, actors}
 use Rattle.acc_schedule.specs.Transactions.{is_one_of}
 use Rattle.acc_schedule.specs.Steps.{actor_at, actor_fault, cast_in, count_fault, form_fault, form_step, name_fault, node_fault, operand_path, operands_in, step_fault, step_of, transaction_of, word_in}
 use Rattle.acc_schedule.specs.Plan.{IsStep}
-
-pub then_none : (f g : Fault) → (f then g) ≡ None → (f ≡ None) × (g ≡ None)
-then_none None g h = (refl, h)
-then_none (Some e) g h = absurd cc
-
-pub must_none : (test : Bool) (kind : PlanKind) (path : Path) → must test kind path ≡ None → test ≡ true
-must_none true kind path h = refl
-must_none false kind path h = absurd cc
-
--- what each rule says of its element
-pub each_all : {A X : Type 0} (rule : ℕ → A → Fault) (value : A → X) (P : X → Type 0) → ((i : ℕ) (x : A) → rule i x ≡ None → P (value x)) → (xs : List A) (from : ℕ) → each rule from xs ≡ None → AllByRecursion P (map value xs)
-each_all rule value P says [] from h = tt
-each_all rule value P says (x ∷ xs) from h =
-    let parts = then_none (rule from x) (each rule (from + 1) xs) h in
-    (says from x parts.0, each_all rule value P says xs (from + 1) parts.1)
-
-pub each_at : {A : Type 0} (rule : ℕ → A → Fault) (xs : List A) (from i : ℕ) (d : A) → each rule from xs ≡ None → i < length xs → rule (from + i) (get_or xs i d) ≡ None
-each_at rule [] from i d h lt = absurd (omega arith)
-each_at rule (x ∷ xs) from zero d h lt = rw add-zero (then_none (rule from x) (each rule (from + 1) xs) h).0
-each_at {A} rule (x ∷ xs) from (suc i) d h lt =
-    let there : from + 1 + i ≡ from + suc i = omega arith in
-    subst (λ (k : ℕ). rule k (get_or xs i d) ≡ None) there (each_at rule xs (from + 1) i d (then_none (rule from x) (each rule (from + 1) xs) h).1 (omega arith))
 
 -- ---- numbers
 
@@ -65,7 +42,7 @@ one_of is_node d h = go (natural d) h
 -- ---- the items of a step
 
 transaction_known : (names : List (List ℕ)) (layout : Layout) (path : Path) (d : Data) → name_fault (cast_in names layout) path d ≡ None → transaction_of (cast_in names layout) d < length names
-transaction_known names layout path d h = go (as_str d) (must_none _ Name path (then_none _ _ h).1)
+transaction_known names layout path d h = go (as_str d) (must_none _ (bad Name path) (then_none _ _ h).1)
   where
     place : (found : Option ℕ) (name : List ℕ) → position (bytes_eq name) names ≡ found → is_some found ≡ true → unwrap_or found 0 < length names
     place None name e t = absurd cc
@@ -84,7 +61,7 @@ found_within [] name actor h = absurd cc
 found_within (x ∷ xs) name actor h = found_step x xs name actor (found_within xs name actor) (bytes_eq name (actor_text x)) h
 
 actor_known : (names : List (List ℕ)) (layout : Layout) (path : Path) (d : Data) → actor_fault (cast_in names layout) path d ≡ None → Contains (actors layout) (actor_at (cast_in names layout) d)
-actor_known names layout path d h = go (as_str d) (must_none _ Name path (then_none _ _ h).1)
+actor_known names layout path d h = go (as_str d) (must_none _ (bad Name path) (then_none _ _ h).1)
   where
     place : (found : Option Actor) (name : List ℕ) → actor_named (actors layout) name ≡ found → is_some found ≡ true → Contains (actors layout) (unwrap_or found (actor_of 0 0))
     place None name e t = absurd cc
@@ -95,10 +72,10 @@ actor_known names layout path d h = go (as_str d) (must_none _ Name path (then_n
     go (Some name) t = place (actor_named (actors layout) name) name refl t
 
 node_known : (names : List (List ℕ)) (layout : Layout) (path : Path) (d : Data) → node_fault (cast_in names layout) path d ≡ None → is_among layout.nodes (number d) ≡ true
-node_known names layout path d h = one_of (is_among layout.nodes) d (must_none _ Name path (then_none _ _ h).1)
+node_known names layout path d h = one_of (is_among layout.nodes) d (must_none _ (bad Name path) (then_none _ _ h).1)
 
 count_known : (most : ℕ) (path : Path) (d : Data) → count_fault most path d ≡ None → number d ≤ most
-count_known most path d h = (within 0 most d (must_none _ Step path h)).1
+count_known most path d h = (within 0 most d (must_none _ (bad Step path) h)).1
 
 -- ---- steps
 

@@ -1,5 +1,6 @@
 mod ActorFacts
 pub mod AnswerFacts
+mod ApartFacts
 mod BuiltFacts
 mod ClusterFacts
 mod DocumentFacts
@@ -10,4 +11,5 @@ mod NameFacts
 mod PathFacts
 mod PlanFacts
 mod ShardFacts
+mod TextFacts
 mod TransactionFacts

@@ -11,7 +11,8 @@ use Rattle.acc_topology.specs.Faults.{ids, is_new, nodes_fault, shards_fault}
 use Rattle.acc_schedule.specs.declared.error.PlanKind.TheVariants.{Topology}
 use Rattle.acc_schedule.specs.declared.error.PlanError.TheVariants.{Bad}
 use Rattle.acc_schedule.specs.Paths.{Path, path_text, field_path, item_path, part_path}
-use Rattle.acc_schedule.specs.Faults.{Fault, ◌then◌}
+use Rattle.acc_base.specs.Faults.{◌then◌}
+use Rattle.acc_schedule.specs.Faults.{Fault}
 
 -- the numbers of the refusals
 abbrev pub detail_of : TopologyKind → ℕ
@@ -37,6 +38,7 @@ abbrev pub shard_path : TopologyKind → ℕ → ℕ → Path
 shard_path NoShard shard item = field_path (codes "shards")
 shard_path Order shard item = part_path (codes "shards") shard (codes "end")
 shard_path Replicas shard item = part_path (codes "shards") shard (codes "replicas")
+shard_path Electorate shard item = part_path (codes "shards") shard (codes "electorate")
 shard_path _ shard item = replica_path shard item
 
 -- the topology's fault, with its place in the document

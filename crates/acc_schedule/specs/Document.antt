@@ -1,5 +1,5 @@
 -- A cluster document: the first rule that it breaks, and the plan that it says.
-use Rattle.std.specs.Prelude.{◌≡◌, ◌⊎◌, ℕ, ◌||◌, List, [], ◌∷◌, Bool, Some, None, Result, Ok, Err, IsSome, IsUtf8, codes, unwrap_or, if◌then◌else◌, ⊤}
+use Rattle.std.specs.Prelude.{◌≡◌, ◌⊎◌, ℕ, ◌||◌, List, [], ◌∷◌, Bool, Option, Some, None, Result, Ok, Err, IsSome, IsUtf8, codes, unwrap_or, if◌then◌else◌, ⊤}
 use Rattle.std.specs.Str.{bytes_eq}
 use Rattle.serde_json.specs.Data.{Data, string}
 use Rattle.serde_json.specs.Find.{get}
@@ -14,8 +14,9 @@ use Rattle.acc_schedule.specs.Content.{Content}
 use Rattle.acc_schedule.specs.declared.plan.Print.{Print}
 use Rattle.acc_schedule.specs.declared.plan.Print.TheVariants.{Lines, Summary}
 use Rattle.acc_schedule.specs.Paths.{field_path}
-use Rattle.acc_schedule.specs.Faults.{Fault, ◌then◌, fault, must}
-use Rattle.acc_schedule.specs.Fields.{field, is_number_from_to, object_fault, text}
+use Rattle.acc_base.specs.Faults.{◌then◌, must}
+use Rattle.acc_schedule.specs.Faults.{Fault, fault, bad}
+use Rattle.acc_schedule.specs.Fields.{field, is_number_from_to, number, object_fault, text}
 use Rattle.acc_schedule.specs.Nodes.{nodes_fault, nodes_of}
 use Rattle.acc_schedule.specs.Shards.{shards_fault, shards_of}
 use Rattle.acc_schedule.specs.Cluster.{cluster_fault}
@@ -37,28 +38,53 @@ abbrev pub schedule : Data → Data
 schedule = field (codes "schedule")
 
 -- what is printed; lines where nothing is said
-abbrev pub print : Data → Data
-print d = unwrap_or (get (codes "print") d) (string (codes "lines"))
+abbrev pub printed : Option Data → Data
+printed said = unwrap_or said (string (codes "lines"))
+
+-- the fields of the root
+pub record Root : Type 0 where
+  pub version : Data
+  pub nodes : Data
+  pub shards : Data
+  pub txns : Data
+  pub schedule : Data
+  pub print : Data
+
+abbrev pub root_of : Data → Option Data → Root
+root_of d print = record {
+  version = field (codes "version") d;
+  nodes = nodes d;
+  shards = shards d;
+  txns = txns d;
+  schedule = schedule d;
+  print = printed print;
+}
+
+-- the version of the document
+abbrev pub version_of : Root → ℕ
+version_of r = number r.version
 
 -- the cluster that its nodes and shards make
-abbrev pub layout_of : Data → Layout
-layout_of d = given_layout (nodes_of (nodes d)) (shards_of (shards d))
+abbrev pub layout_of : Root → Layout
+layout_of r = given_layout (nodes_of r.nodes) (shards_of r.shards)
 
-abbrev pub is_node_of : Data → ℕ → Bool
-is_node_of d = is_among (layout_of d).nodes
+abbrev pub is_node_of : Root → ℕ → Bool
+is_node_of r = is_among (layout_of r).nodes
 
 -- what its steps may speak of
-abbrev pub cast_of : Data → Cast
-cast_of d = cast_in (names_of (txns d)) (layout_of d)
+abbrev pub cast_of : Root → Cast
+cast_of r = cast_in (names_of r.txns) (layout_of r)
 
 -- ---- the rules
 
+abbrev pub needed_fields : List (List ℕ)
+needed_fields = codes "version" ∷ codes "nodes" ∷ codes "shards" ∷ codes "txns" ∷ codes "schedule" ∷ []
+
 abbrev pub root_fault : Data → Fault
-root_fault d =
-    object_fault (codes "version" ∷ codes "nodes" ∷ codes "shards" ∷ codes "txns" ∷ codes "schedule" ∷ []) (codes "print" ∷ []) [] d
+root_fault d = object_fault needed_fields (codes "print" ∷ []) [] d
 
 abbrev pub version_fault : Data → Fault
-version_fault d = must (is_number_from_to 1 1 (field (codes "version") d)) Shape (field_path (codes "version"))
+version_fault d = must (is_number_from_to 1 2 d) (bad Shape (field_path (codes "version")))
 
 abbrev pub is_lines : Data → Bool
 is_lines d = bytes_eq (text d) (codes "lines")
@@ -67,39 +93,43 @@ abbrev pub is_summary : Data → Bool
 is_summary d = bytes_eq (text d) (codes "summary")
 
 abbrev pub print_fault : Data → Fault
-print_fault d = must (is_lines d || is_summary d) Shape (field_path (codes "print"))
+print_fault d = must (is_lines d || is_summary d) (bad Shape (field_path (codes "print")))
 
--- the rules of a document, from top to bottom: those up to its cluster, and all of them
-abbrev pub base_fault : Data → Fault
-base_fault d =
-    root_fault d
-    then version_fault d
-    then nodes_fault (nodes d)
-    then shards_fault (shards d)
-    then cluster_fault (nodes_of (nodes d)) (shards_of (shards d))
+abbrev pub base_fault : Root → Fault
+base_fault r =
+    nodes_fault r.nodes then shards_fault r.shards then cluster_fault (nodes_of r.nodes) (shards_of r.shards)
+
+-- the rules of a document, from top to bottom: that its root has the fields that it must have, and what these must be
+abbrev pub fields_fault : Root → Fault
+fields_fault r =
+    version_fault r.version
+    then base_fault r
+    then transactions_fault (version_of r) (is_node_of r) r.txns
+    then schedule_fault (cast_of r) r.schedule
+    then print_fault r.print
 
 abbrev pub document_fault : Data → Fault
-document_fault d =
-    base_fault d
-    then transactions_fault (is_node_of d) (txns d)
-    then schedule_fault (cast_of d) (schedule d)
-    then print_fault (print d)
+document_fault d = root_fault d then fields_fault (root_of d (get (codes "print") d))
 
 -- ---- what it says
 
 abbrev pub print_of : Data → Print
 print_of d = if is_summary d then Summary else Lines
 
-abbrev pub plan_of : Data → Content
-plan_of d = record {
-  topology = layout_of d;
-  starts = nodes_of (nodes d);
-  names = names_of (txns d);
-  homes = homes_of (txns d);
-  bodies = bodies_of (txns d);
-  steps = steps_of (cast_of d) (schedule d);
-  print = print_of (print d);
+abbrev pub plan_in : Root → Content
+plan_in r = record {
+  version = version_of r;
+  topology = layout_of r;
+  starts = nodes_of r.nodes;
+  names = names_of r.txns;
+  homes = homes_of r.txns;
+  bodies = bodies_of (version_of r) r.txns;
+  steps = steps_of (cast_of r) r.schedule;
+  print = print_of r.print;
 }
+
+abbrev pub plan_of : Data → Content
+plan_of d = plan_in (root_of d (get (codes "print") d))
 
 -- ---- bytes
 

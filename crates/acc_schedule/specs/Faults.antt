@@ -1,7 +1,7 @@
 -- What is wrong with a document: the first rule that it breaks.
-use Rattle.std.specs.Prelude.{◌≡◌, ◌≢◌, ℕ, ◌+◌, Bool, true, false, List, [], ◌∷◌, ◌++◌, Option, Some, None, Result, Ok, Err}
+use Rattle.std.specs.Prelude.{◌≡◌, ℕ, Bool, true, false, IsTrue, List, [], ◌∷◌, ◌++◌, Option, Some, None, Result, Ok, Err}
 use Rattle.acc_schedule.specs.declared.error.PlanKind.{PlanKind}
-use Rattle.acc_schedule.specs.declared.error.PlanKind.TheVariants.{Shape, Unbuilt}
+use Rattle.acc_schedule.specs.declared.error.PlanKind.TheVariants.{Json, Shape, Limit, Topology, Text, Name, Step, Unbuilt, Journal, Report}
 use Rattle.acc_schedule.specs.declared.error.PlanError.{PlanError}
 use Rattle.acc_schedule.specs.declared.error.PlanError.TheVariants.{Bad, OutOfMemory}
 use Rattle.acc_schedule.specs.Paths.{Path, path_text, escaped}
@@ -9,25 +9,12 @@ use Rattle.acc_schedule.specs.Paths.{Path, path_text, escaped}
 abbrev pub Fault : Type 0
 Fault = Option PlanError
 
--- this kind of fault, at this path
+-- something of this kind is wrong at this path
+abbrev pub bad : PlanKind → Path → PlanError
+bad kind path = Bad kind (path_text path) 0 0
+
 abbrev pub fault : PlanKind → Path → Fault
-fault kind path = Some (Bad kind (path_text path) 0 0)
-
--- the first of two faults
-infixl 10 ◌then◌
-abbrev pub ◌then◌ : Fault → Fault → Fault
-(Some e) then other = Some e
-None then other = other
-
--- a rule, and the kind and the path of its fault
-abbrev pub must : Bool → PlanKind → Path → Fault
-must true kind path = None
-must false kind path = fault kind path
-
--- a rule for each element of a list, whose first element has this place
-abbrev pub each : {A : Type 0} → (ℕ → A → Fault) → ℕ → List A → Fault
-each rule place [] = None
-each rule place (x ∷ xs) = rule place x then each rule (place + 1) xs
+fault kind path = Some (bad kind path)
 
 -- the object at the path has a field that is unknown
 abbrev pub unknown_field : Path → List ℕ → Fault
@@ -43,7 +30,19 @@ abbrev pub Gives : {X : Type 0} → Fault → (X → Type 0) → Result X PlanEr
 Gives f P (Ok x) = (f ≡ None) × P x
 Gives f P (Err error) = IsFault f error
 
--- no rule of a document is that it can be run
+-- a document is not read by what it can be used for
+abbrev pub is_of_rules : PlanKind → Bool
+is_of_rules Json = true
+is_of_rules Shape = true
+is_of_rules Limit = true
+is_of_rules Topology = true
+is_of_rules Text = true
+is_of_rules Name = true
+is_of_rules Step = true
+is_of_rules Unbuilt = false
+is_of_rules Journal = false
+is_of_rules Report = false
+
 abbrev pub IsOfRule : PlanError → Type 0
 IsOfRule OutOfMemory = Unit {0}
-IsOfRule (Bad kind path detail at) = kind ≢ Unbuilt
+IsOfRule (Bad kind path detail at) = IsTrue (is_of_rules kind)

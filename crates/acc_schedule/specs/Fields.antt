@@ -6,7 +6,8 @@ use Rattle.serde_json.specs.Data.{Data, null, Items, no_items, item, Members, no
 use Rattle.serde_json.specs.Find.{get, as_number, as_str, as_array, as_object, as_u64, as_i64}
 use Rattle.acc_schedule.specs.declared.error.PlanKind.TheVariants.{Shape, Limit}
 use Rattle.acc_schedule.specs.Paths.{Path}
-use Rattle.acc_schedule.specs.Faults.{Fault, ◌then◌, must, unknown_field}
+use Rattle.acc_base.specs.Faults.{◌then◌, must}
+use Rattle.acc_schedule.specs.Faults.{Fault, unknown_field, bad}
 
 abbrev pub items_list : Items → List Data
 items_list no_items = []
@@ -52,7 +53,7 @@ is_number_from_to least most d = unwrap_or (option_map (is_from_to least most) (
 -- a whole number within its limits
 abbrev pub number_fault : ℕ → ℕ → Path → Data → Fault
 number_fault least most path d =
-    must (is_whole d) Shape path then must (is_number_from_to least most d) Limit path
+    must (is_whole d) (bad Shape path) then must (is_number_from_to least most d) (bad Limit path)
 
 abbrev pub number : Data → ℕ
 number d = unwrap_or (natural d) 0
@@ -60,7 +61,7 @@ number d = unwrap_or (natural d) 0
 -- ---- lists
 
 abbrev pub list_fault : ℕ → Path → Data → Fault
-list_fault most path d = must (is_array d) Shape path then must (nat_le (length (items d)) most) Limit path
+list_fault most path d = must (is_array d) (bad Shape path) then must (nat_le (length (items d)) most) (bad Limit path)
 
 -- ---- objects
 
@@ -86,6 +87,6 @@ other_fault path (Some name) = unknown_field path name
 -- an object with each of the needed fields, and with no others than these and the optional ones
 abbrev pub object_fault : List (List ℕ) → List (List ℕ) → Path → Data → Fault
 object_fault needed optional path d =
-    must (is_some (as_object d)) Shape path
-    then must (has_each needed d) Shape path
+    must (is_some (as_object d)) (bad Shape path)
+    then must (has_each needed d) (bad Shape path)
     then other_fault path (other_field (needed ++ optional) d)

@@ -11,6 +11,7 @@ pub mod Transactions
 pub mod Words
 pub mod Steps
 pub mod Document
+pub mod Apart
 pub mod Seen
 pub mod Content
 pub mod View

@@ -4,7 +4,8 @@ use Rattle.serde_json.specs.Data.{Data, number as number_data, unsigned}
 use Rattle.serde_json.specs.Find.{get}
 use Rattle.acc_topology.specs.declared.given.NodeSpec.{NodeSpec}
 use Rattle.acc_schedule.specs.Paths.{field_path, item_path, part_path}
-use Rattle.acc_schedule.specs.Faults.{Fault, ◌then◌, each}
+use Rattle.acc_base.specs.Faults.{◌then◌, each}
+use Rattle.acc_schedule.specs.Faults.{Fault}
 use Rattle.acc_schedule.specs.Fields.{field, items, list_fault, number, number_fault, object_fault}
 
 -- the clock of a node, which starts at 0 where none is given

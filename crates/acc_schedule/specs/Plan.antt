@@ -1,9 +1,10 @@
 -- What holds of the plan of every document that breaks no rule.
-use Rattle.std.specs.Prelude.{◌≡◌, ℕ, ◌<◌, ◌≤◌, [], length, take, slice_index_or, Contains, IsTrue}
+use Rattle.std.specs.Prelude.{◌≡◌, ℕ, ◌<◌, ◌≤◌, false, [], length, take, slice_index_or, Contains, IsTrue}
 use Rattle.std.specs.List.{AllByRecursion}
 use Rattle.acc_topology.specs.Faults.{ids}
 use Rattle.acc_topology.specs.Layout.{Layout, IsLayout}
 use Rattle.acc_topology.specs.Sets.{in_order, is_among}
+use Rattle.acc_lang.specs.Texts.{has_text_value}
 use Rattle.acc_schedule.specs.Content.{Content}
 use Rattle.acc_schedule.specs.declared.plan.Step.{Step}
 use Rattle.acc_schedule.specs.declared.plan.Step.TheVariants.{Begin, Deliver, Drop, Recover, Slow, Restart, Fail, Drain}
@@ -24,6 +25,7 @@ IsStep count layout Drain = Unit {0}
 
 -- a cluster of nodes with their clocks, transactions with names of their own at its nodes, and steps of these
 pub record IsPlan (plan : Content) : Type 0 where
+  pub version : (1 ≤ plan.version) × (plan.version ≤ 2)
   pub layout : IsLayout plan.topology
   pub nodes : plan.topology.nodes ≡ in_order (ids plan.starts)
   pub nodes_once : length plan.starts ≡ length plan.topology.nodes
@@ -32,6 +34,7 @@ pub record IsPlan (plan : Content) : Type 0 where
   pub few : length plan.names ≤ 10000
   pub homes_as_many : length plan.homes ≡ length plan.names
   pub bodies_as_many : length plan.bodies ≡ length plan.names
+  pub numbers_alone : plan.version ≡ 1 → AllByRecursion (λ body. has_text_value body ≡ false) plan.bodies
   pub named : AllByRecursion (λ name. IsTrue (is_name name)) plan.names
   pub names_once : (number : ℕ) → number < length plan.names
       → IsTrue (is_new (take number plan.names) (slice_index_or plan.names number []))

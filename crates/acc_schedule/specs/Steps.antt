@@ -11,7 +11,8 @@ use Rattle.acc_schedule.specs.declared.plan.Step.TheVariants.{Begin, Deliver, Dr
 use Rattle.acc_schedule.specs.declared.words.Word.{Word}
 use Rattle.acc_schedule.specs.declared.words.Word.TheVariants.{Begin as BeginWord, Deliver as DeliverWord, Drop as DropWord, Recover as RecoverWord, Slow as SlowWord, Restart as RestartWord, Fail as FailWord, Drain as DrainWord}
 use Rattle.acc_schedule.specs.Paths.{Path, field_path, item_path}
-use Rattle.acc_schedule.specs.Faults.{Fault, ◌then◌, fault, must, each}
+use Rattle.acc_base.specs.Faults.{◌then◌, must, each}
+use Rattle.acc_schedule.specs.Faults.{Fault, fault, bad}
 use Rattle.acc_schedule.specs.Fields.{is_number_from_to, is_text, is_whole, items, list_fault, natural, number}
 use Rattle.acc_topology.specs.Layout.{Layout}
 use Rattle.acc_topology.specs.Sets.{is_among}
@@ -44,7 +45,7 @@ operand_path place item = codes "schedule" ∷ decimal place ∷ decimal item �
 
 -- the text of something that there is
 abbrev pub known_fault : Bool → Path → Data → Fault
-known_fault is_known path d = must (is_text d) StepKind path then must is_known Name path
+known_fault is_known path d = must (is_text d) (bad StepKind path) then must is_known (bad Name path)
 
 abbrev pub name_fault : Cast → Path → Data → Fault
 name_fault cast path d = known_fault (is_some (transaction_in cast d)) path d
@@ -53,14 +54,14 @@ abbrev pub actor_fault : Cast → Path → Data → Fault
 actor_fault cast path d = known_fault (is_some (actor_in cast d)) path d
 
 abbrev pub node_fault : Cast → Path → Data → Fault
-node_fault cast path d = must (is_whole d) StepKind path then must (is_one_of cast.is_node d) Name path
+node_fault cast path d = must (is_whole d) (bad StepKind path) then must (is_one_of cast.is_node d) (bad Name path)
 
 -- the number of a message, which is any that isn't negative
 abbrev pub message_fault : Path → Data → Fault
-message_fault path d = must (is_some (natural d)) StepKind path
+message_fault path d = must (is_some (natural d)) (bad StepKind path)
 
 abbrev pub count_fault : ℕ → Path → Data → Fault
-count_fault most path d = must (is_number_from_to 0 most d) StepKind path
+count_fault most path d = must (is_number_from_to 0 most d) (bad StepKind path)
 
 -- ---- steps
 

@@ -1,5 +1,5 @@
 -- The text of a transaction, in the language of transactions.
-use Rattle.std.specs.Prelude.{ℕ, List, [], Option, Some, None}
+use Rattle.std.specs.Prelude.{ℕ, ◌==◌, Bool, List, [], Option, Some, None}
 use Rattle.std.specs.Result.{result_unwrap_or}
 use Rattle.acc_txn.specs.declared.parts.BodyParts.{BodyParts}
 use Rattle.acc_txn.specs.declared.parts.Select.TheVariants.{Nothing}
@@ -27,13 +27,17 @@ abbrev pub at_path : Path → Option (LangKind × ℕ) → Fault
 at_path path None = None
 at_path path (Some (kind, at)) = Some (Bad TextKind (path_text path) (detail_of kind) at)
 
--- the text is in the language
-abbrev pub text_fault : Path → List ℕ → Fault
-text_fault path text = at_path path (reading_fault text)
+-- whether the language of the document's version has text values
+abbrev pub has_texts : ℕ → Bool
+has_texts version = version == 2
+
+-- the text is in that language
+abbrev pub text_fault : ℕ → Path → List ℕ → Fault
+text_fault version path text = at_path path (reading_fault (has_texts version) text)
 
 abbrev pub no_parts : BodyParts
 no_parts = record { lets = []; select = Nothing; guards = []; updates = [] }
 
 -- the body that it says, which is empty where it says none
-abbrev pub text_body : List ℕ → BodyParts
-text_body text = result_unwrap_or (reading text) no_parts
+abbrev pub text_body : ℕ → List ℕ → BodyParts
+text_body version text = result_unwrap_or (reading (has_texts version) text) no_parts

@@ -7,7 +7,8 @@ use Rattle.serde_json.specs.Data.{Data}
 use Rattle.acc_txn.specs.declared.parts.BodyParts.{BodyParts}
 use Rattle.acc_schedule.specs.declared.error.PlanKind.TheVariants.{Shape, Limit, Name}
 use Rattle.acc_schedule.specs.Paths.{Path, field_path, item_path, part_path}
-use Rattle.acc_schedule.specs.Faults.{Fault, ◌then◌, must, each}
+use Rattle.acc_base.specs.Faults.{◌then◌, must, each}
+use Rattle.acc_schedule.specs.Faults.{Fault, bad}
 use Rattle.acc_schedule.specs.Fields.{field, is_text, is_whole, items, list_fault, natural, number, object_fault, text}
 use Rattle.acc_schedule.specs.Texts.{text_fault, text_body}
 
@@ -28,7 +29,7 @@ is_new before name = not (list_any (bytes_eq name) before)
 
 abbrev pub name_fault : List (List ℕ) → Path → Data → Fault
 name_fault before path d =
-    must (is_text d) Shape path then must (is_name (text d) && is_new before (text d)) Name path
+    must (is_text d) (bad Shape path) then must (is_name (text d) && is_new before (text d)) (bad Name path)
 
 -- ---- homes
 
@@ -37,13 +38,13 @@ abbrev pub is_one_of : (ℕ → Bool) → Data → Bool
 is_one_of is_node d = unwrap_or (option_map is_node (natural d)) false
 
 abbrev pub home_fault : (ℕ → Bool) → Path → Data → Fault
-home_fault is_node path d = must (is_whole d) Shape path then must (is_one_of is_node d) Name path
+home_fault is_node path d = must (is_whole d) (bad Shape path) then must (is_one_of is_node d) (bad Name path)
 
 -- ---- texts
 
-abbrev pub body_fault : Path → Data → Fault
-body_fault path d =
-    must (is_text d) Shape path then must (nat_le (length (text d)) 8192) Limit path then text_fault path (text d)
+abbrev pub body_fault : ℕ → Path → Data → Fault
+body_fault version path d =
+    must (is_text d) (bad Shape path) then must (nat_le (length (text d)) 8192) (bad Limit path) then text_fault version path (text d)
 
 -- ---- transactions
 
@@ -53,28 +54,28 @@ name_of d = text (field (codes "name") d)
 abbrev pub names_of : Data → List (List ℕ)
 names_of d = map name_of (items d)
 
-abbrev pub transaction_fault : (ℕ → Bool) → List (List ℕ) → ℕ → Data → Fault
-transaction_fault is_node before place d =
+abbrev pub transaction_fault : ℕ → (ℕ → Bool) → List (List ℕ) → ℕ → Data → Fault
+transaction_fault version is_node before place d =
     object_fault (codes "name" ∷ codes "node" ∷ codes "text" ∷ []) [] (item_path (codes "txns") place) d
     then name_fault before (part_path (codes "txns") place (codes "name")) (field (codes "name") d)
     then home_fault is_node (part_path (codes "txns") place (codes "node")) (field (codes "node") d)
-    then body_fault (part_path (codes "txns") place (codes "text")) (field (codes "text") d)
+    then body_fault version (part_path (codes "txns") place (codes "text")) (field (codes "text") d)
 
-abbrev pub transactions_fault : (ℕ → Bool) → Data → Fault
-transactions_fault is_node d =
+abbrev pub transactions_fault : ℕ → (ℕ → Bool) → Data → Fault
+transactions_fault version is_node d =
     list_fault 10000 (field_path (codes "txns")) d
-    then each (λ place. transaction_fault is_node (take place (names_of d)) place) 0 (items d)
+    then each (λ place. transaction_fault version is_node (take place (names_of d)) place) 0 (items d)
 
 -- ---- what they say
 
 abbrev pub home_of : Data → ℕ
 home_of d = number (field (codes "node") d)
 
-abbrev pub body_of : Data → BodyParts
-body_of d = text_body (text (field (codes "text") d))
+abbrev pub body_of : ℕ → Data → BodyParts
+body_of version d = text_body version (text (field (codes "text") d))
 
 abbrev pub homes_of : Data → List ℕ
 homes_of d = map home_of (items d)
 
-abbrev pub bodies_of : Data → List BodyParts
-bodies_of d = map body_of (items d)
+abbrev pub bodies_of : ℕ → Data → List BodyParts
+bodies_of version d = map (body_of version) (items d)

@@ -4,6 +4,7 @@ use Rattle.acc_schedule.specs.Content.{Content}
 
 abbrev pub content : Inside → Content
 content p = record {
+  version = p.version;
   topology = p.topology;
   starts = p.starts;
   names = p.names;

@@ -1,11 +1,11 @@
 //! The actors of a cluster, found by how they print.
-ghost use Rattle.std.specs.Prelude.{◌≡◌, ◌≤◌, ℕ, List, [], ◌∷◌, ◌++◌, decimal, map, IfOk, OnOk};
+ghost use Rattle.std.specs.Prelude.{◌≡◌, ◌≤◌, ℕ, List, [], ◌∷◌, map, IfOk, OnOk};
 ghost use Rattle.std.specs.Option.{option_or};
 ghost use Rattle.acc_stamp.specs.Actor.{actor_of};
 ghost use Rattle.acc_topology.specs.Sets.{members};
 ghost use Rattle.acc_schedule.specs.Actors.{actor_named, actor_text, actors, at_name};
 
-use acc_base::OutOfMemory;
+use acc_base::{OutOfMemory, push_number};
 use acc_stamp::{Actor, actor};
 use acc_topology::Topology;
 use acc_topology::sets::{NodeSet, contains};
@@ -82,18 +82,10 @@ fn text(alloc: Global, actor: Actor) -> Result<Vec<u8>, OutOfMemory>
     ensures { IfOk result (λ text. text.items ≡ actor_text actor) }
 {
     let mut text = Vec::new(alloc);
-    push_number(&mut text, actor.node())?;
+    push_number(&mut text, u64::from(actor.node()))?;
     if actor.shard() != 0 {
         text.push(b'.')?;
-        push_number(&mut text, actor.shard())?;
+        push_number(&mut text, u64::from(actor.shard()))?;
     }
     Ok(text)
-}
-
-fn push_number(text: &mut Vec<u8>, number: u32) -> Result<(), OutOfMemory>
-    ensures { OnOk result (text.new.items ≡ text.old.items ++ decimal number) }
-{
-    let digits = number.to_string(*text.allocator())?;
-    text.extend_from_slice(digits.as_bytes())?;
-    Ok(())
 }

@@ -82,6 +82,9 @@ fn at_shards(alloc: Global, kind: TopologyKind, shard: u32, item: u32) -> PlanEr
         TopologyKind::NoShard => refusal(alloc, kind, &[shards]),
         TopologyKind::Order => refusal(alloc, kind, &[shards, place, Part::Field("end")]),
         TopologyKind::Replicas => refusal(alloc, kind, &[shards, place, replicas]),
+        TopologyKind::Electorate => {
+            refusal(alloc, kind, &[shards, place, Part::Field("electorate")])
+        }
         _ => refusal(
             alloc,
             kind,

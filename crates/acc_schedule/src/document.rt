@@ -1,16 +1,20 @@
 //! Reads a whole document.
-ghost use Rattle.std.specs.Prelude.{◌≡◌, IfOk, IfErr};
+ghost use Rattle.std.specs.Prelude.{◌≡◌, None, codes, map, IfOk, IfErr};
+ghost use Rattle.serde_json.specs.Find.{get};
 ghost use Rattle.serde_json.specs.View.{view};
-ghost use Rattle.acc_schedule.specs.Document.{base_fault, document_fault, layout_of, nodes as nodes_data, plan_of, print as print_data, print_fault, print_of, version_fault, IsCause, IsRead, IsRefused, IsUnread, Means, Reads};
+ghost use Rattle.acc_schedule.specs.Document.{base_fault, document_fault, fields_fault, layout_of, needed_fields, nodes as nodes_data, plan_in as plan_said, plan_of, print_fault, print_of, printed, root_fault, root_of, version_fault, IsCause, IsRead, IsRefused, IsUnread, Means, Reads};
 ghost use Rattle.acc_schedule.specs.declared.error.PlanError.{PlanError};
 ghost use Rattle.acc_schedule.specs.Content.{Content};
 ghost use Rattle.acc_schedule.specs.Faults.{Gives, IsOfRule};
+ghost use Rattle.acc_schedule.specs.Apart.{without};
+ghost use Rattle.acc_schedule.specs.Fields.{field, number as number_of};
 ghost use Rattle.acc_schedule.specs.Nodes.{nodes_of};
 ghost use Rattle.acc_schedule.specs.Plan.{IsPlan};
+ghost use Rattle.acc_schedule.specs.Seen.{seen_value};
 
 use crate::cluster::cluster;
 use crate::error::{PlanError, PlanKind};
-use crate::fields::{field_text, object};
+use crate::fields::{is_among, object};
 use crate::nodes::nodes;
 use crate::path::{Part, wrong};
 use crate::plan::{Plan, Print, Starts};
@@ -57,6 +61,13 @@ pub fn read_json(alloc: Global, bytes: &[u8]) -> Result<Value, PlanError>
     }
 }
 
+// The fields that the root must have.
+fn needed() -> [&'static str; 5]
+    ensures { map (λ name. name.now) result ≡ needed_fields }
+{
+    ["version", "nodes", "shards", "txns", "schedule"]
+}
+
 /// The plan that the JSON of a document says.
 ///
 /// A document that breaks a rule is refused with the first that it breaks, in the order of `docs/FORMATS.md`.
@@ -65,15 +76,60 @@ pub fn read_plan(alloc: Global, root: &Value) -> Result<Plan, PlanError>
     ensures sound { IfOk result IsPlan }
     ensures built { IfErr result IsOfRule }
 {
+    object(alloc, root, &needed(), &["print"], &[])?;
+    plan_in(alloc, root, root.get("print"))
+}
+
+/// The plan that the JSON of a document says, as if its root had no field of the name `apart`.
+///
+/// It is for documents with a field of another crate's: the rules are those of `read_plan`, in their order, and that field is
+/// not unknown.
+pub fn read_value(alloc: Global, root: &Value, apart: &str) -> Result<Plan, PlanError>
+    ensures plan { Gives (document_fault (without apart.now (view root.now))) (λ plan. plan ≡ plan_of (without apart.now (view root.now))) result }
+    ensures sound { IfOk result IsPlan }
+    ensures built { IfErr result IsOfRule }
+{
+    object_without(alloc, root, apart)?;
+    plan_in(alloc, root, print_without(root, apart))
+}
+
+// What the root without the field says of printing.
+fn print_without<'v>(root: &'v Value, apart: &str) -> Option<&'v Value>
+    ensures { seen_value result ≡ get (codes "print") (without apart.now (view root.now)) }
+{
+    if apart == "print" {
+        None
+    } else {
+        root.get("print")
+    }
+}
+
+// Nothing, where the root without the field has the fields that it must have, and no unknown one.
+fn object_without(alloc: Global, root: &Value, apart: &str) -> Result<(), PlanError>
+    ensures { Gives (root_fault (without apart.now (view root.now))) (λ _. Unit {0}) result }
+{
+    if is_among(apart, &needed()) {
+        return Err(wrong(alloc, PlanKind::Shape, &[]));
+    }
+    object(alloc, root, &needed(), &["print", apart], &[])
+}
+
+// The plan that the fields of the root say, with what is printed.
+fn plan_in(alloc: Global, root: &Value, print: Option<&Value>) -> Result<Plan, PlanError>
+    ensures { Gives (fields_fault (root_of (view root.now) (seen_value print.entry)))
+        (λ plan. plan ≡ plan_said (root_of (view root.now) (seen_value print.entry))) result }
+{
+    let version = version(alloc, root)?;
     let (starts, topology) = base(alloc, root)?;
     let TransactionLists {
         names,
         homes,
         bodies,
-    } = transactions(alloc, root, topology.nodes())?;
+    } = transactions(alloc, root, version, topology.nodes())?;
     let steps = schedule(alloc, root, &names, &topology)?;
-    let print = print(alloc, root)?;
+    let print = print_in(alloc, print)?;
     Ok(Plan {
+        version,
         topology,
         starts,
         names: names.into_names(alloc)?,
@@ -84,33 +140,42 @@ pub fn read_plan(alloc: Global, root: &Value) -> Result<Plan, PlanError>
     })
 }
 
+fn version(alloc: Global, root: &Value) -> Result<u8, PlanError>
+    ensures { Gives (version_fault (field (codes "version") (view root.now)))
+        (λ version. version ≡ number_of (field (codes "version") (view root.now))) result }
+{
+    match root.get("version") {
+        Some(version) => version_in(alloc, version),
+        None => Err(wrong(alloc, PlanKind::Shape, &[Part::Field("version")])),
+    }
+}
+
+fn version_in(alloc: Global, version: &Value) -> Result<u8, PlanError>
+    ensures { Gives (version_fault (view version.now)) (λ number. number ≡ number_of (view version.now)) result }
+{
+    match version.as_u64() {
+        Some(number @ 1..=2) => Ok(number as u8),
+        _ => Err(wrong(alloc, PlanKind::Shape, &[Part::Field("version")])),
+    }
+}
+
 // The nodes, and the cluster that they make with the shards.
 fn base(alloc: Global, root: &Value) -> Result<(Starts, Topology), PlanError>
-    ensures { Gives (base_fault (view root.now))
-        (λ base. (base.0 ≡ nodes_of (nodes_data (view root.now))) × (base.1 ≡ layout_of (view root.now))) result }
+    ensures { Gives (base_fault (root_of (view root.now) None))
+        (λ base. (base.0 ≡ nodes_of (nodes_data (view root.now))) × (base.1 ≡ layout_of (root_of (view root.now) None))) result }
 {
-    let needed = ["version", "nodes", "shards", "txns", "schedule"];
-    object(alloc, root, &needed, &["print"], &[])?;
-    version(alloc, root)?;
     let starts = nodes(alloc, root)?;
     let shards = shards(alloc, root)?;
     let topology = cluster(alloc, starts.as_slice(), shards.as_slice())?;
     Ok((starts, topology))
 }
 
-fn version(alloc: Global, root: &Value) -> Result<(), PlanError>
-    ensures { Gives (version_fault (view root.now)) (λ _. Unit {0}) result }
+// What is printed; lines where nothing is said.
+fn print_in(alloc: Global, print: Option<&Value>) -> Result<Print, PlanError>
+    ensures { Gives (print_fault (printed (seen_value print.entry)))
+        (λ said. said ≡ print_of (printed (seen_value print.entry))) result }
 {
-    match root.get("version") {
-        Some(version) if version.as_u64() == Some(1) => Ok(()),
-        _ => Err(wrong(alloc, PlanKind::Shape, &[Part::Field("version")])),
-    }
-}
-
-fn print(alloc: Global, root: &Value) -> Result<Print, PlanError>
-    ensures { Gives (print_fault (print_data (view root.now))) (λ print. print ≡ print_of (print_data (view root.now))) result }
-{
-    let Some(print) = root.get("print") else {
+    let Some(print) = print else {
         return Ok(Print::Lines);
     };
     match print.as_str() {

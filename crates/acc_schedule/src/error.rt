@@ -23,6 +23,10 @@ pub enum PlanKind {
     Step = 7,
     /// A form that can't be run yet. No call of this crate answers it.
     Unbuilt = 8,
+    /// A journal that can't be one of this document. No call of this crate answers it.
+    Journal = 9,
+    /// A report that can't be one of this document. No call of this crate answers it.
+    Report = 10,
 }
 
 /// Why a document gave no plan.
@@ -57,6 +61,8 @@ impl fmt::Display for PlanKind {
             PlanKind::Name => write!(f, "a name is misspelled, not new, or unknown"),
             PlanKind::Step => write!(f, "a step isn't one"),
             PlanKind::Unbuilt => write!(f, "the document is of a form that can't be run yet"),
+            PlanKind::Journal => write!(f, "a journal is none of this document"),
+            PlanKind::Report => write!(f, "a report is none of this document"),
         }
     }
 }

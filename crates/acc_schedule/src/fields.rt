@@ -178,7 +178,8 @@ fn other_field<'v>(
     }
 }
 
-fn is_among(key: &str, names: &[&str]) -> bool
+/// Whether a name is one of these.
+pub(crate) fn is_among(key: &str, names: &[&str]) -> bool
     ensures { result ≡ is_among key.now names.now }
 {
     names.iter().any(|name| key == *name)

@@ -18,9 +18,6 @@ mod texts;
 mod transactions;
 mod words;
 
-pub use document::{read, read_json, read_plan};
+pub use document::{read, read_json, read_plan, read_value};
 pub use error::{PlanError, PlanKind};
 pub use plan::{Bodies, Names, Plan, Print, Starts, Step, Steps};
-
-#[cfg(test)]
-mod tests;

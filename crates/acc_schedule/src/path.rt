@@ -1,12 +1,12 @@
 //! Where in a document a fault stands. The text of a place is made only at a fault.
-ghost use Rattle.std.specs.Prelude.{◌≡◌, [], ◌∷◌, ◌++◌, decimal, map, IfOk, OnOk};
+ghost use Rattle.std.specs.Prelude.{◌≡◌, [], ◌∷◌, ◌++◌, map, IfOk, OnOk};
 ghost use Rattle.acc_schedule.specs.declared.error.PlanError.TheVariants.{Bad};
 ghost use Rattle.acc_schedule.specs.Faults.{fault, unknown_field, IsFault};
 ghost use Rattle.acc_schedule.specs.Parts.{part_text};
 ghost use Rattle.acc_schedule.specs.Paths.{escaped, escaped_byte, path_text, pointer};
 
 use crate::error::{PlanError, PlanKind};
-use acc_base::{OutOfMemory, Sequence, Text};
+use acc_base::{OutOfMemory, Sequence, Text, push_number};
 use std::alloc::Global;
 
 /// A part of a path: the name of a field, or a place in an array, from 0.
@@ -98,10 +98,7 @@ fn push_part(text: &mut Vec<u8>, part: Part<'_>) -> Result<(), OutOfMemory>
     text.push(b'/')?;
     match part {
         Part::Field(name) => text.extend_from_slice(name.as_bytes())?,
-        Part::Place(place) => {
-            let digits = place.to_string(*text.allocator())?;
-            text.extend_from_slice(digits.as_bytes())?;
-        }
+        Part::Place(place) => push_number(text, place as u64)?,
     }
     Ok(())
 }

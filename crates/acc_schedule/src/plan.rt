@@ -22,9 +22,11 @@ pub type Steps = Sequence<Step>;
 /// What a document says: a cluster, transactions, and the steps that it takes. Transactions are numbered from 0, in the
 /// order of the document. Each plan keeps what a document has to keep: its nodes have clocks within the limit, its
 /// transactions have names of their own and homes among the nodes, its steps are of these transactions, nodes and actors,
-/// and there are no more of each than a document may have.
+/// there are no more of each than a document may have, and bodies of version 1 have no text value.
 #[derive(Debug, Drop)]
 pub struct Plan {
+    /// The version of the document, 1 or 2. In version 2 cells may be texts.
+    pub version: u8,
     pub topology: Topology,
     pub starts: Starts,
     /// The names of the transactions, no two of them equal.
@@ -55,6 +57,7 @@ impl Plan {
         ensures { IfOk result (λ copy. copy ≡ self.now) }
     {
         Ok(Plan {
+            version: self.version,
             topology: self.topology.copy()?,
             starts: self.starts.copy()?,
             names: self.names.copy()?,

@@ -40,10 +40,11 @@ pub(crate) struct TransactionLists {
 pub(crate) fn transactions(
     alloc: Global,
     root: &Value,
+    version: u8,
     nodes: NodeSet,
 ) -> Result<TransactionLists, PlanError>
-    ensures { Gives (transactions_fault (in_set nodes) (txns (view root.now)))
-        (λ all. (all.names ≡ names_of (txns (view root.now))) × (all.homes ≡ homes_of (txns (view root.now))) × (all.bodies ≡ bodies_of (txns (view root.now)))) result }
+    ensures { Gives (transactions_fault version (in_set nodes) (txns (view root.now)))
+        (λ all. (all.names ≡ names_of (txns (view root.now))) × (all.homes ≡ homes_of (txns (view root.now))) × (all.bodies ≡ bodies_of version (txns (view root.now)))) result }
 {
     let items = list(
         alloc,
@@ -58,7 +59,7 @@ pub(crate) fn transactions(
         bodies: Sequence::new(alloc),
     };
     for (place, item) in items.iter().enumerate() {
-        let (home, body) = transaction(alloc, item, place, nodes, &mut all.names)?;
+        let (home, body) = transaction(alloc, item, place, version, nodes, &mut all.names)?;
         all.homes.push(home)?;
         all.bodies.push(body)?;
     }
@@ -70,18 +71,19 @@ fn transaction(
     alloc: Global,
     item: &Value,
     place: usize,
+    version: u8,
     nodes: NodeSet,
     names: &mut NameTable,
 ) -> Result<(u32, Body), PlanError>
     requires { length names.old < 10000 }
-    ensures { Gives (transaction_fault (in_set nodes) names.old place (view item.now))
-        (λ one. (one.0 ≡ home_of (view item.now)) × (one.1 ≡ body_of (view item.now)) × (names.new ≡ names.old ++ name_of (view item.now) ∷ [])) result }
+    ensures { Gives (transaction_fault version (in_set nodes) names.old place (view item.now))
+        (λ one. (one.0 ≡ home_of (view item.now)) × (one.1 ≡ body_of version (view item.now)) × (names.new ≡ names.old ++ name_of (view item.now) ∷ [])) result }
 {
     let path = [Part::Field("txns"), Part::Place(place)];
     object(alloc, item, &["name", "node", "text"], &[], &path)?;
     name(alloc, item, place, names)?;
     let home = home(alloc, item, place, nodes)?;
-    let body = body(alloc, item, place)?;
+    let body = body(alloc, item, place, version)?;
     Ok((home, body))
 }
 
@@ -141,9 +143,9 @@ fn home(alloc: Global, item: &Value, place: usize, nodes: NodeSet) -> Result<u32
     }
 }
 
-fn body(alloc: Global, item: &Value, place: usize) -> Result<Body, PlanError>
-    ensures { Gives (body_fault (part_path (codes "txns") place (codes "text")) (field (codes "text") (view item.now)))
-        (λ body. body ≡ body_of (view item.now)) result }
+fn body(alloc: Global, item: &Value, place: usize, version: u8) -> Result<Body, PlanError>
+    ensures { Gives (body_fault version (part_path (codes "txns") place (codes "text")) (field (codes "text") (view item.now)))
+        (λ body. body ≡ body_of version (view item.now)) result }
 {
     let path = [Part::Field("txns"), Part::Place(place), Part::Field("text")];
     let Some(text) = field_text(item, "text") else {
@@ -152,5 +154,5 @@ fn body(alloc: Global, item: &Value, place: usize) -> Result<Body, PlanError>
     if text.len() > LONGEST_TEXT {
         return Err(wrong(alloc, PlanKind::Limit, &path));
     }
-    body_in(alloc, text, &path)
+    body_in(alloc, version, text, &path)
 }

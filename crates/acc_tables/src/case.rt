@@ -5,8 +5,10 @@ use serde_json::Value;
 /// What is asked.
 #[derive(Clone, Copy)]
 pub enum Case<'l> {
-    /// The text of a transaction.
+    /// The text of a transaction, in version 1 of the language.
     Text(&'l str),
+    /// The text of a transaction, in version 2.
+    TextV2(&'l str),
     /// The text of a transaction, and the cells before it.
     Outcome(&'l str, &'l [Value]),
     /// The text of a cluster document.
@@ -38,6 +40,7 @@ fn parts(line: &Value) -> Option<(Case<'_>, &str)> {
 fn short_case<'l>(kind: &str, text: &'l str) -> Option<Case<'l>> {
     match kind {
         "text" => Some(Case::Text(text)),
+        "text_v2" => Some(Case::TextV2(text)),
         "document" => Some(Case::Document(text)),
         "message" => Some(Case::Message(text)),
         _ => None,

@@ -1,12 +1,13 @@
 //! Answers of the crates below against a table of wanted ones, for all that is told by long texts. The table comes from
 //! standard input. A line of it is a JSON array: a kind, its fields, and the wanted answer.
 //!
-//! - `["text", TEXT, ANSWER]`: the text of a transaction is parsed. The answer is `ok` and the canonical text of its body,
-//!   or its fault: the kind's number, ` at ` and the byte where it stands.
-//! - `["outcome", TEXT, CELLS, ANSWER]`: the body of such a text is evaluated on cells, a list of `[TABLE, KEY, VALUE]`
-//!   where a value is a number or null. The answer is the verdict, then behind a space the selected values, joined by
-//!   commas, and behind ` / ` the writes, as `TABLE.KEY=VALUE` and joined by commas too. Where there are none of them, their
-//!   sign is left out.
+//! - `["text", TEXT, ANSWER]`: the text of a transaction is parsed in version 1 of the language. The answer is `ok` and the
+//!   canonical text of its body, or its fault: the kind's number, ` at ` and the byte where it stands.
+//! - `["text_v2", TEXT, ANSWER]`: the same in version 2.
+//! - `["outcome", TEXT, CELLS, ANSWER]`: the body of a text of version 2 is evaluated on cells, a list of `[TABLE, KEY, VALUE]`
+//!   where a value is a number, a text or null. The answer is the verdict, then behind a space the selected values, joined by
+//!   commas, and behind ` / ` the writes, as `TABLE.KEY=VALUE` and joined by commas too, texts in single quotes with two
+//!   quotes for one. Where there are none of them, their sign is left out.
 //! - `["document", TEXT, ANSWER]`: the text of a cluster document is read. The answer is `ok` and the counts of the plan, as
 //!   `ok nodes=1 shards=1 txns=1 steps=2`, or the refusal: `bad`, the kind's number and the path, then the detail where
 //!   it isn't 0, and behind the detail of a transaction's text ` at ` and the byte.
@@ -36,6 +37,7 @@ use tally::Tallies;
 fn answer(alloc: Global, case: &Case<'_>) -> Result<String> {
     match case {
         Case::Text(text) => text::answer(alloc, text),
+        Case::TextV2(text) => text::answer_v2(alloc, text),
         Case::Outcome(text, cells) => outcome::answer(alloc, text, cells),
         Case::Document(document) => document::answer(alloc, document),
         Case::Message(digits) => message::answer(alloc, digits),
@@ -69,6 +71,7 @@ fn main(rt: HostRuntime) -> Result<()> {
         compare(&rt, alloc, &mut tallies, number, &line?).context(format_args!("line {number}"))?;
     }
     println!(rt; "text: {}", tallies.texts)?;
+    println!(rt; "text_v2: {}", tallies.texts_v2)?;
     println!(rt; "outcome: {}", tallies.outcomes)?;
     println!(rt; "document: {}", tallies.documents)?;
     println!(rt; "message: {}", tallies.messages)?;

@@ -37,6 +37,7 @@ impl fmt::Display for Tally {
 #[derive(Clone, Copy)]
 pub struct Tallies {
     pub texts: Tally,
+    pub texts_v2: Tally,
     pub outcomes: Tally,
     pub documents: Tally,
     pub messages: Tally,
@@ -47,6 +48,7 @@ impl Tallies {
     pub fn new() -> Tallies {
         Tallies {
             texts: Tally::new(),
+            texts_v2: Tally::new(),
             outcomes: Tally::new(),
             documents: Tally::new(),
             messages: Tally::new(),
@@ -57,6 +59,7 @@ impl Tallies {
     pub fn of(&mut self, case: &Case<'_>) -> &mut Tally {
         match case {
             Case::Text(_) => &mut self.texts,
+            Case::TextV2(_) => &mut self.texts_v2,
             Case::Outcome(_, _) => &mut self.outcomes,
             Case::Document(_) => &mut self.documents,
             Case::Message(_) => &mut self.messages,
@@ -66,6 +69,7 @@ impl Tallies {
     /// Whether no answer differs.
     pub fn all_agree(&self) -> bool {
         self.texts.is_whole()
+            && self.texts_v2.is_whole()
             && self.outcomes.is_whole()
             && self.documents.is_whole()
             && self.messages.is_whole()

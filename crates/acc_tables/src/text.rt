@@ -1,14 +1,22 @@
 //! Texts of transactions.
 use acc_base::OutOfMemory;
-use acc_lang::{LangError, parse};
+use acc_lang::{LangError, parse, parse_v2};
 use acc_print::print;
 use acc_txn::Body;
 use anyhow::Result;
 use std::alloc::Global;
 
-/// The canonical text of the body that a text says, or its fault.
+/// The canonical text of the body that a text says in version 1, or its fault.
 pub fn answer(alloc: Global, text: &str) -> Result<String> {
     match parse(alloc, text) {
+        Ok(body) => canonical(alloc, &body),
+        Err(error) => fault(alloc, error),
+    }
+}
+
+/// The canonical text of the body that a text says in version 2, or its fault.
+pub fn answer_v2(alloc: Global, text: &str) -> Result<String> {
+    match parse_v2(alloc, text) {
         Ok(body) => canonical(alloc, &body),
         Err(error) => fault(alloc, error),
     }

@@ -1,5 +1,5 @@
 -- The number that digits write, digit by digit.
-use Rattle.std.proofs.Common.{◌≡◌, ℕ, suc, ◌+◌, ◌-◌, ◌*◌, ◌^◌, ◌<◌, ◌≤◌, Bool, true, false, cond, List, [], ◌∷◌, length, take, drop, get_or, Some, None, refl, sym, ap, ◌∙◌, ltb-false, lt-ltb, drop-cons, add-one, arith}
+use Rattle.std.proofs.Common.{◌≡◌, ℕ, suc, ◌+◌, ◌-◌, ◌*◌, ◌^◌, ◌<◌, ◌≤◌, Bool, true, false, cond, List, [], ◌∷◌, length, take, drop, get_or, Some, None, refl, sym, ap, ◌∙◌, drop-cons, add-one, arith}
 use Rattle.std.proofs.lemmas.List.{drop_all}
 use Rattle.std.specs.Char.{is_ascii_digit, digit_value}
 use Rattle.std.specs.Int.{IsInRange}
@@ -24,10 +24,10 @@ pub one_more : (digits : List ℕ) (i number : ℕ) → i < length digits
 one_more digits i number within = rw (add-one, drop-cons digits i 0) refl
 
 pub fits : (digits : List ℕ) (number : ℕ) → number < 2 ^ 64 → number ≡ digits_value 10 digits → Some number ≡ number_of digits
-fits digits number small is = grind (arith, lt-ltb (digits_value 10 digits) (2 ^ 64))
+fits digits number small is = grind arith
 
 pub beyond : (digits : List ℕ) → 2 ^ 64 ≤ digits_value 10 digits → None ≡ number_of digits
-beyond digits large = grind (arith, ltb-false)
+beyond digits large = grind arith
 
 -- where one digit more makes the number too large for 64 bits, all of them do
 pub overflows : (digits : List ℕ) (i number more : ℕ) → list_all is_ascii_digit digits ≡ true → i < length digits

@@ -1,15 +1,16 @@
 -- The tokens of a text: which one stands first, how many bytes are left from where it begins, and what follows it.
-use Rattle.std.specs.Prelude.{ℕ, ◌+◌, ◌^◌, Bool, true, false, ◌&&◌, ◌||◌, ◌==◌, nat_lt, List, [], ◌∷◌, length, take, drop, map, Option, Some, None, if◌then◌else◌}
+use Rattle.std.specs.Prelude.{ℕ, ◌+◌, Bool, true, false, not, ◌&&◌, ◌||◌, ◌==◌, nat_le, List, [], ◌∷◌, length, take, drop, map, Option, Some, None, if◌then◌else◌}
 use Rattle.std.specs.Char.{is_ascii_alphabetic, is_ascii_digit, to_ascii_lowercase}
-use Rattle.std.specs.List.{prefix_len, take_while}
+use Rattle.std.specs.List.{list_all, prefix_len, take_while}
 use Rattle.std.specs.Str.Parse.{digits_value}
+use Rattle.acc_base.specs.Numbers.{greatest_u64}
 
 pub data Token : Type 0 where
   -- a word, in small letters
   Word : List ℕ → Token
   -- one of the marks = != < <= > >= + - ( ) , ; .
   Mark : List ℕ → Token
-  -- a number without a sign, unless it is 2^64 or more
+  -- a number without a sign, unless it is more than 64 bits hold
   Number : Option ℕ → Token
   -- what a quoted text says, and whether its closing quote is there
   Quoted : List ℕ → Bool → Token
@@ -58,7 +59,7 @@ mark_of len text = if len == 0 then Strange else Mark (take len text)
 
 -- the number that digits write
 abbrev pub number_of : List ℕ → Option ℕ
-number_of digits = let number = digits_value 10 digits in if nat_lt number (2 ^ 64) then Some number else None
+number_of digits = let number = digits_value 10 digits in if nat_le number greatest_u64 then Some number else None
 
 -- what a quoted text says, from behind its opening quote on: up to a quote that no other follows, with one for two.
 -- The flag tells whether the byte in front is a quote that waits for what follows it
@@ -78,6 +79,14 @@ is_closed true (c ∷ cs) = if is_quote c then is_closed false cs else true
 -- how many bytes it says, where the closing quote is there
 abbrev pub content_len : List ℕ → Option ℕ
 content_len text = if is_closed false text then Some (length (content false text)) else None
+
+-- no control character of ASCII
+abbrev pub is_plain : ℕ → Bool
+is_plain byte = nat_le 32 byte && not (byte == 127)
+
+-- whether it says plain bytes alone
+abbrev pub says_plain : List ℕ → Bool
+says_plain text = list_all is_plain (content false text)
 
 -- how many bytes the quoted text has, with its closing quote
 abbrev pub quoted_len : Bool → List ℕ → ℕ

@@ -1,6 +1,6 @@
 //! A token as it stands in the text.
 ghost use Rattle.std.specs.Prelude.{◌≡◌, false, IfOk};
-ghost use Rattle.acc_token.specs.Tokens.{content, content_len};
+ghost use Rattle.acc_token.specs.Tokens.{content, content_len, says_plain};
 
 use acc_base::{OutOfMemory, Text};
 use std::alloc::Global;
@@ -29,6 +29,9 @@ pub struct QuotedText<'a> {
     pub behind_quote: &'a [u8],
     /// How many bytes the quoted text says, with one for two quotes. There is none where the closing quote is missing.
     pub len: Option<usize>,
+    /// Whether it says no control character of ASCII.
+    pub plain: bool,
+    ghost plain_is: { plain ≡ says_plain behind_quote.now },
     ghost counts: { len ≡ content_len behind_quote.now },
 }
 

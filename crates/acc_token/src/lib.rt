@@ -7,6 +7,3 @@ mod scan;
 
 pub use cursor::{Cursor, Shown};
 pub use lexeme::{Lexeme, QuotedText};
-
-#[cfg(test)]
-mod tests;

@@ -2,7 +2,7 @@
 ghost use Rattle.std.specs.Prelude.{◌≡◌, ◌≤◌, ◌+◌, ℕ, true, false, length, drop};
 ghost use Rattle.std.specs.Char.{is_ascii_digit};
 ghost use Rattle.std.specs.List.{prefix_len, list_all};
-ghost use Rattle.acc_token.specs.Tokens.{is_blank as is_blank_of, begins_word as begins_word_of, continues_word as continues_word_of, mark_len as mark_len_of, number_of as number_of_digits, content, is_closed, quoted_len};
+ghost use Rattle.acc_token.specs.Tokens.{is_blank as is_blank_of, begins_word as begins_word_of, continues_word as continues_word_of, mark_len as mark_len_of, number_of as number_of_digits, content, is_closed, is_plain as is_plain_byte, says_plain, quoted_len};
 
 /// How many blanks the text begins with.
 pub fn blanks(text: &[u8]) -> usize
@@ -85,6 +85,8 @@ pub struct Extent {
     pub reach: usize,
     /// How many bytes it says, with one for two quotes.
     pub len: usize,
+    /// Whether it says no control character of ASCII.
+    pub plain: bool,
     /// Whether the closing quote is there.
     pub closed: bool,
 }
@@ -94,9 +96,11 @@ pub fn quoted_extent(text: &[u8]) -> Extent
     ensures reach { result.reach ≡ quoted_len false text.now }
     ensures within { result.reach ≤ length text.now }
     ensures len { result.len ≡ length (content false text.now) }
+    ensures plain { result.plain ≡ says_plain text.now }
     ensures closed { result.closed ≡ is_closed false text.now }
 {
     let mut len = 0;
+    let mut plain = true;
     let mut waits = false;
     for (reach, byte) in text.iter().enumerate() {
         let quote = *byte == b'\'';
@@ -104,17 +108,26 @@ pub fn quoted_extent(text: &[u8]) -> Extent
             return Extent {
                 reach,
                 len,
+                plain,
                 closed: true,
             };
         }
         if waits || !quote {
             len += 1;
+            plain = plain && is_plain(*byte);
         }
         waits = quote && !waits;
     }
     Extent {
         reach: text.len(),
         len,
+        plain,
         closed: waits,
     }
+}
+
+fn is_plain(byte: u8) -> bool
+    ensures { result ≡ is_plain_byte byte }
+{
+    byte >= 32 && byte != 127
 }

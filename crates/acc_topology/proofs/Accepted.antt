@@ -1,10 +1,11 @@
 -- Nodes and shards without a fault make a layout.
-use Rattle.std.proofs.Common.{◌≡◌, ℕ, zero, suc, ◌+◌, ◌/◌, ◌<◌, ◌≤◌, Bool, true, false, not, eqb, List, [], ◌∷◌, length, take, drop, get_or, map, Option, Some, None, is_none, unwrap_or, refl, sym, ap, subst, ◌∙◌, arith, add-one, add-zero, zero-add, inl, inr, IsTrue, All, drop-cons}
+use Rattle.std.proofs.Common.{◌≡◌, ℕ, zero, suc, ◌+◌, ◌/◌, ◌<◌, ◌≤◌, Bool, true, false, not, eqb, List, [], ◌∷◌, length, take, drop, get_or, map, Option, Some, None, is_none, unwrap_or, refl, sym, ap, subst, ◌∙◌, arith, add-one, inl, inr, IsTrue, All, drop-cons}
 use Rattle.std.specs.List.{AllByRecursion}
 use Rattle.std.proofs.lemmas.Bool.{eqb-true, eq-eqb, ne_eqb, ltb-true, or_cases, or_left, or_right, leb-true, not-true, false_from_ne_true, and_parts, and_from}
 use Rattle.std.proofs.lemmas.List.Elements.{recursion_from_All}
 use Rattle.std.proofs.lemmas.List.{take_all, length-drop, length-map}
-use Rattle.acc_base.specs.Faults.{◌then◌, must, each}
+use Rattle.acc_base.specs.Faults.{◌then◌, each}
+use Rattle.acc_base.proofs.Faults.{then_none, must_none, each_from_0}
 use Rattle.acc_topology.specs.declared.error.TopologyError.{TopologyError}
 use Rattle.acc_topology.specs.declared.error.TopologyError.TheVariants.{Wrong}
 use Rattle.acc_topology.specs.declared.error.TopologyKind.TheVariants.{NoNode, NoShard}
@@ -14,32 +15,10 @@ use Rattle.acc_topology.specs.Sets.{in_set, is_among, in_order, IsSetOf}
 use Rattle.acc_topology.specs.View.{shard_view, layout_view}
 use Rattle.acc_topology.specs.declared.shard.Shard.{Shard as MadeShard}
 use Rattle.acc_topology.specs.Layout.{IsLayout, IsShard, bytes_lt, is_end_before, ends_rise, is_replica_count}
-use Rattle.acc_topology.specs.Faults.{Fault, ids, node_fault, nodes_fault, ends_well, end_before, replica_fault, elector_fault, electorate_fault, electors, replica_faults, replicas_fault, shard_fault, shards_fault, fault_of, given_shard, given_layout, IsFault}
+use Rattle.acc_topology.specs.Faults.{ids, node_fault, nodes_fault, ends_well, end_before, replica_fault, elector_fault, electorate_fault, electors, replica_faults, replicas_fault, shard_fault, shards_fault, fault_of, given_shard, given_layout, IsFault}
 use Rattle.acc_topology.proofs.Counts.{replica_count_odd}
 use Rattle.acc_topology.proofs.Listed.{AreSmall, in_order-part, in_order-nodes, is_among-in_order, length-in_order-take, members-in_order}
 use Rattle.acc_topology.proofs.Rules.{end_before-next}
-
--- ---- no fault
-
-then_none : (f g : Fault) → (f then g) ≡ None → (f ≡ None) × (g ≡ None)
-then_none None g e = (refl, e)
-then_none (Some fault) g e = absurd cc
-
-must_none : (test : Bool) (fault : TopologyError) → must test fault ≡ None → IsTrue test
-must_none true fault e = refl
-must_none false fault e = absurd cc
-
-module _ {A : Type 0} where
-  -- a rule that holds of each item holds at each place
-  each_none : (rule : ℕ → A → Fault) (xs : List A) (from i : ℕ) (d : A) → each rule from xs ≡ None → i < length xs → rule (from + i) (get_or xs i d) ≡ None
-  each_none rule [] from i d e lt = absurd (omega arith)
-  each_none rule (x ∷ xs) from zero d e lt = rw add-zero (then_none (rule from x) (each rule (from + 1) xs) e).0
-  each_none rule (x ∷ xs) from (suc i) d e lt =
-      let there : from + suc i ≡ from + 1 + i = omega arith in
-      rw there (each_none rule xs (from + 1) i d (then_none (rule from x) (each rule (from + 1) xs) e).1 (omega arith))
-
-  each_none_at : (rule : ℕ → A → Fault) (xs : List A) (i : ℕ) (d : A) → each rule 0 xs ≡ None → i < length xs → rule i (get_or xs i d) ≡ None
-  each_none_at rule xs i d e lt = subst (λ (k : ℕ). rule k (get_or xs i d) ≡ None) (zero-add i) (each_none rule xs 0 i d e lt)
 
 -- ---- replicas and electors
 
@@ -67,7 +46,7 @@ named_electors : (replicas electorate : List ℕ) (place : ℕ) → electorate_f
 named_electors replicas electorate place e =
     let a = then_none _ _ e in
     let at : (i : ℕ) → i < length electorate → IsTrue (is_among replicas (get_or electorate i 0)) × IsTrue (not (is_among (take i electorate) (get_or electorate i 0))) =
-    λ i lt. and_parts _ _ (must_none _ _ (each_none_at (elector_fault (is_among replicas) place electorate) electorate i 0 a.1 lt)) in
+    λ i lt. and_parts _ _ (must_none _ _ (each_from_0 (elector_fault (is_among replicas) place electorate) electorate i 0 a.1 lt)) in
     record {
       enough = leb-true _ _ (must_none _ _ a.0);
       once = record { pass = λ i lt. (at i lt).0; new = λ i lt. not-true _ (at i lt).1 };
@@ -82,7 +61,7 @@ are_electors is_node replicas place (Some electorate) count once e = named_elect
 
 are_once : (is_node : ℕ → Bool) (place : ℕ) (replicas : List ℕ) → replicas_fault is_node place replicas ≡ None → AreOnce is_node replicas
 are_once is_node place replicas e =
-    let at : (i : ℕ) → i < length replicas → replica_fault is_node place replicas i (get_or replicas i 0) ≡ None = λ i lt. each_none_at (replica_fault is_node place replicas) replicas i 0 e lt in
+    let at : (i : ℕ) → i < length replicas → replica_fault is_node place replicas i (get_or replicas i 0) ≡ None = λ i lt. each_from_0 (replica_fault is_node place replicas) replicas i 0 e lt in
     record {
       pass = λ i lt. must_none _ _ (then_none _ _ (at i lt)).0;
       new = λ i lt. not-true _ (must_none _ _ (then_none _ _ (at i lt)).1);

@@ -1,10 +1,11 @@
 -- The loops over nodes, replicas and shards, by the rules that they test.
-use Rattle.std.proofs.Common.{◌≡◌, ℕ, ◌+◌, ◌^◌, ◌<◌, Bool, true, false, not, ◌||◌, eqb, List, [], ◌∷◌, ◌++◌, length, get_or, take, drop, map, Option, Some, None, nat_lt, slice_get, refl, sym, ap, ◌∙◌, arith, add-one, inl, inr, IsTrue, drop-cons}
+use Rattle.std.proofs.Common.{◌≡◌, ℕ, ◌+◌, ◌^◌, ◌<◌, Bool, true, false, not, ◌||◌, eqb, List, [], ◌∷◌, ◌++◌, length, get_or, take, drop, map, Option, Some, None, nat_lt, slice_get, refl, sym, ap, ◌∙◌, arith, add-one, inl, inr, IsTrue}
 use Rattle.std.proofs.lemmas.List.{take-map, take_more, map-append}
 use Rattle.std.specs.Option.{option_and_then}
 use Rattle.std.proofs.lemmas.Option.{slice_get-get_or}
 use Rattle.std.proofs.lemmas.Bool.{cases_lt, true≢false, lt-ltb}
 use Rattle.acc_base.specs.Faults.{◌then◌, must, each}
+use Rattle.acc_base.proofs.Faults.{each_fails}
 use Rattle.acc_topology.specs.declared.error.TopologyError.{TopologyError}
 use Rattle.acc_topology.specs.declared.error.TopologyError.TheVariants.{Wrong, OutOfMemory}
 use Rattle.acc_topology.specs.declared.error.TopologyKind.TheVariants.{Replicas}
@@ -34,23 +35,8 @@ is_among-push (m ∷ ns) x n = ap (λ b. eqb m n || b) (is_among-push ns x n) �
 pub IsSetOf-push : (set set' : ℕ) (ns : List ℕ) (x : ℕ) → IsSetOf set ns → ((n : ℕ) → in_set set' n ≡ (in_set set n || eqb x n)) → IsSetOf set' (ns ++ x ∷ [])
 IsSetOf-push set set' ns x before more n = more n ∙ ap (λ b. b || eqb x n) (before n) ∙ sym (is_among-push ns x n)
 
-module _ {A : Type 0} where
-  -- where the rule holds of the next item, the rest behind it decides
-  pub each-goes_on : (rule : ℕ → A → Fault) (xs : List A) (i : ℕ) (d : A) (total : Fault) → i < length xs → rule i (get_or xs i d) ≡ None → each rule i (drop i xs) ≡ total → each rule (i + 1) (drop (i + 1) xs) ≡ total
-  each-goes_on rule xs i d total lt holds so_far =
-      let cut : drop i xs ≡ get_or xs i d ∷ drop (i + 1) xs = rw add-one (drop-cons xs i d lt) in
-      ap (λ f. f then each rule (i + 1) (drop (i + 1) xs)) (sym holds) ∙ ap (each rule i) (sym cut) ∙ so_far
-
-  pub each-fails : (rule : ℕ → A → Fault) (xs : List A) (i : ℕ) (d : A) (total : Fault) (fault : TopologyError) → i < length xs → rule i (get_or xs i d) ≡ Some fault → each rule i (drop i xs) ≡ total → total ≡ Some fault
-  each-fails rule xs i d total fault lt fails so_far =
-      let cut : drop i xs ≡ get_or xs i d ∷ drop (i + 1) xs = rw add-one (drop-cons xs i d lt) in
-      sym so_far ∙ ap (each rule i) cut ∙ ap (λ f. f then each rule (i + 1) (drop (i + 1) xs)) fails
-
 pub is_new-not_in : (set : ℕ) (ns : List ℕ) (n : ℕ) → IsSetOf set ns → false ≡ in_set set n → not (is_among ns n) ≡ true
 is_new-not_in set ns n before lacks = ap not (sym (before n) ∙ sym lacks)
-
-pub must_holds : (test : Bool) (fault : TopologyError) → test ≡ true → must test fault ≡ None
-must_holds test fault e = ap (λ b. must b fault) e
 
 pub ids-more : (nodes : List NodeSpec) (i : ℕ) (d : NodeSpec) → i < length nodes → take (i + 1) (ids nodes) ≡ take i (ids nodes) ++ (get_or nodes i d).id ∷ []
 ids-more nodes i d lt =
@@ -85,7 +71,7 @@ shards_fail is_node shards place s before end e lt at well before-is end-is so_f
     let some : nat_lt 0 (length shards) ≡ true = lt-ltb 0 (length shards) (omega arith) in
     let right : ends_well (eqb (place + 1) (length shards)) (end_before shards place) s.end ≡ true = rw (← before-is, ← end-is) (sym well) in
     let here : shard_fault is_node shards place s ≡ replica_faults is_node place s = rw right refl in
-    same_error _ _ e (λ f h2. rw some (each-fails (shard_fault is_node shards) shards place s _ f lt (ap (shard_fault is_node shards place) (sym at) ∙ here ∙ h2) so_far)) h
+    same_error _ _ e (λ f h2. rw some (each_fails (shard_fault is_node shards) shards place s _ f lt (ap (shard_fault is_node shards place) (sym at) ∙ here ∙ h2) so_far)) h
 
 pub shard_holds : (is_node : ℕ → Bool) (shards : List ShardSpec) (place : ℕ) (s : ShardSpec) (before end : Option (List ℕ)) → s ≡ get_or shards place s → true ≡ ends_well (eqb (place + 1) (length shards)) before end → before ≡ end_before shards place → end ≡ s.end
     → replica_faults is_node place s ≡ None → shard_fault is_node shards place (get_or shards place s) ≡ None

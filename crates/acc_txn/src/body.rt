@@ -65,6 +65,15 @@ impl Body {
         ensures { IfOk result (λ body. body ≡ parts) }
     {
         let uses = footprint(&parts)?;
+        Body::with_uses(parts, uses)
+    }
+
+    /// The body of parts that keep to the rules, and whose keys are in a footprint already, as a reader collects them.
+    pub fn with_uses(parts: BodyParts, uses: Footprint) -> Result<Body, OutOfMemory>
+        requires keeps_rules { IsBody parts }
+        requires uses { uses ≡ footprint_of parts }
+        ensures { IfOk result (λ body. body ≡ parts) }
+    {
         let alloc = parts.lets.allocator();
         Ok(Body {
             content: Arc::new(alloc, Content { parts, uses })?,

@@ -7,5 +7,5 @@ use Rattle.acc_code.proofs.body_lengths.conditions_length.Given as goal
 abbrev pub invariant-loop-guard : goal.invariant-loop-guard
 invariant-loop-guard l = record {
   exact : l.total ≡ length (flat_map condition_bytes (take l.guard-index l.guards));
-  most : l.total ≤ 8192 * l.guard-index;
+  most : l.total ≤ 262144 * l.guard-index;
 }

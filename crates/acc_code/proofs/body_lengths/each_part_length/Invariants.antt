@@ -7,5 +7,5 @@ use Rattle.acc_code.proofs.body_lengths.each_part_length.Given as goal
 abbrev pub invariant-loop-part : goal.invariant-loop-part
 invariant-loop-part l = record {
   exact : l.total ≡ length (flat_map part_bytes (take l.part-index l.parts));
-  most : l.total ≤ 10 * l.part-index;
+  most : l.total ≤ 258 * l.part-index;
 }

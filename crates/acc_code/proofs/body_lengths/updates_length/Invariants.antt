@@ -7,5 +7,5 @@ use Rattle.acc_code.proofs.body_lengths.updates_length.Given as goal
 abbrev pub invariant-loop-update : goal.invariant-loop-update
 invariant-loop-update l = record {
   exact : l.total ≡ length (flat_map update_bytes (take l.update-index l.updates));
-  most : l.total ≤ 8192 * l.update-index;
+  most : l.total ≤ 262144 * l.update-index;
 }

@@ -7,5 +7,5 @@ use Rattle.acc_code.proofs.lengths.each_cell_length.Given as goal
 abbrev pub invariant-loop-cell : goal.invariant-loop-cell
 invariant-loop-cell l = record {
   exact : l.total ≡ length (flat_map cell_bytes (take l.cell-index l.cells));
-  most : l.total ≤ 9 * l.cell-index;
+  most : l.total ≤ 257 * l.cell-index;
 }

@@ -7,5 +7,5 @@ use Rattle.acc_code.proofs.lengths.pairs_length.Given as goal
 abbrev pub invariant-loop-key : goal.invariant-loop-key
 invariant-loop-key l = record {
   exact : l.total ≡ length (flat_map pair_bytes (take l.key-index l.pairs));
-  most : l.total ≤ 521 * l.key-index;
+  most : l.total ≤ 769 * l.key-index;
 }

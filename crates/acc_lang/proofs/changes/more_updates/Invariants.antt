@@ -6,8 +6,8 @@ use Rattle.acc_lang.proofs.changes.more_updates.Given as goal
 abbrev pub invariant-updates : goal.invariant-updates
 invariant-updates l = record {
   goes_on :
-      each begins_update (one_update l.lets) (16 - length l.all) (l.all, l.uses) l.cursor.rest.now
-      ≡ each begins_update (one_update l.lets) (16 - length l.initial.all) (l.initial.all, l.initial.uses) l.initial.cursor.rest.now;
+      each begins_update (one_update l.texts l.lets) (16 - length l.all) (l.all, l.uses) l.cursor.rest.now
+      ≡ each begins_update (one_update l.texts l.lets) (16 - length l.initial.all) (l.initial.all, l.initial.uses) l.initial.cursor.rest.now;
   few : length l.all ≤ 16;
 }
 

@@ -12,7 +12,7 @@ returns-in_err-next c =
     let begins : is_word (codes "and") (token_at c.conditions.cursor.rest.now) ≡ true = cc in
     handed_on _ _ _ _ _ c.from_residual-in_err-next.ensures.1
     (subst (Fails c.in_err-next.field-0.0) c.conditions.invariant.goes_on
-    (failed (is_word (codes "and")) (one_condition c.args.lets.now) 16 (length c.conditions.all) c.conditions.all c.conditions.cursor.rest.now c.in_err-next.field-0.0
+    (failed (is_word (codes "and")) (one_condition c.args.texts c.args.lets.now) 16 (length c.conditions.all) c.conditions.all c.conditions.cursor.rest.now c.in_err-next.field-0.0
     begins c.conditions.invariant.few (rw c.len-extra.ensures at c.in_err-next.ensures.next c.conditions.all)))
 
 pub conditions-preserved : goal.conditions-preserved
@@ -23,7 +23,7 @@ conditions-preserved c =
     record {
       goes_on =
           sym
-          (continued (is_word (codes "and")) (one_condition c.args.lets.now) 16 (length c.conditions.all) c.conditions.all c.conditions.cursor.rest.now
+          (continued (is_word (codes "and")) (one_condition c.args.texts c.args.lets.now) 16 (length c.conditions.all) c.conditions.all c.conditions.cursor.rest.now
           (c.push-in-conditions.new.self, c.one_condition.new.cursor.rest.now) (length c.push-in-conditions.new.self) begins few more
           (cc (c.in_ok-next.ensures.next c.conditions.all, c.in_ok-next.ensures.room, c.in_ok-push-2.ensures.ok)))
           ∙ c.conditions.invariant.goes_on;
@@ -33,4 +33,4 @@ conditions-preserved c =
 pub returns : goal.returns
 unfolding more_conditions
 returns c =
-    sym c.conditions.invariant.goes_on ∙ ended (is_word (codes "and")) (one_condition c.args.lets.now) 16 (length c.conditions.all) c.conditions.all c.conditions.cursor.rest.now cc
+    sym c.conditions.invariant.goes_on ∙ ended (is_word (codes "and")) (one_condition c.args.texts c.args.lets.now) 16 (length c.conditions.all) c.conditions.all c.conditions.cursor.rest.now cc

@@ -6,8 +6,8 @@ use Rattle.acc_lang.proofs.conditions.more_conditions.Given as goal
 abbrev pub invariant-conditions : goal.invariant-conditions
 invariant-conditions l = record {
   goes_on :
-      each (is_word (codes "and")) (one_condition l.lets) (16 - length l.all) l.all l.cursor.rest.now
-      ≡ each (is_word (codes "and")) (one_condition l.lets) 15 (l.fn.first ∷ []) l.initial.cursor.rest.now;
+      each (is_word (codes "and")) (one_condition l.texts l.lets) (16 - length l.all) l.all l.cursor.rest.now
+      ≡ each (is_word (codes "and")) (one_condition l.texts l.lets) 15 (l.fn.first ∷ []) l.initial.cursor.rest.now;
   few : length l.all ≤ 16;
 }
 

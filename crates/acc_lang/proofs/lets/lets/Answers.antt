@@ -12,7 +12,7 @@ returns-in_err-next-clause-lets c =
     let begins : is_word (codes "let") (token_at c.lets.cursor.rest.now) ≡ true = cc in
     handed_on _ _ _ _ _ c.from_residual.ensures.1
     (subst (Fails c.in_err-next.field-0.0) c.lets.invariant.goes_on
-    (failed (is_word (codes "let")) one_let 16 (length c.lets.lets) (c.lets.lets, c.lets.uses) c.lets.cursor.rest.now c.in_err-next.field-0.0
+    (failed (is_word (codes "let")) (one_let c.args.texts) 16 (length c.lets.lets) (c.lets.lets, c.lets.uses) c.lets.cursor.rest.now c.in_err-next.field-0.0
     begins c.lets.invariant.few (rw (c.len-extra.ensures, c.as_slice.ensures) at c.in_err-next.ensures.next)))
 
 pub lets-preserved : goal.lets-preserved
@@ -23,7 +23,7 @@ lets-preserved c =
     record {
       goes_on =
           sym
-          (continued (is_word (codes "let")) one_let 16 (length c.lets.lets) (c.lets.lets, c.lets.uses) c.lets.cursor.rest.now
+          (continued (is_word (codes "let")) (one_let c.args.texts) 16 (length c.lets.lets) (c.lets.lets, c.lets.uses) c.lets.cursor.rest.now
           ((c.push.new.self, c.one_let.new.uses), c.one_let.new.cursor.rest.now) (length c.push.new.self) begins few more
           (cc (c.in_ok-next.ensures.next, c.in_ok-next.ensures.room, c.in_ok-push.ensures.ok)))
           ∙ c.lets.invariant.goes_on;
@@ -33,4 +33,4 @@ lets-preserved c =
 pub returns-clause-lets : goal.returns-clause-lets
 unfolding more_lets
 returns-clause-lets c =
-    sym c.lets.invariant.goes_on ∙ ended (is_word (codes "let")) one_let 16 (length c.lets.lets) (c.lets.lets, c.lets.uses) c.lets.cursor.rest.now cc
+    sym c.lets.invariant.goes_on ∙ ended (is_word (codes "let")) (one_let c.args.texts) 16 (length c.lets.lets) (c.lets.lets, c.lets.uses) c.lets.cursor.rest.now cc

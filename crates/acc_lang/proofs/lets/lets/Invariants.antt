@@ -6,8 +6,8 @@ use Rattle.acc_lang.proofs.lets.lets.Given as goal
 abbrev pub invariant-lets : goal.invariant-lets
 invariant-lets l = record {
   goes_on :
-      each (is_word (codes "let")) one_let (16 - length l.lets) (l.lets, l.uses) l.cursor.rest.now
-      ≡ each (is_word (codes "let")) one_let 16 ([], l.initial.uses) l.initial.cursor.rest.now;
+      each (is_word (codes "let")) (one_let l.texts) (16 - length l.lets) (l.lets, l.uses) l.cursor.rest.now
+      ≡ each (is_word (codes "let")) (one_let l.texts) 16 ([], l.initial.uses) l.initial.cursor.rest.now;
   few : length l.lets ≤ 16;
 }
 

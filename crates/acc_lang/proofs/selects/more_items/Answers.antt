@@ -12,7 +12,7 @@ returns-in_err-next c =
     let begins : is_mark (codes ",") (token_at c.items.cursor.rest.now) ≡ true = cc in
     handed_on _ _ _ _ _ c.from_residual-in_err-next.ensures.1
     (subst (Fails c.in_err-next.field-0.0) c.items.invariant.goes_on
-    (failed (is_mark (codes ",")) (one_item c.args.lets.now) 16 (length c.items.names) c.items.names c.items.cursor.rest.now c.in_err-next.field-0.0
+    (failed (is_mark (codes ",")) (one_item c.args.texts c.args.lets.now) 16 (length c.items.names) c.items.names c.items.cursor.rest.now c.in_err-next.field-0.0
     begins c.items.invariant.few (rw c.len-extra.ensures at c.in_err-next.ensures.next c.items.names)))
 
 pub items-preserved : goal.items-preserved
@@ -23,7 +23,7 @@ items-preserved c =
     record {
       goes_on =
           sym
-          (continued (is_mark (codes ",")) (one_item c.args.lets.now) 16 (length c.items.names) c.items.names c.items.cursor.rest.now
+          (continued (is_mark (codes ",")) (one_item c.args.texts c.args.lets.now) 16 (length c.items.names) c.items.names c.items.cursor.rest.now
           (c.push-in-items.new.self, c.one_item.new.cursor.rest.now) (length c.push-in-items.new.self) begins few more
           (cc (c.in_ok-next.ensures.next c.items.names, c.in_ok-next.ensures.room, c.in_ok-push-2.ensures.ok)))
           ∙ c.items.invariant.goes_on;
@@ -33,4 +33,4 @@ items-preserved c =
 pub returns : goal.returns
 unfolding more_items
 returns c =
-    sym c.items.invariant.goes_on ∙ ended (is_mark (codes ",")) (one_item c.args.lets.now) 16 (length c.items.names) c.items.names c.items.cursor.rest.now cc
+    sym c.items.invariant.goes_on ∙ ended (is_mark (codes ",")) (one_item c.args.texts c.args.lets.now) 16 (length c.items.names) c.items.names c.items.cursor.rest.now cc

@@ -6,8 +6,8 @@ use Rattle.acc_lang.proofs.selects.more_items.Given as goal
 abbrev pub invariant-items : goal.invariant-items
 invariant-items l = record {
   goes_on :
-      each (is_mark (codes ",")) (one_item l.lets) (16 - length l.names) l.names l.cursor.rest.now
-      ≡ each (is_mark (codes ",")) (one_item l.lets) 15 (l.first ∷ []) l.initial.cursor.rest.now;
+      each (is_mark (codes ",")) (one_item l.texts l.lets) (16 - length l.names) l.names l.cursor.rest.now
+      ≡ each (is_mark (codes ",")) (one_item l.texts l.lets) 15 (l.first ∷ []) l.initial.cursor.rest.now;
   few : length l.names ≤ 16;
 }
 

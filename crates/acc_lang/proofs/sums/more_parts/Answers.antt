@@ -12,7 +12,7 @@ returns-in_err-next c =
     let begins : is_sign (token_at c.parts.cursor.rest.now) ≡ true = cc in
     handed_on _ _ _ _ _ c.from_residual-in_err-next.ensures.1
     (subst (Fails c.in_err-next.field-0.0) c.parts.invariant.goes_on
-    (failed is_sign (one_part c.args.lets.now) 16 (length c.parts.sum) c.parts.sum c.parts.cursor.rest.now c.in_err-next.field-0.0
+    (failed is_sign (one_part c.args.texts c.args.lets.now) 16 (length c.parts.sum) c.parts.sum c.parts.cursor.rest.now c.in_err-next.field-0.0
     begins c.parts.invariant.few (rw c.len-extra.ensures at c.in_err-next.ensures.next c.parts.sum)))
 
 pub parts-preserved : goal.parts-preserved
@@ -23,7 +23,7 @@ parts-preserved c =
     record {
       goes_on =
           sym
-          (continued is_sign (one_part c.args.lets.now) 16 (length c.parts.sum) c.parts.sum c.parts.cursor.rest.now
+          (continued is_sign (one_part c.args.texts c.args.lets.now) 16 (length c.parts.sum) c.parts.sum c.parts.cursor.rest.now
           (c.push-in-parts.new.self, c.one_part.new.cursor.rest.now) (length c.push-in-parts.new.self) begins few more
           (cc (c.in_ok-next.ensures.next c.parts.sum, c.in_ok-next.ensures.room, c.in_ok-push-2.ensures.ok)))
           ∙ c.parts.invariant.goes_on;
@@ -33,4 +33,4 @@ parts-preserved c =
 pub returns : goal.returns
 unfolding more_parts
 returns c =
-    sym c.parts.invariant.goes_on ∙ ended is_sign (one_part c.args.lets.now) 16 (length c.parts.sum) c.parts.sum c.parts.cursor.rest.now cc
+    sym c.parts.invariant.goes_on ∙ ended is_sign (one_part c.args.texts c.args.lets.now) 16 (length c.parts.sum) c.parts.sum c.parts.cursor.rest.now cc

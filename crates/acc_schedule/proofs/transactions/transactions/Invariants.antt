@@ -5,4 +5,4 @@ use Rattle.acc_schedule.proofs.TransactionFacts.{AllRead}
 use Rattle.acc_schedule.proofs.transactions.transactions.Given as goal
 
 abbrev pub invariant-loop-place : goal.invariant-loop-place
-invariant-loop-place l = AllRead (in_set l.nodes) l.items l.place l.all.names l.all.homes l.all.bodies × (length l.items ≤ 10000)
+invariant-loop-place l = AllRead l.version (in_set l.nodes) l.items l.place l.all.names l.all.homes l.all.bodies × (length l.items ≤ 10000)

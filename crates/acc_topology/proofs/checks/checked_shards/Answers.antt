@@ -4,7 +4,8 @@ use Rattle.acc_topology.specs.declared.error.TopologyError.{TopologyError}
 use Rattle.acc_topology.specs.Sets.{in_set}
 use Rattle.acc_topology.specs.View.{shard_view}
 use Rattle.acc_topology.specs.Faults.{shard_fault}
-use Rattle.acc_topology.proofs.Rules.{shards_fail, shard_holds, each-goes_on, end_before-next, shards-more}
+use Rattle.acc_base.proofs.Faults.{each_goes_on}
+use Rattle.acc_topology.proofs.Rules.{shards_fail, shard_holds, end_before-next, shards-more}
 use Rattle.acc_topology.proofs.checks.checked_shards.Goals as goal
 
 pub returns-in_err-checked_shard : goal.returns-in_err-checked_shard
@@ -21,7 +22,7 @@ loop-place-preserved c =
     let lt = c.loop-place-test.true in
     let at = c.index-shards-place.is in
     let holds = shard_holds (in_set c.args.nodes) shards place s _ _ at c.if-not-may_end.ensures c.loop-place.invariant.2 c.as_ref.ensures.value c.in_ok-checked_shard.ensures.0 in (
-      each-goes_on (shard_fault (in_set c.args.nodes) shards) shards place s _ lt holds c.loop-place.invariant.0,
+      each_goes_on (shard_fault (in_set c.args.nodes) shards) shards place s _ lt holds c.loop-place.invariant.0,
       rw c.in_ok-push.ensures.items (shards-more shard_view c.loop-place.checked.items shards place s c.in_ok-checked_shard.field-0 lt at c.loop-place.invariant.1 c.in_ok-checked_shard.ensures.1),
       c.as_ref-before.ensures.value ∙ sym (end_before-next shards place s lt at),
     )
