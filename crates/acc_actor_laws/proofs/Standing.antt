@@ -68,7 +68,7 @@ stable_ones-stands history (k ∷ heard) x s known stable =
 
 -- ---- in turn
 
-pub with_each : (P : Standing → Type 0) (s : Standing) (list : List Standing) → P s → AllByRecursion P list
+with_each : (P : Standing → Type 0) (s : Standing) (list : List Standing) → P s → AllByRecursion P list
     → AllByRecursion P (rising_with standing_lt s list)
 with_each P s [] p h = (p, tt)
 with_each P s (z ∷ zs) p h =

@@ -251,7 +251,7 @@ slows_takes : (m : Message) (x : Option TxnId) → option_map Slows x ≡ Some (
 slows_takes m None e = not_none (Takes m) e
 slows_takes m (Some x) e = cc
 
-pub event_taken : (cluster : Cluster) (earlier : List Item) (a : Actor) (m : Message) (event : Event) → act_of cluster earlier event ≡ Some (Takes m)
+event_taken : (cluster : Cluster) (earlier : List Item) (a : Actor) (m : Message) (event : Event) → act_of cluster earlier event ≡ Some (Takes m)
     → MayStand cluster earlier a (Takes m) event → TakenByNode earlier a m
 event_taken cluster earlier a m (TakesMessage number) is place = takes_sent earlier a m (message_at earlier number) number refl is place
 event_taken cluster earlier a m (Begin txn) is place = absurd (begins_takes m txn (slice_get cluster.bodies txn) is)

@@ -13,7 +13,6 @@ use Rattle.acc_message.specs.Fields.{id_of}
 use Rattle.acc_message.specs.Taken.{Taken, Heard, is_heard, known, learnt, body_in}
 use Rattle.acc_message.specs.BallotRules.{stable_of}
 use Rattle.acc_message.specs.Opening.{Standing, standing_with, stable_ones, standing_lt, in_turn}
-use Rattle.acc_actor_laws.proofs.Standing.{with_each}
 
 -- ---- known ones
 
@@ -71,6 +70,15 @@ stable_ones-apart history (k ∷ heard) h =
     one_more k.id (stable_of history k.id) (stable_ones history heard) (stable_ones-not history k.id heard h.0) (stable_ones-apart history heard h.1)
 
 -- ---- in turn
+
+with_each : (P : Standing → Type 0) (s : Standing) (list : List Standing) → P s → AllByRecursion P list
+    → AllByRecursion P (rising_with standing_lt s list)
+with_each P s [] p h = (p, tt)
+with_each P s (z ∷ zs) p h =
+    cond_both (standing_lt s z) (s ∷ z ∷ zs) (cond (standing_lt z s) (z ∷ rising_with standing_lt s zs) (z ∷ zs)) (AllByRecursion P)
+    (λ _. (p, h))
+    (λ _. cond_both (standing_lt z s) (z ∷ rising_with standing_lt s zs) (z ∷ zs) (AllByRecursion P)
+    (λ _. (h.0, with_each P s zs p h.1)) (λ _. h))
 
 with-apart : (s : Standing) (list : List Standing) → NotStanding s.id list → StandApart list → StandApart (rising_with standing_lt s list)
 with-apart s [] h apart = (tt, tt)

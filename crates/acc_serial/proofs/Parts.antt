@@ -1,6 +1,6 @@
 -- What a part of a run has the whole run has too, what is begun is noted, and what a store took was sent.
 use Rattle.std.proofs.Common.{◌≡◌, ℕ, true, List, [], ◌∷◌, Option, None, Some, Contains, refl, ◌∙◌, subst, ◌⊎◌, inl, inr, ⊎_elim}
-use Rattle.std.specs.List.{AllByRecursion, list_any}
+use Rattle.std.specs.List.{AllByRecursion, list_any, slice_get}
 use Rattle.std.proofs.lemmas.Bool.{or_left, or_right, cond_both}
 use Rattle.std.proofs.lemmas.List.Folds.{list_any-append}
 use Rattle.acc_stamp.specs.declared.stamps.TxnId.{TxnId}
@@ -8,11 +8,17 @@ use Rattle.acc_stamp.specs.declared.actors.Actor.{Actor}
 use Rattle.acc_txn.specs.declared.parts.BodyParts.{BodyParts}
 use Rattle.acc_txn.specs.declared.outcome.Outcome.{Outcome}
 use Rattle.acc_message.specs.declared.message.Message.{Message}
+use Rattle.acc_message.specs.declared.entry.Event.{Event}
+use Rattle.acc_message.specs.declared.entry.Event.TheVariants.{Begin as BeginEvent, Recover as RecoverEvent, Slow as SlowEvent, Message as MessageEvent, Restart as RestartEvent}
 use Rattle.acc_message.specs.declared.item.Item.{Item}
 use Rattle.acc_message.specs.declared.item.Item.TheVariants.{Step, Skipped, Down}
-use Rattle.acc_message.specs.Items.{sent_in, sent_of, noted_in, notes_of, begins, txn_begun, txn_in, txn_of}
+use Rattle.acc_message.specs.Items.{sent_in, sent_of, noted_in, notes_of, begins, txn_begun, txn_in, txn_of, message_at, id_of_txn}
+use Rattle.acc_message.specs.NodeRules.{Act, Begins, Recovers, Slows, Takes, Restarts}
+use Rattle.acc_actor_laws.proofs.OpeningFacts.{some_is}
+use Rattle.std.specs.Option.{option_map}
+use Rattle.std.proofs.Common.{zero, suc}
 use Rattle.acc_message.specs.Taken.{Taken}
-use Rattle.acc_message.specs.Run.{Cluster, taken_of, EachStands}
+use Rattle.acc_message.specs.Run.{Cluster, recovers, act_of, taken_of, EachStands}
 use Rattle.acc_safety.specs.Decisions.{Decision, decisions_of, body_at}
 use Rattle.acc_safety.specs.Places.{IsIn, First, Later, StandsAt, Here, Back}
 use Rattle.acc_safety.specs.Histories.{Sending}
@@ -101,3 +107,42 @@ each_taken P cluster a items stands each =
     let s = store_step cluster a items stands step at.0 at.1 in
     each step.message
     (Sending-past s.earlier items step.message (IsPast-rest (Step s.entry) s.earlier items (StandsAt-IsPast (Step s.entry) s.earlier items s.at)) s.sending))
+
+-- ---- a message that an entry takes
+
+numbered_is_sent : (ms : List Message) (number : ℕ) (m : Message) → slice_get ms number ≡ Some m → IsIn m ms
+numbered_is_sent [] number m e = absurd (not_none m e)
+numbered_is_sent (n ∷ ms) zero m e = subst (λ k. IsIn k (n ∷ ms)) (some_is n m e) (First n ms)
+numbered_is_sent (n ∷ ms) (suc number) m e = Later m n ms (numbered_is_sent ms number m e)
+
+module _ (cluster : Cluster) (earlier : List Item) (m : Message) where
+  takes_number : (number : ℕ) (o : Option Message) → message_at earlier number ≡ o → option_map Takes o ≡ Some (Takes m) → IsIn m (sent_of earlier)
+  takes_number number None is e = absurd (not_none (Takes m) e)
+  takes_number number (Some n) is e = numbered_is_sent (sent_of earlier) number m (is ∙ ap (λ k. Some k) (same (some_is (Takes n) (Takes m) e)))
+    where
+      same : Takes n ≡ Takes m → n ≡ m
+      same p = cc
+
+  begins_apart : (txn : ℕ) (o : Option BodyParts) → option_map (Begins txn) o ≡ Some (Takes m) → ⊥
+  begins_apart txn None e = not_none (Takes m) e
+  begins_apart txn (Some body) e = cc
+
+  recovers_apart : (o : Option TxnId) (p : Option BodyParts) → recovers o p ≡ Some (Takes m) → ⊥
+  recovers_apart None p e = not_none (Takes m) e
+  recovers_apart (Some x) None e = not_none (Takes m) e
+  recovers_apart (Some x) (Some body) e = cc
+
+  slows_apart : (o : Option TxnId) → option_map Slows o ≡ Some (Takes m) → ⊥
+  slows_apart None e = not_none (Takes m) e
+  slows_apart (Some x) e = cc
+
+  restarts_apart : Some Restarts ≡ Some (Takes m) → ⊥
+  restarts_apart e = cc
+
+  -- what an entry takes was sent earlier
+  pub takes_sent : (event : Event) → act_of cluster earlier event ≡ Some (Takes m) → IsIn m (sent_of earlier)
+  takes_sent (MessageEvent number) e = takes_number number (message_at earlier number) refl e
+  takes_sent (BeginEvent txn) e = absurd (begins_apart txn (slice_get cluster.bodies txn) e)
+  takes_sent (RecoverEvent txn) e = absurd (recovers_apart (id_of_txn earlier txn) (slice_get cluster.bodies txn) e)
+  takes_sent (SlowEvent txn) e = absurd (slows_apart (id_of_txn earlier txn) e)
+  takes_sent (RestartEvent kept) e = absurd (restarts_apart e)

@@ -16,7 +16,7 @@ use Rattle.acc_message.specs.Items.{sent_in, sent_of, noted_in, notes_of}
 use Rattle.acc_message.specs.BallotRules.{outcome_in}
 use Rattle.acc_message.specs.Attempts.{Attempt}
 use Rattle.acc_message.specs.NodeRules.{Act, Begins, Takes}
-use Rattle.acc_message.specs.Run.{Cluster, clock_start, deeds_of, taken_from, taken_of, store_emits, is_node, emits_by, attempt_at, MayStand, StandsOn, EachStands}
+use Rattle.acc_message.specs.Run.{Cluster, clock_start, deeds_of, taken_from, taken_of, store_emits, is_node, emits_by, attempt_at, StandsOn, EachStands}
 use Rattle.acc_actor_laws.proofs.Standing.{not_none}
 use Rattle.acc_serial.proofs.Facts.{Premises, or_else_cases}
 use Rattle.acc_serial.proofs.Histories.{outcome_about}
@@ -26,7 +26,7 @@ use Rattle.acc_message.specs.StoreRules.{store_answer}
 use Rattle.acc_safety.specs.Places.{IsIn, First, Later}
 use Rattle.acc_safety.specs.Histories.{Sending}
 use Rattle.acc_safety.proofs.PlaceOrder.{each_at, each_from, none_is_in, StandsAt-IsPast, IsPast-rest}
-use Rattle.acc_safety.proofs.Bridge.{node_step, taken_was_sent, event_taken, sent_is_sending, Sending-past}
+use Rattle.acc_safety.proofs.Bridge.{node_step, taken_was_sent, sent_is_sending, Sending-past}
 use Rattle.acc_safety.proofs.StoreSent.{store_sends}
 use Rattle.acc_safety.proofs.Attempted.{answers_of}
 use Rattle.acc_safety.proofs.Frame.{bodies_are_begun}
@@ -37,7 +37,7 @@ use Rattle.acc_serial.proofs.Framed.{has_body, run_framed}
 use Rattle.acc_serial.proofs.NodeReads.{IsReadOf}
 use Rattle.acc_serial.proofs.NodeRight.{EachRight, ReadsRight, IsRightAttempt}
 use Rattle.acc_serial.proofs.SerialEntries.{entry_right}
-use Rattle.acc_serial.proofs.Parts.{IsWithin, within_earlier, body_is_begun, sending_cases, sending_is_sent, each_taken}
+use Rattle.acc_serial.proofs.Parts.{IsWithin, within_earlier, body_is_begun, sending_cases, sending_is_sent, each_taken, takes_sent}
 
 -- a part of the run whose messages are right and whose notes are in order
 pub record IsSerialRun (cluster : Cluster) (whole : List Item) (given : Premises cluster whole) (part : List Item) : Type 0 where
@@ -122,7 +122,7 @@ module _ (cluster : Cluster) (whole : List Item) (given : Premises cluster whole
     taken_sound : (m : Message) → s.act ≡ Takes m → IsSound cluster whole (notes_of earlier) m
     taken_sound m same =
         sound earlier stands within run.messages m
-        (event_taken cluster earlier e.actor m e.event (s.act_is ∙ ap (λ k. Some k) same) (subst (λ act. MayStand cluster earlier e.actor act e.event) same s.place)).sending
+        (sent_is_sending earlier m (takes_sent cluster earlier m e.event (s.act_is ∙ ap (λ k. Some k) same)))
 
     -- what the entry emits
     record Emits (emitted : Emitted) : Type 0 where
