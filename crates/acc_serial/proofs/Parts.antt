@@ -115,14 +115,13 @@ numbered_is_sent [] number m e = absurd (not_none m e)
 numbered_is_sent (n ∷ ms) zero m e = subst (λ k. IsIn k (n ∷ ms)) (some_is n m e) (First n ms)
 numbered_is_sent (n ∷ ms) (suc number) m e = Later m n ms (numbered_is_sent ms number m e)
 
+took_same : (n m : Message) → Takes n ≡ Takes m → n ≡ m
+took_same n m e = cc
+
 module _ (cluster : Cluster) (earlier : List Item) (m : Message) where
   takes_number : (number : ℕ) (o : Option Message) → message_at earlier number ≡ o → option_map Takes o ≡ Some (Takes m) → IsIn m (sent_of earlier)
   takes_number number None is e = absurd (not_none (Takes m) e)
-  takes_number number (Some n) is e = numbered_is_sent (sent_of earlier) number m (is ∙ ap (λ k. Some k) (same (some_is (Takes n) (Takes m) e)))
-    where
-      same : Takes n ≡ Takes m → n ≡ m
-      same p = cc
-
+  takes_number number (Some n) is e = numbered_is_sent (sent_of earlier) number m (is ∙ ap (λ k. Some k) (took_same n m (some_is (Takes n) (Takes m) e)))
   begins_apart : (txn : ℕ) (o : Option BodyParts) → option_map (Begins txn) o ≡ Some (Takes m) → ⊥
   begins_apart txn None e = not_none (Takes m) e
   begins_apart txn (Some body) e = cc

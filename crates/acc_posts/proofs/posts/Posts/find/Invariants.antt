@@ -5,7 +5,7 @@ use Rattle.acc_posts.proofs.posts.Posts.find.Given as goal
 
 abbrev pub invariant-loop-at : goal.invariant-loop-at
 invariant-loop-at l = record {
-  on_lane : l.at < length l.self-inside.postings.items → lane_at l.self-inside.postings.items l.at ≡ l.actor % 256;
+  on_lane : l.at < length l.self-inside.postings.items → lane_at l.self-inside.postings.items l.at ≡ l.actor % 1024;
   passed : (number : ℕ) → l.from ≤ number → number < l.at → ¬ IsOpenTo l.self-inside.postings.items l.actor number;
 }
 

@@ -1,0 +1,4 @@
+pub mod Draws
+pub mod Ranks
+pub mod Acts
+pub mod Stages
