@@ -13,10 +13,10 @@ use Rattle.acc_message.specs.declared.entry.Event.TheVariants.{Begin as BeginEve
 use Rattle.acc_message.specs.declared.item.Item.{Item}
 use Rattle.acc_message.specs.declared.item.Item.TheVariants.{Step, Skipped, Down}
 use Rattle.acc_message.specs.Items.{sent_in, sent_of, noted_in, notes_of, begins, txn_begun, txn_in, txn_of, message_at, id_of_txn}
-use Rattle.acc_message.specs.NodeRules.{Act, Begins, Recovers, Slows, Takes, Restarts}
+use Rattle.acc_message.specs.NodeRules.{Begins, Slows, Takes, Restarts}
 use Rattle.acc_actor_laws.proofs.OpeningFacts.{some_is}
 use Rattle.std.specs.Option.{option_map}
-use Rattle.std.proofs.Common.{zero, suc}
+use Rattle.std.proofs.Common.{zero, suc, ap}
 use Rattle.acc_message.specs.Taken.{Taken}
 use Rattle.acc_message.specs.Run.{Cluster, recovers, act_of, taken_of, EachStands}
 use Rattle.acc_safety.specs.Decisions.{Decision, decisions_of, body_at}
@@ -122,6 +122,7 @@ module _ (cluster : Cluster) (earlier : List Item) (m : Message) where
   takes_number : (number : ℕ) (o : Option Message) → message_at earlier number ≡ o → option_map Takes o ≡ Some (Takes m) → IsIn m (sent_of earlier)
   takes_number number None is e = absurd (not_none (Takes m) e)
   takes_number number (Some n) is e = numbered_is_sent (sent_of earlier) number m (is ∙ ap (λ k. Some k) (took_same n m (some_is (Takes n) (Takes m) e)))
+
   begins_apart : (txn : ℕ) (o : Option BodyParts) → option_map (Begins txn) o ≡ Some (Takes m) → ⊥
   begins_apart txn None e = not_none (Takes m) e
   begins_apart txn (Some body) e = cc
