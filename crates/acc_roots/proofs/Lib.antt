@@ -5,3 +5,4 @@ pub mod ShownBefore
 pub mod Moving
 pub mod Commits
 pub mod Decisions
+pub mod Proposals

@@ -2,8 +2,14 @@
 ghost use Rattle.std.specs.Prelude.{List};
 ghost use Rattle.acc_message.specs.declared.item.Item.{Item};
 ghost use Rattle.acc_message.specs.Run.{Cluster};
-ghost use Rattle.acc_safety.specs.Statements.{CommitsHaveRoots, DecisionsHaveRoots, RecordsHaveRoots};
+ghost use Rattle.acc_safety.specs.Statements.{ProposalsHaveRoots, CommitsHaveRoots, DecisionsHaveRoots, RecordsHaveRoots};
 ghost use Rattle.acc_safety.specs.Valid.{IsStanding};
+
+/// Every proposal goes back to the votes of a majority in every shard: those of the first attempt or of a recovery, of which it has
+/// the greatest, or those of a recovery that found that the transaction's own timestamp may have been decided.
+pub fn proposals_have_roots()
+    ensures { (cluster : Cluster) (items : List Item) → IsStanding cluster items → ProposalsHaveRoots cluster items }
+{}
 
 /// Every Commit goes back to a proposal that a majority in every shard accepted at one ballot: its dependencies are the proposed
 /// ones with theirs.
