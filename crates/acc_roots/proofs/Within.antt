@@ -93,11 +93,12 @@ some_store : (layout : Layout) (body : BodyParts) (shard : ℕ) → IsLayout lay
 some_store layout body shard is among =
     let p = passing (λ m. m == shard) (shards_used layout body) among in
     let has : HasShard layout shard = used-HasShard layout body shard is among in
-    let r = some_replica (shard_at layout shard).replicas (shard_is layout.nodes layout.shards (shard - 1) is.shards (omega (arith, has.0, has.1))).count in
-    (actor_of r.0 shard,
-    flat_map-IsIn (stores_of_shard layout) (actor_of r.0 shard) shard (shards_used layout body)
-    (subst (λ n. IsIn n (shards_used layout body)) (eqb-true p.element shard p.passes) p.there)
-    (map-IsIn (λ node. actor_of node shard) r.0 (shard_at layout shard).replicas r.1))
+    let r = some_replica (shard_at layout shard).replicas (shard_is layout.nodes layout.shards (shard - 1) is.shards (omega (arith, has.0, has.1))).count in (
+      actor_of r.0 shard,
+      flat_map-IsIn (stores_of_shard layout) (actor_of r.0 shard) shard (shards_used layout body)
+          (subst (λ n. IsIn n (shards_used layout body)) (eqb-true p.element shard p.passes) p.there)
+          (map-IsIn (λ node. actor_of node shard) r.0 (shard_at layout shard).replicas r.1),
+    )
 
 pub begun_has_store : (cluster : Cluster) (items : List Item) (x : TxnId) (body : BodyParts) → IsValidCluster cluster → IsBody cluster items x body
     → (store : Actor) × IsIn store (stores_used cluster.layout body)
