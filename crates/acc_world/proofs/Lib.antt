@@ -1,3 +1,4 @@
 pub mod AskFacts
 pub mod AskedFacts
 pub mod LostFacts
+pub mod EveryRun
