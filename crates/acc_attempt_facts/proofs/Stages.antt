@@ -37,8 +37,8 @@ use Rattle.acc_safety.specs.StoreSends.{StoreSends, Votes, Accepts, Commits, Rev
 use Rattle.acc_safety.specs.NodeMoves.{Move, Wait, Propose, CommitTo, DecideBy, FinishWith, BlockBy, EndBy, made, Moves, WaitsForMore, DecidesFast, SlowsDown, AdoptsStable, AdoptsCommitted, AdoptsAccepted, ProposesGreatest, ProposesOwn, IsBlocked, CommitsIt, DecidesCommitted, HasOutcome, Hears, Ignores, Counts, IsEnded, TakesOver, Reacts, ToSlow, ToMessage}
 use Rattle.acc_safety.specs.Roots.{Proposed, Committed}
 use Rattle.acc_safety.specs.Statements.{OneProposal, OneCommit, NeverBoth}
-use Rattle.acc_safety.proofs.PlaceOrder.{only, none_is_in, IsIn-append_cases, IsIn-cond_cases, IsIn-cases, in_order, StandsAt-IsPast}
-use Rattle.acc_safety.proofs.Bridge.{each_emits, emits_at, sender, noted_by, node_is_actor}
+use Rattle.acc_safety.proofs.PlaceOrder.{only, none_is_in, IsIn-append_cases, IsIn-cond_cases, IsIn-cases, in_order, StandsAt-IsPast, StandsAt-whole}
+use Rattle.acc_safety.proofs.Bridge.{each_emits, emits_at, deeds_of-past, sender, noted_by, node_is_actor}
 use Rattle.acc_safety.proofs.Attempted.{origin_of}
 use Rattle.acc_safety.proofs.Frame.{store_sent, homes_are_one}
 use Rattle.acc_attempt_facts.proofs.Draws.{origin_home}
@@ -58,6 +58,22 @@ pub record StageAt (cluster : Cluster) (items : List Item) (x : TxnId) (b : Ball
   pub after_is : attempt_of cluster.layout (node_of a) (clock_start cluster.starts (node_of a)) x (deed ∷ past) ≡ Some after
   pub after_ballot : after.ballot ≡ b
   pub after_phase : after.phase ≡ phase
+
+pub stage_whole : (cluster : Cluster) (past items : List Item) (x : TxnId) (b : Ballot) (phase : Phase) (a : Actor) → IsPast past items
+    → StageAt cluster past x b phase a → StageAt cluster items x b phase a
+stage_whole cluster past items x b phase a within s =
+    record {
+      deed = s.deed;
+      past = s.past;
+      at = StandsAt-whole s.deed s.past (deeds_of cluster a past) (deeds_of cluster a items) s.at (deeds_of-past cluster a past items within);
+      before = s.before;
+      before_is = s.before_is;
+      before_ballot = s.before_ballot;
+      after = s.after;
+      after_is = s.after_is;
+      after_ballot = s.after_ballot;
+      after_phase = s.after_phase;
+    }
 
 -- so did the attempt at the home of the ballot, which was no further than this before
 pub record Stage (cluster : Cluster) (items : List Item) (x : TxnId) (b : Ballot) (phase : Phase) (most : ℕ) : Type 0 where
@@ -107,7 +123,7 @@ module _ (cluster : Cluster) (items : List Item) (x : TxnId) (b : Ballot) where
 -- ---- the attempt before a move
 
 -- the attempt before, no further than the one that moves
-record Earlier (layout : Layout) (node start : ℕ) (past : List Deed) (x : TxnId) (a : Attempt) : Type 0 where
+pub record Earlier (layout : Layout) (node start : ℕ) (past : List Deed) (x : TxnId) (a : Attempt) : Type 0 where
   pub attempt : Attempt
   pub is : attempt_of layout node start x past ≡ Some attempt
   pub same_ballot : attempt.ballot ≡ a.ballot
@@ -122,18 +138,18 @@ earlier_hears layout node start past x before m a move is (IsEnded from to id ba
 earlier_hears layout node start past x before m a move is (TakesOver from to id ballot t deps same undecided ready) =
     record { attempt = before; is = is; same_ballot = refl; same_phase = refl }
 
-earlier : (layout : Layout) (node start : ℕ) (past : List Deed) (x : TxnId) (act : Act) (a : Attempt) (move : Move)
+pub earlier : (layout : Layout) (node start : ℕ) (past : List Deed) (x : TxnId) (act : Act) (a : Attempt) (move : Move)
     → Reacts layout node start past x act a move → Earlier layout node start past x a
 earlier layout node start past x act a move (ToSlow b moved is moves) = record { attempt = b; is = is; same_ballot = refl; same_phase = refl }
 earlier layout node start past x act a move (ToMessage before b m moved is about hears) = earlier_hears layout node start past x before m b moved is hears
 
 -- a proposal and a commitment are moves of an answer that counts, or of a slow event
-proposal_moves : (layout : Layout) (node start : ℕ) (past : List Deed) (x : TxnId) (act : Act) (a : Attempt) (s : Settled)
+pub proposal_moves : (layout : Layout) (node start : ℕ) (past : List Deed) (x : TxnId) (act : Act) (a : Attempt) (s : Settled)
     → Reacts layout node start past x act a (Propose s) → Moves layout x a (Propose s)
 proposal_moves layout node start past x act a s (ToSlow b moved is moves) = moves
 proposal_moves layout node start past x act a s (ToMessage before b m moved is about (Counts n moving same counting moves)) = moves
 
-commitment_moves : (layout : Layout) (node start : ℕ) (past : List Deed) (x : TxnId) (act : Act) (a : Attempt) (s : Settled)
+pub commitment_moves : (layout : Layout) (node start : ℕ) (past : List Deed) (x : TxnId) (act : Act) (a : Attempt) (s : Settled)
     → Reacts layout node start past x act a (CommitTo s) → Moves layout x a (CommitTo s)
 commitment_moves layout node start past x act a s (ToSlow b moved is moves) = moves
 commitment_moves layout node start past x act a s (ToMessage before b m moved is about (Counts n moving same counting moves)) = moves
@@ -141,7 +157,7 @@ commitment_moves layout node start past x act a s (ToMessage before b m moved is
 -- ---- the stage of a message
 
 -- no store sends an Accept or a Commit
-store_sends_none : (layout : Layout) (own : Actor) (past : List Taken) (taken m : Message) → IsLater m → StoreSends layout own past taken m → ⊥
+pub store_sends_none : (layout : Layout) (own : Actor) (past : List Taken) (taken m : Message) → IsLater m → StoreSends layout own past taken m → ⊥
 store_sends_none layout own past taken m later (Votes from to x b body counting v s p k e) = elim later [ ]
 store_sends_none layout own past taken m later (Accepts from to x b body counting t proposed deps s p k e) = elim later [ ]
 store_sends_none layout own past taken m later (Commits from to x b body t deps s p) = elim later [ ]
@@ -152,7 +168,7 @@ store_sends_none layout own past taken m later (Refuses n promised e) = elim lat
 store_sends_none layout own past taken m later (Tells n s e) = elim later [ ]
 
 -- the move of an attempt by which a later message was sent
-record SentByMove (cluster : Cluster) (items : List Item) (a : Actor) (m : Message) : Type 0 where
+pub record SentByMove (cluster : Cluster) (items : List Item) (a : Actor) (m : Message) : Type 0 where
   pub is_node : is_node a ≡ true
   pub deed : Deed
   pub past : List Deed
@@ -161,7 +177,7 @@ record SentByMove (cluster : Cluster) (items : List Item) (a : Actor) (m : Messa
   pub acts : Acts cluster.layout (node_of a) (clock_start cluster.starts (node_of a)) past deed.act about
   pub sent : IsIn m (made cluster.layout (actor_of (node_of a) 0) about acts.moving acts.move).emitted.out
 
-later_by : (cluster : Cluster) (items : List Item) (m : Message) → EachStands cluster items → IsLater m → Sender cluster items m → SentByMove cluster items (from_of m) m
+pub later_by : (cluster : Cluster) (items : List Item) (m : Message) → EachStands cluster items → IsLater m → Sender cluster items m → SentByMove cluster items (from_of m) m
 later_by cluster items m h later (IsStore f) = absurd (store_sends_none cluster.layout (from_of m) f.past f.step.message m later (store_sent cluster items (from_of m) m h f))
 later_by cluster items m h later (IsNode f) =
     let emitted = emits_at cluster.layout (node_of (from_of m)) (clock_start cluster.starts (node_of (from_of m))) (deeds_of cluster (from_of m) items) f.deed f.past
@@ -181,7 +197,7 @@ later_by cluster items m h later (IsNode f) =
 
 module _ (cluster : Cluster) (items : List Item) (h : EachStands cluster items) where
   -- the stage of a move at x to another phase, by an actor
-  stage_of : (a : Actor) (deed : Deed) (past : List Deed) (x : TxnId) (b : Ballot) (phase : Phase) (most : ℕ)
+  pub stage_of : (a : Actor) (deed : Deed) (past : List Deed) (x : TxnId) (b : Ballot) (phase : Phase) (most : ℕ)
       → StandsAt deed past (deeds_of cluster a items) → (acts : Acts cluster.layout (node_of a) (clock_start cluster.starts (node_of a)) past deed.act x)
       → (made cluster.layout (actor_of (node_of a) 0) x acts.moving acts.move).next ≡ Some (in_phase acts.moving phase)
       → acts.moving.ballot ≡ b → rank acts.moving.phase ≤ most → a ≡ home_of x b → Stage cluster items x b phase most
