@@ -219,6 +219,30 @@ module _ (cluster : Cluster) (items : List Item) (h : EachStands cluster items) 
       let there = subst (λ c. (s : StageAt cluster items x b phase c) × (rank s.before.phase ≤ most)) home here in
       record { stage = there.0; low = there.1 }
 
+  -- and the attempt before was in the phase of the one that moves
+  pub stage_of_phase : (a : Actor) (deed : Deed) (past : List Deed) (x : TxnId) (b : Ballot) (phase : Phase)
+      → StandsAt deed past (deeds_of cluster a items) → (acts : Acts cluster.layout (node_of a) (clock_start cluster.starts (node_of a)) past deed.act x)
+      → (made cluster.layout (actor_of (node_of a) 0) x acts.moving acts.move).next ≡ Some (in_phase acts.moving phase)
+      → acts.moving.ballot ≡ b → a ≡ home_of x b
+      → (s : Stage cluster items x b phase (rank acts.moving.phase)) × (s.stage.before.phase ≡ acts.moving.phase)
+  stage_of_phase a deed past x b phase at acts next ballot home =
+      let e = earlier cluster.layout (node_of a) (clock_start cluster.starts (node_of a)) past x deed.act acts.moving acts.move acts.reacts in
+      let here : (s : StageAt cluster items x b phase a) × (s.before.phase ≡ acts.moving.phase) =
+        (record {
+          deed = deed;
+          past = past;
+          at = at;
+          before = e.attempt;
+          before_is = e.is;
+          before_ballot = e.same_ballot ∙ ballot;
+          after = in_phase acts.moving phase;
+          after_is = acts.next_is ∙ next;
+          after_ballot = ballot;
+          after_phase = refl;
+        }, e.same_phase) in
+      let there = subst (λ c. (s : StageAt cluster items x b phase c) × (s.before.phase ≡ acts.moving.phase)) home here in
+      (record { stage = there.0; low = subst (λ p. rank there.0.before.phase ≤ rank p) there.1 (omega arith) }, there.1)
+
   pub accept_stage : (f g : Actor) (x : TxnId) (b : Ballot) (body : BodyParts) (t : Stamp) (deps : List ShardDeps) → Sending items (Accept f g x b body t deps)
       → Stage cluster items x b (Accepting (record { t = t; deps = deps })) 0
   accept_stage f g x b body t deps s =
