@@ -1,0 +1,4 @@
+pub mod FastFound
+pub mod BegunIds
+pub mod Agreed
+pub mod Agreements

@@ -1,0 +1,4 @@
+pub mod FastCovers
+pub mod OwnIsFound
+pub mod CommitCovers
+pub mod Covers

@@ -1,0 +1,13 @@
+pub mod Knowing
+pub mod Sent
+pub mod VoteFacts
+pub mod Drawn
+pub mod Named
+pub mod Late
+pub mod Shown
+pub mod Polled
+pub mod Noted
+pub mod Unheard
+pub mod Decided
+pub mod Revealed
+pub mod Lacking
