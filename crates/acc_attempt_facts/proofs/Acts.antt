@@ -1,13 +1,11 @@
 -- What a node sends in a step that isn't a first message is what the one move of that step sends.
-use Rattle.std.proofs.Common.{◌≡◌, ℕ, Bool, true, false, cond, List, [], ◌∷◌, ◌++◌, Option, None, Some, map, refl, sym, ◌∙◌, ap, subst, ⊎_elim, ◌⊎◌, inl, inr}
+use Rattle.std.proofs.Common.{◌≡◌, ℕ, Bool, cond, List, [], ◌∷◌, ◌++◌, Option, None, Some, map, refl, sym, ◌∙◌, ap, subst, ⊎_elim, ◌⊎◌, inl, inr}
 use Rattle.std.specs.List.{flat_map}
-use Rattle.std.proofs.lemmas.Bool.{true≢false}
 use Rattle.acc_stamp.specs.declared.stamps.Stamp.{Stamp}
 use Rattle.acc_stamp.specs.declared.stamps.TxnId.{TxnId}
 use Rattle.acc_stamp.specs.declared.stamps.Ballot.{Ballot}
 use Rattle.acc_stamp.specs.declared.actors.Actor.{Actor}
 use Rattle.acc_stamp.specs.Actor.{actor_of}
-use Rattle.acc_stamp.specs.Stamp.{id_eq}
 use Rattle.acc_stamp.proofs.Order.{id_order, eq_itself}
 use Rattle.acc_topology.specs.Layout.{Layout}
 use Rattle.acc_deps.specs.declared.shards.ShardDeps.{ShardDeps}
@@ -17,7 +15,6 @@ use Rattle.acc_txn.specs.declared.outcome.Outcome.{Outcome}
 use Rattle.acc_message.specs.declared.message.Message.{Message}
 use Rattle.acc_message.specs.declared.message.Message.TheVariants.{PreAccept, PreAcceptOk, Accept, AcceptOk, Commit, CommitOk, Stable, ReadOk, Apply, Recover, RecoverOk, Nack, Decided, Inform}
 use Rattle.acc_message.specs.declared.note.Path.{Path}
-use Rattle.acc_message.specs.declared.note.Note.{Note}
 use Rattle.acc_message.specs.declared.note.Note.TheVariants.{Begin as BeginNote, Recover as RecoverNote, Blocked, Ended, Decide as DecideNote, Outcome as OutcomeNote, Reply as ReplyNote}
 use Rattle.acc_message.specs.declared.entry.Emitted.{Emitted}
 use Rattle.acc_message.specs.Fields.{id_of}
@@ -26,7 +23,7 @@ use Rattle.acc_message.specs.Shares.{stores_used}
 use Rattle.acc_message.specs.Attempts.{Attempt}
 use Rattle.acc_message.specs.Coordinator.{Reaction, home_node, inform, reaction, slow_reaction}
 use Rattle.acc_message.specs.NodeRules.{Act, Begins, Recovers, Slows, Takes, Restarts, Deed, is_open, next_id, next_ballot, next_by, where_about, attempt_after, attempt_of, emitted_by, replied, with_reply, on_taking, node_emits}
-use Rattle.acc_safety.specs.Places.{IsIn, First, Later}
+use Rattle.acc_safety.specs.Places.{IsIn}
 use Rattle.acc_safety.specs.NodeMoves.{Move, Wait, Propose, CommitTo, DecideBy, FinishWith, BlockBy, EndBy, made, Reacts, ToSlow, ToMessage}
 use Rattle.acc_safety.proofs.PlaceOrder.{only, none_is_in, IsIn-append_cases, IsIn-cond_cases, IsIn-map, IsIn-cases}
 use Rattle.acc_safety.proofs.NodeMoved.{hears_all, slow_moved}

@@ -3,3 +3,4 @@ pub mod Ranks
 pub mod Acts
 pub mod Stages
 pub mod Recovered
+pub mod Last

@@ -1,25 +1,22 @@
 -- The phases of an attempt only advance.
-use Rattle.std.proofs.Common.{◌≡◌, ℕ, suc, ◌≤◌, Bool, true, false, List, [], ◌∷◌, Option, None, Some, refl, sym, ◌∙◌, ap, subst, ◌⊎◌, inl, inr, ⊎_elim, arith}
+use Rattle.std.proofs.Common.{◌≡◌, ℕ, suc, ◌≤◌, false, List, ◌∷◌, Option, Some, refl, sym, ◌∙◌, ap, subst, ◌⊎◌, inl, inr, ⊎_elim, arith}
 use Rattle.std.proofs.lemmas.Bool.{true≢false}
-use Rattle.acc_stamp.specs.declared.stamps.Stamp.{Stamp}
 use Rattle.acc_stamp.specs.declared.stamps.TxnId.{TxnId}
 use Rattle.acc_stamp.specs.declared.stamps.Ballot.{Ballot}
-use Rattle.acc_stamp.specs.declared.actors.Actor.{Actor}
 use Rattle.acc_stamp.specs.Actor.{actor_of}
-use Rattle.acc_stamp.specs.Stamp.{ballot_eq, zero_ballot}
+use Rattle.acc_stamp.specs.Stamp.{zero_ballot}
 use Rattle.acc_stamp.proofs.Order.{ballot_order}
 use Rattle.acc_topology.specs.Layout.{Layout}
 use Rattle.acc_deps.specs.declared.records.Settled.{Settled}
-use Rattle.acc_txn.specs.declared.parts.BodyParts.{BodyParts}
 use Rattle.acc_message.specs.declared.message.Message.{Message}
 use Rattle.acc_message.specs.declared.note.Path.{Path}
 use Rattle.acc_message.specs.Attempts.{Attempt, Phase, Voting, Recovering, Accepting, Committing, Executing}
 use Rattle.acc_message.specs.Coordinator.{begun, recovering, in_phase, with_answer, is_decided}
-use Rattle.acc_message.specs.NodeRules.{Act, Begins, Recovers, Deed, next_draw, next_id, next_ballot, attempt_of}
+use Rattle.acc_message.specs.NodeRules.{Act, Deed, next_id, next_ballot, attempt_of}
 use Rattle.acc_actor_laws.proofs.Standing.{not_none}
 use Rattle.acc_actor_laws.proofs.OpeningFacts.{some_is}
-use Rattle.acc_safety.specs.Places.{StandsAt, Here, Back, IsPast, Whole, Behind}
-use Rattle.acc_safety.specs.NodeMoves.{Move, Wait, Propose, CommitTo, DecideBy, FinishWith, BlockBy, EndBy, made, Moves, WaitsForMore, DecidesFast, SlowsDown, AdoptsStable, AdoptsCommitted, AdoptsAccepted, ProposesGreatest, ProposesOwn, IsBlocked, CommitsIt, DecidesCommitted, HasOutcome, Hears, Ignores, Counts, IsEnded, TakesOver, Reacts, ToSlow, ToMessage, AttemptMoves, Keeps, BeginsIt, RecoversIt, MovesOn, Forgets}
+use Rattle.acc_safety.specs.Places.{IsPast, Whole, Behind}
+use Rattle.acc_safety.specs.NodeMoves.{Move, Wait, Propose, CommitTo, DecideBy, FinishWith, BlockBy, EndBy, made, Moves, DecidesFast, SlowsDown, AdoptsStable, AdoptsCommitted, AdoptsAccepted, ProposesGreatest, ProposesOwn, CommitsIt, DecidesCommitted, Hears, Ignores, Counts, IsEnded, TakesOver, Reacts, ToSlow, ToMessage, AttemptMoves, Keeps, BeginsIt, RecoversIt, MovesOn, Forgets}
 use Rattle.acc_safety.specs.Attempted.{Origin, FromBegin, FromRecover}
 use Rattle.acc_safety.proofs.PlaceOrder.{StandsAt-whole}
 use Rattle.acc_safety.proofs.NodeMoved.{attempt_moves}

@@ -1,7 +1,6 @@
 -- What stands behind a proposal and a commit: the move of an attempt, its answers, and the record that a recovery adopts.
-use Rattle.std.proofs.Common.{◌≡◌, ℕ, suc, ◌≤◌, Bool, true, false, cond, ◌==◌, List, [], ◌∷◌, ◌++◌, Option, None, Some, Contains, refl, sym, ◌∙◌, ap, subst, ⊎_elim, ◌⊎◌, inl, inr, arith}
-use Rattle.std.specs.List.{flat_map}
-use Rattle.std.proofs.lemmas.Bool.{true≢false, eq-eqb}
+use Rattle.std.proofs.Common.{◌≡◌, ℕ, ◌≤◌, Bool, true, false, ◌==◌, List, [], ◌∷◌, Some, Contains, refl, sym, ◌∙◌, ap, subst}
+use Rattle.std.proofs.lemmas.Bool.{eq-eqb}
 use Rattle.acc_stamp.specs.declared.stamps.Stamp.{Stamp}
 use Rattle.acc_stamp.specs.declared.stamps.TxnId.{TxnId}
 use Rattle.acc_stamp.specs.declared.stamps.Ballot.{Ballot}
@@ -12,7 +11,6 @@ use Rattle.acc_topology.specs.Layout.{Layout}
 use Rattle.acc_topology.specs.Sets.{is_among}
 use Rattle.acc_deps.specs.declared.shards.ShardDeps.{ShardDeps}
 use Rattle.acc_deps.specs.declared.records.Accepted.{Accepted}
-use Rattle.acc_deps.specs.declared.records.Settled.{Settled}
 use Rattle.acc_deps.specs.declared.records.View.{View}
 use Rattle.acc_deps.specs.Records.{Claim, claim_in, claims_in, claims_of, highest_claim, record_of, shown_as}
 use Rattle.acc_deps.proofs.Adopted.{claim_is_shown}
@@ -23,28 +21,27 @@ use Rattle.acc_message.specs.declared.item.Item.{Item}
 use Rattle.acc_message.specs.Fields.{from_of, id_of, ballot_of}
 use Rattle.acc_message.specs.Shares.{shards_used, stores_of_shard, stores_used}
 use Rattle.acc_message.specs.Taken.{Taken}
-use Rattle.acc_message.specs.Attempts.{Attempt, Phase, Voting, Accepting, Committing}
+use Rattle.acc_message.specs.Attempts.{Attempt, Voting, Committing}
 use Rattle.acc_message.specs.BallotRules.{is_recover_ok, accepted_of, committed_of}
 use Rattle.acc_message.specs.RecoveryDecision.{view_in, views_in}
-use Rattle.acc_message.specs.Coordinator.{in_phase}
-use Rattle.acc_message.specs.NodeRules.{Act, Deed, attempt_of}
+use Rattle.acc_message.specs.NodeRules.{Deed}
 use Rattle.acc_message.specs.Run.{Cluster, clock_start, deeds_of, taken_of, is_node, EachStands}
 use Rattle.acc_actor_laws.proofs.Standing.{not_none}
 use Rattle.acc_actor_laws.proofs.OpeningFacts.{some_is}
 use Rattle.acc_actor_laws.proofs.PhaseFacts.{first_has_zero}
-use Rattle.acc_safety.specs.Places.{IsIn, First, Later, StandsAt, IsPast, Whole, Behind}
-use Rattle.acc_safety.specs.Histories.{Sending, FromStore, FromNode, Sender}
-use Rattle.acc_safety.specs.StoreSends.{StoreSends, Votes, Accepts, Commits, Reveals, ReadsAtOnce, ReadsOnOpening, Refuses, Tells}
-use Rattle.acc_safety.specs.NodeMoves.{Move, Propose, CommitTo, made, Moves, Reacts}
+use Rattle.acc_safety.specs.Places.{IsIn, First, StandsAt, IsPast, Whole, Behind}
+use Rattle.acc_safety.specs.Histories.{Sending, FromStore}
+use Rattle.acc_safety.specs.StoreSends.{StoreSends, Reveals}
+use Rattle.acc_safety.specs.NodeMoves.{Propose, CommitTo, made, Moves, Reacts}
 use Rattle.acc_safety.specs.Attempted.{kind_of}
-use Rattle.acc_safety.specs.Polls.{IsBody, IsAnswer, AreAnswers}
-use Rattle.acc_safety.proofs.PlaceOrder.{any_from, only, IsIn-flat_map, IsIn-filter_map, Contains-IsIn, IsIn-Contains, IsIn-append_left, IsIn-append_right, flat_map-IsIn, IsPast-rest, StandsAt-whole, StandsAt-behind}
+use Rattle.acc_safety.specs.Polls.{IsAnswer, AreAnswers}
+use Rattle.acc_safety.proofs.PlaceOrder.{any_from, IsIn-flat_map, IsIn-filter_map, Contains-IsIn, IsIn-Contains, IsIn-append_left, IsIn-append_right, flat_map-IsIn, IsPast-rest, StandsAt-whole, StandsAt-behind}
 use Rattle.acc_safety.proofs.Bridge.{taken_of-past, sender}
 use Rattle.acc_safety.proofs.Frame.{store_sent, homes_are_one}
 use Rattle.acc_safety.proofs.Polled.{moving_polled}
 use Rattle.acc_safety.proofs.Prefixes.{SentBefore, store_took_before}
-use Rattle.acc_safety.proofs.StoreNotions.{AcceptedIn, accepted_from, CommittedIn, committed_from}
-use Rattle.acc_attempt_facts.proofs.Acts.{Acts, IsLater, IsAccept, IsCommit, IsProposal, accept_sent, IsCommitment, commit_sent}
+use Rattle.acc_safety.proofs.StoreNotions.{accepted_from, committed_from}
+use Rattle.acc_attempt_facts.proofs.Acts.{Acts, IsAccept, IsCommit, IsProposal, accept_sent, IsCommitment, commit_sent}
 use Rattle.acc_attempt_facts.proofs.Ranks.{rank}
 use Rattle.acc_attempt_facts.proofs.Stages.{Stage, stage_of, stage_of_phase, later_by, earlier, proposal_moves, commitment_moves}
 
@@ -59,15 +56,15 @@ answer_whole cluster past items x body b kind m within a =
       of_ballot = a.of_ballot;
       of_store = a.of_store;
       place =
-        record {
-          is_store = a.place.is_store;
-          step = a.place.step;
-          past = a.place.past;
-          at =
-            StandsAt-whole a.place.step a.place.past (taken_of cluster (from_of m) past) (taken_of cluster (from_of m) items) a.place.at
-            (taken_of-past cluster (from_of m) past items within);
-          sent = a.place.sent;
-        };
+          record {
+            is_store = a.place.is_store;
+            step = a.place.step;
+            past = a.place.past;
+            at =
+                StandsAt-whole a.place.step a.place.past (taken_of cluster (from_of m) past) (taken_of cluster (from_of m) items) a.place.at
+                (taken_of-past cluster (from_of m) past items within);
+            sent = a.place.sent;
+          };
     }
 
 pub answers_whole : (cluster : Cluster) (past items : List Item) (x : TxnId) (body : BodyParts) (b : Ballot) (kind : Message → Bool) (answers : List Message)
@@ -108,6 +105,7 @@ pub record Commitment (cluster : Cluster) (items : List Item) (x : TxnId) (b : B
   pub of_ballot : moving.ballot ≡ b
   pub of_body : moving.body ≡ body
   pub are : AreAnswers cluster items x moving.body moving.ballot (kind_of moving.phase) moving.answers
+  pub uses : Uses cluster.layout body
   pub stage : (most : ℕ) → rank moving.phase ≤ most → Stage cluster items x b (Committing (record { t = t; deps = deps })) most
   pub before_phase : (s : Stage cluster items x b (Committing (record { t = t; deps = deps })) (rank moving.phase)) × (s.stage.before.phase ≡ moving.phase)
 
@@ -130,8 +128,8 @@ module _ (cluster : Cluster) (items : List Item) (h : EachStands cluster items) 
           (record {
             moving = acts.moving;
             moves =
-              proposal_moves cluster.layout (node_of f) start past y deed.act acts.moving (record { t = t; deps = deps })
-              (subst (Reacts cluster.layout (node_of f) start past y deed.act acts.moving) p.move_is acts.reacts);
+                proposal_moves cluster.layout (node_of f) start past y deed.act acts.moving (record { t = t; deps = deps })
+                (subst (Reacts cluster.layout (node_of f) start past y deed.act acts.moving) p.move_is acts.reacts);
             of_ballot = p.of_ballot;
             of_body = p.of_body;
             are = moving_polled cluster items h f node deed past y acts.moving acts.move at acts.reacts;
@@ -158,11 +156,12 @@ module _ (cluster : Cluster) (items : List Item) (h : EachStands cluster items) 
           (record {
             moving = acts.moving;
             moves =
-              commitment_moves cluster.layout (node_of f) start past y deed.act acts.moving (record { t = t; deps = deps })
-              (subst (Reacts cluster.layout (node_of f) start past y deed.act acts.moving) p.move_is acts.reacts);
+                commitment_moves cluster.layout (node_of f) start past y deed.act acts.moving (record { t = t; deps = deps })
+                (subst (Reacts cluster.layout (node_of f) start past y deed.act acts.moving) p.move_is acts.reacts);
             of_ballot = p.of_ballot;
             of_body = p.of_body;
             are = moving_polled cluster items h f node deed past y acts.moving acts.move at acts.reacts;
+            uses = subst (Uses cluster.layout) p.of_body (store_uses cluster.layout acts.moving.body p.store p.store_in);
             stage = λ most low. stage_of cluster items h f deed past y b (Committing (record { t = t; deps = deps })) most at acts next p.of_ballot low home;
             before_phase = stage_of_phase cluster items h f deed past y b (Committing (record { t = t; deps = deps })) at acts next p.of_ballot home;
           })

@@ -1,49 +1,41 @@
 -- An attempt proposes once and commits once, and at ballot zero never also decides fast.
-use Rattle.std.proofs.Common.{◌≡◌, ℕ, suc, ◌≤◌, Bool, true, false, cond, if◌then◌else◌, List, [], ◌∷◌, ◌++◌, Option, None, Some, refl, sym, ◌∙◌, ap, subst, ⊎_elim, ◌⊎◌, inl, inr, arith}
-use Rattle.std.specs.List.{flat_map}
-use Rattle.std.proofs.lemmas.Bool.{true≢false}
+use Rattle.std.proofs.Common.{◌≡◌, ℕ, suc, ◌≤◌, Bool, true, false, if◌then◌else◌, List, ◌∷◌, Option, Some, refl, sym, ◌∙◌, ap, subst, arith}
 use Rattle.acc_stamp.specs.declared.stamps.Stamp.{Stamp}
 use Rattle.acc_stamp.specs.declared.stamps.TxnId.{TxnId}
 use Rattle.acc_stamp.specs.declared.stamps.Ballot.{Ballot}
 use Rattle.acc_stamp.specs.declared.actors.Actor.{Actor}
 use Rattle.acc_stamp.specs.Actor.{actor_of, node_of, home_of}
-use Rattle.acc_stamp.specs.Stamp.{id_eq, ballot_eq, zero_ballot}
-use Rattle.acc_stamp.proofs.Order.{id_order, eq_itself}
+use Rattle.acc_stamp.specs.Stamp.{ballot_eq, zero_ballot}
 use Rattle.acc_topology.specs.Layout.{Layout}
 use Rattle.acc_deps.specs.declared.shards.ShardDeps.{ShardDeps}
 use Rattle.acc_deps.specs.declared.records.Settled.{Settled}
 use Rattle.acc_txn.specs.declared.parts.BodyParts.{BodyParts}
-use Rattle.acc_txn.specs.declared.outcome.Outcome.{Outcome}
 use Rattle.acc_message.specs.declared.message.Message.{Message}
-use Rattle.acc_message.specs.declared.message.Message.TheVariants.{PreAccept, PreAcceptOk, Accept, AcceptOk, Commit, CommitOk, Stable, ReadOk, Apply, Recover, RecoverOk, Nack, Decided, Inform}
+use Rattle.acc_message.specs.declared.message.Message.TheVariants.{Accept, Commit}
 use Rattle.acc_message.specs.declared.note.Path.{Path}
 use Rattle.acc_message.specs.declared.note.Path.TheVariants.{Fast, Slow, Recovered, Adopted}
-use Rattle.acc_message.specs.declared.note.Note.{Note}
-use Rattle.acc_message.specs.declared.note.Note.TheVariants.{Begin as BeginNote, Recover as RecoverNote, Blocked, Ended, Decide as DecideNote, Outcome as OutcomeNote, Reply as ReplyNote}
+use Rattle.acc_message.specs.declared.note.Note.TheVariants.{Decide as DecideNote}
 use Rattle.acc_message.specs.declared.entry.Emitted.{Emitted}
 use Rattle.acc_message.specs.declared.item.Item.{Item}
-use Rattle.acc_message.specs.Fields.{from_of, id_of, ballot_of}
+use Rattle.acc_message.specs.Fields.{from_of}
 use Rattle.acc_message.specs.Taken.{Taken}
-use Rattle.acc_message.specs.Attempts.{Attempt, Phase, Voting, Recovering, Accepting, Committing, Executing}
-use Rattle.acc_message.specs.Coordinator.{Reaction, in_phase, with_answer, path_of, reaction, slow_reaction}
-use Rattle.acc_message.specs.NodeRules.{Act, Begins, Recovers, Slows, Takes, Restarts, Deed, is_open, next_by, where_about, attempt_after, attempt_of, emitted_by, replied, with_reply, on_taking, node_emits}
+use Rattle.acc_message.specs.Attempts.{Attempt, Phase, Voting, Accepting, Committing, Executing}
+use Rattle.acc_message.specs.Coordinator.{in_phase, with_answer, path_of}
+use Rattle.acc_message.specs.NodeRules.{Act, Deed, attempt_of, node_emits}
 use Rattle.acc_message.specs.Run.{Cluster, clock_start, deeds_of, is_node, EachStands}
-use Rattle.acc_actor_laws.proofs.Standing.{not_none}
 use Rattle.acc_actor_laws.proofs.OpeningFacts.{some_is}
 use Rattle.acc_actor_laws.proofs.PhaseFacts.{first_has_zero}
 use Rattle.acc_safety.specs.Places.{IsIn, StandsAt, IsPast, InOrder, IsOlder, IsSame, IsNewer}
-use Rattle.acc_safety.specs.Histories.{Sending, Noting, FromStore, FromNode, Sender, IsStore, IsNode, NotedBy}
+use Rattle.acc_safety.specs.Histories.{Sending, Noting, Sender, IsStore, IsNode}
 use Rattle.acc_safety.specs.StoreSends.{StoreSends, Votes, Accepts, Commits, Reveals, ReadsAtOnce, ReadsOnOpening, Refuses, Tells}
 use Rattle.acc_safety.specs.NodeMoves.{Move, Wait, Propose, CommitTo, DecideBy, FinishWith, BlockBy, EndBy, made, Moves, WaitsForMore, DecidesFast, SlowsDown, AdoptsStable, AdoptsCommitted, AdoptsAccepted, ProposesGreatest, ProposesOwn, IsBlocked, CommitsIt, DecidesCommitted, HasOutcome, Hears, Ignores, Counts, IsEnded, TakesOver, Reacts, ToSlow, ToMessage}
-use Rattle.acc_safety.specs.Roots.{Proposed, Committed}
 use Rattle.acc_safety.specs.Statements.{OneProposal, OneCommit, NeverBoth}
-use Rattle.acc_safety.proofs.PlaceOrder.{only, none_is_in, IsIn-append_cases, IsIn-cond_cases, IsIn-cases, in_order, StandsAt-IsPast, StandsAt-whole}
+use Rattle.acc_safety.proofs.PlaceOrder.{in_order, StandsAt-IsPast, StandsAt-whole}
 use Rattle.acc_safety.proofs.Bridge.{each_emits, emits_at, deeds_of-past, sender, noted_by, node_is_actor}
 use Rattle.acc_safety.proofs.Attempted.{origin_of}
 use Rattle.acc_safety.proofs.Frame.{store_sent, homes_are_one}
 use Rattle.acc_attempt_facts.proofs.Draws.{origin_home}
-use Rattle.acc_safety.proofs.NodeMoved.{hears_all, slow_moved}
-use Rattle.acc_attempt_facts.proofs.Acts.{Acts, SomeActs, IsLater, IsAccept, IsCommit, IsProposal, accept_sent, IsCommitment, commit_sent, later_acts, IsDecision, decided_acts}
+use Rattle.acc_attempt_facts.proofs.Acts.{Acts, IsLater, IsAccept, IsCommit, accept_sent, commit_sent, later_acts, IsDecision, decided_acts}
 use Rattle.acc_attempt_facts.proofs.Ranks.{rank, proposes_low, commits_low, advances}
 
 -- the attempt of an actor at x with the ballot came to the phase in this step
@@ -229,8 +221,8 @@ module _ (cluster : Cluster) (items : List Item) (h : EachStands cluster items) 
       → (s : Stage cluster items x b phase (rank acts.moving.phase)) × (s.stage.before.phase ≡ acts.moving.phase)
   stage_of_phase a deed past x b phase at acts next ballot home =
       let e = earlier cluster.layout (node_of a) (clock_start cluster.starts (node_of a)) past x deed.act acts.moving acts.move acts.reacts in
-      let here : (s : StageAt cluster items x b phase a) × (s.before.phase ≡ acts.moving.phase) =
-        (record {
+      let here : (s : StageAt cluster items x b phase a) × (s.before.phase ≡ acts.moving.phase) = (
+        record {
           deed = deed;
           past = past;
           at = at;
@@ -241,7 +233,9 @@ module _ (cluster : Cluster) (items : List Item) (h : EachStands cluster items) 
           after_is = acts.next_is ∙ next;
           after_ballot = ballot;
           after_phase = refl;
-        }, e.same_phase) in
+        },
+        e.same_phase,
+      ) in
       let there = subst (λ c. (s : StageAt cluster items x b phase c) × (s.before.phase ≡ acts.moving.phase)) home here in
       (record { stage = there.0; low = subst (λ p. rank there.0.before.phase ≤ rank p) there.1 (omega arith) }, there.1)
 
