@@ -1,13 +1,11 @@
 -- What a node sends in a step that isn't a first message is what the one move of that step sends.
-use Rattle.std.proofs.Common.{◌≡◌, ℕ, Bool, true, false, cond, List, [], ◌∷◌, ◌++◌, Option, None, Some, map, refl, sym, ◌∙◌, ap, subst, ⊎_elim, ◌⊎◌, inl, inr}
+use Rattle.std.proofs.Common.{◌≡◌, ℕ, Bool, cond, List, [], ◌∷◌, ◌++◌, Option, None, Some, map, refl, sym, ◌∙◌, ap, subst, ⊎_elim, ◌⊎◌, inl, inr}
 use Rattle.std.specs.List.{flat_map}
-use Rattle.std.proofs.lemmas.Bool.{true≢false}
 use Rattle.acc_stamp.specs.declared.stamps.Stamp.{Stamp}
 use Rattle.acc_stamp.specs.declared.stamps.TxnId.{TxnId}
 use Rattle.acc_stamp.specs.declared.stamps.Ballot.{Ballot}
 use Rattle.acc_stamp.specs.declared.actors.Actor.{Actor}
 use Rattle.acc_stamp.specs.Actor.{actor_of}
-use Rattle.acc_stamp.specs.Stamp.{id_eq}
 use Rattle.acc_stamp.proofs.Order.{id_order, eq_itself}
 use Rattle.acc_topology.specs.Layout.{Layout}
 use Rattle.acc_deps.specs.declared.shards.ShardDeps.{ShardDeps}
@@ -17,7 +15,6 @@ use Rattle.acc_txn.specs.declared.outcome.Outcome.{Outcome}
 use Rattle.acc_message.specs.declared.message.Message.{Message}
 use Rattle.acc_message.specs.declared.message.Message.TheVariants.{PreAccept, PreAcceptOk, Accept, AcceptOk, Commit, CommitOk, Stable, ReadOk, Apply, Recover, RecoverOk, Nack, Decided, Inform}
 use Rattle.acc_message.specs.declared.note.Path.{Path}
-use Rattle.acc_message.specs.declared.note.Note.{Note}
 use Rattle.acc_message.specs.declared.note.Note.TheVariants.{Begin as BeginNote, Recover as RecoverNote, Blocked, Ended, Decide as DecideNote, Outcome as OutcomeNote, Reply as ReplyNote}
 use Rattle.acc_message.specs.declared.entry.Emitted.{Emitted}
 use Rattle.acc_message.specs.Fields.{id_of}
@@ -26,7 +23,7 @@ use Rattle.acc_message.specs.Shares.{stores_used}
 use Rattle.acc_message.specs.Attempts.{Attempt}
 use Rattle.acc_message.specs.Coordinator.{Reaction, home_node, inform, reaction, slow_reaction}
 use Rattle.acc_message.specs.NodeRules.{Act, Begins, Recovers, Slows, Takes, Restarts, Deed, is_open, next_id, next_ballot, next_by, where_about, attempt_after, attempt_of, emitted_by, replied, with_reply, on_taking, node_emits}
-use Rattle.acc_safety.specs.Places.{IsIn, First, Later}
+use Rattle.acc_safety.specs.Places.{IsIn}
 use Rattle.acc_safety.specs.NodeMoves.{Move, Wait, Propose, CommitTo, DecideBy, FinishWith, BlockBy, EndBy, made, Reacts, ToSlow, ToMessage}
 use Rattle.acc_safety.proofs.PlaceOrder.{only, none_is_in, IsIn-append_cases, IsIn-cond_cases, IsIn-map, IsIn-cases}
 use Rattle.acc_safety.proofs.NodeMoved.{hears_all, slow_moved}
@@ -42,13 +39,17 @@ same_commit : (f g h k : Actor) (x y : TxnId) (b c : Ballot) (body other : BodyP
 same_commit f g h k x y b c body other t s deps more e = (cc, cc, cc, cc, cc)
 
 -- the move proposes this about x
-pub record IsProposal (x : TxnId) (a : Attempt) (move : Move) (y : TxnId) (b : Ballot) (body : BodyParts) (t : Stamp) (deps : List ShardDeps) : Type 0 where
+pub record IsProposal (layout : Layout) (x : TxnId) (a : Attempt) (move : Move) (y : TxnId) (b : Ballot) (body : BodyParts) (t : Stamp) (deps : List ShardDeps) : Type 0 where
+  pub store : Actor
+  pub store_in : IsIn store (stores_used layout a.body)
   pub move_is : move ≡ Propose (record { t = t; deps = deps })
   pub about : x ≡ y
   pub of_ballot : a.ballot ≡ b
   pub of_body : a.body ≡ body
 
-pub record IsCommitment (x : TxnId) (a : Attempt) (move : Move) (y : TxnId) (b : Ballot) (body : BodyParts) (t : Stamp) (deps : List ShardDeps) : Type 0 where
+pub record IsCommitment (layout : Layout) (x : TxnId) (a : Attempt) (move : Move) (y : TxnId) (b : Ballot) (body : BodyParts) (t : Stamp) (deps : List ShardDeps) : Type 0 where
+  pub store : Actor
+  pub store_in : IsIn store (stores_used layout a.body)
   pub move_is : move ≡ CommitTo (record { t = t; deps = deps })
   pub about : x ≡ y
   pub of_ballot : a.ballot ≡ b
@@ -59,26 +60,26 @@ settled_same s t deps p q = λ i. record { t = p i; deps = q i }
 
 module _ (layout : Layout) (own : Actor) (x : TxnId) (a : Attempt) where
   -- a message that was sent to all stores is one of these
-  one_of : (message_to : Actor → Message) (s : Message) → IsIn s (map message_to (stores_used layout a.body)) → (store : Actor) × (s ≡ message_to store)
-  one_of message_to s h = let f = IsIn-map message_to s (stores_used layout a.body) h in (f.source, f.is)
+  one_of : (message_to : Actor → Message) (s : Message) → IsIn s (map message_to (stores_used layout a.body)) → (store : Actor) × (s ≡ message_to store) × IsIn store (stores_used layout a.body)
+  one_of message_to s h = let f = IsIn-map message_to s (stores_used layout a.body) h in (f.source, f.is, f.there)
 
   -- an outcome goes out by Apply and Inform
   finish_sends : (s : Settled) (outcome : Outcome) (m : Message) → IsIn m (made layout own x a (FinishWith s outcome)).emitted.out
       → ((store : Actor) × (m ≡ Apply own store x a.ballot a.body s.t s.deps outcome)) ⊎ (m ≡ Inform own (home_node x) x a.ballot outcome)
   finish_sends s outcome m h =
-      ⊎_elim (λ applies. inl (one_of (λ store. Apply own store x a.ballot a.body s.t s.deps outcome) m applies))
+      ⊎_elim (λ applies. let one = one_of (λ store. Apply own store x a.ballot a.body s.t s.deps outcome) m applies in inl (one.0, one.1))
       (λ informs.
       ⊎_elim (λ none. absurd (none_is_in m none.1)) (λ one. inr (only m (Inform own (home_node x) x a.ballot outcome) one.1))
       (IsIn-cond_cases m (same_actor own (home_node x)) [] (Inform own (home_node x) x a.ballot outcome ∷ []) informs))
       (IsIn-append_cases m (map (λ store. Apply own store x a.ballot a.body s.t s.deps outcome) (stores_used layout a.body)) (inform own x a.ballot outcome) h)
 
   pub accept_sent : (move : Move) (f g : Actor) (y : TxnId) (b : Ballot) (body : BodyParts) (t : Stamp) (deps : List ShardDeps)
-      → IsIn (Accept f g y b body t deps) (made layout own x a move).emitted.out → IsProposal x a move y b body t deps
+      → IsIn (Accept f g y b body t deps) (made layout own x a move).emitted.out → IsProposal layout x a move y b body t deps
   accept_sent Wait f g y b body t deps h = absurd (none_is_in (Accept f g y b body t deps) h)
   accept_sent (Propose s) f g y b body t deps h =
       let one = one_of (λ store. Accept own store x a.ballot a.body s.t s.deps) (Accept f g y b body t deps) h in
       let same = same_accept f g own one.0 y x b a.ballot body a.body t s.t deps s.deps one.1 in
-      record { move_is = ap Propose (settled_same s t deps (sym same.3) (sym same.4)); about = sym same.0; of_ballot = sym same.1; of_body = sym same.2 }
+      record { store = one.0; store_in = one.2; move_is = ap Propose (settled_same s t deps (sym same.3) (sym same.4)); about = sym same.0; of_ballot = sym same.1; of_body = sym same.2 }
   accept_sent (CommitTo s) f g y b body t deps h =
       absurd (apart (one_of (λ store. Commit own store x a.ballot a.body s.t s.deps) (Accept f g y b body t deps) h).1)
     where
@@ -101,12 +102,12 @@ module _ (layout : Layout) (own : Actor) (x : TxnId) (a : Attempt) where
   accept_sent (EndBy by) f g y b body t deps h = absurd (none_is_in (Accept f g y b body t deps) h)
 
   pub commit_sent : (move : Move) (f g : Actor) (y : TxnId) (b : Ballot) (body : BodyParts) (t : Stamp) (deps : List ShardDeps)
-      → IsIn (Commit f g y b body t deps) (made layout own x a move).emitted.out → IsCommitment x a move y b body t deps
+      → IsIn (Commit f g y b body t deps) (made layout own x a move).emitted.out → IsCommitment layout x a move y b body t deps
   commit_sent Wait f g y b body t deps h = absurd (none_is_in (Commit f g y b body t deps) h)
   commit_sent (CommitTo s) f g y b body t deps h =
       let one = one_of (λ store. Commit own store x a.ballot a.body s.t s.deps) (Commit f g y b body t deps) h in
       let same = same_commit f g own one.0 y x b a.ballot body a.body t s.t deps s.deps one.1 in
-      record { move_is = ap CommitTo (settled_same s t deps (sym same.3) (sym same.4)); about = sym same.0; of_ballot = sym same.1; of_body = sym same.2 }
+      record { store = one.0; store_in = one.2; move_is = ap CommitTo (settled_same s t deps (sym same.3) (sym same.4)); about = sym same.0; of_ballot = sym same.1; of_body = sym same.2 }
   commit_sent (Propose s) f g y b body t deps h =
       absurd (apart (one_of (λ store. Accept own store x a.ballot a.body s.t s.deps) (Commit f g y b body t deps) h).1)
     where

@@ -1,12 +1,11 @@
 -- What a node draws rises: a later draw differs from each earlier one.
-use Rattle.std.proofs.Common.{◌≡◌, ℕ, ◌*◌, ◌/◌, Bool, true, false, if◌then◌else◌, ◌||◌, List, [], ◌∷◌, ◌++◌, refl, sym, ◌∙◌, ap, subst, arith}
-use Rattle.std.specs.List.{AllByRecursion}
+use Rattle.std.proofs.Common.{◌≡◌, ℕ, ◌*◌, ◌/◌, true, false, if◌then◌else◌, List, [], ◌∷◌, ◌++◌, refl, sym, ◌∙◌, ap, arith}
 use Rattle.std.proofs.lemmas.Bool.{true≢false, or_left, or_right, false_from_ne_true}
 use Rattle.acc_stamp.specs.declared.stamps.Stamp.{Stamp}
 use Rattle.acc_stamp.specs.declared.stamps.Ballot.{Ballot}
 use Rattle.acc_stamp.specs.Actor.{actor_of, node_of_stamp, home_of}
 use Rattle.acc_stamp.specs.Stamp.{stamp_eq, stamp_lt, ballot_eq, zero_ballot}
-use Rattle.acc_stamp.specs.History.{ClockEvent, Draw, stamps_drawn}
+use Rattle.acc_stamp.specs.History.{Draw, stamps_drawn}
 use Rattle.acc_stamp.specs.Rising.{is_among}
 use Rattle.acc_stamp.proofs.Order.{stamp_order, ballot_order, eq_itself}
 use Rattle.acc_stamp.proofs.Rising.{each_at, is_among-append}
@@ -15,7 +14,7 @@ use Rattle.acc_topology.specs.Layout.{Layout}
 use Rattle.acc_txn.specs.declared.parts.BodyParts.{BodyParts}
 use Rattle.acc_stamp.specs.declared.stamps.TxnId.{TxnId}
 use Rattle.acc_message.specs.declared.entry.Emitted.{Emitted}
-use Rattle.acc_message.specs.NodeRules.{Act, Begins, Recovers, Slows, Takes, Restarts, Deed, clock_events, next_draw, next_id, next_ballot}
+use Rattle.acc_message.specs.NodeRules.{Act, Begins, Recovers, Slows, Takes, Restarts, Deed, clock_events, next_draw, next_ballot}
 use Rattle.acc_message.specs.Attempts.{Attempt}
 use Rattle.acc_safety.specs.Places.{StandsAt, Here, Back}
 use Rattle.acc_safety.specs.Attempted.{Origin, FromBegin, FromRecover}

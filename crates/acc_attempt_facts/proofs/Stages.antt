@@ -1,49 +1,41 @@
 -- An attempt proposes once and commits once, and at ballot zero never also decides fast.
-use Rattle.std.proofs.Common.{◌≡◌, ℕ, suc, ◌≤◌, Bool, true, false, cond, if◌then◌else◌, List, [], ◌∷◌, ◌++◌, Option, None, Some, refl, sym, ◌∙◌, ap, subst, ⊎_elim, ◌⊎◌, inl, inr, arith}
-use Rattle.std.specs.List.{flat_map}
-use Rattle.std.proofs.lemmas.Bool.{true≢false}
+use Rattle.std.proofs.Common.{◌≡◌, ℕ, suc, ◌≤◌, Bool, true, false, if◌then◌else◌, List, ◌∷◌, Option, Some, refl, sym, ◌∙◌, ap, subst, arith}
 use Rattle.acc_stamp.specs.declared.stamps.Stamp.{Stamp}
 use Rattle.acc_stamp.specs.declared.stamps.TxnId.{TxnId}
 use Rattle.acc_stamp.specs.declared.stamps.Ballot.{Ballot}
 use Rattle.acc_stamp.specs.declared.actors.Actor.{Actor}
 use Rattle.acc_stamp.specs.Actor.{actor_of, node_of, home_of}
-use Rattle.acc_stamp.specs.Stamp.{id_eq, ballot_eq, zero_ballot}
-use Rattle.acc_stamp.proofs.Order.{id_order, eq_itself}
+use Rattle.acc_stamp.specs.Stamp.{ballot_eq, zero_ballot}
 use Rattle.acc_topology.specs.Layout.{Layout}
 use Rattle.acc_deps.specs.declared.shards.ShardDeps.{ShardDeps}
 use Rattle.acc_deps.specs.declared.records.Settled.{Settled}
 use Rattle.acc_txn.specs.declared.parts.BodyParts.{BodyParts}
-use Rattle.acc_txn.specs.declared.outcome.Outcome.{Outcome}
 use Rattle.acc_message.specs.declared.message.Message.{Message}
-use Rattle.acc_message.specs.declared.message.Message.TheVariants.{PreAccept, PreAcceptOk, Accept, AcceptOk, Commit, CommitOk, Stable, ReadOk, Apply, Recover, RecoverOk, Nack, Decided, Inform}
+use Rattle.acc_message.specs.declared.message.Message.TheVariants.{Accept, Commit}
 use Rattle.acc_message.specs.declared.note.Path.{Path}
 use Rattle.acc_message.specs.declared.note.Path.TheVariants.{Fast, Slow, Recovered, Adopted}
-use Rattle.acc_message.specs.declared.note.Note.{Note}
-use Rattle.acc_message.specs.declared.note.Note.TheVariants.{Begin as BeginNote, Recover as RecoverNote, Blocked, Ended, Decide as DecideNote, Outcome as OutcomeNote, Reply as ReplyNote}
+use Rattle.acc_message.specs.declared.note.Note.TheVariants.{Decide as DecideNote}
 use Rattle.acc_message.specs.declared.entry.Emitted.{Emitted}
 use Rattle.acc_message.specs.declared.item.Item.{Item}
-use Rattle.acc_message.specs.Fields.{from_of, id_of, ballot_of}
+use Rattle.acc_message.specs.Fields.{from_of}
 use Rattle.acc_message.specs.Taken.{Taken}
-use Rattle.acc_message.specs.Attempts.{Attempt, Phase, Voting, Recovering, Accepting, Committing, Executing}
-use Rattle.acc_message.specs.Coordinator.{Reaction, in_phase, with_answer, path_of, reaction, slow_reaction}
-use Rattle.acc_message.specs.NodeRules.{Act, Begins, Recovers, Slows, Takes, Restarts, Deed, is_open, next_by, where_about, attempt_after, attempt_of, emitted_by, replied, with_reply, on_taking, node_emits}
+use Rattle.acc_message.specs.Attempts.{Attempt, Phase, Voting, Accepting, Committing, Executing}
+use Rattle.acc_message.specs.Coordinator.{in_phase, with_answer, path_of}
+use Rattle.acc_message.specs.NodeRules.{Act, Deed, attempt_of, node_emits}
 use Rattle.acc_message.specs.Run.{Cluster, clock_start, deeds_of, is_node, EachStands}
-use Rattle.acc_actor_laws.proofs.Standing.{not_none}
 use Rattle.acc_actor_laws.proofs.OpeningFacts.{some_is}
 use Rattle.acc_actor_laws.proofs.PhaseFacts.{first_has_zero}
 use Rattle.acc_safety.specs.Places.{IsIn, StandsAt, IsPast, InOrder, IsOlder, IsSame, IsNewer}
-use Rattle.acc_safety.specs.Histories.{Sending, Noting, FromStore, FromNode, Sender, IsStore, IsNode, NotedBy}
+use Rattle.acc_safety.specs.Histories.{Sending, Noting, Sender, IsStore, IsNode}
 use Rattle.acc_safety.specs.StoreSends.{StoreSends, Votes, Accepts, Commits, Reveals, ReadsAtOnce, ReadsOnOpening, Refuses, Tells}
 use Rattle.acc_safety.specs.NodeMoves.{Move, Wait, Propose, CommitTo, DecideBy, FinishWith, BlockBy, EndBy, made, Moves, WaitsForMore, DecidesFast, SlowsDown, AdoptsStable, AdoptsCommitted, AdoptsAccepted, ProposesGreatest, ProposesOwn, IsBlocked, CommitsIt, DecidesCommitted, HasOutcome, Hears, Ignores, Counts, IsEnded, TakesOver, Reacts, ToSlow, ToMessage}
-use Rattle.acc_safety.specs.Roots.{Proposed, Committed}
 use Rattle.acc_safety.specs.Statements.{OneProposal, OneCommit, NeverBoth}
-use Rattle.acc_safety.proofs.PlaceOrder.{only, none_is_in, IsIn-append_cases, IsIn-cond_cases, IsIn-cases, in_order, StandsAt-IsPast}
-use Rattle.acc_safety.proofs.Bridge.{each_emits, emits_at, sender, noted_by, node_is_actor}
+use Rattle.acc_safety.proofs.PlaceOrder.{in_order, StandsAt-IsPast, StandsAt-whole}
+use Rattle.acc_safety.proofs.Bridge.{each_emits, emits_at, deeds_of-past, sender, noted_by, node_is_actor}
 use Rattle.acc_safety.proofs.Attempted.{origin_of}
 use Rattle.acc_safety.proofs.Frame.{store_sent, homes_are_one}
 use Rattle.acc_attempt_facts.proofs.Draws.{origin_home}
-use Rattle.acc_safety.proofs.NodeMoved.{hears_all, slow_moved}
-use Rattle.acc_attempt_facts.proofs.Acts.{Acts, SomeActs, IsLater, IsAccept, IsCommit, IsProposal, accept_sent, IsCommitment, commit_sent, later_acts, IsDecision, decided_acts}
+use Rattle.acc_attempt_facts.proofs.Acts.{Acts, IsLater, IsAccept, IsCommit, accept_sent, commit_sent, later_acts, IsDecision, decided_acts}
 use Rattle.acc_attempt_facts.proofs.Ranks.{rank, proposes_low, commits_low, advances}
 
 -- the attempt of an actor at x with the ballot came to the phase in this step
@@ -58,6 +50,22 @@ pub record StageAt (cluster : Cluster) (items : List Item) (x : TxnId) (b : Ball
   pub after_is : attempt_of cluster.layout (node_of a) (clock_start cluster.starts (node_of a)) x (deed ∷ past) ≡ Some after
   pub after_ballot : after.ballot ≡ b
   pub after_phase : after.phase ≡ phase
+
+pub stage_whole : (cluster : Cluster) (past items : List Item) (x : TxnId) (b : Ballot) (phase : Phase) (a : Actor) → IsPast past items
+    → StageAt cluster past x b phase a → StageAt cluster items x b phase a
+stage_whole cluster past items x b phase a within s =
+    record {
+      deed = s.deed;
+      past = s.past;
+      at = StandsAt-whole s.deed s.past (deeds_of cluster a past) (deeds_of cluster a items) s.at (deeds_of-past cluster a past items within);
+      before = s.before;
+      before_is = s.before_is;
+      before_ballot = s.before_ballot;
+      after = s.after;
+      after_is = s.after_is;
+      after_ballot = s.after_ballot;
+      after_phase = s.after_phase;
+    }
 
 -- so did the attempt at the home of the ballot, which was no further than this before
 pub record Stage (cluster : Cluster) (items : List Item) (x : TxnId) (b : Ballot) (phase : Phase) (most : ℕ) : Type 0 where
@@ -107,7 +115,7 @@ module _ (cluster : Cluster) (items : List Item) (x : TxnId) (b : Ballot) where
 -- ---- the attempt before a move
 
 -- the attempt before, no further than the one that moves
-record Earlier (layout : Layout) (node start : ℕ) (past : List Deed) (x : TxnId) (a : Attempt) : Type 0 where
+pub record Earlier (layout : Layout) (node start : ℕ) (past : List Deed) (x : TxnId) (a : Attempt) : Type 0 where
   pub attempt : Attempt
   pub is : attempt_of layout node start x past ≡ Some attempt
   pub same_ballot : attempt.ballot ≡ a.ballot
@@ -122,18 +130,18 @@ earlier_hears layout node start past x before m a move is (IsEnded from to id ba
 earlier_hears layout node start past x before m a move is (TakesOver from to id ballot t deps same undecided ready) =
     record { attempt = before; is = is; same_ballot = refl; same_phase = refl }
 
-earlier : (layout : Layout) (node start : ℕ) (past : List Deed) (x : TxnId) (act : Act) (a : Attempt) (move : Move)
+pub earlier : (layout : Layout) (node start : ℕ) (past : List Deed) (x : TxnId) (act : Act) (a : Attempt) (move : Move)
     → Reacts layout node start past x act a move → Earlier layout node start past x a
 earlier layout node start past x act a move (ToSlow b moved is moves) = record { attempt = b; is = is; same_ballot = refl; same_phase = refl }
 earlier layout node start past x act a move (ToMessage before b m moved is about hears) = earlier_hears layout node start past x before m b moved is hears
 
 -- a proposal and a commitment are moves of an answer that counts, or of a slow event
-proposal_moves : (layout : Layout) (node start : ℕ) (past : List Deed) (x : TxnId) (act : Act) (a : Attempt) (s : Settled)
+pub proposal_moves : (layout : Layout) (node start : ℕ) (past : List Deed) (x : TxnId) (act : Act) (a : Attempt) (s : Settled)
     → Reacts layout node start past x act a (Propose s) → Moves layout x a (Propose s)
 proposal_moves layout node start past x act a s (ToSlow b moved is moves) = moves
 proposal_moves layout node start past x act a s (ToMessage before b m moved is about (Counts n moving same counting moves)) = moves
 
-commitment_moves : (layout : Layout) (node start : ℕ) (past : List Deed) (x : TxnId) (act : Act) (a : Attempt) (s : Settled)
+pub commitment_moves : (layout : Layout) (node start : ℕ) (past : List Deed) (x : TxnId) (act : Act) (a : Attempt) (s : Settled)
     → Reacts layout node start past x act a (CommitTo s) → Moves layout x a (CommitTo s)
 commitment_moves layout node start past x act a s (ToSlow b moved is moves) = moves
 commitment_moves layout node start past x act a s (ToMessage before b m moved is about (Counts n moving same counting moves)) = moves
@@ -141,7 +149,7 @@ commitment_moves layout node start past x act a s (ToMessage before b m moved is
 -- ---- the stage of a message
 
 -- no store sends an Accept or a Commit
-store_sends_none : (layout : Layout) (own : Actor) (past : List Taken) (taken m : Message) → IsLater m → StoreSends layout own past taken m → ⊥
+pub store_sends_none : (layout : Layout) (own : Actor) (past : List Taken) (taken m : Message) → IsLater m → StoreSends layout own past taken m → ⊥
 store_sends_none layout own past taken m later (Votes from to x b body counting v s p k e) = elim later [ ]
 store_sends_none layout own past taken m later (Accepts from to x b body counting t proposed deps s p k e) = elim later [ ]
 store_sends_none layout own past taken m later (Commits from to x b body t deps s p) = elim later [ ]
@@ -152,7 +160,7 @@ store_sends_none layout own past taken m later (Refuses n promised e) = elim lat
 store_sends_none layout own past taken m later (Tells n s e) = elim later [ ]
 
 -- the move of an attempt by which a later message was sent
-record SentByMove (cluster : Cluster) (items : List Item) (a : Actor) (m : Message) : Type 0 where
+pub record SentByMove (cluster : Cluster) (items : List Item) (a : Actor) (m : Message) : Type 0 where
   pub is_node : is_node a ≡ true
   pub deed : Deed
   pub past : List Deed
@@ -161,7 +169,7 @@ record SentByMove (cluster : Cluster) (items : List Item) (a : Actor) (m : Messa
   pub acts : Acts cluster.layout (node_of a) (clock_start cluster.starts (node_of a)) past deed.act about
   pub sent : IsIn m (made cluster.layout (actor_of (node_of a) 0) about acts.moving acts.move).emitted.out
 
-later_by : (cluster : Cluster) (items : List Item) (m : Message) → EachStands cluster items → IsLater m → Sender cluster items m → SentByMove cluster items (from_of m) m
+pub later_by : (cluster : Cluster) (items : List Item) (m : Message) → EachStands cluster items → IsLater m → Sender cluster items m → SentByMove cluster items (from_of m) m
 later_by cluster items m h later (IsStore f) = absurd (store_sends_none cluster.layout (from_of m) f.past f.step.message m later (store_sent cluster items (from_of m) m h f))
 later_by cluster items m h later (IsNode f) =
     let emitted = emits_at cluster.layout (node_of (from_of m)) (clock_start cluster.starts (node_of (from_of m))) (deeds_of cluster (from_of m) items) f.deed f.past
@@ -181,7 +189,7 @@ later_by cluster items m h later (IsNode f) =
 
 module _ (cluster : Cluster) (items : List Item) (h : EachStands cluster items) where
   -- the stage of a move at x to another phase, by an actor
-  stage_of : (a : Actor) (deed : Deed) (past : List Deed) (x : TxnId) (b : Ballot) (phase : Phase) (most : ℕ)
+  pub stage_of : (a : Actor) (deed : Deed) (past : List Deed) (x : TxnId) (b : Ballot) (phase : Phase) (most : ℕ)
       → StandsAt deed past (deeds_of cluster a items) → (acts : Acts cluster.layout (node_of a) (clock_start cluster.starts (node_of a)) past deed.act x)
       → (made cluster.layout (actor_of (node_of a) 0) x acts.moving acts.move).next ≡ Some (in_phase acts.moving phase)
       → acts.moving.ballot ≡ b → rank acts.moving.phase ≤ most → a ≡ home_of x b → Stage cluster items x b phase most
@@ -204,6 +212,32 @@ module _ (cluster : Cluster) (items : List Item) (h : EachStands cluster items) 
       ) in
       let there = subst (λ c. (s : StageAt cluster items x b phase c) × (rank s.before.phase ≤ most)) home here in
       record { stage = there.0; low = there.1 }
+
+  -- and the attempt before was in the phase of the one that moves
+  pub stage_of_phase : (a : Actor) (deed : Deed) (past : List Deed) (x : TxnId) (b : Ballot) (phase : Phase)
+      → StandsAt deed past (deeds_of cluster a items) → (acts : Acts cluster.layout (node_of a) (clock_start cluster.starts (node_of a)) past deed.act x)
+      → (made cluster.layout (actor_of (node_of a) 0) x acts.moving acts.move).next ≡ Some (in_phase acts.moving phase)
+      → acts.moving.ballot ≡ b → a ≡ home_of x b
+      → (s : Stage cluster items x b phase (rank acts.moving.phase)) × (s.stage.before.phase ≡ acts.moving.phase)
+  stage_of_phase a deed past x b phase at acts next ballot home =
+      let e = earlier cluster.layout (node_of a) (clock_start cluster.starts (node_of a)) past x deed.act acts.moving acts.move acts.reacts in
+      let here : (s : StageAt cluster items x b phase a) × (s.before.phase ≡ acts.moving.phase) = (
+        record {
+          deed = deed;
+          past = past;
+          at = at;
+          before = e.attempt;
+          before_is = e.is;
+          before_ballot = e.same_ballot ∙ ballot;
+          after = in_phase acts.moving phase;
+          after_is = acts.next_is ∙ next;
+          after_ballot = ballot;
+          after_phase = refl;
+        },
+        e.same_phase,
+      ) in
+      let there = subst (λ c. (s : StageAt cluster items x b phase c) × (s.before.phase ≡ acts.moving.phase)) home here in
+      (record { stage = there.0; low = subst (λ p. rank there.0.before.phase ≤ rank p) there.1 (omega arith) }, there.1)
 
   pub accept_stage : (f g : Actor) (x : TxnId) (b : Ballot) (body : BodyParts) (t : Stamp) (deps : List ShardDeps) → Sending items (Accept f g x b body t deps)
       → Stage cluster items x b (Accepting (record { t = t; deps = deps })) 0
