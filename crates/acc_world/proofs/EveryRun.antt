@@ -28,27 +28,30 @@ committed_seen : OfEachStore CommittedIsSeen
 committed_seen layout own history each step late past before f g h k x b above view =
     committed_is_seen layout own step late past before history f g h k x b above view each
 
-for (cluster : Cluster) (items : List Item) (standing : IsStanding cluster items)
+module _ (cluster : Cluster) (items : List Item) (standing : IsStanding cluster items) where
   for_agreement : AgreementPremises cluster items
   for_agreement = record {
-      one_proposal = one_proposal cluster items standing.stands;
-      one_commit = one_commit cluster items standing.stands;
-      never_both = never_both cluster items standing.stands;
-      proposals = proposals_have_roots cluster items standing;
-      commits = commits_have_roots cluster items standing;
-      decisions = decisions_have_roots cluster items standing;
-      records = records_have_roots cluster items standing;
-      committed_last = committed_last committed_seen cluster items standing }
+    one_proposal = one_proposal cluster items standing.stands;
+    one_commit = one_commit cluster items standing.stands;
+    never_both = never_both cluster items standing.stands;
+    proposals = proposals_have_roots cluster items standing;
+    commits = commits_have_roots cluster items standing;
+    decisions = decisions_have_roots cluster items standing;
+    records = records_have_roots cluster items standing;
+    committed_last = committed_last committed_seen cluster items standing;
+  }
 
   for_coverage : CoveragePremises cluster items
   for_coverage = record {
-      proposals = proposals_have_roots cluster items standing;
-      commits = commits_have_roots cluster items standing;
-      decisions = decisions_have_roots cluster items standing;
-      records = records_have_roots cluster items standing;
-      accepted_last = accepted_last accepted_seen cluster items standing;
-      one_timestamp = one_timestamp cluster items standing for_agreement;
-      one_set = one_set_of_deps cluster items standing for_agreement }
+    one_proposal = one_proposal cluster items standing.stands;
+    proposals = proposals_have_roots cluster items standing;
+    commits = commits_have_roots cluster items standing;
+    decisions = decisions_have_roots cluster items standing;
+    records = records_have_roots cluster items standing;
+    accepted_last = accepted_last accepted_seen cluster items standing;
+    one_timestamp = one_timestamp cluster items standing for_agreement;
+    one_set = one_set_of_deps cluster items standing for_agreement;
+  }
 
   agreed : Agreement items
   agreed = agreement cluster items standing for_agreement
@@ -56,7 +59,7 @@ for (cluster : Cluster) (items : List Item) (standing : IsStanding cluster items
   covered : Coverage cluster items
   covered = coverage cluster items standing for_coverage
 
-for (cluster : Cluster) (items : List Item) (valid : IsValidCluster cluster) (run : IsRun cluster items)
+module _ (cluster : Cluster) (items : List Item) (valid : IsValidCluster cluster) (run : IsRun cluster items) where
   standing_of : IsStanding cluster items
   standing_of = record { valid = valid; stands = run.stands }
 
