@@ -213,6 +213,12 @@ accepting_answers cluster past x a body b s phase of_body of_ballot are =
     (subst (λ z. AreAnswers cluster past x z a.ballot is_accept_ok a.answers) of_body
     (subst (λ p. AreAnswers cluster past x a.body a.ballot (kind_of p) a.answers) phase are))
 
+some_proposal : (cluster : Cluster) (past : List Item) (x : TxnId) (b : Ballot) (m : Message)
+    → (h : Actor) × (k : Actor) × (body : BodyParts) × (t : Stamp) × (proposed : List ShardDeps) × (m ≡ Accept h k x b body t proposed)
+    → Sending past m → SomeProposal cluster past x b
+some_proposal cluster past x b m p s =
+    record { t = p.3; deps = p.4; f = p.0; g = p.1; brought = p.2; sending = subst (Sending past) p.5 s }
+
 accepted_somewhere : (cluster : Cluster) (past : List Item) → EachStands cluster past → (x : TxnId) (a : Attempt) (body : BodyParts) (b : Ballot) (s : Settled)
     → a.phase ≡ Accepting s → a.body ≡ body → a.ballot ≡ b → AreAnswers cluster past x a.body a.ballot (kind_of a.phase) a.answers
     → majority_everywhere cluster.layout x body a.answers ≡ true → (shard : ℕ) × (is_among (shards_used cluster.layout body) shard ≡ true)
@@ -227,15 +233,8 @@ accepted_somewhere cluster past h x a body b s phase of_body of_ballot are major
     proposed_by cluster.layout (from_of m.first) one.place.past one.place.step.message f.0 f.1 x b f.2
     (subst (StoreSends cluster.layout (from_of m.first) one.place.past one.place.step.message) is (store_sent cluster past (from_of m.first) m.first h one.place)) in
     let before = store_took_before cluster (from_of m.first) past h one.place.step one.place.past one.place.at in
-    record {
-      t = p.3;
-      deps = p.4;
-      f = p.0;
-      g = p.1;
-      brought = p.2;
-      sending =
-          subst (Sending past) p.5 (Sending-past before.past past one.place.step.message (IsBefore-past before.past past before.before) before.sending);
-    }
+    some_proposal cluster past x b one.place.step.message p
+    (Sending-past before.past past one.place.step.message (IsBefore-past before.past past before.before) before.sending)
 
 proposed_whole : (cluster : Cluster) (items : List Item) → IsStanding cluster items → (past : List Item) (x : TxnId) (body : BodyParts) (b : Ballot) → IsPast past items
     → IsBody cluster items x body → (p : SomeProposal cluster past x b) → Proposed items x body b p.t p.deps
