@@ -1,12 +1,12 @@
 -- The decisions of a transaction have one timestamp, and above its own one set of dependencies; those of two have two timestamps.
-use Rattle.std.proofs.Common.{◌≡◌, ℕ, ◌<◌, ◌%◌, ◌*◌, ◌==◌, Bool, true, false, cond, List, [], ◌∷◌, map, Option, None, Some, refl, sym, ◌∙◌, ap, subst, ◌⊎◌, inl, inr, ⊎_elim, arith}
-use Rattle.std.proofs.lemmas.Bool.{true≢false, cases_Bool, cond-true, cond-false, eq-eqb}
+use Rattle.std.proofs.Common.{◌≡◌, ℕ, ◌%◌, ◌*◌, Bool, true, false, cond, List, [], ◌∷◌, Some, refl, sym, ◌∙◌, ap, subst, ◌⊎◌, inl, inr, ⊎_elim, arith}
+use Rattle.std.proofs.lemmas.Bool.{true≢false, cases_Bool, eq-eqb}
 use Rattle.std.proofs.lemmas.Bool.Decides.{nat_tests}
 use Rattle.acc_stamp.specs.declared.stamps.Stamp.{Stamp}
 use Rattle.acc_stamp.specs.declared.stamps.TxnId.{TxnId}
 use Rattle.acc_stamp.specs.declared.stamps.Ballot.{Ballot}
 use Rattle.acc_stamp.specs.declared.actors.Actor.{Actor}
-use Rattle.acc_stamp.specs.Stamp.{stamp_lt, ballot_lt, zero_stamp, zero_ballot}
+use Rattle.acc_stamp.specs.Stamp.{stamp_lt, zero_stamp, zero_ballot}
 use Rattle.acc_stamp.proofs.Order.{stamp_order, ballot_order, trichotomy}
 use Rattle.acc_topology.specs.Sets.{is_among}
 use Rattle.acc_deps.specs.declared.shards.ShardDeps.{ShardDeps}
@@ -17,12 +17,12 @@ use Rattle.acc_message.specs.declared.item.Item.{Item}
 use Rattle.acc_message.specs.Fields.{from_of}
 use Rattle.acc_message.specs.Shares.{shards_used}
 use Rattle.acc_message.specs.VoteRule.{Vote, vote_of}
-use Rattle.acc_message.specs.Attempts.{is_preaccept_ok, vote_in_answer, plain, plainly, greatest_vote, union_of, majority_everywhere}
+use Rattle.acc_message.specs.Attempts.{is_preaccept_ok, vote_in_answer, plain, plainly, greatest_vote, majority_everywhere}
 use Rattle.acc_message.specs.BallotRules.{is_recover_ok}
 use Rattle.acc_message.specs.Run.{Cluster, taken_of, is_node}
 use Rattle.acc_safety.specs.Places.{IsIn, First, Later}
 use Rattle.acc_safety.specs.Polls.{IsBody, IsAnswer, AreAnswers, Meeting, IsAny}
-use Rattle.acc_safety.specs.Roots.{Committed, Root, GreatestOfVotes, GreatestOfViews, Own, CommittedBy, DecisionRoot, ByFastVotes, ByCommits}
+use Rattle.acc_safety.specs.Roots.{Committed, Root, GreatestOfVotes, GreatestOfViews, Own, CommittedBy, ByFastVotes, ByCommits}
 use Rattle.acc_safety.specs.Statements.{OneTimestamp, TimestampsDiffer, OneSetOfDeps}
 use Rattle.acc_safety.specs.Valid.{IsStanding}
 use Rattle.acc_safety.proofs.PlaceOrder.{From, IsIn-map, map-IsIn}
@@ -44,8 +44,8 @@ module _ (cluster : Cluster) (items : List Item) (s : IsStanding cluster items) 
   one_committed x body b c t u deps more answers others one other =
       ⊎_elim
       (λ below.
-        let e = p.committed_last x body b c t u deps more answers one other.commit below in
-        (sym e.0, sym e.1))
+      let e = p.committed_last x body b c t u deps more answers one other.commit below in
+      (sym e.0, sym e.1))
       (⊎_elim
       (λ same. p.one_commit x b body body t u deps more one.commit (subst (λ z. Committed items x body z u more) (sym same) other.commit))
       (λ above. p.committed_last x body c b u t more deps others other one.commit above))

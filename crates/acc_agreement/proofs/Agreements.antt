@@ -1,11 +1,9 @@
 -- Agreement of a run: each decision is noted, and goes back to a root.
-use Rattle.std.proofs.Common.{◌≡◌, true, List, Some, Contains, refl, sym, ◌∙◌, ap, subst}
+use Rattle.std.proofs.Common.{◌≡◌, List, Some, Contains, refl, sym, ◌∙◌, subst}
 use Rattle.acc_stamp.specs.declared.stamps.Stamp.{Stamp}
 use Rattle.acc_stamp.specs.declared.stamps.TxnId.{TxnId}
 use Rattle.acc_deps.specs.declared.shards.ShardDeps.{ShardDeps}
 use Rattle.acc_txn.specs.declared.parts.BodyParts.{BodyParts}
-use Rattle.acc_message.specs.declared.note.Path.{Path}
-use Rattle.acc_message.specs.declared.note.Note.{Note}
 use Rattle.acc_message.specs.declared.note.Note.TheVariants.{Begin as BeginNote, Decide}
 use Rattle.acc_message.specs.declared.item.Item.{Item}
 use Rattle.acc_message.specs.declared.item.Item.TheVariants.{Step}
@@ -13,7 +11,7 @@ use Rattle.acc_message.specs.Items.{notes_of}
 use Rattle.acc_message.specs.Run.{Cluster}
 use Rattle.acc_actor_laws.proofs.OpeningFacts.{some_is}
 use Rattle.acc_safety.specs.Decisions.{Decision, decisions_of}
-use Rattle.acc_safety.specs.Agreement.{Agrees, Agreement}
+use Rattle.acc_safety.specs.Agreement.{Agreement}
 use Rattle.acc_safety.specs.Histories.{Noting}
 use Rattle.acc_safety.specs.Polls.{IsBody}
 use Rattle.acc_safety.specs.Roots.{DecisionRoot}
@@ -37,11 +35,11 @@ module _ (cluster : Cluster) (items : List Item) (s : IsStanding cluster items) 
   rooted d there =
       let n : DecisionNoted items d = decision_noted items d there in
       let begun : Noting n.noted.earlier (BeginNote d.id) =
-        begun_before cluster items n.noted.earlier n.noted.entry (Decide d.id d.t n.path d.deps) s.stands n.noted.at n.noted.noted refl in
+      begun_before cluster items n.noted.earlier n.noted.entry (Decide d.id d.t n.path d.deps) s.stands n.noted.at n.noted.noted refl in
       let b : BegunBy cluster items d.id =
-        was_begun cluster items d.id s.stands
-        (Noting-past n.noted.earlier items (BeginNote d.id)
-        (IsPast-rest (Step n.noted.entry) n.noted.earlier items (StandsAt-IsPast (Step n.noted.entry) n.noted.earlier items n.noted.at)) begun) in
+      was_begun cluster items d.id s.stands
+      (Noting-past n.noted.earlier items (BeginNote d.id)
+      (IsPast-rest (Step n.noted.entry) n.noted.earlier items (StandsAt-IsPast (Step n.noted.entry) n.noted.earlier items n.noted.at)) begun) in
       record { body = b.body; is = b.is; root = p.decisions d.id b.body n.path d.t d.deps b.is n.noted }
 
   same_time : (a b : Decision) → Rooted a → Rooted b → a.id ≡ b.id → a.t ≡ b.t
@@ -65,7 +63,7 @@ module _ (cluster : Cluster) (items : List Item) (s : IsStanding cluster items) 
       record {
         same = same_time a b one two;
         different = λ apart same.
-          apart
-          (timestamps_differ cluster items s p a.id b.id one.body two.body a.t a.deps b.deps one.is two.is one.root
-          (subst (λ z. DecisionRoot cluster items b.id two.body z b.deps) (sym same) two.root));
+            apart
+            (timestamps_differ cluster items s p a.id b.id one.body two.body a.t a.deps b.deps one.is two.is one.root
+            (subst (λ z. DecisionRoot cluster items b.id two.body z b.deps) (sym same) two.root));
       }

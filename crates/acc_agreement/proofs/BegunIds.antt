@@ -1,7 +1,7 @@
 -- Of a transaction that was begun: its body, a shard that it uses, and that a node drew its id.
-use Rattle.std.proofs.Common.{◌≡◌, ℕ, zero, suc, ◌==◌, ◌<◌, ◌%◌, ◌*◌, ◌+◌, Bool, true, false, ◌||◌, cond, List, [], ◌∷◌, ◌++◌, length, map, Option, None, Some, is_none, refl, sym, ◌∙◌, ap, subst, ⊎_elim, arith}
-use Rattle.std.specs.List.{AllByRecursion, list_any, slice_get}
-use Rattle.std.proofs.lemmas.Bool.{true≢false, or_left, or_right, eq-eqb, eqb-true, cond-true, cond-false, cases_Bool}
+use Rattle.std.proofs.Common.{◌≡◌, ℕ, zero, suc, ◌==◌, ◌*◌, Bool, true, false, cond, List, [], ◌∷◌, ◌++◌, length, Option, None, Some, is_none, refl, sym, ◌∙◌, ap, subst, ⊎_elim, arith}
+use Rattle.std.specs.List.{list_any, slice_get}
+use Rattle.std.proofs.lemmas.Bool.{true≢false, eq-eqb, eqb-true, cases_Bool}
 use Rattle.acc_base.specs.Faults.{or_else}
 use Rattle.acc_stamp.specs.declared.stamps.TxnId.{TxnId}
 use Rattle.acc_stamp.specs.declared.actors.Actor.{Actor}
@@ -19,7 +19,7 @@ use Rattle.acc_value.specs.Pairs.{find}
 use Rattle.acc_value.proofs.KeyOrder.{key_eq-refl}
 use Rattle.acc_txn.specs.declared.parts.BodyParts.{BodyParts}
 use Rattle.acc_txn.specs.declared.error.BodyError.{BodyError}
-use Rattle.acc_txn.specs.Rules.{IsBody as KeepsRules, has_too_many, has_unbound_name, has_name_twice, has_no_key, refusal_of}
+use Rattle.acc_txn.specs.Rules.{IsBody as KeepsRules, has_too_many, has_unbound_name, has_name_twice, has_no_key}
 use Rattle.acc_txn.specs.Uses.{read_keys, written_keys, footprint_of, is_read, is_updated}
 use Rattle.acc_txn.proofs.UsesFacts.{find-footprint_of}
 use Rattle.acc_message.specs.declared.entry.Emitted.{Emitted}
@@ -29,13 +29,13 @@ use Rattle.acc_message.specs.declared.item.Item.{Item}
 use Rattle.acc_message.specs.declared.item.Item.TheVariants.{Step, Skipped, Down}
 use Rattle.acc_message.specs.Items.{begins, txn_begun, txn_in, txn_of}
 use Rattle.acc_message.specs.Shares.{shards_used}
-use Rattle.acc_message.specs.NodeRules.{Act, Begins, Deed, next_id, clock_events}
+use Rattle.acc_message.specs.NodeRules.{Act, Deed, next_id, clock_events}
 use Rattle.acc_message.specs.Run.{Cluster, clock_start, deeds_of, is_node, EachStands}
 use Rattle.acc_actor_laws.proofs.Standing.{not_none}
 use Rattle.acc_actor_laws.proofs.OpeningFacts.{some_is}
 use Rattle.acc_safety.specs.Decisions.{body_at}
 use Rattle.acc_safety.specs.Places.{IsIn, First, Later, StandsAt, Here, Back}
-use Rattle.acc_safety.specs.Histories.{Noting, NotedBy}
+use Rattle.acc_safety.specs.Histories.{Noting}
 use Rattle.acc_safety.specs.NodeMoves.{NodeNotes, NotesBegin, NotesRecover, NotesDecision, NotesOutcome, NotesReply, NotesTold, NotesBlocked, NotesEnded}
 use Rattle.acc_safety.specs.Polls.{IsBody}
 use Rattle.acc_safety.specs.Valid.{IsValidCluster}
@@ -68,9 +68,9 @@ footprint_by parts q (p ∷ uses) is e there = (p, First p uses)
 footprint_by parts q [] is e there =
     ⊎_elim
     (λ reads.
-      absurd (by_read (any_from (key_eq q) q (read_keys parts) reads (key_eq-refl q))))
+    absurd (by_read (any_from (key_eq q) q (read_keys parts) reads (key_eq-refl q))))
     (λ writes.
-      absurd (not_none true (e ∙ ap (λ b. cond b (Some true) (cond (is_read parts q) (Some false) None)) (any_from (key_eq q) q (written_keys parts) writes (key_eq-refl q)))))
+    absurd (not_none true (e ∙ ap (λ b. cond b (Some true) (cond (is_read parts q) (Some false) None)) (any_from (key_eq q) q (written_keys parts) writes (key_eq-refl q)))))
     (IsIn-append_cases q (read_keys parts) (written_keys parts) there)
   where
     some_bool : (b : Bool) → None ≡ cond b (Some true) (Some false) → ⊥
@@ -95,11 +95,12 @@ shards_small layout uses is n h =
 pub uses_some : (layout : Layout) (parts : BodyParts) → IsLayout layout → KeepsRules parts → (shard : ℕ) × (is_among (shards_used layout parts) shard ≡ true)
 uses_some layout parts is h =
     let p = footprint_some parts h in
-    let shard : ℕ = shard_of_key layout p.0.0 in
-    (shard,
-    is_among-in_order (shards_of layout (footprint_of parts)) (shards_small layout (footprint_of parts) is) shard
-    ∙ any_from (λ m. m == shard) shard (shards_of layout (footprint_of parts))
-    (map-IsIn (λ (item : Key × Bool). shard_of_key layout item.0) p.0 (footprint_of parts) p.1) (eq-eqb shard shard refl))
+    let shard : ℕ = shard_of_key layout p.0.0 in (
+      shard,
+      is_among-in_order (shards_of layout (footprint_of parts)) (shards_small layout (footprint_of parts) is) shard
+          ∙ any_from (λ m. m == shard) shard (shards_of layout (footprint_of parts))
+          (map-IsIn (λ (item : Key × Bool). shard_of_key layout item.0) p.0 (footprint_of parts) p.1) (eq-eqb shard shard refl),
+    )
 
 -- a begun body is one of the cluster's
 get-IsIn : (bodies : List BodyParts) (txn : ℕ) (body : BodyParts) → slice_get bodies txn ≡ Some body → IsIn body bodies
@@ -125,8 +126,8 @@ txn_noted x (Down actor) earlier txn e = absurd (not_none txn e)
 txn_noted x (Step e) earlier txn is =
     ⊎_elim
     (λ here.
-      let p = passing (begins x) e.emitted.notes here in
-      record { entry = e; earlier = earlier; at = Here (Step e) earlier; noted = subst (λ n. IsIn n e.emitted.notes) (begins_is x p.element p.passes) p.there })
+    let p = passing (begins x) e.emitted.notes here in
+    record { entry = e; earlier = earlier; at = Here (Step e) earlier; noted = subst (λ n. IsIn n e.emitted.notes) (begins_is x p.element p.passes) p.there })
     (λ not_here. absurd (not_none txn (sym (ap (λ c. cond c (txn_begun e.event) None) not_here) ∙ is)))
     (cases_Bool (list_any (begins x) e.emitted.notes))
 

@@ -1,7 +1,6 @@
 -- Where a transaction is decided fast, every proposal and every decision of it has its own timestamp.
-use Rattle.std.proofs.Common.{◌≡◌, ℕ, Bool, true, false, not, ◌&&◌, ◌||◌, List, [], ◌∷◌, Option, None, Some, refl, sym, ◌∙◌, ap, subst, ◌⊎◌, inl, inr, ⊎_elim}
-use Rattle.std.specs.List.{list_any}
-use Rattle.std.proofs.lemmas.Bool.{true≢false, or_cases, and_parts, false_from_ne_true}
+use Rattle.std.proofs.Common.{◌≡◌, ℕ, Bool, true, false, not, ◌&&◌, List, Option, None, Some, refl, sym, ◌∙◌, ap, inl, inr, ⊎_elim}
+use Rattle.std.proofs.lemmas.Bool.{true≢false, or_cases, and_parts}
 use Rattle.acc_stamp.specs.declared.stamps.Stamp.{Stamp}
 use Rattle.acc_stamp.specs.declared.stamps.TxnId.{TxnId}
 use Rattle.acc_stamp.specs.declared.stamps.Ballot.{Ballot}
@@ -16,21 +15,21 @@ use Rattle.acc_deps.specs.declared.records.View.{View}
 use Rattle.acc_deps.specs.Deps.{deps_has}
 use Rattle.acc_txn.specs.declared.parts.BodyParts.{BodyParts}
 use Rattle.acc_message.specs.declared.message.Message.{Message}
-use Rattle.acc_message.specs.declared.message.Message.TheVariants.{Accept, Commit}
+use Rattle.acc_message.specs.declared.message.Message.TheVariants.{Accept}
 use Rattle.acc_message.specs.declared.item.Item.{Item}
 use Rattle.acc_message.specs.Fields.{from_of}
 use Rattle.acc_message.specs.Shares.{conflict_in}
-use Rattle.acc_message.specs.Taken.{Taken, taking, Heard, rivals, known, body_known}
+use Rattle.acc_message.specs.Taken.{Taken, taking, Heard, rivals, known}
 use Rattle.acc_message.specs.VoteRule.{Vote, vote_of}
-use Rattle.acc_message.specs.Attempts.{is_preaccept_ok, vote_in_answer, union_of, may_be_fast_everywhere}
+use Rattle.acc_message.specs.Attempts.{is_preaccept_ok, union_of}
 use Rattle.acc_message.specs.BallotRules.{is_recover_ok, accepted_of, stable_of}
-use Rattle.acc_message.specs.Evidence.{accepted_without, stable_without, supersedes, superseded}
+use Rattle.acc_message.specs.Evidence.{accepted_without, stable_without, supersedes}
 use Rattle.acc_message.specs.RecoveryDecision.{views_in}
-use Rattle.acc_message.specs.Run.{Cluster, taken_of, is_node, EachStands}
+use Rattle.acc_message.specs.Run.{Cluster, taken_of, is_node}
 use Rattle.acc_actor_laws.proofs.OpeningFacts.{some_is}
 use Rattle.acc_safety.specs.Places.{IsIn, StandsAt}
 use Rattle.acc_safety.specs.NodeMoves.{IsRuledOut}
-use Rattle.acc_safety.specs.Polls.{IsBody, IsAnswer, AreAnswers, Meeting, AreRivals, IsAny, Kept, Changed}
+use Rattle.acc_safety.specs.Polls.{IsBody, AreAnswers, AreRivals, IsAny, Kept}
 use Rattle.acc_safety.specs.Roots.{Proposed, Root, GreatestOfVotes, GreatestOfViews, Own, FastBy, DecisionRoot, ByFastVotes, ByCommits}
 use Rattle.acc_safety.specs.Statements.{FastIsFound}
 use Rattle.acc_safety.specs.Valid.{IsStanding}
@@ -40,10 +39,10 @@ use Rattle.acc_safety.proofs.Meetings.{fast_meets_majority, fast_meets_fast, imp
 use Rattle.acc_store_facts.proofs.Knowing.{known_itself}
 use Rattle.acc_store_facts.proofs.Shown.{stable_of-past}
 use Rattle.acc_store_facts.proofs.Polled.{vote_said, preaccept_oks_vote, recover_oks_vote, answer_votes}
-use Rattle.acc_store_facts.proofs.Unheard.{body_there, known_there, proposed_there}
-use Rattle.acc_store_facts.proofs.Decided.{AreUnheard, met_kept}
+use Rattle.acc_store_facts.proofs.Unheard.{known_there, proposed_there}
+use Rattle.acc_store_facts.proofs.Decided.{met_kept}
 use Rattle.acc_store_facts.proofs.Lacking.{turned, votes_unheard, accepts_unheard, root_lacks}
-use Rattle.acc_store_facts.proofs.Revealed.{FromAnswer, view_from, ViewThere, view_there}
+use Rattle.acc_store_facts.proofs.Revealed.{view_from, ViewThere, view_there}
 use Rattle.acc_agreement.specs.Premises.{Premises}
 
 -- ---- a rival that isn't named

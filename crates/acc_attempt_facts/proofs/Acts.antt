@@ -68,8 +68,8 @@ module _ (layout : Layout) (own : Actor) (x : TxnId) (a : Attempt) where
   finish_sends s outcome m h =
       ⊎_elim (λ applies. inl (one_of (λ store. Apply own store x a.ballot a.body s.t s.deps outcome) m applies))
       (λ informs.
-        ⊎_elim (λ none. absurd (none_is_in m none.1)) (λ one. inr (only m (Inform own (home_node x) x a.ballot outcome) one.1))
-        (IsIn-cond_cases m (same_actor own (home_node x)) [] (Inform own (home_node x) x a.ballot outcome ∷ []) informs))
+      ⊎_elim (λ none. absurd (none_is_in m none.1)) (λ one. inr (only m (Inform own (home_node x) x a.ballot outcome) one.1))
+      (IsIn-cond_cases m (same_actor own (home_node x)) [] (Inform own (home_node x) x a.ballot outcome ∷ []) informs))
       (IsIn-append_cases m (map (λ store. Apply own store x a.ballot a.body s.t s.deps outcome) (stores_used layout a.body)) (inform own x a.ballot outcome) h)
 
   pub accept_sent : (move : Move) (f g : Actor) (y : TxnId) (b : Ballot) (body : BodyParts) (t : Stamp) (deps : List ShardDeps)
@@ -175,11 +175,11 @@ module _ (layout : Layout) (own : Actor) (x : TxnId) (a : Attempt) where
       absurd
       (⊎_elim apart
       (λ rest.
-        ⊎_elim
-        (λ reply. ⊎_elim (λ one. apart_too (only (DecideNote y t path deps) (ReplyNote x outcome.reply) one.1)) (λ none. none_is_in (DecideNote y t path deps) none.1)
-          (IsIn-cond_cases (DecideNote y t path deps) is_open_now (ReplyNote x outcome.reply ∷ []) [] reply))
-        (λ none. none_is_in (DecideNote y t path deps) none)
-        (IsIn-append_cases (DecideNote y t path deps) (cond is_open_now (ReplyNote x outcome.reply ∷ []) []) [] rest))
+      ⊎_elim
+      (λ reply. ⊎_elim (λ one. apart_too (only (DecideNote y t path deps) (ReplyNote x outcome.reply) one.1)) (λ none. none_is_in (DecideNote y t path deps) none.1)
+      (IsIn-cond_cases (DecideNote y t path deps) is_open_now (ReplyNote x outcome.reply ∷ []) [] reply))
+      (λ none. none_is_in (DecideNote y t path deps) none)
+      (IsIn-append_cases (DecideNote y t path deps) (cond is_open_now (ReplyNote x outcome.reply ∷ []) []) [] rest))
       (IsIn-cases (DecideNote y t path deps) (OutcomeNote x outcome.reply) (cond is_open_now (ReplyNote x outcome.reply ∷ []) [] ++ []) h))
     where
       apart : DecideNote y t path deps ≡ OutcomeNote x outcome.reply → ⊥
@@ -227,19 +227,19 @@ module _ (layout : Layout) (node start : ℕ) (past : List Deed) where
       record {
         about = x;
         acts =
-          record {
-            moving = a;
-            move = r.move;
-            reacts = ToSlow a r.move is r.moves;
-            out_is = ap (λ o. (emitted_by (slow_reaction layout (actor_of node 0) x) o).out) is ∙ ap (λ (k : Reaction). k.emitted.out) r.is;
-            next_is =
-              ap (λ b. where_about b (next_by (slow_reaction layout (actor_of node 0) x)) (attempt_of layout node start x past)) (eq_itself id_order x)
-              ∙ ap (next_by (slow_reaction layout (actor_of node 0) x)) is ∙ ap (λ (k : Reaction). k.next) r.is;
-            decides = λ y t path deps there.
-              decision_noted layout (actor_of node 0) x a r.move y t path deps
-              (subst (IsIn (DecideNote y t path deps))
-              (ap (λ o. (emitted_by (slow_reaction layout (actor_of node 0) x) o).notes) is ∙ ap (λ (k : Reaction). k.emitted.notes) r.is) there);
-          };
+            record {
+              moving = a;
+              move = r.move;
+              reacts = ToSlow a r.move is r.moves;
+              out_is = ap (λ o. (emitted_by (slow_reaction layout (actor_of node 0) x) o).out) is ∙ ap (λ (k : Reaction). k.emitted.out) r.is;
+              next_is =
+                  ap (λ b. where_about b (next_by (slow_reaction layout (actor_of node 0) x)) (attempt_of layout node start x past)) (eq_itself id_order x)
+                  ∙ ap (next_by (slow_reaction layout (actor_of node 0) x)) is ∙ ap (λ (k : Reaction). k.next) r.is;
+              decides = λ y t path deps there.
+                  decision_noted layout (actor_of node 0) x a r.move y t path deps
+                  (subst (IsIn (DecideNote y t path deps))
+                  (ap (λ o. (emitted_by (slow_reaction layout (actor_of node 0) x) o).notes) is ∙ ap (λ (k : Reaction). k.emitted.notes) r.is) there);
+            };
       }
 
   -- a message that isn't an Inform is one for the attempt at its transaction
@@ -255,21 +255,21 @@ module _ (layout : Layout) (node start : ℕ) (past : List Deed) where
       record {
         about = x;
         acts =
-          record {
-            moving = r.moving;
-            move = r.move;
-            reacts = ToMessage a r.moving n r.move is refl r.hears;
-            out_is =
-              ap (λ (e : Emitted). e.out) emits ∙ ap (λ o. (answered n o).out) is ∙ ap (λ (k : Reaction). k.emitted.out) r.is;
-            next_is =
-              ap (λ b. where_about b (next_by (λ a. reaction layout (actor_of node 0) x a n)) (attempt_of layout node start x past)) (eq_itself id_order x)
-              ∙ ap (next_by (λ a. reaction layout (actor_of node 0) x a n)) is ∙ ap (λ (k : Reaction). k.next) r.is;
-            decides = λ y t path deps there.
-              decision_replied layout (actor_of node 0) x r.moving (is_open x past) r.move y t path deps
-              (subst (IsIn (DecideNote y t path deps))
-              (ap (λ (e : Emitted). e.notes) emits ∙ ap (λ o. flat_map (replied (is_open x past)) (answered n o).notes) is
-              ∙ ap (λ (k : Reaction). flat_map (replied (is_open x past)) k.emitted.notes) r.is) there);
-          };
+            record {
+              moving = r.moving;
+              move = r.move;
+              reacts = ToMessage a r.moving n r.move is refl r.hears;
+              out_is =
+                  ap (λ (e : Emitted). e.out) emits ∙ ap (λ o. (answered n o).out) is ∙ ap (λ (k : Reaction). k.emitted.out) r.is;
+              next_is =
+                  ap (λ b. where_about b (next_by (λ a. reaction layout (actor_of node 0) x a n)) (attempt_of layout node start x past)) (eq_itself id_order x)
+                  ∙ ap (next_by (λ a. reaction layout (actor_of node 0) x a n)) is ∙ ap (λ (k : Reaction). k.next) r.is;
+              decides = λ y t path deps there.
+                  decision_replied layout (actor_of node 0) x r.moving (is_open x past) r.move y t path deps
+                  (subst (IsIn (DecideNote y t path deps))
+                  (ap (λ (e : Emitted). e.notes) emits ∙ ap (λ o. flat_map (replied (is_open x past)) (answered n o).notes) is
+                  ∙ ap (λ (k : Reaction). flat_map (replied (is_open x past)) k.emitted.notes) r.is) there);
+            };
       }
 
   -- something is sent, or a decision noted
@@ -294,8 +294,8 @@ module _ (layout : Layout) (node start : ℕ) (past : List Deed) where
   inform_silent id outcome h =
       ⊎_elim (λ m. none_is_in m.0 m.1)
       (λ d.
-        ⊎_elim (λ one. apart d.0 d.1 d.2 d.3 (only (DecideNote d.0 d.1 d.2 d.3) (ReplyNote id outcome.reply) one.1)) (λ none. none_is_in (DecideNote d.0 d.1 d.2 d.3) none.1)
-        (IsIn-cond_cases (DecideNote d.0 d.1 d.2 d.3) (is_open id past) (ReplyNote id outcome.reply ∷ []) [] d.4)) h
+      ⊎_elim (λ one. apart d.0 d.1 d.2 d.3 (only (DecideNote d.0 d.1 d.2 d.3) (ReplyNote id outcome.reply) one.1)) (λ none. none_is_in (DecideNote d.0 d.1 d.2 d.3) none.1)
+      (IsIn-cond_cases (DecideNote d.0 d.1 d.2 d.3) (is_open id past) (ReplyNote id outcome.reply ∷ []) [] d.4)) h
     where
       apart : (y : TxnId) (t : Stamp) (path : Path) (deps : List ShardDeps) → DecideNote y t path deps ≡ ReplyNote id outcome.reply → ⊥
       apart y t path deps e = cc

@@ -165,9 +165,9 @@ later_by : (cluster : Cluster) (items : List Item) (m : Message) → EachStands 
 later_by cluster items m h later (IsStore f) = absurd (store_sends_none cluster.layout (from_of m) f.past f.step.message m later (store_sent cluster items (from_of m) m h f))
 later_by cluster items m h later (IsNode f) =
     let emitted = emits_at cluster.layout (node_of (from_of m)) (clock_start cluster.starts (node_of (from_of m))) (deeds_of cluster (from_of m) items) f.deed f.past
-      (each_emits cluster (from_of m) items h f.is_node) f.at in
+    (each_emits cluster (from_of m) items h f.is_node) f.at in
     let there : IsIn m (node_emits cluster.layout (node_of (from_of m)) (clock_start cluster.starts (node_of (from_of m))) f.past f.deed.act).out =
-      subst (λ (e : Emitted). IsIn m e.out) emitted f.sent in
+    subst (λ (e : Emitted). IsIn m e.out) emitted f.sent in
     let s = later_acts cluster.layout (node_of (from_of m)) (clock_start cluster.starts (node_of (from_of m))) f.past f.deed.act m later there in
     record {
       is_node = f.is_node;
@@ -187,8 +187,8 @@ module _ (cluster : Cluster) (items : List Item) (h : EachStands cluster items) 
       → acts.moving.ballot ≡ b → rank acts.moving.phase ≤ most → a ≡ home_of x b → Stage cluster items x b phase most
   stage_of a deed past x b phase most at acts next ballot low home =
       let e = earlier cluster.layout (node_of a) (clock_start cluster.starts (node_of a)) past x deed.act acts.moving acts.move acts.reacts in
-      let here : (s : StageAt cluster items x b phase a) × (rank s.before.phase ≤ most) =
-        (record {
+      let here : (s : StageAt cluster items x b phase a) × (rank s.before.phase ≤ most) = (
+        record {
           deed = deed;
           past = past;
           at = at;
@@ -199,7 +199,9 @@ module _ (cluster : Cluster) (items : List Item) (h : EachStands cluster items) 
           after_is = acts.next_is ∙ next;
           after_ballot = ballot;
           after_phase = refl;
-        }, subst (λ p. rank p ≤ most) (sym e.same_phase) low) in
+        },
+        subst (λ p. rank p ≤ most) (sym e.same_phase) low,
+      ) in
       let there = subst (λ c. (s : StageAt cluster items x b phase c) × (rank s.before.phase ≤ most)) home here in
       record { stage = there.0; low = there.1 }
 
@@ -254,17 +256,17 @@ module _ (cluster : Cluster) (items : List Item) (h : EachStands cluster items) 
   pub one_proposal : OneProposal items
   one_proposal x b body other t s deps more p q =
       let same =
-        accepting_same (record { t = t; deps = deps }) (record { t = s; deps = more })
-        (one_stage cluster items x b (Accepting (record { t = t; deps = deps })) (Accepting (record { t = s; deps = more })) 0 0
-        (accept_stage p.from p.to x b body t deps p.sending) (accept_stage q.from q.to x b other s more q.sending) (omega arith) (omega arith)) in
+      accepting_same (record { t = t; deps = deps }) (record { t = s; deps = more })
+      (one_stage cluster items x b (Accepting (record { t = t; deps = deps })) (Accepting (record { t = s; deps = more })) 0 0
+      (accept_stage p.from p.to x b body t deps p.sending) (accept_stage q.from q.to x b other s more q.sending) (omega arith) (omega arith)) in
       (ap (λ (r : Settled). r.t) same, ap (λ (r : Settled). r.deps) same)
 
   pub one_commit : OneCommit items
   one_commit x b body other t s deps more p q =
       let same =
-        committing_same (record { t = t; deps = deps }) (record { t = s; deps = more })
-        (one_stage cluster items x b (Committing (record { t = t; deps = deps })) (Committing (record { t = s; deps = more })) 1 1
-        (commit_stage p.from p.to x b body t deps p.sending) (commit_stage q.from q.to x b other s more q.sending) (omega arith) (omega arith)) in
+      committing_same (record { t = t; deps = deps }) (record { t = s; deps = more })
+      (one_stage cluster items x b (Committing (record { t = t; deps = deps })) (Committing (record { t = s; deps = more })) 1 1
+      (commit_stage p.from p.to x b body t deps p.sending) (commit_stage q.from q.to x b other s more q.sending) (omega arith) (omega arith)) in
       (ap (λ (r : Settled). r.t) same, ap (λ (r : Settled). r.deps) same)
 
 -- ---- the stage of a fast decision
@@ -365,10 +367,10 @@ module _ (cluster : Cluster) (items : List Item) (h : EachStands cluster items) 
               let phase = fast_reacts cluster.layout (node_of a) start past y deed.act acts.moving acts.move (record { t = t; deps = deps }) acts.reacts d.move_is in
               let e = earlier cluster.layout (node_of a) start past y deed.act acts.moving acts.move acts.reacts in
               let ballot : acts.moving.ballot ≡ zero_ballot =
-                sym e.same_ballot ∙ first_has_zero cluster.layout (node_of a) start y past e.attempt e.is (e.same_phase ∙ phase) in
+              sym e.same_ballot ∙ first_has_zero cluster.layout (node_of a) start y past e.attempt e.is (e.same_phase ∙ phase) in
               let home : a ≡ home_of y zero_ballot =
-                sym (node_is_actor a node) ∙ origin_home cluster.layout (node_of a) start past y e.attempt (origin_of cluster.layout (node_of a) start y past e.attempt e.is)
-                ∙ ap (home_of y) (e.same_ballot ∙ ballot) in
+              sym (node_is_actor a node) ∙ origin_home cluster.layout (node_of a) start past y e.attempt (origin_of cluster.layout (node_of a) start y past e.attempt e.is)
+              ∙ ap (home_of y) (e.same_ballot ∙ ballot) in
               subst (λ z. Stage cluster items z zero_ballot (Executing (record { t = t; deps = deps })) 0) d.about
               (stage_of cluster items h a deed past y zero_ballot (Executing (record { t = t; deps = deps })) 0 at acts
               (ap (λ move. (made cluster.layout (actor_of (node_of a) 0) y acts.moving move).next) d.move_is) ballot (zero_rank acts.moving.phase phase) home)

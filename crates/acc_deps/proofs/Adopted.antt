@@ -60,8 +60,8 @@ stable_in_views (v ∷ views) s h =
     ⊎_elim
     (λ here. let parts = stable_in_view v.store v.stable s here in record { view = v; there = first_in v views; store_is = parts.0; shows = parts.1 })
     (λ rest.
-      let r = stable_in_views views s rest in
-      record { view = r.view; there = later_in r.view v views r.there; store_is = r.store_is; shows = r.shows })
+    let r = stable_in_views views s rest in
+    record { view = r.view; there = later_in r.view v views r.there; store_is = r.store_is; shows = r.shows })
     (Contains-append_cases (stably_in v.store v.stable) (stably_all views) s h)
 
 pub stable_is_shown : (views : List View) (s : Stably) → least_stably (stably_all views) ≡ Some s → ShowsStable views s
@@ -84,7 +84,7 @@ claim_in_view : (store : Actor) (is_committed : Bool) (o : Option Accepted) (c :
 claim_in_view store is_committed None c h = absurd (none_in c h)
 claim_in_view store is_committed (Some a) c h =
     let same =
-      one_in c (record { store = store; ballot = a.ballot; is_committed = is_committed; settled = record { t = a.t; deps = a.deps } }) h in
+    one_in c (record { store = store; ballot = a.ballot; is_committed = is_committed; settled = record { t = a.t; deps = a.deps } }) h in
     (ap (λ (d : Claim). d.store) same, ap (λ (d : Claim). d.is_committed) same, ap (λ (d : Claim). Some (record_of d)) same)
 
 claim_in_views : (views : List View) (c : Claim) → Contains (claims_of views) c → ShowsClaim views c
@@ -92,17 +92,17 @@ claim_in_views [] c h = absurd (none_in c h)
 claim_in_views (v ∷ views) c h =
     ⊎_elim
     (λ here.
-      ⊎_elim
-      (λ committed.
-        let parts = claim_in_view v.store true v.committed c committed in
-        record { view = v; there = first_in v views; store_is = parts.0; shows = ap (shown_as v) (sym parts.1) ∙ parts.2 })
-      (λ accepted.
-        let parts = claim_in_view v.store false v.accepted c accepted in
-        record { view = v; there = first_in v views; store_is = parts.0; shows = ap (shown_as v) (sym parts.1) ∙ parts.2 })
-      (Contains-append_cases (claim_in v.store true v.committed) (claim_in v.store false v.accepted) c here))
+    ⊎_elim
+    (λ committed.
+    let parts = claim_in_view v.store true v.committed c committed in
+    record { view = v; there = first_in v views; store_is = parts.0; shows = ap (shown_as v) (sym parts.1) ∙ parts.2 })
+    (λ accepted.
+    let parts = claim_in_view v.store false v.accepted c accepted in
+    record { view = v; there = first_in v views; store_is = parts.0; shows = ap (shown_as v) (sym parts.1) ∙ parts.2 })
+    (Contains-append_cases (claim_in v.store true v.committed) (claim_in v.store false v.accepted) c here))
     (λ rest.
-      let r = claim_in_views views c rest in
-      record { view = r.view; there = later_in r.view v views r.there; store_is = r.store_is; shows = r.shows })
+    let r = claim_in_views views c rest in
+    record { view = r.view; there = later_in r.view v views r.there; store_is = r.store_is; shows = r.shows })
     (Contains-append_cases (claims_in v) (claims_of views) c h)
 
 pub claim_is_shown : (views : List View) (c : Claim) → highest_claim (claims_of views) ≡ Some c → ShowsClaim views c
@@ -137,16 +137,16 @@ higher_above : (d c : Claim) → outranks d c ≡ true → IsAtLeast d c
 higher_above d c h =
     ⊎_elim
     (λ above.
-      record {
-        ballot = asym ballot_order c.ballot d.ballot above;
-        committed = λ same is. absurd (true≢false (sym above ∙ ap (λ b. ballot_lt c.ballot b) same ∙ ballot_order.irrefl c.ballot));
-      })
+    record {
+      ballot = asym ballot_order c.ballot d.ballot above;
+      committed = λ same is. absurd (true≢false (sym above ∙ ap (λ b. ballot_lt c.ballot b) same ∙ ballot_order.irrefl c.ballot));
+    })
     (λ level.
-      let parts = and_parts (ballot_eq d.ballot c.ballot) (is_committed_before d c) level in
-      record {
-        ballot = ap (λ b. ballot_lt b c.ballot) ((ballot_order.decides d.ballot c.ballot).0 parts.0) ∙ ballot_order.irrefl c.ballot;
-        committed = λ same is. committed_first d.is_committed c.is_committed (store_lt d.store c.store) parts.1 is;
-      })
+    let parts = and_parts (ballot_eq d.ballot c.ballot) (is_committed_before d c) level in
+    record {
+      ballot = ap (λ b. ballot_lt b c.ballot) ((ballot_order.decides d.ballot c.ballot).0 parts.0) ∙ ballot_order.irrefl c.ballot;
+      committed = λ same is. committed_first d.is_committed c.is_committed (store_lt d.store c.store) parts.1 is;
+    })
     (or_cases (ballot_lt c.ballot d.ballot) (ballot_eq d.ballot c.ballot && is_committed_before d c) h)
 
 not_higher_above : (d c : Claim) → outranks d c ≡ false → IsAtLeast c d

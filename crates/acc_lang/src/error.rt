@@ -46,7 +46,8 @@ impl fmt::Display for LangKind {
             LangKind::Char => "a byte that begins no token",
             LangKind::Word => "a token that isn't allowed here",
             LangKind::Number => "a number that doesn't fit 64 bits",
-            LangKind::Text => "a text in quotes without its closing quote, or of another length or other bytes than it may have",
+            LangKind::Text =>
+                "a text in quotes without its closing quote, or of another length or other bytes than it may have",
             LangKind::Missing => "the text ends too early",
             LangKind::Name => "a name that is too long, bound twice or not bound",
             LangKind::Size => "more than 16 of a kind, or no key",

@@ -60,8 +60,12 @@ fn selected(
 fn begins_get(cursor: &Cursor<'_>) -> bool
     ensures { result ≡ begins_get_of cursor.now.rest.now }
 {
+    if !is_word(cursor.peek(), "v") {
+        return false;
+    }
     let mut ahead = *cursor;
-    is_word(&ahead.next().lexeme, "v") && is_word(&ahead.next().lexeme, "from")
+    ahead.next();
+    is_word(ahead.peek(), "from")
 }
 
 /// `v FROM table WHERE k = 'key' ;`

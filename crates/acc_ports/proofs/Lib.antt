@@ -1,2 +1,8 @@
+pub mod Crashes
+mod Emptiness
+pub mod Images
+pub mod Makers
 pub mod SinkLemmas
 pub mod SourceLemmas
+pub mod Times
+pub mod Undoing

@@ -1,9 +1,10 @@
 -- Reads that follow one another.
-use Rattle.std.proofs.Common.{◌≡◌, ℕ, ◌+◌, ◌≤◌, ◌++◌, List, length, take, drop, refl, ap, subst, arith, Option, Some, None, ◌∙◌, sym}
+use Rattle.std.proofs.Common.{◌≡◌, ℕ, ◌+◌, ◌<◌, ◌≤◌, ◌++◌, [], ◌∷◌, List, length, take, drop, refl, ap, append_assoc, subst, arith, Option, Some, None, ◌∙◌, sym}
 use Rattle.std.specs.Prelude.{IfSome}
 use Rattle.std.proofs.Math.Seq.{take-add}
+use Rattle.std.proofs.lemmas.List.Elements.{All-push}
 use Rattle.std.proofs.lemmas.List.{drop-drop, length-drop}
-use Rattle.acc_ports.specs.Source.{without_first}
+use Rattle.acc_ports.specs.Source.{without_first, read_also, ReadsOn, ReadsToEnd}
 
 -- The first bytes, and then the first of the rest, are a longer front.
 pub without_first-add : (count filled : ℕ) (left : Option (List ℕ)) → without_first count (without_first filled left) ≡ without_first (filled + count) left
@@ -23,3 +24,24 @@ HoldsFront-more filled count old kept new (Some bytes) now is_now held same give
       (let enough : count ≤ length (drop filled bytes) = more.0 in let front : filled ≤ length bytes = held.0 in omega (arith, length-drop filled bytes)),
       more.1 ∙ ap (λ (front : List ℕ). front ++ take count (drop filled bytes)) (same ∙ held.1) ∙ sym (take-add filled count bytes),
     )
+
+-- What further reads give stands behind what those before them gave.
+pub read_also-add : (first second : List ℕ) (reads : Option (List ℕ)) → read_also second (read_also first reads) ≡ read_also (first ++ second) reads
+read_also-add first second None = refl
+read_also-add first second (Some counts) = ap Some (append_assoc counts first second)
+
+-- One more read gave something.
+pub ReadsOn-more : (count : ℕ) (before now after : Option (List ℕ)) → ReadsOn before now → after ≡ read_also (count ∷ []) now → 0 < count → ReadsOn before after
+ReadsOn-more count before now after on is some = (
+  on.0 ++ count ∷ [],
+  All-push (λ (n : ℕ). 0 < n) on.0 count on.1 some,
+  is ∙ ap (λ (r : Option (List ℕ)). read_also (count ∷ []) r) on.2 ∙ read_also-add on.0 (count ∷ []) before,
+)
+
+-- One more read gave nothing, and is the last.
+pub ReadsToEnd-last : (count : ℕ) (before now after : Option (List ℕ)) → ReadsOn before now → after ≡ read_also (count ∷ []) now → count ≡ 0 → ReadsToEnd before after
+ReadsToEnd-last count before now after on is none = (
+  on.0,
+  on.1,
+  is ∙ ap (λ (n : ℕ). read_also (n ∷ []) now) none ∙ ap (λ (r : Option (List ℕ)). read_also (0 ∷ []) r) on.2 ∙ read_also-add on.0 (0 ∷ []) before,
+)

@@ -1,6 +1,11 @@
+pub mod Disk
 pub mod Errors
 pub mod Faults
+pub mod MemoryDisk
+pub mod MemoryMaker
 pub mod MemPort
 pub mod Sink
 pub mod Source
 pub mod StdPort
+pub mod Strict
+pub mod Undo

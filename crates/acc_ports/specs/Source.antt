@@ -1,5 +1,5 @@
 -- What reading does to the bytes that a source has left. A source that doesn't tell its bytes has `None`.
-use Rattle.std.specs.Prelude.{◌≡◌, ℕ, ◌≤◌, List, [], ◌++◌, length, take, drop, Option}
+use Rattle.std.specs.Prelude.{◌≡◌, ℕ, ◌<◌, ◌≤◌, List, [], ◌∷◌, ◌++◌, length, take, drop, All, Option}
 use Rattle.std.specs.Option.{option_map}
 
 -- the bytes left, without the first `count` of them
@@ -18,3 +18,15 @@ pub record FillsFront (count : ℕ) (bytes before after : List ℕ) : Type 0 whe
 -- At most `most` of the bytes left were taken, from their front.
 abbrev pub TakesAtMost : ℕ → Option (List ℕ) → Option (List ℕ) → Type 0
 TakesAtMost most before after = (count : ℕ) × (count ≤ most) × (after ≡ without_first count before)
+
+-- what the reads gave, with these behind
+abbrev pub read_also : List ℕ → Option (List ℕ) → Option (List ℕ)
+read_also counts reads = option_map (λ earlier. earlier ++ counts) reads
+
+-- There were further reads, and each of them gave something.
+abbrev pub ReadsOn : Option (List ℕ) → Option (List ℕ) → Type 0
+ReadsOn before after = (counts : List ℕ) × All (λ count. 0 < count) counts × (after ≡ read_also counts before)
+
+-- There were further reads, and the last of them alone gave nothing.
+abbrev pub ReadsToEnd : Option (List ℕ) → Option (List ℕ) → Type 0
+ReadsToEnd before after = (counts : List ℕ) × All (λ count. 0 < count) counts × (after ≡ read_also (counts ++ 0 ∷ []) before)

@@ -5,7 +5,7 @@ ghost use Rattle.acc_ports.specs.MemPort.{passed, failed};
 ghost use Rattle.acc_ports.specs.Source.{FillsFront};
 
 use crate::calls::CallLog;
-use crate::{Calls, PortError, Sink, Source};
+use crate::{Calls, History, PortError, Sink, Source};
 use acc_base::{Bytes, Sequence};
 use std::alloc::Global;
 use std::marker::Model;
@@ -17,6 +17,7 @@ pub struct MemSource {
     at: usize,
     piece: usize,
     log: CallLog,
+    moved: History<usize>,
 }
 
 impl Model for MemSource {
@@ -25,7 +26,7 @@ impl Model for MemSource {
 
     ghost Value = { MemPort };
 
-    ghost view = { λ s. record { bytes = drop s.at s.bytes; piece = s.piece; fails = s.log.fails; calls = s.log.calls; faults = s.log.faults } };
+    ghost view = { λ s. record { bytes = drop s.at s.bytes; piece = s.piece; moved = s.moved.items; fails = s.log.fails; calls = s.log.calls; faults = s.log.faults } };
 
     ghost invariant = { λ s. (s.at ≤ length s.bytes) × (0 < s.piece) };
 }
@@ -35,13 +36,14 @@ impl MemSource {
     /// rest succeed. Nothing is allocated: the lists come with their memory.
     pub fn new(_alloc: Global, bytes: Bytes, piece: usize, fails: Calls) -> MemSource
         requires { 0 < piece }
-        ensures { result ≡ record { bytes = bytes; piece = piece; fails = fails; calls = 0; faults = 0 } }
+        ensures { result ≡ record { bytes = bytes; piece = piece; moved = []; fails = fails; calls = 0; faults = 0 } }
     {
         MemSource {
             bytes,
             at: 0,
             piece,
             log: CallLog::new(fails),
+            moved: History::new(),
         }
     }
 }
@@ -51,13 +53,15 @@ impl Source for MemSource {
 
     ghost left = { λ source. Some source.bytes };
 
+    ghost reads = { λ source. Some source.moved };
+
     /// Reads as many bytes as are left, as a read may give, and as `into` has room for. It takes no memory.
     fn read(&mut self, into: &mut [u8]) -> Result<usize, PortError>
         requires { 0 < length into.old }
 
         ensures count { IfOk result (λ count. count ≡ min (min (length self.old.bytes) self.old.piece) (length into.old)) }
         ensures given { IfOk result (λ count. FillsFront count self.old.bytes into.old into.new) }
-        ensures passed { IfOk result (λ count. self.new ≡ passed self.old (drop count self.old.bytes)) }
+        ensures passed { IfOk result (λ count. self.new ≡ passed self.old count (drop count self.old.bytes)) }
         ensures end { IfOk result (λ count. (count ≡ 0) ↔ (self.old.bytes ≡ [])) }
 
         ensures fails { IsErrOf result PortError.Failed ↔ Contains self.old.fails self.old.calls }
@@ -76,6 +80,7 @@ impl Source for MemSource {
         let end = self.at + count;
         into[..count].copy_from_slice(&self.bytes.as_slice()[self.at..end]);
         self.at = end;
+        self.moved = self.moved.and(&count);
         Ok(count)
     }
 }
@@ -86,6 +91,7 @@ pub struct MemSink {
     bytes: Bytes,
     piece: usize,
     log: CallLog,
+    moved: History<usize>,
 }
 
 impl Model for MemSink {
@@ -94,7 +100,7 @@ impl Model for MemSink {
 
     ghost Value = { MemPort };
 
-    ghost view = { λ s. record { bytes = s.bytes; piece = s.piece; fails = s.log.fails; calls = s.log.calls; faults = s.log.faults } };
+    ghost view = { λ s. record { bytes = s.bytes; piece = s.piece; moved = s.moved.items; fails = s.log.fails; calls = s.log.calls; faults = s.log.faults } };
 
     ghost invariant = { λ s. 0 < s.piece };
 }
@@ -104,12 +110,13 @@ impl MemSink {
     /// the rest don't. A write that finds no memory isn't counted.
     pub fn new(alloc: Global, piece: usize, fails: Calls) -> MemSink
         requires { 0 < piece }
-        ensures { result ≡ record { bytes = []; piece = piece; fails = fails; calls = 0; faults = 0 } }
+        ensures { result ≡ record { bytes = []; piece = piece; moved = []; fails = fails; calls = 0; faults = 0 } }
     {
         MemSink {
             bytes: Sequence::new(alloc),
             piece,
             log: CallLog::new(fails),
+            moved: History::new(),
         }
     }
 
@@ -129,7 +136,7 @@ impl Sink for MemSink {
     /// Takes as many bytes as `piece` has and as a write may take. Without memory for them the sink is as before.
     fn write(&mut self, piece: &[u8]) -> Result<usize, PortError>
         ensures count { IfOk result (λ count. count ≡ min (length piece.now) self.old.piece) }
-        ensures passed { IfOk result (λ count. self.new ≡ passed self.old (self.old.bytes ++ take count piece.now)) }
+        ensures passed { IfOk result (λ count. self.new ≡ passed self.old count (self.old.bytes ++ take count piece.now)) }
         ensures progress { IfOk result (λ count. (count ≡ 0) ↔ (piece.now ≡ [])) }
 
         ensures fails { IsErrOf result PortError.Failed ↔ Contains self.old.fails self.old.calls }
@@ -145,6 +152,7 @@ impl Sink for MemSink {
         let count = piece.len().min(self.piece);
         self.bytes.extend_from_slice(&piece[..count])?;
         self.log.pass();
+        self.moved = self.moved.and(&count);
         Ok(count)
     }
 }

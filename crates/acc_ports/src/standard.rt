@@ -7,20 +7,21 @@
 //!     ..
 //! }
 //! ```
-ghost use Rattle.std.specs.Prelude.{◌≡◌, ◌<◌, ◌≤◌, ◌↔◌, ℕ, [], None, length, IfOk, IfErr, IsErrOf, is_ok, if◌then◌else◌};
+ghost use Rattle.std.specs.Prelude.{◌≡◌, ◌<◌, ◌≤◌, ◌↔◌, ℕ, [], ◌∷◌, ◌++◌, None, Some, length, IfOk, OnErr, IfErr, IsErrOf, is_ok, if◌then◌else◌};
 ghost use Rattle.std.specs.Io.KnownBytes.{ReadConsumes, WriteAppends};
 ghost use Rattle.acc_ports.specs.Faults.{Rose, next_count};
 
-use crate::{PortError, Sink, Source};
+use crate::{History, PortError, Sink, Source};
 use std::io;
 use std::io::{Printer, Read, Write};
 use std::marker::Model;
 
 /// A source over a reader, as over standard input. It doesn't tell its bytes and keeps none of them back: each read is one
-/// read of the reader.
+/// read of the reader. It tells what its reads gave.
 #[derive(Debug, Drop)]
 pub struct StdSource<R> {
     reader: R,
+    moved: History<usize>,
     faults: u64,
 }
 
@@ -29,7 +30,7 @@ impl<R> Model for StdSource<R> {
 
     ghost Value = { StdPort R };
 
-    ghost view = { λ s. record { inner = s.reader; faults = s.faults } };
+    ghost view = { λ s. record { inner = s.reader; moved = s.moved.items; faults = s.faults } };
 }
 
 impl<R: Read> StdSource<R> {
@@ -42,9 +43,13 @@ impl<R: Read> StdSource<R> {
 
     /// What a reader has left.
     pub fn over(reader: R) -> StdSource<R>
-        ensures { result ≡ record { inner = reader; faults = 0 } }
+        ensures { result ≡ record { inner = reader; moved = []; faults = 0 } }
     {
-        StdSource { reader, faults: 0 }
+        StdSource {
+            reader,
+            moved: History::new(),
+            faults: 0,
+        }
     }
 }
 
@@ -53,6 +58,8 @@ impl<R: Read> Source for StdSource<R> {
 
     ghost left = { λ _. None };
 
+    ghost reads = { λ source. Some source.moved };
+
     /// Reads once. Each error of the reader is a fault, an interrupt too.
     fn read(&mut self, into: &mut [u8]) -> Result<usize, PortError>
         requires { 0 < length into.old }
@@ -60,13 +67,18 @@ impl<R: Read> Source for StdSource<R> {
         ensures room { IfOk result (λ count. count ≤ length into.old) }
         ensures bytes { ReadConsumes (R.remaining self.old.inner) (R.remaining self.new.inner) result into.new }
         ensures failed { IfErr result (λ error. error ≡ PortError.Failed) }
+        ensures moved { IfOk result (λ count. self.new.moved ≡ self.old.moved ++ count ∷ []) }
+        ensures unmoved { OnErr result (self.new.moved ≡ self.old.moved) }
         ensures faults { self.new.faults ≡ (if is_ok result then self.old.faults else next_count self.old.faults) }
 
         ensures counted { self.old.faults ≤ self.new.faults }
         ensures cause { IsErrOf result PortError.Failed → Rose self.old.faults self.new.faults }
     {
         match self.reader.read(into) {
-            Ok(count) => Ok(count),
+            Ok(count) => {
+                self.moved = self.moved.and(&count);
+                Ok(count)
+            }
             Err(_) => {
                 self.faults = self.faults.saturating_add(1);
                 Err(PortError::Failed)
@@ -80,6 +92,7 @@ impl<R: Read> Source for StdSource<R> {
 #[derive(Debug, Drop)]
 pub struct StdSink<W> {
     writer: W,
+    moved: History<usize>,
     faults: u64,
 }
 
@@ -88,7 +101,7 @@ impl<W> Model for StdSink<W> {
 
     ghost Value = { StdPort W };
 
-    ghost view = { λ s. record { inner = s.writer; faults = s.faults } };
+    ghost view = { λ s. record { inner = s.writer; moved = s.moved.items; faults = s.faults } };
 }
 
 impl<'a, P: Print> StdSink<Printer<'a, P>> {
@@ -103,9 +116,13 @@ impl<'a, P: Print> StdSink<Printer<'a, P>> {
 impl<W: Write> StdSink<W> {
     /// What a writer takes.
     pub fn over(writer: W) -> StdSink<W>
-        ensures { result ≡ record { inner = writer; faults = 0 } }
+        ensures { result ≡ record { inner = writer; moved = []; faults = 0 } }
     {
-        StdSink { writer, faults: 0 }
+        StdSink {
+            writer,
+            moved: History::new(),
+            faults: 0,
+        }
     }
 }
 
@@ -121,13 +138,18 @@ impl<W: Write> Sink for StdSink<W> {
         ensures progress { IfOk result (λ count. (count ≡ 0) ↔ (piece.now ≡ [])) }
         ensures bytes { WriteAppends (W.contents self.old.inner) (W.contents self.new.inner) result piece.now }
         ensures failed { IfErr result (λ error. error ≡ PortError.Failed) }
+        ensures moved { IfOk result (λ count. self.new.moved ≡ self.old.moved ++ count ∷ []) }
+        ensures unmoved { OnErr result (self.new.moved ≡ self.old.moved) }
         ensures faults { self.new.faults ≡ (if is_ok result then self.old.faults else next_count self.old.faults) }
 
         ensures counted { self.old.faults ≤ self.new.faults }
         ensures cause { IsErrOf result PortError.Failed → Rose self.old.faults self.new.faults }
     {
         match self.writer.write(piece) {
-            Ok(count) if count > 0 || piece.is_empty() => Ok(count),
+            Ok(count) if count > 0 || piece.is_empty() => {
+                self.moved = self.moved.and(&count);
+                Ok(count)
+            }
             _ => {
                 self.faults = self.faults.saturating_add(1);
                 Err(PortError::Failed)

@@ -1,8 +1,8 @@
 //! Reading all bytes of a source, and writing all bytes of a text.
-ghost use Rattle.std.specs.Prelude.{◌≡◌, ◌+◌, ◌-◌, ◌<◌, ◌≤◌, ◌↔◌, ◌++◌, ℕ, [], Some, length, take, drop, min, vec_len, IfSome, IfOk, OnOk, OnErr, IsErrOf};
+ghost use Rattle.std.specs.Prelude.{◌≡◌, ◌+◌, ◌-◌, ◌<◌, ◌≤◌, ◌↔◌, ◌++◌, ℕ, [], ◌∷◌, Some, length, take, drop, min, vec_len, IfSome, IfOk, OnOk, OnErr, IsErrOf};
 ghost use Rattle.acc_ports.specs.Faults.{Rose};
 ghost use Rattle.acc_ports.specs.Sink.{followed_by, WritesPart};
-ghost use Rattle.acc_ports.specs.Source.{without_first, none_left, TakesAtMost};
+ghost use Rattle.acc_ports.specs.Source.{without_first, none_left, read_also, TakesAtMost, ReadsOn, ReadsToEnd};
 
 use crate::{PortError, ReadError, Sink, Source};
 use acc_base::{Bytes, Sequence};
@@ -34,6 +34,10 @@ pub fn read_all<S: Source>(alloc: Global, source: &mut S, limit: u64) -> Result<
     ensures within { IfOk result (λ bytes. length bytes ≤ limit) }
     ensures all { IfOk result (λ bytes. IfSome (S.left source.old) (λ left. bytes ≡ left)) }
     ensures end { OnOk result (S.left source.new ≡ none_left (S.left source.old)) }
+
+    // It stops at the first read that gives nothing.
+    ensures stops { OnOk result (ReadsToEnd (S.reads source.old) (S.reads source.new)) }
+    ensures no_end { OnErr result (ReadsOn (S.reads source.old) (S.reads source.new)) }
 
     ensures too_long { IsErrOf result ReadError.TooLong → IfSome (S.left source.old) (λ left. limit < length left) }
     ensures one_more { IsErrOf result ReadError.TooLong → S.left source.new ≡ without_first (limit + 1) (S.left source.old) }
@@ -85,9 +89,11 @@ fn read_behind<S: Source>(
     ensures taken { IfOk result (λ count. S.left source.new ≡ without_first count (S.left source.old)) }
     ensures given { IfOk result (λ count. IfSome (S.left source.old) (λ left. (count ≤ length left) × (take (filled + count) bytes.new.items ≡ take filled bytes.old.items ++ take count left))) }
     ensures end { IfOk result (λ count. IfSome (S.left source.old) (λ left. (count ≡ 0) ↔ (left ≡ []))) }
+    ensures told { IfOk result (λ count. S.reads source.new ≡ read_also (count ∷ []) (S.reads source.old)) }
     ensures same_room { vec_len bytes.new ≡ vec_len bytes.old }
     ensures before { take filled bytes.new.items ≡ take filled bytes.old.items }
     ensures kept { OnErr result (S.left source.new ≡ S.left source.old) }
+    ensures untold { OnErr result (S.reads source.new ≡ S.reads source.old) }
     ensures counted { S.faults source.old ≤ S.faults source.new }
     ensures cause { IsErrOf result PortError.Failed → Rose (S.faults source.old) (S.faults source.new) }
 {

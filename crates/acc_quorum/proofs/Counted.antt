@@ -30,8 +30,8 @@ passing test (n ∷ ns) h =
     ⊎_elim
     (λ here. record { number = n; among = or_left (n == n) (is_among ns n) (eq-eqb n n refl); passes = here })
     (λ there.
-      let p = passing test ns there in
-      record { number = p.number; among = or_right (n == p.number) (is_among ns p.number) p.among; passes = p.passes })
+    let p = passing test ns there in
+    record { number = p.number; among = or_right (n == p.number) (is_among ns p.number) p.among; passes = p.passes })
     (or_cases (test n) (list_any test ns) h)
 
 failing_by : (test : ℕ → Bool) (n : ℕ) (ns : List ℕ) (b : Bool) → test n ≡ b → (b && list_all test ns) ≡ false
@@ -91,12 +91,12 @@ pub fast_and_possible_fast : (layout : Layout) (shards others : List ℕ) (answe
 fast_and_possible_fast layout shards others answers more shard c f m possible =
     let s : Shard = shard_at layout shard in
     let meets =
-      counts.fast_and_majority_meet layout.nodes s (shard_in layout shards others shard c) (has_kept answers shard)
-      (λ n. not (has_answered more shard n) || has_kept more shard n) (has_answered more shard)
-      (number_at (λ s. is_fast (shard_at layout s) (has_kept answers s)) shards shard f c.used)
-      (sym (may_be_fast-is s (has_answered more shard) (has_kept more shard))
-      ∙ number_at (λ s. may_be_fast (shard_at layout s) (has_answered more s) (has_kept more s)) others shard possible c.used_too)
-      (number_at (λ s. is_majority (shard_at layout s) (has_answered more s)) others shard m c.used_too) in
+    counts.fast_and_majority_meet layout.nodes s (shard_in layout shards others shard c) (has_kept answers shard)
+    (λ n. not (has_answered more shard n) || has_kept more shard n) (has_answered more shard)
+    (number_at (λ s. is_fast (shard_at layout s) (has_kept answers s)) shards shard f c.used)
+    (sym (may_be_fast-is s (has_answered more shard) (has_kept more shard))
+    ∙ number_at (λ s. may_be_fast (shard_at layout s) (has_answered more s) (has_kept more s)) others shard possible c.used_too)
+    (number_at (λ s. is_majority (shard_at layout s) (has_answered more s)) others shard m c.used_too) in
     let both = and_parts (has_kept answers shard meets.0) (not (has_answered more shard meets.0) || has_kept more shard meets.0) meets.2 in
     record {
       node = meets.0;
@@ -111,8 +111,8 @@ fast_and_possible_fast layout shards others answers more shard c f m possible =
 fast_apart : (nodes : List ℕ) (s : Shard) → IsShard nodes s → (a b : ℕ → Bool) → is_fast s a ≡ true → is_fast s b ≡ false → Meet s (λ n. not (b n)) a
 fast_apart nodes s is a b fa fb =
     let f =
-      found (λ n. not (b n) && a n) s.electorate
-      (omega (arith, leb-true _ _ fa, leb-false _ _ fb, count_by-both (λ n. not (b n)) a s.electorate, count_by-not b s.electorate)) in
+    found (λ n. not (b n) && a n) s.electorate
+    (omega (arith, leb-true _ _ fa, leb-false _ _ fb, count_by-both (λ n. not (b n)) a s.electorate, count_by-not b s.electorate)) in
     let both = and_parts (not (b f.number)) (a f.number) f.passes in
     (f.number, among_part s.electorate s.replicas is.electorate f.number f.among, both.0, both.1)
 
@@ -155,9 +155,9 @@ lost_and_fast layout shards answers more are lost fast =
     let s : Shard = shard_at layout p.number in
     let is = shard_of_layout layout p.number are.accepted (are.exist p.number p.among) in
     let meets =
-      fast_apart layout.nodes s is (has_kept more p.number) (λ n. not (has_changed answers p.number n))
-      (number_at (λ s. is_fast (shard_at layout s) (has_kept more s)) shards p.number fast p.among)
-      (not_is (fast_lost s (has_changed answers p.number)) (is_fast s (λ n. not (has_changed answers p.number n))) (fast_lost-is layout.nodes s is (has_changed answers p.number)) p.passes) in
+    fast_apart layout.nodes s is (has_kept more p.number) (λ n. not (has_changed answers p.number n))
+    (number_at (λ s. is_fast (shard_at layout s) (has_kept more s)) shards p.number fast p.among)
+    (not_is (fast_lost s (has_changed answers p.number)) (is_fast s (λ n. not (has_changed answers p.number n))) (fast_lost-is layout.nodes s is (has_changed answers p.number)) p.passes) in
     record {
       shard = p.number;
       used = p.among;
@@ -172,9 +172,9 @@ impossible_and_fast layout shards answers more are impossible fast =
     let s : Shard = shard_at layout p.number in
     let is = shard_of_layout layout p.number are.accepted (are.exist p.number p.among) in
     let meets =
-      fast_apart layout.nodes s is (has_kept more p.number) (λ n. not (has_answered answers p.number n) || has_kept answers p.number n)
-      (number_at (λ s. is_fast (shard_at layout s) (has_kept more s)) shards p.number fast p.among)
-      (sym (may_be_fast-is s (has_answered answers p.number) (has_kept answers p.number)) ∙ negated (may_be_fast s (has_answered answers p.number) (has_kept answers p.number)) p.passes) in
+    fast_apart layout.nodes s is (has_kept more p.number) (λ n. not (has_answered answers p.number n) || has_kept answers p.number n)
+    (number_at (λ s. is_fast (shard_at layout s) (has_kept more s)) shards p.number fast p.among)
+    (sym (may_be_fast-is s (has_answered answers p.number) (has_kept answers p.number)) ∙ negated (may_be_fast s (has_answered answers p.number) (has_kept answers p.number)) p.passes) in
     let parts = silent_or_kept (has_answered answers p.number meets.0) (has_kept answers p.number meets.0) meets.2 in
     record {
       shard = p.number;

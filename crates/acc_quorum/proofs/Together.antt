@@ -39,8 +39,8 @@ greatest-above (b ∷ answers) a h =
     ⊎_elim
     (λ same. subst (λ (c : Answer). stamp_lt (later_stamp (greatest answers) b.t) c.t ≡ false) same (later-right (greatest answers) b.t))
     (λ rest.
-      le-trans stamp_order a.t (greatest answers) (later_stamp (greatest answers) b.t)
-      (greatest-above answers a rest) (later-left (greatest answers) b.t))
+    le-trans stamp_order a.t (greatest answers) (later_stamp (greatest answers) b.t)
+    (greatest-above answers a rest) (later-left (greatest answers) b.t))
     (first_or_rest b answers a h)
 
 -- ---- the union

@@ -87,8 +87,8 @@ from_by view m rest None is h more =
 from_by view m rest (Some v) is h more =
     ⊎_elim (λ same. record { message = m; there = First m rest; is = view_in-is m view (is ∙ ap Some (sym same)) })
     (λ later.
-      let f = more later in
-      record { message = f.message; there = Later f.message m rest f.there; is = f.is })
+    let f = more later in
+    record { message = f.message; there = Later f.message m rest f.there; is = f.is })
     (IsIn-cases view v (views_in rest) h)
 
 pub view_from : (answers : List Message) (view : View) → IsIn view (views_in answers) → FromAnswer answers view

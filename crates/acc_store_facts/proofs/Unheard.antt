@@ -230,9 +230,9 @@ module _ (cluster : Cluster) (items : List Item) (h : EachStands cluster items) 
         from = i.from;
         to = i.to;
         sending =
-          subst (λ z. Sending items (Accept i.from i.to x found.ballot z found.t found.deps))
-          (some_is i.body body (sym (bodies_are_begun cluster items h (Accept i.from i.to x found.ballot i.body found.t found.deps) i.body sending refl) ∙ is))
-          sending;
+            subst (λ z. Sending items (Accept i.from i.to x found.ballot z found.t found.deps))
+            (some_is i.body body (sym (bodies_are_begun cluster items h (Accept i.from i.to x found.ballot i.body found.t found.deps) i.body sending refl) ∙ is))
+            sending;
       }
     where
       i : AcceptedIn past x found

@@ -17,20 +17,30 @@ pub enum Case<'l> {
     Message(&'l str),
 }
 
-/// What a line asks, and the answer that it wants.
-pub fn read(line: &Value) -> Result<(Case<'_>, &str)> {
-    parts(line).context("a line that is no case")
+/// What a line of the table is.
+#[derive(Clone, Copy)]
+pub enum Line<'l> {
+    /// A question, and the answer that is wanted.
+    Case(Case<'l>, &'l str),
+    /// The heading of the lines below it.
+    Heading,
 }
 
-fn parts(line: &Value) -> Option<(Case<'_>, &str)> {
+/// What a line says.
+pub fn read(line: &Value) -> Result<Line<'_>> {
+    parts(line).context("a line of another form")
+}
+
+fn parts(line: &Value) -> Option<Line<'_>> {
     match line.as_array()?.as_slice() {
+        [kind, _] if kind.as_str() == Some("part") => Some(Line::Heading),
         [kind, text, wanted] => {
             let case = short_case(kind.as_str()?, text.as_str()?)?;
-            Some((case, wanted.as_str()?))
+            Some(Line::Case(case, wanted.as_str()?))
         }
         [kind, text, cells, wanted] if kind.as_str() == Some("outcome") => {
             let case = Case::Outcome(text.as_str()?, cells.as_array()?.as_slice());
-            Some((case, wanted.as_str()?))
+            Some(Line::Case(case, wanted.as_str()?))
         }
         _ => None,
     }

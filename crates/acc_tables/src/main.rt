@@ -11,9 +11,18 @@
 //! - `["document", TEXT, ANSWER]`: the text of a cluster document is read. The answer is `ok` and the counts of the plan, as
 //!   `ok nodes=1 shards=1 txns=1 steps=2`, or the refusal: `bad`, the kind's number and the path, then the detail where
 //!   it isn't 0, and behind the detail of a transaction's text ` at ` and the byte.
-//! - `["message", BASE16, ANSWER]`: bytes are decoded. The answer is `ok` and the message as `{:?}` tells it, or its fault:
+//! - `["message", BASE16, ANSWER]`: bytes are decoded. The answer is `ok` and the message in the form below, or its fault:
 //!   the kind's number, ` at ` and the byte where it stands. It is `spelled otherwise` where `encode` doesn't give the very
 //!   bytes again, and `of another length` where `message_length` isn't their count.
+//! - `["part", TEXT]`: the heading of the lines below it. It asks nothing.
+//!
+//! A message is told as its variant's name, the sender, the actor that it goes to, the id, the ballot and its further fields
+//! in their order, each behind a space: a node as its number and a store as `NODE.SHARD`, a stamp as its two numbers with a
+//! point in between, a body as its canonical text in square brackets, dependencies as the ids of each shard, as
+//! `SHARD:ID,ID`, joined by semicolons, an outcome as above in round brackets, a read answer as `values` and the cells in the
+//! form of writes, or as `known` and an outcome, a record of a view as its fields in round brackets, the view's flag as `yes`
+//! or `no`, and waits as ids joined by commas. No dependencies, no record and no waits are `-`. A key that isn't UTF-8 is told as
+//! its bytes, each as a number behind a backslash.
 //!
 //! Each answer that differs is printed on a line of its own, and at the end how many of each kind agree. The program fails
 //! where one differs, at a line of another form, and where memory runs out.
@@ -25,9 +34,10 @@ mod message;
 mod outcome;
 mod tally;
 mod text;
+mod told;
 
 use anyhow::{Context, Result, ensure};
-use case::Case;
+use case::{Case, Line};
 use serde_json::Value;
 use std::alloc::Global;
 use std::io::{BufRead, BufReader};
@@ -53,7 +63,10 @@ fn compare(
     line: &str,
 ) -> Result<()> {
     let line = Value::from_str(alloc, line)?;
-    let (case, wanted) = case::read(&line)?;
+    let (case, wanted) = match case::read(&line)? {
+        Line::Case(case, wanted) => (case, wanted),
+        Line::Heading => return Ok(()),
+    };
     let came = answer(alloc, &case)?;
     let agrees = came.as_str() == wanted;
     tallies.of(&case).count(agrees);

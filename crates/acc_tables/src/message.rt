@@ -1,5 +1,7 @@
 //! Bytes of messages.
+use crate::told::told_message;
 use acc_base::OutOfMemory;
+use acc_message::Message;
 use acc_message_code::{CodeError, decode, encode, laws, message_length};
 use anyhow::Result;
 use std::alloc::Global;
@@ -9,18 +11,27 @@ pub fn answer(alloc: Global, digits: &str) -> Result<String> {
     let bytes = hex::decode(alloc, digits)?;
     let bytes = bytes.as_slice();
     match decode(alloc, bytes) {
-        Ok(m) => {
-            laws::what_fits_is_short();
-            if encode(alloc, &m)?.as_slice() != bytes {
-                return Ok("spelled otherwise".to_string(alloc)?);
-            }
-            if message_length(&m) != bytes.len() as u64 {
-                return Ok("of another length".to_string(alloc)?);
-            }
-            Ok(format!(in alloc; "ok {m:?}")?)
-        }
+        Ok(message) => spelled(alloc, &message, bytes),
         Err(error) => fault(alloc, error),
     }
+}
+
+/// The message, where these bytes are its spelling.
+fn spelled(alloc: Global, message: &Message, bytes: &[u8]) -> Result<String> {
+    laws::what_fits_is_short();
+    if encode(alloc, message)?.as_slice() != bytes {
+        return Ok("spelled otherwise".to_string(alloc)?);
+    }
+    if message_length(message) != bytes.len() as u64 {
+        return Ok("of another length".to_string(alloc)?);
+    }
+    found(alloc, message)
+}
+
+fn found(alloc: Global, message: &Message) -> Result<String> {
+    let text = told_message(alloc, message)?;
+    let text = std::str::from_utf8(text.as_slice())?;
+    Ok(format!(in alloc; "ok {text}")?)
 }
 
 /// A fault and the byte where it stands.

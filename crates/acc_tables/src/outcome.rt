@@ -1,10 +1,11 @@
 //! Outcomes of bodies.
 use crate::text::fault;
-use acc_base::Sequence;
+use crate::told::told_outcome;
+use acc_base::{OutOfMemory, Sequence};
 use acc_lang::parse_v2;
-use acc_txn::{Outcome, Reply, Verdict};
+use acc_txn::Outcome;
 use acc_value::{CellList, Key, Value as Held};
-use anyhow::{Context, Result, bail};
+use anyhow::{Context, Result};
 use serde_json::Value;
 use std::alloc::Global;
 
@@ -29,21 +30,24 @@ fn cell_list(alloc: Global, cells: &[Value]) -> Result<CellList> {
 }
 
 fn add_cell(alloc: Global, list: &mut CellList, cell: &Value) -> Result<()> {
-    let [table, key, value] = cell
-        .as_array()
-        .context("a cell that is no list")?
-        .as_slice()
-    else {
-        bail!("a cell that isn't of three parts");
-    };
-    let table = table.as_str().context("a table that is no text")?;
-    let key = key.as_str().context("a key that is no text")?;
-    let key = Key {
-        table: Sequence::from_slice(alloc, table.as_bytes())?,
-        key: Sequence::from_slice(alloc, key.as_bytes())?,
-    };
+    let (table, key, value) = parts(cell).context("a cell of another form")?;
+    let key = key_of(alloc, table, key)?;
     list.set(key, held(alloc, value)?)?;
     Ok(())
+}
+
+fn parts(cell: &Value) -> Option<(&str, &str, &Value)> {
+    match cell.as_array()?.as_slice() {
+        [table, key, value] => Some((table.as_str()?, key.as_str()?, value)),
+        _ => None,
+    }
+}
+
+fn key_of(alloc: Global, table: &str, key: &str) -> Result<Key, OutOfMemory> {
+    Ok(Key {
+        table: Sequence::from_slice(alloc, table.as_bytes())?,
+        key: Sequence::from_slice(alloc, key.as_bytes())?,
+    })
 }
 
 fn held(alloc: Global, value: &Value) -> Result<Option<Held>> {
@@ -60,58 +64,7 @@ fn held(alloc: Global, value: &Value) -> Result<Option<Held>> {
 }
 
 fn outcome_text(alloc: Global, outcome: &Outcome) -> Result<String> {
-    let mut text = String::new(alloc);
-    push_reply(&mut text, alloc, &outcome.reply)?;
-    let mut sign = " / ";
-    for (key, cell) in outcome.writes.pairs() {
-        text.push_str(sign)?;
-        push_write(&mut text, alloc, key, cell.as_ref())?;
-        sign = ",";
-    }
-    Ok(text)
-}
-
-fn push_reply(text: &mut String, alloc: Global, reply: &Reply) -> Result<()> {
-    text.push_str(match reply.verdict {
-        Verdict::Ok => "ok",
-        Verdict::Skipped => "skipped",
-        Verdict::Overflow => "overflow",
-    })?;
-    let mut sign = " ";
-    for cell in reply.values.as_slice() {
-        text.push_str(sign)?;
-        push_cell(text, alloc, cell.as_ref())?;
-        sign = ",";
-    }
-    Ok(())
-}
-
-fn push_write(text: &mut String, alloc: Global, key: &Key, cell: Option<&Held>) -> Result<()> {
-    text.push_str(std::str::from_utf8(key.table.as_slice())?)?;
-    text.push_str(".")?;
-    text.push_str(std::str::from_utf8(key.key.as_slice())?)?;
-    text.push_str("=")?;
-    push_cell(text, alloc, cell)
-}
-
-fn push_cell(text: &mut String, alloc: Global, cell: Option<&Held>) -> Result<()> {
-    match cell {
-        Some(Held::Number(number)) => text.push_str(number.to_string(alloc)?.as_str())?,
-        Some(Held::Text(held)) => push_quoted(text, std::str::from_utf8(held.as_slice())?)?,
-        None => text.push_str("null")?,
-    }
-    Ok(())
-}
-
-/// A text in quotes, with two quotes for one.
-fn push_quoted(text: &mut String, held: &str) -> Result<()> {
-    text.push_str("'")?;
-    for letter in held.chars() {
-        if letter == '\'' {
-            text.push_str("'")?;
-        }
-        text.push(letter)?;
-    }
-    text.push_str("'")?;
-    Ok(())
+    let text = told_outcome(alloc, outcome)?;
+    let text = std::str::from_utf8(text.as_slice())?;
+    Ok(text.to_string(alloc)?)
 }

@@ -1,0 +1,6 @@
+pub mod BlockFacts
+pub mod Ids
+pub mod KeptFacts
+pub mod Rivals
+pub mod Steps
+pub mod UserFacts

@@ -1,0 +1,7 @@
+-- The transactions at the places so far are added.
+use Rattle.std.proofs.Common.{◌≡◌, ◌++◌, take}
+use Rattle.acc_index.specs.Places.{ids_of}
+use Rattle.acc_index.proofs.columns.Columns.collect.Given as goal
+
+abbrev pub invariant-loop-place : goal.invariant-loop-place
+invariant-loop-place l = l.found.items ≡ l.fn.found.items ++ ids_of l.self (take l.place-index l.places)

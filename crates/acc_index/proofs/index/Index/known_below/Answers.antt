@@ -1,0 +1,18 @@
+use Rattle.std.proofs.Common.{subst, sym, ap, ◌∙◌, []}
+use Rattle.acc_stamp.specs.Rising.{ids_union}
+use Rattle.acc_value.specs.Pairs.{IsRising}
+use Rattle.acc_index.specs.Noted.{rival_ids_below}
+use Rattle.acc_index.specs.Kept.{noted_of}
+use Rattle.acc_index.proofs.KeptFacts.{in_columns, kept_below}
+use Rattle.acc_index.proofs.index.Index.known_below.Goals as goal
+
+pub all_below-requires-clause-in_range : goal.all_below-requires-clause-in_range
+all_below-requires-clause-in_range c = in_columns c.self.inside.columns c.self.inside.shares.items c.self.inside.users c.self.invariant
+
+pub returns-clause-ids : goal.returns-clause-ids
+returns-clause-ids c =
+    let x = c.self.inside in
+    let rises = subst IsRising (sym c.pairs.ensures.pairs) c.pairs.ensures.rising in
+    c.rising.ensures.ids ∙ ap (ids_union []) c.in_ok-all_below.ensures ∙ kept_below x.columns x.shares.items x.users c.self.invariant c.args.id c.pairs.result.now rises c.args.bound
+    ∙ ap (λ uses. rival_ids_below (noted_of x.columns x.shares.items) c.args.id uses c.args.bound) c.pairs.ensures.pairs
+    ∙ ap (λ noted. rival_ids_below noted c.args.id c.args.share.now c.args.bound) c.self.view_is

@@ -1,0 +1,119 @@
+//! The index of a store.
+ghost use Rattle.std.specs.Prelude.{◌≡◌, [], ◌∷◌, ◌++◌, map, IfOk, OnOk, OnErr};
+ghost use Rattle.acc_stamp.specs.Rising.{IsRising};
+ghost use Rattle.acc_index.specs.Noted.{Noted, IsGreatestStamp, rival_stamps, rival_ids, rival_ids_below, writer_ids};
+
+use crate::columns::{Columns, put};
+use crate::order::rising;
+use crate::questions::{all_below, all_of, greatest_stamp};
+use crate::users::{Users, add_all, reserve_all, users_of};
+use acc_base::OutOfMemory;
+use acc_stamp::{Ids, Stamp, TxnId};
+use acc_value::{Footprint, Key};
+use std::alloc::Global;
+use std::collections::BTreeMap;
+use std::marker::Model;
+
+/// What a store has noted: stamps of transactions, each with the transaction and the keys of the shard that it uses, in the
+/// order noted. A question takes time for the users of its keys, and not for all that was noted.
+#[derive(Debug, Drop)]
+pub struct Index {
+    columns: Columns,
+    shares: Vec<Footprint>,
+    users: BTreeMap<Key, Users>,
+}
+
+impl Model for Index {
+    ghost use Rattle.std.specs.Prelude.{List};
+    ghost use Rattle.acc_index.specs.Noted.{Noted};
+    ghost use Rattle.acc_index.specs.Kept.{noted_of, IsKept};
+
+    ghost Value = { List Noted };
+
+    ghost view = { λ x. noted_of x.columns x.shares.items };
+
+    ghost invariant = { λ x. IsKept x.columns x.shares.items x.users };
+}
+
+impl Index {
+    /// An index of nothing, which takes no memory yet.
+    pub fn new(alloc: Global) -> Index
+        ensures { result ≡ [] }
+    {
+        Index {
+            columns: Columns::new(alloc),
+            shares: Vec::new(alloc),
+            users: BTreeMap::new(alloc),
+        }
+    }
+
+    /// Notes a stamp of a transaction that uses these keys. Without memory for it the index is as before.
+    pub fn note(&mut self, id: TxnId, share: &Footprint, stamp: Stamp) -> Result<(), OutOfMemory>
+        ensures ok { OnOk result (self.new ≡ self.old ++ record { id = id; share = share.now; stamp = stamp } ∷ []) }
+        ensures err { OnErr result (self.new ≡ self.old) }
+    {
+        let kept = share.copy()?;
+        reserve_all(&mut self.users, share.pairs())?;
+        self.shares.reserve(1)?;
+        self.columns.push(id, stamp)?;
+        let place = self.shares.len();
+        put(&mut self.shares, kept);
+        add_all(&mut self.users, share.pairs(), place);
+        Ok(())
+    }
+
+    /// The greatest stamp that was noted of another transaction which conflicts with this one. Takes no memory.
+    pub fn greatest_conflict(&self, id: TxnId, share: &Footprint) -> Option<Stamp>
+        ensures { IsGreatestStamp (rival_stamps self.now id share.now) result }
+    {
+        greatest_stamp(&self.columns, &self.users, share.pairs(), id)
+    }
+
+    /// The other transactions that conflict with this one and whose own stamp is smaller than the bound, rising.
+    pub fn known_below(
+        &self,
+        id: TxnId,
+        share: &Footprint,
+        bound: Stamp,
+    ) -> Result<Ids, OutOfMemory>
+        ensures ids { IfOk result (λ ids. ids ≡ rival_ids_below self.now id share.now bound) }
+        ensures rises { IfOk result IsRising }
+    {
+        let alloc = *self.shares.allocator();
+        Ok(rising(all_below(alloc, &self.columns, &self.users, share.pairs(), id, bound)?))
+    }
+
+    /// The other transactions that conflict with this one, rising.
+    pub fn conflicting(&self, id: TxnId, share: &Footprint) -> Result<Ids, OutOfMemory>
+        ensures ids { IfOk result (λ ids. ids ≡ rival_ids self.now id share.now) }
+        ensures rises { IfOk result IsRising }
+    {
+        let alloc = *self.shares.allocator();
+        Ok(rising(all_of(alloc, &self.columns, &self.users, share.pairs(), id)?))
+    }
+
+    /// The transactions that write a key, rising.
+    pub fn writers(&self, key: &Key) -> Result<Ids, OutOfMemory>
+        ensures ids { IfOk result (λ ids. ids ≡ writer_ids self.now key.now) }
+        ensures rises { IfOk result IsRising }
+    {
+        let mut found = Vec::new(*self.shares.allocator());
+        let (writers, _) = users_of(&self.users, key, false);
+        self.columns.collect(writers, &mut found)?;
+        Ok(rising(found))
+    }
+
+    /// The `h` of each stamp, in the order noted.
+    pub fn heights(&self) -> &[u64]
+        ensures { result.now ≡ map (λ (t : Noted). t.stamp.h) self.now }
+    {
+        &self.columns.heights
+    }
+
+    /// The origin of each stamp, in the order noted.
+    pub fn origins(&self) -> &[u32]
+        ensures { result.now ≡ map (λ (t : Noted). t.stamp.origin) self.now }
+    {
+        &self.columns.origins
+    }
+}

@@ -1,0 +1,9 @@
+-- How the error of a disk becomes the error of a journal.
+use Rattle.acc_ports.specs.declared.error.PortError.{PortError}
+use Rattle.acc_ports.specs.declared.error.PortError.TheVariants as port
+use Rattle.acc_journal.specs.declared.error.JournalError.{JournalError}
+use Rattle.acc_journal.specs.declared.error.JournalError.TheVariants as errors
+
+abbrev pub journal_error : PortError → JournalError
+journal_error port.Failed = errors.DiskFault
+journal_error port.OutOfMemory = errors.OutOfMemory

@@ -1,0 +1,3 @@
+pub mod Errors
+pub mod Layout
+pub mod Journal

@@ -1,0 +1,4 @@
+pub mod Maxima
+pub mod Lanes
+pub mod Members
+pub mod Numbers

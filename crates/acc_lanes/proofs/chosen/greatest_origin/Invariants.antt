@@ -1,0 +1,16 @@
+-- The greatest origin of the chosen stamps with this h before the present place.
+use Rattle.std.proofs.Common.{◌≡◌, ◌≤◌, ◌-◌, length, take}
+use Rattle.acc_lanes.specs.Vectors.{greatest_number, origins_chosen}
+use Rattle.acc_lanes.proofs.chosen.greatest_origin.Given as goal
+
+abbrev pub invariant-loop-at : goal.invariant-loop-at
+invariant-loop-at l = record {
+  in_range : l.at ≤ length l.h;
+  kept : greatest_number l.best ≡ greatest_number (take l.at (origins_chosen l.height l.mask l.h l.origin));
+}
+
+abbrev pub decreases-loop-at : goal.decreases-loop-at
+decreases-loop-at l = length l.h - l.at
+
+abbrev pub invariant-loop-place : goal.invariant-loop-place
+invariant-loop-place l = l.greatest ≡ greatest_number (take l.place (origins_chosen l.height l.mask l.h l.origin))

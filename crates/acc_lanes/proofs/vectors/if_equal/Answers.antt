@@ -1,0 +1,6 @@
+use Rattle.std.proofs.Common.{eqb}
+use Rattle.acc_lanes.proofs.Lanes.{HasLanes-select_splat}
+use Rattle.acc_lanes.proofs.vectors.if_equal.Goals as goal
+
+pub returns : goal.returns
+returns c = HasLanes-select_splat eqb c.args.v c.args.number c.args.yes c.args.no c.fits-v.0 c.fits-yes.0 c.fits-no.0

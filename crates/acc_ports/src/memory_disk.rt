@@ -1,0 +1,152 @@
+//! A disk in memory.
+ghost use Rattle.std.specs.Prelude.{◌≡◌, ◌+◌, ◌≤◌, ◌↔◌, IsTrue, [], ◌∷◌, ◌++◌, length, take, drop, Some, None, IfOk, OnOk, OnErr, IsErrOf};
+ghost use Rattle.acc_ports.specs.Faults.{next_count, Rose};
+
+use crate::disk::{Disk, Rig};
+use crate::disk_calls::DiskCalls;
+use crate::surface::Surface;
+use crate::{Calls, History, PortError};
+use acc_base::{Bytes, OutOfMemory, Sequence};
+use std::alloc::Global;
+use std::marker::Model;
+
+/// A disk in memory. A write that fails changes no content. A call that finds no memory changes nothing and isn't counted.
+#[derive(Debug, Drop)]
+pub struct MemDisk {
+    surface: Surface,
+    past: History<Surface>,
+    calls: DiskCalls,
+}
+
+impl Model for MemDisk {
+    ghost use Rattle.acc_ports.specs.MemoryDisk.{MemoryDisk, IsImageOf};
+    ghost use Rattle.acc_ports.specs.Disk.{Stands};
+
+    ghost Value = { MemoryDisk };
+
+    ghost view = { λ d. record { now = d.surface; past = d.past.items; armed = d.calls.armed; fails = d.calls.fails; calls = d.calls.calls; faults = d.calls.faults } };
+
+    ghost invariant = { λ d. Stands d.surface.content (IsImageOf d.surface) };
+}
+
+impl MemDisk {
+    ghost use Rattle.acc_ports.specs.Disk.{Only};
+    ghost use Rattle.acc_ports.specs.MemoryDisk.{IsImageOf, settled_on};
+
+    /// A disk that holds these bytes, all synced. Nothing is armed, and it is strict.
+    pub fn of(alloc: Global, bytes: Bytes) -> Result<MemDisk, OutOfMemory>
+        ensures only { IfOk result (λ disk. Only bytes (IsImageOf disk.now)) }
+        ensures value { IfOk result (λ disk. disk ≡ record { now = settled_on bytes; past = []; armed = None; fails = None; calls = 0; faults = 0 }) }
+    {
+        Ok(MemDisk {
+            surface: Surface::holding(alloc, bytes),
+            past: History::new(),
+            calls: DiskCalls::new(None),
+        })
+    }
+
+    /// A disk that holds the two bytes 1 and 0, synced. Nothing is armed, and it is strict.
+    pub fn new(alloc: Global) -> Result<MemDisk, OutOfMemory>
+        ensures only { IfOk result (λ disk. Only (1 ∷ 0 ∷ []) (IsImageOf disk.now)) }
+        ensures value { IfOk result (λ disk. disk ≡ record { now = settled_on (1 ∷ 0 ∷ []); past = []; armed = None; fails = None; calls = 0; faults = 0 }) }
+    {
+        MemDisk::of(alloc, Sequence::from_slice(alloc, &[1, 0])?)
+    }
+
+    /// A disk as of `new` whose calls of these numbers fail besides the armed one. Calls of `Disk` are counted from 0. It
+    /// isn't strict.
+    pub fn listed(alloc: Global, fails: Calls) -> Result<MemDisk, OutOfMemory>
+        ensures only { IfOk result (λ disk. Only (1 ∷ 0 ∷ []) (IsImageOf disk.now)) }
+        ensures value { IfOk result (λ disk. disk ≡ record { now = settled_on (1 ∷ 0 ∷ []); past = []; armed = None; fails = Some fails; calls = 0; faults = 0 }) }
+    {
+        let bytes = Sequence::from_slice(alloc, &[1, 0])?;
+        Ok(MemDisk {
+            surface: Surface::holding(alloc, bytes),
+            past: History::new(),
+            calls: DiskCalls::new(Some(fails)),
+        })
+    }
+}
+
+impl MemDisk {
+    /// What a read gives.
+    pub fn content(&self) -> &[u8]
+        ensures { result.now ≡ self.now.now.content }
+    {
+        self.surface.content()
+    }
+}
+
+impl Disk for MemDisk {
+    ghost use Rattle.std.specs.Prelude.{is_none, length};
+    ghost use Rattle.acc_ports.specs.MemoryDisk.{IsImageOf, WasImage, counts_now, only_now};
+
+    ghost content = { λ d. d.now.content };
+
+    ghost is_image = { λ d. IsImageOf d.now };
+
+    ghost clock = { λ d. length d.past };
+
+    ghost was_image = { WasImage };
+
+    ghost faults = { λ d. d.faults };
+
+    ghost strict = { λ d. is_none d.fails };
+
+    ghost armed = { λ d. d.armed };
+
+    ghost synced = { λ d. d.now.synced };
+
+    ghost written = { λ d. d.now.written };
+
+    ghost counts_now = { counts_now };
+
+    ghost only_now = { only_now };
+
+    fn len(&mut self) -> Result<u64, PortError> {
+        self.calls.enter()?;
+        Ok(self.surface.content().len() as u64)
+    }
+
+    fn read(&mut self, at: u64, into: &mut [u8]) -> Result<(), PortError> {
+        let content = self.surface.content();
+        self.calls.enter()?;
+        let at = at as usize;
+        into.copy_from_slice(&content[at..at + into.len()]);
+        Ok(())
+    }
+
+    fn write_at(&mut self, at: u64, bytes: &[u8]) -> Result<(), PortError> {
+        let at = at as usize;
+        let before = self.past.and(&self.surface);
+        if self.calls.next_fails() {
+            self.surface.fail_at(at, bytes.len())?;
+            self.past = before;
+            return Err(self.calls.fail());
+        }
+        self.surface.write_at(at, bytes)?;
+        self.past = before;
+        self.calls.pass();
+        Ok(())
+    }
+
+    fn sync(&mut self) -> Result<(), PortError> {
+        self.calls.enter()?;
+        self.past = self.past.and(&self.surface);
+        self.surface.sync();
+        Ok(())
+    }
+}
+
+impl Rig for MemDisk {
+    fn crash(&mut self, choice: u8) -> Result<(), OutOfMemory> {
+        self.past = self.past.and(&self.surface);
+        self.surface.crash(choice);
+        self.calls.disarm();
+        Ok(())
+    }
+
+    fn arm(&mut self, calls: u64) {
+        self.calls.arm(calls);
+    }
+}

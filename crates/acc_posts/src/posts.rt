@@ -1,0 +1,208 @@
+//! The index of messages.
+ghost use Rattle.std.specs.Prelude.{◌≡◌, ℕ, ◌+◌, ◌-◌, ◌%◌, ◌<◌, ◌≤◌, ◌==◌, [], ◌∷◌, ◌++◌, length, not, ◌&&◌, IfOk, OnOk, OnErr, MatchOption, nat_lt, if◌then◌else◌, vec_len, vec_capacity};
+ghost use Rattle.std.specs.List.{list_any};
+ghost use Rattle.acc_posts.specs.Mail.{Mail, taken, early_after, IsOpenTo, IsNext, HasNone};
+ghost use Rattle.acc_posts.specs.Indexed.{lane_at};
+
+use crate::lanes::{LANES, join_lane, lane_of, no_places};
+use crate::posting::{Post, Posting};
+use acc_base::OutOfMemory;
+use std::alloc::Global;
+use std::marker::Model;
+
+/// The messages that were sent, by the actors to which they go, and which of them are still to be taken. Room for more is
+/// asked for ahead, so that noting what an item sent and took can't be refused.
+///
+/// Each message knows the next one of its lane, and each lane where its open messages may begin. So the oldest open
+/// message to an actor is found in constant time, counted over many calls, as long as no two actors share a lane.
+#[derive(Debug, Drop)]
+pub struct Posts {
+    postings: Vec<Posting>,
+    // For each message the next one of its lane.
+    links: Vec<usize>,
+    // For each lane a message before which none of the lane is open, and the lane's last message.
+    firsts: Vec<usize>,
+    lasts: Vec<usize>,
+    // The numbers of messages that were taken before they were sent, which happens in no run.
+    early: Vec<u64>,
+    // How many more messages and takings there is room for.
+    room: usize,
+    takings: usize,
+}
+
+impl Model for Posts {
+    ghost use Rattle.std.specs.Prelude.{◌+◌, ◌≤◌, length};
+    ghost use Rattle.std.specs.Vec.{vec_len, vec_capacity};
+    ghost use Rattle.acc_posts.specs.Mail.{Mail};
+    ghost use Rattle.acc_posts.specs.Indexed.{Indexed};
+
+    ghost Value = { Mail };
+
+    ghost view = { λ p. record { sent = p.postings.items; early = p.early.items; room = p.room; takings = p.takings } };
+
+    ghost invariant = { λ p. Indexed p.postings.items p.links.items p.firsts.items p.lasts.items × (vec_len p.postings + p.room ≤ vec_capacity p.postings) × (vec_len p.postings + p.room ≤ vec_capacity p.links) × (vec_len p.early + p.takings ≤ vec_capacity p.early) };
+}
+
+// Closes the message with this number, or notes the number where no message has it yet.
+fn note_taken(postings: &mut Vec<Posting>, early: &mut Vec<u64>, number: u64)
+    requires { vec_len early.old < vec_capacity early.old }
+    ensures postings { postings.new.items ≡ taken number postings.old.items }
+    ensures early { early.new.items ≡ (if nat_lt number (length postings.old.items) then early.old.items else early.old.items ++ number ∷ []) }
+    ensures counts { (vec_len postings.new ≡ vec_len postings.old) × (vec_len early.new ≤ vec_len early.old + 1) }
+    ensures room { (vec_capacity postings.new ≡ vec_capacity postings.old) × (vec_capacity early.new ≡ vec_capacity early.old) }
+{
+    let place = number as usize;
+    if place < postings.len() {
+        let posting = &mut postings[place];
+        posting.is_open = false;
+    } else {
+        early.push_reserved(number);
+    }
+}
+
+impl Posts {
+    /// An index of no messages.
+    pub fn new(alloc: Global) -> Result<Posts, OutOfMemory>
+        ensures { IfOk result (λ posts. posts ≡ record { sent = []; early = []; room = 0; takings = 0 }) }
+    {
+        Ok(Posts {
+            postings: Vec::new(alloc),
+            links: Vec::new(alloc),
+            firsts: no_places(alloc, LANES)?,
+            lasts: no_places(alloc, LANES)?,
+            early: Vec::new(alloc),
+            room: 0,
+            takings: 0,
+        })
+    }
+
+    /// Makes room for so many more messages and for one more taking. Without memory for it all is as before.
+    pub fn reserve(&mut self, messages: u64) -> Result<(), OutOfMemory>
+        ensures ok { OnOk result (self.new ≡ record self.old { room = self.old.room + messages; takings = self.old.takings + 1 }) }
+        ensures err { OnErr result (self.new ≡ self.old) }
+    {
+        let room = self.room.checked_add(messages as usize).ok_or(OutOfMemory)?;
+        let takings = self.takings + 1;
+        self.postings.reserve(room)?;
+        self.links.reserve(room)?;
+        self.early.reserve(takings)?;
+        self.room = room;
+        self.takings = takings;
+        Ok(())
+    }
+
+    /// Gives up room for so many messages and takings. What there is room for is only counted: no memory goes back.
+    pub fn release(&mut self, messages: u64, takings: u64)
+        requires { (messages ≤ self.old.room) × (takings ≤ self.old.takings) }
+        ensures { self.new ≡ record self.old { room = self.old.room - messages; takings = self.old.takings - takings } }
+    {
+        self.room -= messages as usize;
+        self.takings -= takings as usize;
+    }
+
+    /// Notes that the message with this number is taken, whether it was sent already or not.
+    pub fn take(&mut self, number: u64)
+        requires { 0 < self.old.takings }
+        ensures { self.new ≡ record self.old { sent = taken number self.old.sent; early = early_after number self.old; takings = self.old.takings - 1 } }
+    {
+        note_taken(&mut self.postings, &mut self.early, number);
+        self.takings -= 1;
+    }
+
+    /// Notes a message, the next by number, which the item at `place` sent as its message `index`. A lost one is never
+    /// open, nor is one that was taken before.
+    pub fn add(&mut self, to: u32, place: u64, index: u64, is_lost: bool)
+        requires { 0 < self.old.room }
+        ensures { self.new ≡ record self.old { sent = self.old.sent ++ record { to = to; place = place; index = index; is_open = not is_lost && not (list_any (λ n. n == length self.old.sent) self.old.early) } ∷ []; room = self.old.room - 1 } }
+    {
+        let number = self.postings.len() as u64;
+        let posting = Posting {
+            to,
+            place,
+            index,
+            is_open: !is_lost & !self.early.contains(&number),
+        };
+        join_lane(
+            &mut self.links,
+            &mut self.firsts,
+            &mut self.lasts,
+            lane_of(to),
+        );
+        self.postings.push_reserved(posting);
+        self.room -= 1;
+    }
+
+    /// The oldest open message to an actor.
+    pub fn next_for(&mut self, actor: u32) -> Option<Post>
+        ensures same { self.new ≡ self.old }
+        ensures next { MatchOption result (HasNone self.old.sent actor 0) (IsNext self.old.sent actor 0) }
+    {
+        self.skip(lane_of(actor));
+        self.find(actor, 0)
+    }
+
+    /// The oldest open message to an actor that has a greater number.
+    pub fn next_after(&mut self, actor: u32, number: u64) -> Option<Post>
+        ensures same { self.new ≡ self.old }
+        ensures next { MatchOption result (HasNone self.old.sent actor (number + 1)) (IsNext self.old.sent actor (number + 1)) }
+    {
+        self.skip(lane_of(actor));
+        self.find_after(actor, number)
+    }
+
+    // Moves the first message of a lane past those that aren't open.
+    fn skip(&mut self, lane: usize)
+        requires { lane < 1024 }
+        ensures { self.new ≡ self.old }
+    {
+        let mut first = self.firsts[lane];
+        while first < self.postings.len() && !self.postings[first].is_open {
+            first = self.links[first];
+        }
+        self.firsts[lane] = first;
+    }
+
+    // A message of the actor's lane from which on all open ones whose number is at least `from` stand.
+    fn start(&self, actor: u32, from: u64) -> usize
+        ensures lane { result < length self.now.sent → lane_at self.now.sent result ≡ actor % 1024 }
+        ensures before { (number : ℕ) → from ≤ number → number < result → ¬ IsOpenTo self.now.sent actor number }
+    {
+        let lane = lane_of(actor);
+        let first = self.firsts[lane];
+        let place = from as usize;
+        if place == 0 || self.postings.len() < place {
+            return first;
+        }
+        if lane_of(self.postings[place - 1].to) != lane {
+            return first;
+        }
+        first.max(self.links[place - 1])
+    }
+
+    fn find_after(&self, actor: u32, number: u64) -> Option<Post>
+        ensures { MatchOption result (HasNone self.now.sent actor (number + 1)) (IsNext self.now.sent actor (number + 1)) }
+    {
+        if number >= self.postings.len() as u64 {
+            return None;
+        }
+        self.find(actor, number + 1)
+    }
+
+    fn find(&self, actor: u32, from: u64) -> Option<Post>
+        ensures { MatchOption result (HasNone self.now.sent actor from) (IsNext self.now.sent actor from) }
+    {
+        let mut at = self.start(actor, from);
+        while at < self.postings.len() {
+            let posting = self.postings[at];
+            if at as u64 >= from && posting.to == actor && posting.is_open {
+                return Some(Post {
+                    number: at as u64,
+                    place: posting.place,
+                    index: posting.index,
+                });
+            }
+            at = self.links[at];
+        }
+        None
+    }
+}

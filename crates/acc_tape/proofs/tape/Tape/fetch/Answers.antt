@@ -1,0 +1,11 @@
+use Rattle.std.proofs.Common.{refl}
+use Rattle.acc_tape.proofs.Visits.{bare, still_may, learns_of, may_leave}
+use Rattle.acc_tape.proofs.tape.Tape.fetch.Goals as goal
+
+pub leave-requires-clause-turn : goal.leave-requires-clause-turn
+leave-requires-clause-turn g c =
+    let p = g.E.Posted in
+    let m = c.seat.inside.token.me in
+    let x = c.slot_mut.result.now in
+    let learns = learns_of p.actor_of p.bytes m c.begin.new.token.me c.begin.ensures.turn x c.slot_mut.ensures.value in
+    may_leave p.actor_of p.bytes m c.seat.invariant c.begin.new.token.me c.begin.ensures.turn x c.slot_mut.ensures.value x (still_may p.actor_of p.bytes m.0 x x (bare p.actor_of p.bytes m c.seat.invariant) refl)

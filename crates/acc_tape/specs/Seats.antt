@@ -1,0 +1,37 @@
+-- Seats as contracts see them.
+use Rattle.std.specs.Prelude.{◌≡◌, ℕ, ◌+◌, ◌≤◌, List, [], ◌∷◌, ◌++◌, length, sum, sum_by}
+use mathlib.Core.List.{IsPrefix}
+use Rattle.atomic_table.specs.Seated.{TableId}
+use Rattle.acc_tape.specs.declared.content.Limits.{Limits}
+use Rattle.acc_tape.specs.Lists.{items_of}
+
+-- which tape it is, and its limits
+pub record TapeName : Type 0 where
+  pub table : TableId
+  pub limits : Limits
+
+-- The tape of a seat, its actor, the list that it has seen, the items that it entered, its reserved weights, the number and the sum of all weights that the seats held reserved at its last call, and the actors for which it was split. The first seat has actor 0, and it alone is split.
+pub record SeatView (E : Type 0) : Type 0 where
+  pub tape : TapeName
+  pub actor : ℕ
+  pub seen : List E
+  pub mine : List E
+  pub held : List ℕ
+  pub out_count : ℕ
+  pub out_weight : ℕ
+  pub made : List ℕ
+
+-- What holds of a seat after each call: it has seen the whole list, which begins with what it had seen. The items of its actor in it are those that it entered, in order. The list and all reservations are within the limits, and the seat's own reservations are among them.
+pub record Turns {E : Type 0} (actor_of bytes : E → ℕ) (old new : SeatView E) : Type 0 where
+  pub tape : new.tape ≡ old.tape
+  pub actor : new.actor ≡ old.actor
+  pub seen : IsPrefix old.seen new.seen
+  pub mine : items_of actor_of new.actor new.seen ≡ new.mine
+  pub within_items : length new.seen + new.out_count ≤ new.tape.limits.items
+  pub within_weight : sum_by bytes new.seen + new.out_weight ≤ new.tape.limits.weight
+  pub counted : length new.held ≤ new.out_count
+  pub weighed : sum new.held ≤ new.out_weight
+
+-- the list ends with the item, which stands at this place
+abbrev pub EndsWith : {E : Type 0} → List E → ℕ → E → Type 0
+EndsWith {E} seen place item = (before : List E) × (seen ≡ before ++ item ∷ []) × (place ≡ length before)

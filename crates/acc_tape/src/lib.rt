@@ -1,0 +1,22 @@
+//! The tape: one list of items that all threads enter, each through a seat of its own.
+#![tactic(auto)]
+
+mod board;
+mod calls;
+mod content;
+mod entered;
+mod error;
+mod item;
+mod law;
+mod posted;
+mod seat;
+mod seating;
+mod tape;
+mod view;
+
+pub use acc_posts::Post;
+pub use entered::Entered;
+pub use error::{PlaceError, TapeError};
+pub use posted::Posted;
+pub use seat::{Seat, Seats};
+pub use tape::Tape;

@@ -1,0 +1,31 @@
+//! Seats: each actor enters its items through a seat of its own.
+use crate::board::Board;
+use crate::posted::Posted;
+use crate::view::View;
+use acc_base::Sequence;
+use std::marker::Model;
+
+/// A seat as the tape's table has it.
+pub(crate) type Token<E> = atomic_table::Seat<Board<E>, View<E>>;
+
+/// A seat of a tape. Contracts see its tape, its actor, the list that it has seen, the items that it entered, its reserved
+/// weights, and the number and the sum of all weights that the seats held reserved at its last call. The first seat has
+/// actor 0, and is also seen as the actors for which it was split.
+#[derive(Drop)]
+pub struct Seat<E: Posted> {
+    pub(crate) token: Token<E>,
+}
+
+impl<E: Posted> Model for Seat<E> {
+    ghost use Rattle.acc_tape.specs.Seats.{SeatView};
+    ghost use Rattle.acc_tape.specs.Turn.{seat_view, IsResting};
+
+    ghost Value = { SeatView E };
+
+    ghost view = { λ s. seat_view s.token.table_id s.token.me.0 };
+
+    ghost invariant = { λ s. IsResting s.token.me };
+}
+
+/// A list of seats.
+pub type Seats<E> = Sequence<Seat<E>>;

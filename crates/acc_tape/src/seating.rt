@@ -1,0 +1,78 @@
+//! How seats are split from the first one, and how a tape is closed once all are there again.
+ghost use Rattle.std.specs.Prelude.{◌≡◌, ◌≢◌, ◌++◌, [], ◌∷◌, length, map, All, Any, Contains, IsOk, IfOk};
+ghost use mathlib.Core.List.{IsPrefix};
+ghost use Rattle.acc_tape.specs.Lists.{items_of};
+ghost use Rattle.acc_tape.specs.Rule.{gone_of};
+ghost use Rattle.acc_tape.specs.Seats.{Turns};
+ghost use Rattle.acc_tape.specs.Turn.{IsResting, with_joined, gone_seat};
+
+use crate::entered::Entered;
+use crate::law::{Gather, Part};
+use crate::posted::Posted;
+use crate::seat::{Seat, Seats, Token};
+use crate::tape::Tape;
+use acc_base::OutOfMemory;
+use std::sync::Wait;
+
+impl<E: Posted> Tape<E> {
+    /// A seat for an actor, which has seen what the first one has. It takes no memory.
+    pub fn split<R: Wait>(
+        &self,
+        rt: &R,
+        first: &mut Seat<E>,
+        actor: u32,
+    ) -> Result<Seat<E>, OutOfMemory>
+        requires tape { first.old.tape ≡ self.now }
+        requires first { first.old.actor ≡ 0 }
+        requires actor { (actor ≢ 0) × (¬ Contains first.old.made actor) }
+        ensures turn { Turns E.actor_of E.bytes first.old first.new }
+        ensures same { (first.new.mine ≡ first.old.mine) × (first.new.held ≡ first.old.held) }
+        ensures made { first.new.made ≡ first.old.made ++ actor ∷ [] }
+        ensures seat { IfOk result (λ seat. seat ≡ record first.new { actor = actor; mine = []; held = []; made = [] }) }
+        ensures ok { IsOk result }
+    {
+        self.begin(rt, &mut first.token);
+        first.token.slot_mut(&self.table.shared, 0).name(actor);
+        self.leave(&mut first.token);
+        let token = self.table.shared.split_seat::<Part<E>>(&mut first.token);
+        Ok(Seat { token })
+    }
+
+    /// Ends the tape. The other seats are all that were split, and hold nothing; so all items come back, each of a seat
+    /// that entered it. It takes no memory.
+    pub fn close(
+        self,
+        first: Seat<E>,
+        others: Seats<E>,
+    ) -> Result<Entered<E>, (Tape<E>, Seat<E>, Seats<E>)>
+        requires first { (first.tape ≡ self) × (first.actor ≡ 0) }
+        requires others { All (λ seat. (seat.tape ≡ self) × (seat.held ≡ [])) others }
+        requires all { length others ≡ length first.made }
+        ensures first { IfOk result (λ items. IsPrefix first.seen items) }
+        ensures seats { IfOk result (λ items. All (λ seat. IsPrefix seat.seen items × (items_of E.actor_of seat.actor items ≡ seat.mine) × Contains first.made seat.actor) others) }
+        ensures owned { IfOk result (All (λ item. Any (λ seat. seat.actor ≡ E.actor_of item) others)) }
+        ensures ok { IsOk result }
+    {
+        let Seat { mut token } = first;
+        self.gather(&mut token, others);
+        let Tape { table } = self;
+        let mut closed = table.close_with(token);
+        let board = closed.take(0);
+        closed.free();
+        Ok(Entered::from_vec(board.into_items()))
+    }
+
+    // Joins seats to the first one.
+    fn gather(&self, first: &mut Token<E>, others: Seats<E>)
+        requires tape { first.old.table_id ≡ self.now.table }
+        requires first { IsResting first.old.me × (first.old.me.0.actor ≡ 0) }
+        requires others { All (λ seat. (seat.tape ≡ self.now) × (seat.held ≡ [])) others }
+        ensures tape { first.new.table_id ≡ first.old.table_id }
+        ensures joined { first.new.me ≡ with_joined first.old.me (map gone_seat others) }
+    {
+        for other in others.into_vec() {
+            let Seat { token } = other;
+            self.table.shared.join_seat::<Gather<E>>(first, token);
+        }
+    }
+}

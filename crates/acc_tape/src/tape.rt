@@ -1,0 +1,123 @@
+//! The tape.
+ghost use Rattle.std.specs.Prelude.{◌≡◌, ℕ, true, [], ◌∷◌, None, Some, IfOk};
+ghost use Rattle.acc_tape.specs.declared.content.Content.{Content};
+ghost use Rattle.acc_tape.specs.Turn.{IsResting, CanLeave, Learns, waiting, turning, left};
+
+use crate::board::Board;
+use crate::content::Limits;
+use crate::law::{Draw, Law, Leave, Look};
+use crate::posted::Posted;
+use crate::seat::{Seat, Token};
+use crate::view::View;
+use acc_base::OutOfMemory;
+use atomic_table::{Refused, Table};
+use std::alloc::Global;
+use std::marker::Model;
+use std::sync::Wait;
+use std::thread::yield_now;
+
+// The words of the table: the next ticket, and the ticket that is served.
+const NEXT: usize = 0;
+
+const SERVED: usize = 1;
+
+// A thread that waits with a ticket holds up all that come behind it until it runs again. So it draws one at once only
+// where no ticket is out, and else looks so many times whether that has come about. Then it draws one in any case.
+const PATIENCE: u32 = 64;
+
+// Where so many tickets were drawn, no more are, since the words would wrap at last. A thread that draws then waits.
+const MOST_TICKETS: u64 = 1 << 62;
+
+/// One list of items, which grows at its end. Threads take turns with it.
+#[derive(Drop)]
+pub struct Tape<E: Posted> {
+    pub(crate) table: Table<Board<E>, View<E>, Limits, Law<E>, Global>,
+}
+
+impl<E: Posted> Model for Tape<E> {
+    ghost use Rattle.std.specs.Prelude.{◌≡◌};
+    ghost use Rattle.acc_tape.specs.Seats.{TapeName};
+
+    ghost Value = { TapeName };
+
+    ghost view = { λ t. record { table = t.table.shared.table_id; limits = t.table.shared.key } };
+
+    ghost invariant = { λ t. (t.table.shared.table_id.words ≡ 2) × (t.table.shared.table_id.slots ≡ 1) };
+}
+
+impl<E: Posted> Tape<E> {
+    /// An empty tape that may hold so many items and bytes, and its first seat.
+    pub fn new(alloc: Global, items: u64, weight: u64) -> Result<(Tape<E>, Seat<E>), OutOfMemory>
+        ensures limits { IfOk result (λ made. made.0.limits ≡ record { items = items; weight = weight }) }
+        ensures seat { IfOk result (λ made. made.1 ≡ record { tape = made.0; actor = 0; seen = []; mine = []; held = []; out_count = 0; out_weight = 0; made = [] }) }
+    {
+        let limits = Limits { items, weight };
+        let board = Board::new(alloc, limits)?;
+        let mut slots = Vec::with_capacity(alloc, 1)?;
+        slots.push_reserved(board);
+        match Table::new(alloc, &[0, 0], slots, &limits) {
+            Ok((table, token)) => Ok((Tape { table }, Seat { token })),
+            Err(Refused { slots: _ }) => Err(OutOfMemory),
+        }
+    }
+
+    // Draws a ticket.
+    fn draw<R: Wait>(&self, rt: &R, token: &mut Token<E>) -> u64
+        requires tape { (token.old.table_id ≡ self.now.table) × (token.old.me.0.limits ≡ self.now.limits) }
+        requires rests { IsResting token.old.me }
+        ensures tape { token.new.table_id ≡ token.old.table_id }
+        ensures draws { token.new.me ≡ (waiting token.old.me.0 result, []) }
+    {
+        let shared = &self.table.shared;
+        let mut looks = 0;
+        for _ in rt.forever() {
+            let ticket = shared.peek(NEXT);
+            let may_draw = looks == PATIENCE || shared.peek(SERVED) == ticket;
+            if may_draw
+                && ticket < MOST_TICKETS
+                && shared.compare_exchange::<Draw>(token, NEXT, ticket, ticket + 1) == ticket
+            {
+                return ticket;
+            }
+            looks = PATIENCE.min(looks + 1);
+            yield_now();
+        }
+        unreachable!()
+    }
+
+    // Waits until the ticket is served, and takes what stands in the slot.
+    fn wait<R: Wait>(&self, rt: &R, token: &mut Token<E>, ticket: u64)
+        requires tape { (token.old.table_id ≡ self.now.table) × (token.old.me.0.limits ≡ self.now.limits) }
+        requires ticket { (token.old.me.0.is_live ≡ true) × (token.old.me.0.ticket ≡ Some ticket) × (token.old.me.0.taken ≡ None) × (token.old.me.1 ≡ []) }
+        ensures tape { token.new.table_id ≡ token.old.table_id }
+        ensures turn { (c : Content E) × (token.new.me ≡ (turning token.old.me.0 c, (0, c) ∷ [])) × Learns E.actor_of token.old.me.0 c }
+    {
+        for _ in rt.forever() {
+            if self.table.shared.load::<Look>(token, SERVED) == ticket {
+                return;
+            }
+            yield_now();
+        }
+    }
+
+    // Waits for the turn.
+    pub(crate) fn begin<R: Wait>(&self, rt: &R, token: &mut Token<E>)
+        requires tape { (token.old.table_id ≡ self.now.table) × (token.old.me.0.limits ≡ self.now.limits) }
+        requires rests { IsResting token.old.me }
+        ensures tape { token.new.table_id ≡ token.old.table_id }
+        ensures turn { (ticket : ℕ) × (c : Content E) × (token.new.me ≡ (turning (waiting token.old.me.0 ticket) c, (0, c) ∷ [])) × Learns E.actor_of token.old.me.0 c }
+    {
+        let ticket = self.draw(rt, token);
+        self.wait(rt, token, ticket);
+    }
+
+    // Ends the turn.
+    pub(crate) fn leave(&self, token: &mut Token<E>)
+        requires tape { token.old.table_id ≡ self.now.table }
+        requires turn { CanLeave E.actor_of token.old.me }
+        ensures tape { token.new.table_id ≡ token.old.table_id }
+        ensures left { token.new.me ≡ left E.actor_of token.old.me }
+    {
+        self.table.shared.fetch_add::<Leave>(token, SERVED, 1);
+    }
+}
