@@ -1,6 +1,6 @@
 -- Every commit goes back to a proposal that a majority in every shard accepted, by induction over prefixes: it is either of these
 -- very answers, or of a commit that some store showed.
-use Rattle.std.proofs.Common.{◌≡◌, ℕ, List, Some, refl, sym, ◌∙◌, ap, subst}
+use Rattle.std.proofs.Common.{◌≡◌, ℕ, List, refl, sym, ◌∙◌, subst}
 use Rattle.acc_stamp.specs.declared.stamps.Stamp.{Stamp}
 use Rattle.acc_stamp.specs.declared.stamps.TxnId.{TxnId}
 use Rattle.acc_stamp.specs.declared.stamps.Ballot.{Ballot}
@@ -16,13 +16,12 @@ use Rattle.acc_message.specs.declared.item.Item.{Item}
 use Rattle.acc_message.specs.Taken.{Taken}
 use Rattle.acc_message.specs.Attempts.{Attempt, Recovering, Accepting}
 use Rattle.acc_message.specs.NodeRules.{Act, Deed}
-use Rattle.acc_message.specs.Run.{Cluster, clock_start, deeds_of, is_node, EachStands}
+use Rattle.acc_message.specs.Run.{Cluster, clock_start, EachStands}
 use Rattle.acc_actor_laws.proofs.OpeningFacts.{some_is}
 use Rattle.acc_safety.specs.Places.{IsPast, Whole}
-use Rattle.acc_safety.specs.Histories.{Sending, FromNode, Sender, IsStore, IsNode}
+use Rattle.acc_safety.specs.Histories.{Sending, Sender, IsStore, IsNode}
 use Rattle.acc_safety.specs.StoreSends.{StoreSends}
-use Rattle.acc_safety.specs.NodeMoves.{CommitTo, Moves, AdoptsCommitted, CommitsIt, Hears, Counts, Reacts, ToSlow, ToMessage, NodeSends, Commits}
-use Rattle.acc_safety.specs.Attempted.{kind_of}
+use Rattle.acc_safety.specs.NodeMoves.{CommitTo, Moves, AdoptsCommitted, CommitsIt, Counts, Reacts, ToSlow, ToMessage, NodeSends, Commits}
 use Rattle.acc_safety.specs.Polls.{IsBody}
 use Rattle.acc_safety.specs.Roots.{CommitRoot}
 use Rattle.acc_safety.specs.Statements.{CommitsHaveRoots}

@@ -1,6 +1,6 @@
 -- Every decision and every stable record goes back to fast votes or to a commit that a majority in every shard committed, by
 -- induction over prefixes: a decision is of these very answers, or of a stable record that some store showed or told.
-use Rattle.std.proofs.Common.{◌≡◌, ℕ, true, List, Some, refl, sym, ◌∙◌, ap, subst, ⊎_elim, ◌⊎◌, inl, inr}
+use Rattle.std.proofs.Common.{◌≡◌, ℕ, List, refl, sym, ◌∙◌, ap, subst, ⊎_elim, ◌⊎◌, inl, inr}
 use Rattle.acc_stamp.specs.declared.stamps.Stamp.{Stamp}
 use Rattle.acc_stamp.specs.declared.stamps.TxnId.{TxnId}
 use Rattle.acc_stamp.specs.declared.stamps.Ballot.{Ballot}
@@ -19,14 +19,13 @@ use Rattle.acc_message.specs.declared.entry.Emitted.{Emitted}
 use Rattle.acc_message.specs.declared.item.Item.{Item}
 use Rattle.acc_message.specs.Taken.{Taken}
 use Rattle.acc_message.specs.Attempts.{Attempt, Voting, Recovering, Committing, Executing}
-use Rattle.acc_message.specs.BallotRules.{stable_of}
 use Rattle.acc_message.specs.NodeRules.{Act, Takes, Deed, node_emits}
-use Rattle.acc_message.specs.Run.{Cluster, clock_start, taken_of, deeds_of, is_node, EachStands}
+use Rattle.acc_message.specs.Run.{Cluster, clock_start, taken_of, deeds_of, EachStands}
 use Rattle.acc_actor_laws.proofs.OpeningFacts.{some_is}
 use Rattle.acc_safety.specs.Places.{IsIn, StandsAt, IsPast, Whole}
 use Rattle.acc_safety.specs.Histories.{Sending, Noting, NodeStep, NotedBy, Sender, IsStore, IsNode}
 use Rattle.acc_safety.specs.StoreSends.{StoreSends}
-use Rattle.acc_safety.specs.NodeMoves.{DecideBy, FinishWith, Moves, DecidesFast, AdoptsStable, DecidesCommitted, HasOutcome, Hears, Counts, TakesOver, Reacts, ToSlow, ToMessage, NodeSends, Finishes, NodeNotes, NotesDecision}
+use Rattle.acc_safety.specs.NodeMoves.{DecideBy, FinishWith, Moves, DecidesFast, AdoptsStable, DecidesCommitted, HasOutcome, Counts, TakesOver, Reacts, ToSlow, ToMessage, NodeSends, Finishes, NodeNotes, NotesDecision}
 use Rattle.acc_safety.specs.Attempted.{Took, kind_of}
 use Rattle.acc_safety.specs.Polls.{IsBody, AreAnswers}
 use Rattle.acc_safety.specs.Roots.{DecisionRoot, ByFastVotes, ByCommits}

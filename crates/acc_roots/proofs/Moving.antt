@@ -1,30 +1,27 @@
 -- The attempt that moves in a step of a run: its body is the begun one, its phase and ballot are those before, its answers are
 -- those of stores, and what brought it to its phase was sent.
-use Rattle.std.proofs.Common.{◌≡◌, ℕ, true, List, Some, refl, sym, ◌∙◌, ap, subst}
+use Rattle.std.proofs.Common.{◌≡◌, ℕ, true, List, Some, refl, sym, ◌∙◌, subst}
 use Rattle.acc_stamp.specs.declared.stamps.TxnId.{TxnId}
 use Rattle.acc_stamp.specs.declared.actors.Actor.{Actor}
 use Rattle.acc_stamp.specs.Actor.{node_of}
 use Rattle.acc_stamp.specs.Stamp.{zero_ballot}
 use Rattle.acc_topology.specs.Layout.{Layout}
-use Rattle.acc_txn.specs.declared.parts.BodyParts.{BodyParts}
 use Rattle.acc_message.specs.declared.message.Message.{Message}
 use Rattle.acc_message.specs.declared.item.Item.{Item}
-use Rattle.acc_message.specs.Shares.{stores_used}
 use Rattle.acc_message.specs.Attempts.{Attempt, Phase, Voting}
 use Rattle.acc_message.specs.NodeRules.{Act, Deed, attempt_of}
 use Rattle.acc_message.specs.Run.{Cluster, clock_start, deeds_of, is_node, EachStands}
 use Rattle.acc_actor_laws.proofs.PhaseFacts.{first_has_zero}
-use Rattle.acc_safety.specs.Places.{IsIn, StandsAt, IsPast}
+use Rattle.acc_safety.specs.Places.{StandsAt, IsPast}
 use Rattle.acc_safety.specs.Histories.{Sending}
 use Rattle.acc_safety.specs.NodeMoves.{Move, Hears, Ignores, Counts, IsEnded, TakesOver, Reacts, ToSlow, ToMessage}
 use Rattle.acc_safety.specs.Attempted.{kind_of}
 use Rattle.acc_safety.specs.Polls.{IsBody, AreAnswers}
 use Rattle.acc_safety.specs.Valid.{IsValidCluster}
-use Rattle.acc_safety.proofs.Bridge.{Sending-past}
 use Rattle.acc_safety.proofs.BodiesBegun.{attempt_body}
 use Rattle.acc_safety.proofs.Frame.{past_of}
 use Rattle.acc_safety.proofs.Polled.{moving_polled}
-use Rattle.acc_roots.proofs.Phased.{SentToAll, Entered, HasEntered, has_entered}
+use Rattle.acc_roots.proofs.Phased.{SentToAll, HasEntered, has_entered}
 use Rattle.acc_roots.proofs.Within.{AreAnswers-past, begun_has_store, sent_to_one}
 
 -- the attempt before the step

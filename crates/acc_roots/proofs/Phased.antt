@@ -38,9 +38,6 @@ inform_out : (layout : Layout) (own : Actor) (from to : Actor) (id : TxnId) (b :
     → (reaction layout own id a (Inform from to id b outcome)).emitted.out ≡ []
 inform_out layout own from to id b outcome a = by (ballot_eq b a.ballot)
   where
-    m : Message
-    m = Inform from to id b outcome
-
     uncounted : counts layout a (Inform from to id b outcome) ≡ false
     uncounted =
         ap (λ f. f && is_store_of layout a.body from && not (list_any (λ earlier. same_seat a.phase (from_of earlier) from) a.answers))

@@ -1,12 +1,11 @@
 -- Every proposal goes back to the votes of a majority in every shard, by induction over prefixes: it is either of these very
 -- answers, or of a proposal that some store showed.
-use Rattle.std.proofs.Common.{◌≡◌, ℕ, List, Some, refl, sym, ◌∙◌, ap, subst}
+use Rattle.std.proofs.Common.{◌≡◌, ℕ, List, refl, sym, ◌∙◌, subst}
 use Rattle.acc_stamp.specs.declared.stamps.Stamp.{Stamp}
 use Rattle.acc_stamp.specs.declared.stamps.TxnId.{TxnId}
 use Rattle.acc_stamp.specs.declared.stamps.Ballot.{Ballot}
 use Rattle.acc_stamp.specs.declared.actors.Actor.{Actor}
 use Rattle.acc_stamp.specs.Actor.{node_of}
-use Rattle.acc_stamp.specs.Stamp.{zero_ballot}
 use Rattle.acc_topology.specs.Layout.{Layout}
 use Rattle.acc_deps.specs.declared.shards.ShardDeps.{ShardDeps}
 use Rattle.acc_deps.specs.declared.records.Settled.{Settled}
@@ -17,12 +16,12 @@ use Rattle.acc_message.specs.declared.item.Item.{Item}
 use Rattle.acc_message.specs.Taken.{Taken}
 use Rattle.acc_message.specs.Attempts.{Attempt, Voting, Recovering}
 use Rattle.acc_message.specs.NodeRules.{Act, Deed}
-use Rattle.acc_message.specs.Run.{Cluster, clock_start, deeds_of, EachStands}
+use Rattle.acc_message.specs.Run.{Cluster, clock_start, EachStands}
 use Rattle.acc_actor_laws.proofs.OpeningFacts.{some_is}
 use Rattle.acc_safety.specs.Places.{IsPast, Whole}
 use Rattle.acc_safety.specs.Histories.{Sending, Sender, IsStore, IsNode}
 use Rattle.acc_safety.specs.StoreSends.{StoreSends}
-use Rattle.acc_safety.specs.NodeMoves.{Propose, Moves, SlowsDown, AdoptsAccepted, ProposesGreatest, ProposesOwn, Hears, Counts, Reacts, ToSlow, ToMessage, NodeSends, Proposes}
+use Rattle.acc_safety.specs.NodeMoves.{Propose, Moves, SlowsDown, AdoptsAccepted, ProposesGreatest, ProposesOwn, Counts, Reacts, ToSlow, ToMessage, NodeSends, Proposes}
 use Rattle.acc_safety.specs.Attempted.{kind_of}
 use Rattle.acc_safety.specs.Polls.{IsBody, AreAnswers}
 use Rattle.acc_safety.specs.Roots.{Proposed, Root, GreatestOfVotes, GreatestOfViews, Own}

@@ -7,7 +7,6 @@ use Rattle.acc_stamp.specs.declared.actors.Actor.{Actor}
 use Rattle.acc_stamp.specs.Actor.{node_of}
 use Rattle.acc_topology.specs.Layout.{Layout}
 use Rattle.acc_deps.specs.declared.shards.ShardDeps.{ShardDeps}
-use Rattle.acc_deps.specs.declared.records.Accepted.{Accepted}
 use Rattle.acc_deps.specs.declared.records.Settled.{Settled}
 use Rattle.acc_deps.specs.declared.records.View.{View}
 use Rattle.acc_deps.specs.Records.{Stably, stably_all, least_stably, Claim, claims_of, highest_claim, record_of, shown_as}
@@ -21,20 +20,18 @@ use Rattle.acc_message.specs.Taken.{Taken}
 use Rattle.acc_message.specs.BallotRules.{is_recover_ok, accepted_of, committed_of, stable_of}
 use Rattle.acc_message.specs.RecoveryDecision.{views_in}
 use Rattle.acc_message.specs.NodeRules.{Act, Deed}
-use Rattle.acc_message.specs.Run.{Cluster, clock_start, taken_of, deeds_of, EachStands}
+use Rattle.acc_message.specs.Run.{Cluster, clock_start, taken_of, EachStands}
 use Rattle.acc_safety.specs.Places.{IsIn, IsPast}
-use Rattle.acc_safety.specs.Histories.{Sending, Sender, IsStore, IsNode, FromStore, FromNode}
+use Rattle.acc_safety.specs.Histories.{Sending, Sender, IsStore, IsNode}
 use Rattle.acc_safety.specs.StoreSends.{StoreSends, Tells}
-use Rattle.acc_safety.specs.NodeMoves.{NodeSends, AsksForVotes, AsksForViews, Proposes, Commits, Decides, Finishes, Informs}
-use Rattle.acc_safety.specs.Attempted.{Took}
+use Rattle.acc_safety.specs.NodeMoves.{NodeSends}
 use Rattle.acc_safety.specs.Polls.{IsBody, AreAnswers}
 use Rattle.acc_safety.proofs.PlaceOrder.{Contains-IsIn, StandsAt-whole}
 use Rattle.acc_safety.proofs.Bridge.{sender}
 use Rattle.acc_safety.proofs.Frame.{store_sent, node_sent, past_of}
 use Rattle.acc_safety.proofs.StoreNotions.{accepted_from, committed_from, Settling, stable_from}
-use Rattle.acc_safety.proofs.Prefixes.{SentBefore, store_took_before, node_took_before}
-use Rattle.acc_store_facts.proofs.Revealed.{view_from, ViewThere, view_there}
-use Rattle.acc_roots.proofs.Within.{sent_before_trans}
+use Rattle.acc_safety.proofs.Prefixes.{SentBefore, store_took_before}
+use Rattle.acc_store_facts.proofs.Revealed.{view_from, view_there}
 
 -- a message that settled x so was sent before
 pub record SettledBefore (items : List Item) (x : TxnId) (s : Settled) : Type 0 where

@@ -1,6 +1,6 @@
 -- Induction over the prefixes of a run, about the whole run; what was answered, sent and noted in a prefix is so in the whole; and
 -- a message to all stores of a body has some receiver.
-use Rattle.std.proofs.Common.{◌≡◌, ℕ, zero, suc, ◌-◌, ◌≤◌, ◌<◌, Bool, true, List, [], ◌∷◌, length, IsTrue, sym, ◌∙◌, ap, subst, arith}
+use Rattle.std.proofs.Common.{◌≡◌, ℕ, zero, suc, ◌-◌, ◌<◌, Bool, true, List, [], ◌∷◌, length, IsTrue, sym, ◌∙◌, subst, arith}
 use Rattle.std.specs.Prelude.{◌==◌, slice_index_or}
 use Rattle.std.specs.List.{AllByRecursion}
 use Rattle.std.proofs.lemmas.Bool.{false≢true, eqb-true}
@@ -16,9 +16,9 @@ use Rattle.acc_message.specs.declared.entry.Emitted.{Emitted}
 use Rattle.acc_message.specs.declared.item.Item.{Item}
 use Rattle.acc_message.specs.Fields.{from_of}
 use Rattle.acc_message.specs.Shares.{shards_used, stores_of_shard, stores_used}
-use Rattle.acc_message.specs.NodeRules.{Deed, node_emits}
+use Rattle.acc_message.specs.NodeRules.{Deed}
 use Rattle.acc_message.specs.Run.{Cluster, clock_start, deeds_of, taken_of, is_node, EachStands}
-use Rattle.acc_safety.specs.Places.{IsIn, First, Later, StandsAt, IsPast, Whole, Behind}
+use Rattle.acc_safety.specs.Places.{IsIn, First, IsPast, Whole, Behind}
 use Rattle.acc_safety.specs.Histories.{Sending}
 use Rattle.acc_safety.specs.Polls.{IsBody, AreAnswers}
 use Rattle.acc_safety.specs.Valid.{IsValidCluster}
