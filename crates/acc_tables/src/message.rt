@@ -1,4 +1,6 @@
 //! Bytes of messages.
+ghost use Rattle.acc_message_code.specs.Fitting.{FitsMessage};
+
 use crate::told::told_message;
 use acc_base::OutOfMemory;
 use acc_message::Message;
@@ -17,7 +19,9 @@ pub fn answer(alloc: Global, digits: &str) -> Result<String> {
 }
 
 /// The message, where these bytes are its spelling.
-fn spelled(alloc: Global, message: &Message, bytes: &[u8]) -> Result<String> {
+fn spelled(alloc: Global, message: &Message, bytes: &[u8]) -> Result<String>
+    requires { FitsMessage message.now }
+{
     laws::what_fits_is_short();
     if encode(alloc, message)?.as_slice() != bytes {
         return Ok("spelled otherwise".to_string(alloc)?);
