@@ -1,0 +1,10 @@
+//! What a store keeps: of each transaction a record, the index of known conflicts, the cells, and who waits for whom.
+#![tactic(auto)]
+
+mod cells;
+mod record;
+mod shelf;
+
+pub use cells::Cells;
+pub use record::{Record, Records};
+pub use shelf::{Shelf, Waits, Watch};
