@@ -1,7 +1,7 @@
 -- A plan is what the rules open and apply.
-use Rattle.std.proofs.Common.{◌≡◌, ℕ, Bool, true, false, not, ◌&&◌, ◌||◌, List, [], ◌∷◌, ◌++◌, Option, None, Some, is_some, map, refl, sym, ◌∙◌, ap, subst, ◌⊎◌, inl, inr, ⊎_elim, arith}
+use Rattle.std.proofs.Common.{◌≡◌, ℕ, Bool, true, false, not, ◌&&◌, ◌||◌, List, [], ◌∷◌, ◌++◌, Option, None, Some, is_some, map, refl, sym, ◌∙◌, ap, subst, ◌⊎◌, inl, inr, ⊎_elim}
 use Rattle.std.specs.List.{AllByRecursion, list_any, list_all}
-use Rattle.std.proofs.lemmas.Bool.{true≢false, or_left, or_right, or_from, or_cases, or_parts, and_parts, and_from, not_from_false, not_from_true, false_from_ne_true, cases_Bool}
+use Rattle.std.proofs.lemmas.Bool.{true≢false, or_left, or_right, or_cases, and_parts, and_from, not_from_false, cases_Bool}
 use Rattle.std.proofs.lemmas.List.Folds.{list_any-append}
 use Rattle.acc_stamp.specs.declared.stamps.Stamp.{Stamp}
 use Rattle.acc_stamp.specs.declared.stamps.TxnId.{TxnId}
@@ -13,14 +13,14 @@ use Rattle.acc_deps.specs.declared.records.Settled.{Settled}
 use Rattle.acc_message.specs.Taken.{Taken}
 use Rattle.acc_base.specs.Faults.{or_else}
 use Rattle.acc_message.specs.BallotRules.{stable_of, kept_outcome, outcome_in as outcome_of_message}
-use Rattle.acc_message.specs.Opening.{IsOpened, Stays, Opens, comes_first, is_past, Standing, standing_lt, Change, is_change, changes_of, opened_of, is_opened, is_applied}
-use Rattle.acc_actor_laws.specs.OpeningOrder.{opens_in, applies_in, AreInOrder, OpensInOrder}
+use Rattle.acc_message.specs.Opening.{IsOpened, Stays, Opens, comes_first, is_past, Standing, standing_lt, Change, changes_of, opened_of, is_opened, is_applied}
+use Rattle.acc_actor_laws.specs.OpeningOrder.{opens_in, applies_in}
 use Rattle.acc_actor_laws.proofs.Standing.{not_none}
-use Rattle.acc_actor_laws.proofs.OpeningFacts.{all_at, some_is, past_is_stable, past_is_applied, opened_of-sound, opened_of-complete}
+use Rattle.acc_actor_laws.proofs.OpeningFacts.{all_at, past_is_stable, past_is_applied, opened_of-sound, opened_of-complete}
 use Rattle.acc_actor_laws.proofs.OpeningOrder.{opens_in_order}
 use Rattle.acc_record.specs.declared.record.Record.{Record}
 use Rattle.acc_opening_laws.specs.Plan.{Lookup, settled_in, outcome_in, is_opened_in, is_applied_in, is_applied_behind, is_past_behind, is_ready_behind, IsRight, EachRight, t_of, change_lt, IsPlan, IsTaking}
-use Rattle.acc_opening_laws.proofs.Turns.{comes_before, bools_same, DoTheSame, EachChanges, same_changes}
+use Rattle.acc_opening_laws.proofs.Turns.{comes_before, bools_same, EachChanges, same_changes}
 
 -- ---- tests of all elements, and of options
 

@@ -1,6 +1,6 @@
 -- What a step opens and applies, told by the records of a store alone: the records with what the step brings, a stable record or
 -- an outcome, of which nothing was opened or applied in this step yet.
-use Rattle.std.specs.Prelude.{◌≡◌, ℕ, Bool, true, false, not, ◌&&◌, ◌||◌, List, [], ◌∷◌, ◌++◌, Option, None, Some, IsTrue, is_some}
+use Rattle.std.specs.Prelude.{◌≡◌, ℕ, Bool, false, not, ◌&&◌, ◌||◌, List, [], ◌∷◌, ◌++◌, Option, None, Some, IsTrue, is_some}
 use Rattle.std.specs.List.{list_all}
 use Rattle.std.specs.Ordering.{ordering_then, is_lt}
 use Rattle.acc_stamp.specs.declared.stamps.Stamp.{Stamp}
