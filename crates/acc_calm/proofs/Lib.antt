@@ -1,0 +1,4 @@
+mod StoreCounts
+mod StoresOnly
+mod AttemptCounts
+mod AttemptsShort
