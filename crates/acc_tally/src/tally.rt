@@ -79,8 +79,11 @@ impl Tally {
         ensures { (shards : List ℕ) (answers : List Answer) → StandsFor self.now shards answers →
             result ≡ majority_everywhere topology.now shards answers }
     {
+        let shards = self.shards;
         for shard in 0..SHARDS {
-            if self.has_shard(shard) && !topology.is_majority(shard as u32, self.answered[shard]) {
+            if contains(shards, shard as u32)
+                && !topology.is_majority(shard as u32, self.answered[shard])
+            {
                 return false;
             }
         }
@@ -93,8 +96,9 @@ impl Tally {
         ensures { (shards : List ℕ) (answers : List Answer) → StandsFor self.now shards answers →
             result ≡ fast_everywhere topology.now shards answers }
     {
+        let shards = self.shards;
         for shard in 0..SHARDS {
-            if self.has_shard(shard) && !topology.is_fast(shard as u32, self.kept[shard]) {
+            if contains(shards, shard as u32) && !topology.is_fast(shard as u32, self.kept[shard]) {
                 return false;
             }
         }
@@ -107,8 +111,11 @@ impl Tally {
         ensures { (shards : List ℕ) (answers : List Answer) → StandsFor self.now shards answers →
             result ≡ fast_lost_somewhere topology.now shards answers }
     {
+        let shards = self.shards;
         for shard in 0..SHARDS {
-            if self.has_shard(shard) && topology.fast_lost(shard as u32, self.changed[shard]) {
+            if contains(shards, shard as u32)
+                && topology.fast_lost(shard as u32, self.changed[shard])
+            {
                 return true;
             }
         }
@@ -121,8 +128,9 @@ impl Tally {
         ensures { (shards : List ℕ) (answers : List Answer) → StandsFor self.now shards answers →
             result ≡ may_be_fast_everywhere topology.now shards answers }
     {
+        let shards = self.shards;
         for shard in 0..SHARDS {
-            if self.has_shard(shard)
+            if contains(shards, shard as u32)
                 && !topology.may_be_fast(shard as u32, self.answered[shard], self.kept[shard])
             {
                 return false;
@@ -157,13 +165,6 @@ impl Tally {
             greatest: self.greatest,
             deps: self.deps.copy()?,
         })
-    }
-
-    fn has_shard(&self, shard: usize) -> bool
-        requires { shard < 16 }
-        ensures { result ≡ in_set self.now.shards shard }
-    {
-        contains(self.shards, shard as u32)
     }
 }
 

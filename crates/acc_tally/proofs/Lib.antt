@@ -1,0 +1,2 @@
+pub mod Everywhere
+mod Counted
