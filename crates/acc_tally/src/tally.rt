@@ -75,14 +75,13 @@ impl Tally {
 
     /// Whether a majority of each shard has answered.
     pub fn majority_everywhere(&self, topology: &Topology) -> bool
-        requires { HasShards topology.now (members self.now.shards) }
-        ensures { (shards : List ℕ) (answers : List Answer) → StandsFor self.now shards answers →
+        ensures { (shards : List ℕ) (answers : List Answer) → HasShards topology.now shards → StandsFor self.now shards answers →
             result ≡ majority_everywhere topology.now shards answers }
     {
         let shards = self.shards;
-        for shard in 0..SHARDS {
-            if contains(shards, shard as u32)
-                && !topology.is_majority(shard as u32, self.answered[shard])
+        for shard in 1..topology.shards() + 1 {
+            if contains(shards, shard)
+                && !topology.is_majority(shard, self.answered[shard as usize])
             {
                 return false;
             }
@@ -92,13 +91,12 @@ impl Tally {
 
     /// Whether the votes for the transaction's own timestamp are a fast quorum of each shard.
     pub fn fast_everywhere(&self, topology: &Topology) -> bool
-        requires { HasShards topology.now (members self.now.shards) }
-        ensures { (shards : List ℕ) (answers : List Answer) → StandsFor self.now shards answers →
+        ensures { (shards : List ℕ) (answers : List Answer) → HasShards topology.now shards → StandsFor self.now shards answers →
             result ≡ fast_everywhere topology.now shards answers }
     {
         let shards = self.shards;
-        for shard in 0..SHARDS {
-            if contains(shards, shard as u32) && !topology.is_fast(shard as u32, self.kept[shard]) {
+        for shard in 1..topology.shards() + 1 {
+            if contains(shards, shard) && !topology.is_fast(shard, self.kept[shard as usize]) {
                 return false;
             }
         }
@@ -107,15 +105,12 @@ impl Tally {
 
     /// Whether so many votes of some shard are for other timestamps that it can have no fast quorum any more.
     pub fn fast_lost(&self, topology: &Topology) -> bool
-        requires { HasShards topology.now (members self.now.shards) }
-        ensures { (shards : List ℕ) (answers : List Answer) → StandsFor self.now shards answers →
+        ensures { (shards : List ℕ) (answers : List Answer) → HasShards topology.now shards → StandsFor self.now shards answers →
             result ≡ fast_lost_somewhere topology.now shards answers }
     {
         let shards = self.shards;
-        for shard in 0..SHARDS {
-            if contains(shards, shard as u32)
-                && topology.fast_lost(shard as u32, self.changed[shard])
-            {
+        for shard in 1..topology.shards() + 1 {
+            if contains(shards, shard) && topology.fast_lost(shard, self.changed[shard as usize]) {
                 return true;
             }
         }
@@ -124,14 +119,17 @@ impl Tally {
 
     /// Whether each shard may have had a fast quorum, as far as those that answered can tell.
     pub fn may_be_fast(&self, topology: &Topology) -> bool
-        requires { HasShards topology.now (members self.now.shards) }
-        ensures { (shards : List ℕ) (answers : List Answer) → StandsFor self.now shards answers →
+        ensures { (shards : List ℕ) (answers : List Answer) → HasShards topology.now shards → StandsFor self.now shards answers →
             result ≡ may_be_fast_everywhere topology.now shards answers }
     {
         let shards = self.shards;
-        for shard in 0..SHARDS {
-            if contains(shards, shard as u32)
-                && !topology.may_be_fast(shard as u32, self.answered[shard], self.kept[shard])
+        for shard in 1..topology.shards() + 1 {
+            if contains(shards, shard)
+                && !topology.may_be_fast(
+                    shard,
+                    self.answered[shard as usize],
+                    self.kept[shard as usize],
+                )
             {
                 return false;
             }
