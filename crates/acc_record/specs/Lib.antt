@@ -1,3 +1,4 @@
 pub mod Shelf
 pub mod Waits
 pub mod Stands
+pub mod Steps
