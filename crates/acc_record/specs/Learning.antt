@@ -2,12 +2,12 @@
 --     vote_at shelf x share top      the vote that is given for it
 --     deps_below shelf x share bound      the known conflicting transactions below a bound, as dependencies
 --     IsLearnt old new x body share stamp top      the shelf knows the transaction, a stamp of it and a greatest h
-use Rattle.std.specs.Prelude.{◌≡◌, ℕ, ◌+◌, max, Bool, true, false, cond, ◌||◌, List, [], ◌∷◌, ◌++◌, Option, None, Some}
+use Rattle.std.specs.Prelude.{◌≡◌, ℕ, ◌+◌, max, Bool, false, cond, ◌||◌, List, [], ◌∷◌, ◌++◌, Option, None, Some}
 use Rattle.std.specs.List.{list_all}
 use Rattle.acc_stamp.specs.declared.stamps.Stamp.{Stamp}
 use Rattle.acc_stamp.specs.declared.stamps.TxnId.{TxnId}
 use Rattle.acc_stamp.specs.Actor.{shard_of}
-use Rattle.acc_stamp.specs.Stamp.{stamp_lt, stamp_le, id_eq, zero_ballot}
+use Rattle.acc_stamp.specs.Stamp.{stamp_lt, stamp_le, id_eq}
 use Rattle.acc_deps.specs.declared.shards.ShardDeps.{ShardDeps}
 use Rattle.acc_deps.specs.declared.records.Accepted.{Accepted}
 use Rattle.acc_deps.specs.declared.records.Settled.{Settled}
@@ -19,6 +19,7 @@ use Rattle.acc_record.specs.declared.record.Record.{Record}
 use Rattle.acc_record.specs.declared.vote.Vote.{Vote}
 use Rattle.acc_record.specs.declared.shelf.Shelf.{Shelf}
 use Rattle.acc_record.specs.Shelf.{record_at}
+use Rattle.acc_record.specs.Steps.{fresh}
 
 -- ---- votes
 
@@ -61,24 +62,7 @@ body_of (Some r) body = r.body
 
 -- ---- records
 
--- the record of a transaction that was not known
-abbrev pub fresh : TxnId → BodyParts → Record
-fresh x body =
-    record {
-      id = x;
-      body = body;
-      vote = None;
-      vote_deps = [];
-      promised = zero_ballot;
-      accepted = None;
-      committed = None;
-      stable = None;
-      waiters = [];
-      opened = false;
-      outcome = None;
-      applied = false;
-    }
-
+-- the record with which a step begins
 abbrev pub known_or_fresh : Option Record → TxnId → BodyParts → Record
 known_or_fresh None x body = fresh x body
 known_or_fresh (Some r) x body = r
@@ -98,17 +82,17 @@ abbrev pub is_below_settled : Stamp → Option Settled → Bool
 is_below_settled s None = false
 is_below_settled s (Some a) = stamp_le s a.t
 
--- the record has a stamp that is as great
-abbrev pub is_covered_by : Record → Stamp → Bool
-is_covered_by r s =
-    stamp_le s (later_of r.id.0 r.vote) || is_below_accepted s r.accepted || is_below_accepted s r.committed || is_below_settled s r.stable
+-- a stamp that the record of a transaction shows is as great
+abbrev pub is_covered_by : TxnId → Record → Stamp → Bool
+is_covered_by x r s =
+    stamp_le s (later_of x.0 r.vote) || is_below_accepted s r.accepted || is_below_accepted s r.committed || is_below_settled s r.stable
 
 -- the stamp to be noted: the greater one of a new transaction's own and of that which the step brings, and of a known one's
 -- the latter where its record has none as great
 abbrev pub stamp_to_note : Option Record → TxnId → Option Stamp → Option Stamp
 stamp_to_note None x stamp = Some (later_of x.0 stamp)
 stamp_to_note (Some r) x None = None
-stamp_to_note (Some r) x (Some s) = cond (is_covered_by r s) None (Some s)
+stamp_to_note (Some r) x (Some s) = cond (is_covered_by x r s) None (Some s)
 
 abbrev pub notes_with : TxnId → List (Key × Bool) → Option Stamp → List Noted
 notes_with x share None = []

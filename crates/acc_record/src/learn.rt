@@ -3,7 +3,8 @@ ghost use Rattle.std.specs.Prelude.{◌≡◌, ◌++◌, cond, Some, None, IfOk,
 ghost use Rattle.acc_stamp.specs.declared.stamps.TxnId.{TxnId};
 ghost use Rattle.acc_stamp.specs.Stamp.{id_eq};
 ghost use Rattle.acc_record.specs.Shelf.{IsSame, record_at};
-ghost use Rattle.acc_record.specs.Learning.{IsLearnt, fresh, is_covered_by, is_below_accepted, is_below_settled, later_of, stamp_to_note, notes_with};
+ghost use Rattle.acc_record.specs.Steps.{fresh};
+ghost use Rattle.acc_record.specs.Learning.{IsLearnt, is_covered_by, is_below_accepted, is_below_settled, later_of, stamp_to_note, notes_with};
 
 use crate::record::{Record, Records};
 use crate::shelf::Shelf;
@@ -46,7 +47,7 @@ impl Shelf {
     {
         match (self.records.get(&id), stamp) {
             (None, stamp) => Some(later(id.0, stamp)),
-            (Some(record), Some(stamp)) if !record.covers(stamp) => Some(stamp),
+            (Some(record), Some(stamp)) if !record.covers(id, stamp) => Some(stamp),
             (Some(_), _) => None,
         }
     }
@@ -74,11 +75,11 @@ impl Record {
         })
     }
 
-    // Whether the record has a stamp that is as great.
-    fn covers(&self, stamp: Stamp) -> bool
-        ensures { result ≡ is_covered_by self.now stamp }
+    // Whether a stamp that the record shows is as great. The record is that of this transaction.
+    fn covers(&self, id: TxnId, stamp: Stamp) -> bool
+        ensures { result ≡ is_covered_by id self.now stamp }
     {
-        stamp <= later(self.id.0, self.vote)
+        stamp <= later(id.0, self.vote)
             || is_below(stamp, &self.accepted)
             || is_below(stamp, &self.committed)
             || is_below_settled(stamp, &self.stable)
