@@ -22,9 +22,8 @@ use Rattle.acc_message.specs.VoteRule.{Vote, first_vote, times_in, greatest_draw
 use Rattle.acc_message.specs.BallotRules.{greater_ballot, granted_by, accepted_by, committed_by}
 use Rattle.acc_record.specs.declared.record.Record.{Record}
 use Rattle.acc_record.specs.declared.shelf.Shelf.{Shelf}
-use Rattle.acc_record.specs.declared.shelf.Watch.{Watch}
 use Rattle.acc_record.specs.Shelf.{record_at, cell_at, watchers}
-use Rattle.acc_record.specs.Stands.{stamp_of_vote, deps_of_vote, noted_as, IsCovered}
+use Rattle.acc_record.specs.Stands.{stamp_of_vote, noted_as, IsCovered}
 
 -- ---- the record
 
@@ -51,10 +50,11 @@ abbrev pub record_from : Option Record → TxnId → Option BodyParts → Option
 record_from None x body = option_map (fresh x) body
 record_from (Some r) x body = Some r
 
--- the dependencies that go with a vote: those of the earlier one, as long as there is one
+-- the dependencies that go with a vote: those of a vote that is given first, and else those that are there
 abbrev pub deps_kept : Option Stamp → List ShardDeps → Option Vote → List ShardDeps
-deps_kept None kept given = deps_of_vote given
 deps_kept (Some vote) kept given = kept
+deps_kept None kept None = kept
+deps_kept None kept (Some v) = v.deps
 
 -- what a step makes of the record of its transaction: it keeps the earlier vote, raises the promise to a ballot that it
 -- grants, and puts what it accepts or commits in place of what was there
