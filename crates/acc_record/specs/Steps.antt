@@ -22,7 +22,6 @@ use Rattle.acc_message.specs.VoteRule.{Vote, first_vote, times_in, greatest_draw
 use Rattle.acc_message.specs.BallotRules.{greater_ballot, granted_by, accepted_by, committed_by}
 use Rattle.acc_record.specs.declared.record.Record.{Record}
 use Rattle.acc_record.specs.declared.shelf.Shelf.{Shelf}
-use Rattle.acc_record.specs.declared.shelf.Watch.{Watch}
 use Rattle.acc_record.specs.Shelf.{record_at, cell_at, watchers}
 use Rattle.acc_record.specs.Stands.{stamp_of_vote, deps_of_vote, noted_as, IsCovered}
 
