@@ -1,5 +1,8 @@
 //! Votes: the timestamp that a store gives a transaction, and the transactions that may have to go before it.
 ghost use Rattle.std.specs.Prelude.{◌≡◌, ◌<◌, ◌^◌, IfOk};
+ghost use Rattle.std.specs.List.{list_all};
+ghost use Rattle.acc_stamp.specs.Stamp.{stamp_lt};
+ghost use Rattle.acc_index.specs.Noted.{rival_stamps};
 ghost use Rattle.acc_record.specs.Learning.{vote_at, stamp_at, deps_below};
 
 use crate::shelf::Shelf;
@@ -42,12 +45,22 @@ impl Shelf {
         requires top { top < 2 ^ 62 }
         ensures { result ≡ stamp_at self.now id share.now top }
     {
+        if self.is_above_rivals(id, share) {
+            return id.0;
+        }
+        Stamp {
+            h: 1 + top.max(self.greatest),
+            origin: self.actor.0,
+        }
+    }
+
+    // Whether every known stamp of a conflicting transaction is smaller than this one's own.
+    fn is_above_rivals(&self, id: TxnId, share: &Footprint) -> bool
+        ensures { result ≡ list_all (λ s. stamp_lt s id.0) (rival_stamps self.now.index id share.now) }
+    {
         match self.index.greatest_conflict(id, share) {
-            Some(greatest) if greatest >= id.0 => Stamp {
-                h: 1 + top.max(self.greatest),
-                origin: self.actor.0,
-            },
-            _ => id.0,
+            Some(greatest) => greatest < id.0,
+            None => true,
         }
     }
 
