@@ -1,0 +1,2 @@
+pub mod KnownOnes
+pub mod Rivals
