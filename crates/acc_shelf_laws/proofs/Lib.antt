@@ -6,3 +6,4 @@ pub mod Noting
 pub mod Records
 pub mod QuietSteps
 pub mod After
+pub mod Learnt
