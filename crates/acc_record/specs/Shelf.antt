@@ -1,5 +1,5 @@
 -- What a shelf holds, entry by entry.
-use Rattle.std.specs.Prelude.{◌≡◌, ℕ, List, [], Option, None, Some, Vec}
+use Rattle.std.specs.Prelude.{◌≡◌, List, [], Option, None, Some, Vec}
 use Rattle.std.specs.BTreeMap as tree
 use Rattle.std.specs.declared.alloc.Global.{Global}
 use Rattle.acc_stamp.specs.declared.stamps.TxnId.{TxnId}

@@ -1,10 +1,11 @@
 -- When a shelf stands for the history of a store: each part of it is what the rules give from this history.
-use Rattle.std.specs.Prelude.{◌≡◌, ℕ, List, [], ◌∷◌, Option, None, Some, is_some, IsTrue, Contains}
+use Rattle.std.specs.Prelude.{◌≡◌, ℕ, Bool, List, [], ◌∷◌, Option, None, Some, is_some, IsTrue, Contains}
 use Rattle.std.specs.Option.{option_map}
 use Rattle.acc_stamp.specs.declared.stamps.Stamp.{Stamp}
 use Rattle.acc_stamp.specs.declared.stamps.TxnId.{TxnId}
 use Rattle.acc_stamp.specs.declared.actors.Actor.{Actor}
 use Rattle.acc_stamp.specs.Actor.{shard_of}
+use Rattle.acc_stamp.specs.Stamp.{stamp_le}
 use Rattle.acc_topology.specs.Layout.{Layout}
 use Rattle.acc_topology.specs.Keys.{share_of}
 use Rattle.acc_deps.specs.declared.shards.ShardDeps.{ShardDeps}
@@ -69,12 +70,19 @@ pub record IsStampOf (layout : Layout) (shard : ℕ) (history : List Taken) (n :
   pub stamp : Contains (stamps_of history n.id) n.stamp
   pub is : n ≡ noted_as layout shard n.id body n.stamp
 
--- what was noted are the stamps of the known transactions, in any order and number
+-- the stamp, or a greater one of the same transaction, was noted
+pub record IsCovered (noted : List Noted) (x : TxnId) (share : List (Key × Bool)) (stamp : Stamp) : Type 0 where
+  pub by : Stamp
+  pub there : Contains noted (record { id = x; share = share; stamp = by })
+  pub above : IsTrue (stamp_le stamp by)
+
+-- What was noted are stamps of the known transactions, and none of theirs is greater than all that were noted of the same
+-- one. So the greatest stamps are those of the rules, and so are the transactions.
 pub record AreStamps (layout : Layout) (shard : ℕ) (history : List Taken) (noted : List Noted) : Type 0 where
   pub only : (n : Noted) → Contains noted n → IsStampOf layout shard history n
   pub all :
       (x : TxnId) (body : BodyParts) (stamp : Stamp) → body_known history x ≡ Some body → Contains (stamps_of history x) stamp
-      → Contains noted (noted_as layout shard x body stamp)
+      → IsCovered noted x (share_of layout (footprint_of body) shard) stamp
 
 -- ---- the whole
 

@@ -2,9 +2,12 @@
 #![tactic(auto)]
 
 mod cells;
+mod learn;
 mod record;
 mod shelf;
+mod vote;
 
 pub use cells::Cells;
 pub use record::{Record, Records};
 pub use shelf::{Shelf, Waits, Watch};
+pub use vote::Vote;

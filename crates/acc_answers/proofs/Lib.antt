@@ -1,0 +1,3 @@
+pub mod KnownOnes
+pub mod Rivals
+pub mod VoteLaw
