@@ -1,5 +1,5 @@
 -- So far the first payloads are counted, and each of them is short.
-use Rattle.std.proofs.Common.{◌≡◌, ◌+◌, ◌*◌, ◌<◌, ◌≤◌, length, take}
+use Rattle.std.proofs.Common.{◌≡◌, ◌+◌, ◌*◌, ◌≤◌, length, take}
 use Rattle.std.specs.Prelude.{sum_by}
 use Rattle.acc_journal.specs.Layout.{AreShort}
 use Rattle.acc_journal_tables.proofs.step.room.Given as goal
