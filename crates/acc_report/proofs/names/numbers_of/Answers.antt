@@ -1,7 +1,6 @@
 use Rattle.std.proofs.Common.{map, reverse, take, sym, ap, ◌∙◌}
 use Rattle.std.proofs.lemmas.List.{take_all}
 use Rattle.std.specs.Arc.{arc_value}
-use Rattle.acc_base.specs.Faults.{or_else}
 use Rattle.acc_message.specs.Items.{txn_in, txn_of}
 use Rattle.acc_report.specs.Report.{number_in, number_of}
 use Rattle.acc_report.proofs.Steps.{or_else-none, or_else-assoc, reverse_more}
