@@ -2,7 +2,7 @@
 use Rattle.std.proofs.Common.{◌≡◌, ℕ, ◌+◌, ◌*◌, ◌/◌, ◌≤◌, Bool, true, false, not, ◌&&◌, ◌||◌, List, [], ◌∷◌, length, count_by, refl, sym, ◌∙◌, ap, subst, arith, ◌⊎◌, inl, inr, ⊎_elim}
 use Rattle.std.specs.List.{list_any}
 use Rattle.std.specs.Prelude.{◌==◌}
-use Rattle.std.proofs.lemmas.Bool.{true≢false, and_from, or_left, or_right, or_cases, leb-true, le-leb, eqb-true, eq-eqb, cases_Bool}
+use Rattle.std.proofs.lemmas.Bool.{true≢false, not-true, and_from, or_left, or_right, or_cases, leb-true, le-leb, eqb-true, eq-eqb, cases_Bool}
 use Rattle.acc_stamp.specs.declared.stamps.TxnId.{TxnId}
 use Rattle.acc_stamp.specs.declared.actors.Actor.{Actor}
 use Rattle.acc_stamp.specs.Actor.{actor_of, actor_eq}
@@ -73,15 +73,11 @@ module _ (nodes : List ℕ) (s : Shard) (is : IsShard nodes s) (answers : List A
       kept_step (is_from shard n a) a.unchanged (list_any (is_from shard n) list) (list_any (λ e. is_from shard n e && not e.unchanged) list)
       (list_any (λ e. is_from shard n e && e.unchanged) list) h k (kept_by list n)
 
-  not_true : (b : Bool) → not b ≡ true → b ≡ false
-  not_true true h = absurd (true≢false (sym h))
-  not_true false h = refl
-
   kept_there : (n : ℕ) → IsIn n s.electorate → not (has_changed answers shard n) ≡ true → has_kept answers shard n ≡ true
   kept_there n there unchanged =
       kept_by answers n
       (each n (among_in n s.replicas (among_part s.electorate s.replicas is.electorate n (in_among n s.electorate there))))
-      (not_true (has_changed answers shard n) unchanged)
+      (not-true (has_changed answers shard n) unchanged)
 
   unlost_fast : is_fast s (λ n. not (has_changed answers shard n)) ≡ true → is_fast s (has_kept answers shard) ≡ true
   unlost_fast h =
@@ -107,9 +103,6 @@ module _ (layout : Layout) (is : IsLayout layout) (body : BodyParts) (x : TxnId)
       ⊎_elim (λ here. or_left (actor_eq (from_of m) a) (list_any (λ e. actor_eq e.store a) (plainly x list)) here)
       (λ rest. or_right (actor_eq (from_of m) a) (list_any (λ e. actor_eq e.store a) (plainly x list)) (plain_answered a list rest))
       (or_cases (same_actor (from_of m) a) (list_any (λ k. same_actor (from_of k) a) list) h)
-
-  abbrev all_used : List ℕ
-  all_used = shards_used layout body
 
   replica_answered : (shard : ℕ) → IsIn shard (shards_used layout body) → (n : ℕ) → IsIn n (shard_at layout shard).replicas
       → has_answered (plainly x answers) shard n ≡ true

@@ -76,7 +76,7 @@ HasRoom (EndBy by) phase = Unit {0}
 low : (phase other : Phase) (n : ℕ) → phase ≡ other → rank other ≤ n → rank phase ≤ n
 low phase other n same h = subst (λ p. rank p ≤ n) (sym same) h
 
-undecided_low : (phase : Phase) → is_decided phase ≡ false → rank phase ≤ 2
+pub undecided_low : (phase : Phase) → is_decided phase ≡ false → rank phase ≤ 2
 undecided_low Voting h = omega arith
 undecided_low Recovering h = omega arith
 undecided_low (Accepting s) h = omega arith

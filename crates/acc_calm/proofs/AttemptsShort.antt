@@ -1,10 +1,10 @@
 -- In a run an attempt sends at most five messages to each store of its transaction, and one more.
-use Rattle.std.proofs.Common.{◌≡◌, ℕ, suc, ◌+◌, ◌*◌, ◌%◌, ◌≤◌, if◌then◌else◌, Bool, true, false, ◌&&◌, cond, List, [], ◌∷◌, ◌++◌, length, count_by, map, Option, None, Some, refl, sym, ◌∙◌, ap, subst, arith, ◌⊎◌, inl, inr, ⊎_elim}
-use Rattle.std.proofs.lemmas.Bool.{true≢false, and_parts, false_from_ne_true, eq-eqb}
+use Rattle.std.proofs.Common.{◌≡◌, ℕ, suc, ◌+◌, ◌*◌, ◌≤◌, Bool, true, false, ◌&&◌, cond, List, [], ◌∷◌, ◌++◌, length, count_by, map, Option, None, Some, refl, sym, ◌∙◌, ap, subst, arith, ◌⊎◌, inl, inr, ⊎_elim}
+use Rattle.std.proofs.lemmas.Bool.{true≢false, and_parts, false_from_ne_true}
 use Rattle.acc_stamp.specs.declared.stamps.TxnId.{TxnId}
 use Rattle.acc_stamp.specs.declared.stamps.Ballot.{Ballot}
 use Rattle.acc_stamp.specs.declared.actors.Actor.{Actor}
-use Rattle.acc_stamp.specs.Actor.{actor_of, node_of, node_of_stamp, home_of}
+use Rattle.acc_stamp.specs.Actor.{actor_of, node_of, home_of}
 use Rattle.acc_stamp.specs.Stamp.{id_eq, ballot_eq, zero_ballot}
 use Rattle.acc_stamp.proofs.Order.{id_order, ballot_order, eq_itself}
 use Rattle.acc_topology.specs.Layout.{Layout}
@@ -40,6 +40,7 @@ use Rattle.acc_safety.proofs.Frame.{homes_are_one}
 use Rattle.acc_attempt_facts.proofs.Ranks.{rank}
 use Rattle.acc_attempt_facts.proofs.Draws.{IsDraw, DrawsId, DrawsBallot}
 use Rattle.acc_serial.proofs.Steps.{Told, Outcome_told, Other_told, told, told_stays, node_emitted}
+use Rattle.acc_calm.proofs.ZeroBallots.{home_is_node}
 use Rattle.acc_calm.specs.MessageCounts.{is_of_attempt, sent_for_attempt, AttemptsAreShort}
 use Rattle.acc_calm.proofs.AttemptCounts.{none_counted, at_most_all, allowed, allowed_less, rank_most, GoesOn, moves_room, hears_room, other_made, finish_made, Started, started_back, started_from, not_begun_again, not_recovered_again}
 
@@ -231,9 +232,6 @@ module _ (cluster : Cluster) (items : List Item) (h : EachStands cluster items) 
       → IsBody cluster items (next_id (node_of actor) start past) sent → Spends past → Goes deed past (Begins txn sent)
   begins deed past txn sent within act_is sent_is spends = by (id_eq (next_id (node_of actor) start past) x) refl (ballot_eq zero_ballot b) refl
     where
-      ask : Actor → Message
-      ask store = PreAccept own store (next_id (node_of actor) start past) zero_ballot sent
-
       by : (c : Bool) → id_eq (next_id (node_of actor) start past) x ≡ c → (z : Bool) → ballot_eq zero_ballot b ≡ z
           → Allows n b (counted (map (λ store. PreAccept own store (next_id (node_of actor) start past) zero_ballot sent) (stores_used cluster.layout sent)) + spent x b past)
           (cond c (Some (begun sent)) (at_x past)) (Begun (deed ∷ past))
@@ -379,15 +377,9 @@ none_passes p (m ∷ ms) h =
     let here : one_if (p m) ≡ 0 = ap one_if (false_from_ne_true (p m) (h m (First m ms))) in
     omega (arith, count_by-cons p m ms, here, none_passes p ms (λ k there. h k (Later k m ms there)))
 
-node_zero : (k : ℕ) → is_node (actor_of k 0) ≡ true
-node_zero k = eq-eqb ((k * 64 + 0) % 64) 0 (omega arith)
-
 module _ (cluster : Cluster) (x : TxnId) (b : Ballot) where
   abbrev home : Actor
   home = home_of x b
-
-  home_is_node : is_node home ≡ true
-  home_is_node = node_zero (if ballot_eq b zero_ballot then node_of_stamp x.0 else node_of_stamp b.0)
 
   -- a node that isn't the home sends nothing for it
   others_silent : (earlier : List Item) (e : Entry) → EachStands cluster (Step e ∷ earlier) → is_node e.actor ≡ true → same_actor e.actor home ≡ false
@@ -431,7 +423,7 @@ module _ (cluster : Cluster) (x : TxnId) (b : Ballot) where
       by : (node : Bool) → is_node e.actor ≡ node → (its : Bool) → same_actor e.actor home ≡ its
           → cond (is_node e.actor) (count_by (is_of_attempt x b) e.emitted.out) 0 + sent_for_attempt x b earlier
           ≡ spent x b (deed_if its cluster earlier e ++ deeds_of cluster home earlier)
-      by node is true its = own_entry earlier e h.0 (ap is_node (same e.actor home its) ∙ home_is_node) rest
+      by node is true its = own_entry earlier e h.0 (ap is_node (same e.actor home its) ∙ home_is_node x b) rest
       by true is false other =
           let none : cond (is_node e.actor) (count_by (is_of_attempt x b) e.emitted.out) 0 ≡ 0 =
           ap (λ c. cond c (count_by (is_of_attempt x b) e.emitted.out) 0) is ∙ others_silent earlier e h is other in
@@ -449,7 +441,7 @@ module _ (cluster : Cluster) (x : TxnId) (b : Ballot) where
 pub attempts_are_short : (cluster : Cluster) (items : List Item) → EachStands cluster items → AttemptsAreShort cluster items
 attempts_are_short cluster items h x b body is =
     let a : Actor = home_of x b in
-    let node = home_is_node cluster x b in
+    let node = home_is_node x b in
     let spends = spends_all cluster items h a node x b body is (deeds_of cluster a items) (Whole (deeds_of cluster a items)) (each_emits cluster a items h node) in
     five (length (stores_used cluster.layout body)) (spent x b (deeds_of cluster a items)) (sent_for_attempt x b items) (sent_is_spent cluster x b items h) spends.most
   where

@@ -76,20 +76,20 @@ begin_is_no_taking txn body m e = cc
 some_is_not_none : {T : Type 0} (t : T) → Some t ≡ None → ⊥
 some_is_not_none t e = not_none t (sym e)
 
+pub first_same : {T : Type 0} {x y : T} {xs ys : List T} → x ∷ xs ≡ y ∷ ys → x ≡ y
+first_same e = cc
+
+pub rest_same : {T : Type 0} {x y : T} {xs ys : List T} → x ∷ xs ≡ y ∷ ys → xs ≡ ys
+rest_same e = cc
+
 -- the message was taken in the newest step, or before
 pub took_cases : (deed : Deed) (past : List Deed) (m : Message) → Took (deed ∷ past) m → (deed.act ≡ Takes m) ⊎ Took past m
 took_cases deed past m t = by t.deed t.past (deed ∷ past) t.at t.act_is refl
   where
     by : (d : Deed) (p deeds : List Deed) → StandsAt d p deeds → d.act ≡ Takes m → deeds ≡ deed ∷ past → (deed.act ≡ Takes m) ⊎ Took past m
     by d p deeds (Here e rest) act_is is = inl (subst (λ k. k.act ≡ Takes m) (first_same is) act_is)
-      where
-        first_same : {f g : Deed} {fs gs : List Deed} → f ∷ fs ≡ g ∷ gs → f ≡ g
-        first_same e = cc
     by d p deeds (Back e f rest others there) act_is is =
         inr (record { deed = e; past = rest; at = subst (λ k. StandsAt e rest k) (rest_same is) there; act_is = act_is })
-      where
-        rest_same : {f g : Deed} {fs gs : List Deed} → f ∷ fs ≡ g ∷ gs → fs ≡ gs
-        rest_same e = cc
 
 -- what stood behind a step of these is a past of what stands behind the newest
 behind_first : (d : Deed) (p : List Deed) (deed : Deed) (past : List Deed) → StandsAt d p (deed ∷ past) → IsPast p past
@@ -97,13 +97,7 @@ behind_first d p deed past at = by d p (deed ∷ past) at refl
   where
     by : (d : Deed) (p deeds : List Deed) → StandsAt d p deeds → deeds ≡ deed ∷ past → IsPast p past
     by d p deeds (Here e rest) is = subst (IsPast rest) (rest_same is) (Whole rest)
-      where
-        rest_same : {f g : Deed} {fs gs : List Deed} → f ∷ fs ≡ g ∷ gs → fs ≡ gs
-        rest_same e = cc
     by d p deeds (Back e f rest others there) is = subst (IsPast rest) (rest_same is) (past_of e rest others there)
-      where
-        rest_same : {f g : Deed} {fs gs : List Deed} → f ∷ fs ≡ g ∷ gs → fs ≡ gs
-        rest_same e = cc
 
 module _ (cluster : Cluster) (items : List Item) (h : EachStands cluster items) (calm : IsCalm items) where
   refuses_zero : (m : Message) → Sending items m → RefusesZero m
@@ -359,17 +353,8 @@ module _ (cluster : Cluster) (items : List Item) (h : EachStands cluster items) 
             → ((txn : ℕ) × ((body : BodyParts) × ((deed.act ≡ Begins txn body) × (next_id (node_of home) start past ≡ x)))) ⊎ BegunIn past
         by d p deeds (Here e rest) act_is drawn is =
             inl (b.txn, (b.body, (subst (λ k. k.act ≡ Begins b.txn b.body) (first_same is) act_is, subst (λ k. next_id (node_of home) start k ≡ x) (rest_same is) drawn)))
-          where
-            first_same : {f g : Deed} {fs gs : List Deed} → f ∷ fs ≡ g ∷ gs → f ≡ g
-            first_same e = cc
-
-            rest_same : {f g : Deed} {fs gs : List Deed} → f ∷ fs ≡ g ∷ gs → fs ≡ gs
-            rest_same e = cc
         by d p deeds (Back e f rest others there) act_is drawn is =
             inr (record { deed = e; past = rest; at = subst (λ k. StandsAt e rest k) (rest_same is) there; txn = b.txn; body = b.body; act_is = act_is; drawn = drawn })
-          where
-            rest_same : {f g : Deed} {fs gs : List Deed} → f ∷ fs ≡ g ∷ gs → fs ≡ gs
-            rest_same e = cc
 
     ends_there : (deed : Deed) (past : List Deed) (n : Message) → deed.act ≡ Takes n → id_of n ≡ x → (before : Attempt) → at_x past ≡ Some before
         → (r : Reaction) → Result cluster.layout own x before n r → reaction cluster.layout own x before n ≡ r → r.next ≡ None → Finishing (deed ∷ past)

@@ -1,6 +1,6 @@
 -- In a calm run the attempt at a transaction that each of its stores has opened has its outcome, which goes to all stores and to
 -- the client.
-use Rattle.std.proofs.Common.{◌≡◌, ℕ, ◌+◌, ◌*◌, ◌%◌, ◌≤◌, Bool, true, false, not, ◌&&◌, ◌||◌, List, [], ◌∷◌, length, Option, None, Some, is_some, map, IsTrue, refl, sym, ◌∙◌, ap, subst, arith, ⊎_elim}
+use Rattle.std.proofs.Common.{◌≡◌, ℕ, Bool, true, false, not, ◌&&◌, ◌||◌, List, [], ◌∷◌, length, Option, None, Some, is_some, map, IsTrue, refl, sym, ◌∙◌, ap, subst, ⊎_elim}
 use Rattle.std.specs.List.{list_any, list_all, flat_map}
 use Rattle.std.specs.Prelude.{◌==◌}
 use Rattle.std.proofs.lemmas.Bool.{true≢false, and_from, cases_Bool}
@@ -50,20 +50,20 @@ use Rattle.acc_calm.proofs.ZeroBallots.{home_is_node}
 use Rattle.acc_calm.proofs.Reactions.{NotReadyIn}
 use Rattle.acc_calm.proofs.Courses.{at_x, course, BegunIn, begun_cases, Finishing}
 use Rattle.acc_calm.proofs.AllAnswered.{in_among}
-use Rattle.acc_calm.proofs.Undecided.{store_place, used_is_store, step_sent, its_body, phase_sent, sent_one, taken_at, decided}
+use Rattle.acc_calm.proofs.Undecided.{shard_of_store, store_place, used_is_store, step_sent, its_body, phase_sent, sent_one, taken_at, decided}
 use Rattle.acc_calm.proofs.ReadsAnswered.{step_cases, replied as reads_replied}
 
 -- ---- what a store keeps
 
-stable_with : (o : Option Settled) (now s : Option Settled) (r : Settled) → now ≡ Some r → (k : Settled) × (or_else o now ≡ Some k)
-stable_with None now s r is = (r, is)
-stable_with (Some k) now s r is = (k, refl)
+stable_with : (o now : Option Settled) (r : Settled) → now ≡ Some r → (k : Settled) × (or_else o now ≡ Some k)
+stable_with None now r is = (r, is)
+stable_with (Some k) now r is = (k, refl)
 
 pub took_stable : (m : Message) (x : TxnId) (s : Settled) → settled_in x m ≡ Some s → (history : List Taken) → TookStep m history
     → (r : Settled) × (stable_of history x ≡ Some r)
 took_stable m x s is [] t = elim t.at [ ]
 took_stable m x s is (step ∷ past) t =
-    ⊎_elim (λ now. stable_with (stable_of past x) (settled_in x step.message) None s (ap (settled_in x) now ∙ is))
+    ⊎_elim (λ now. stable_with (stable_of past x) (settled_in x step.message) s (ap (settled_in x) now ∙ is))
     (λ old. let r = took_stable m x s is past old in (r.0, stable_stays step past x r.0 r.1))
     (step_cases m step past t)
 
@@ -152,21 +152,12 @@ module _ (cluster : Cluster) (items : List Item) (standing : IsStanding cluster 
 
     shard_read : (shard : ℕ) → IsIn shard (shards_used cluster.layout a.body) → has_read a.answers shard ≡ true
     shard_read shard used =
-        let is = shard_of_layout cluster.layout shard standing.valid.layout
-        (used-HasShard cluster.layout a.body shard standing.valid.layout (in_among shard (shards_used cluster.layout a.body) used)) in
-        let n = some_replica (shard_at cluster.layout shard).replicas is.count in
+        let has = used-HasShard cluster.layout a.body shard standing.valid.layout (in_among shard (shards_used cluster.layout a.body) used) in
+        let n = some_replica (shard_at cluster.layout shard).replicas (shard_of_layout cluster.layout shard standing.valid.layout has).count in
         let there = flat_map-IsIn (stores_of_shard cluster.layout) (actor_of n.0 shard) shard (shards_used cluster.layout a.body) used
         (map-IsIn (λ node. actor_of node shard) n.0 (shard_at cluster.layout shard).replicas n.1) in
-        subst (λ k. list_any (λ e. shard_of (from_of e) == k) a.answers ≡ true) (shard_is n.0 (actor_of n.0 shard) there refl)
+        subst (λ k. list_any (λ e. shard_of (from_of e) == k) a.answers ≡ true) (shard_of_store cluster.layout n.0 shard standing.valid.layout has)
         (read_heard (actor_of n.0 shard) there)
-      where
-        shard_is : (node : ℕ) (store : Actor) → IsIn store (stores_used cluster.layout a.body) → store ≡ actor_of node shard → shard_of store ≡ shard
-        shard_is node store there same =
-            let has = used-HasShard cluster.layout a.body shard standing.valid.layout (in_among shard (shards_used cluster.layout a.body) used) in
-            ap shard_of same ∙ number node shard has.1 standing.valid.layout.few_shards
-          where
-            number : (k j : ℕ) {n : ℕ} → j ≤ n → n ≤ 15 → (k * 64 + j) % 64 ≡ j
-            number k j p q = omega (arith, p, q)
 
     pub still_running : ⊥
     still_running =

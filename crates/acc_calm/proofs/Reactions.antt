@@ -19,6 +19,7 @@ use Rattle.acc_message.specs.Shares.{is_store_of}
 use Rattle.acc_message.specs.Attempts.{Attempt, Phase, Voting, Recovering, Accepting, Committing, Executing, fits, same_seat, counts, majority_everywhere, fast_everywhere, fast_lost_somewhere, outcome_from}
 use Rattle.acc_message.specs.Coordinator.{Reaction, stay, when, either, in_phase, with_answer, decide, commit, slow_down, finish, finish_with, own_stamp, highest_vote, agreed, path_of, end, after_answer, is_decided, is_past_recover, on_message, reaction}
 use Rattle.acc_attempt_facts.proofs.Ranks.{rank}
+use Rattle.acc_calm.proofs.AttemptCounts.{undecided_low}
 
 -- every phase but Recovering
 abbrev pub IsCalmPhase : Phase → Type 0
@@ -57,12 +58,8 @@ unfit_told (Committing s) m h = absurd (true≢false (sym h))
 unfit_told (Executing s) (Decided from to id ballot t deps) h = refl
 unfit_told (Executing s) m h = absurd (true≢false (sym h))
 
-undecided_low : (phase : Phase) → is_decided phase ≡ false → suc (rank phase) ≤ 3
-undecided_low Voting h = omega arith
-undecided_low Recovering h = omega arith
-undecided_low (Accepting s) h = omega arith
-undecided_low (Committing s) h = omega arith
-undecided_low (Executing s) h = absurd (true≢false h)
+one_more : {n : ℕ} → n ≤ 2 → suc n ≤ 3
+one_more h = omega (arith, h)
 
 and_none : (b c : Bool) → c ≡ false → (b && c) ≡ false
 and_none true c h = h
@@ -189,7 +186,7 @@ module _ (layout : Layout) (own : Actor) (x : TxnId) where
   adopts a from to id ballot s z false is =
       subst (λ b. Result a (Decided from to id ballot s.t s.deps) (when b (λ k. decide layout own x k Adopted s) a))
       (sym (or_right (is_past_recover a.phase) (ballot_eq a.ballot zero_ballot) ((ballot_order.decides a.ballot zero_ballot).1 z)))
-      (Enters (decide layout own x a Adopted s) (Executing s) refl (undecided_low a.phase is) (λ _. refl) tt)
+      (Enters (decide layout own x a Adopted s) (Executing s) refl (one_more (undecided_low a.phase is)) (λ _. refl) tt)
 
   heard : (a : Attempt) (m : Message) → a.ballot ≡ zero_ballot → IsCalmPhase a.phase → RefusesZero m → Result a m (on_message layout own x a m)
   heard a (Nack from to id ballot promised) z calm refusing = refused a from to id ballot promised z refusing

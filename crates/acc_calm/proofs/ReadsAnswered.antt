@@ -28,18 +28,13 @@ use Rattle.acc_safety.proofs.PlaceOrder.{passing, none_is_in, map-IsIn, IsIn-app
 use Rattle.acc_actor_laws.proofs.OpeningOrder.{opens_in_order}
 use Rattle.acc_actor_laws.proofs.QuietFacts.{nothing_changes}
 use Rattle.acc_actor_laws.proofs.TakenAlone.{taken_alone}
+use Rattle.acc_calm.proofs.Courses.{first_same, rest_same}
 use Rattle.acc_calm.proofs.Delivered.{TookStep}
 
 -- the message was taken in the newest step, or before
 pub step_cases : (m : Message) (step : Taken) (past : List Taken) → TookStep m (step ∷ past) → (step.message ≡ m) ⊎ TookStep m past
 step_cases m step past t = by t.step t.past (step ∷ past) t.at t.message_is refl
   where
-    first_same : {f g : Taken} {fs gs : List Taken} → f ∷ fs ≡ g ∷ gs → f ≡ g
-    first_same e = cc
-
-    rest_same : {f g : Taken} {fs gs : List Taken} → f ∷ fs ≡ g ∷ gs → fs ≡ gs
-    rest_same e = cc
-
     by : (s : Taken) (p history : List Taken) → StandsAt s p history → s.message ≡ m → history ≡ step ∷ past → (step.message ≡ m) ⊎ TookStep m past
     by s p history (Here e rest) message_is is = inl (subst (λ (k : Taken). k.message ≡ m) (first_same is) message_is)
     by s p history (Back e f rest others there) message_is is =

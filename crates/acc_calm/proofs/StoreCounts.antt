@@ -2,7 +2,7 @@
 -- transaction.
 use Rattle.std.proofs.Common.{◌≡◌, ℕ, ◌+◌, ◌≤◌, Bool, true, false, not, ◌&&◌, ◌||◌, cond, List, [], ◌∷◌, ◌++◌, length, count_by, map, filter, Option, None, Some, is_some, refl, sym, ◌∙◌, ap, subst, arith, length-append}
 use Rattle.std.specs.List.{list_any}
-use Rattle.std.proofs.lemmas.Bool.{true≢false, and_parts, cond_both, false_from_ne_true}
+use Rattle.std.proofs.lemmas.Bool.{true≢false, not-true, and_parts, cond_both, false_from_ne_true}
 use Rattle.std.proofs.lemmas.List.{length-map}
 use Rattle.std.proofs.lemmas.List.Folds.{list_any-append}
 use Rattle.acc_stamp.specs.declared.stamps.TxnId.{TxnId}
@@ -11,7 +11,7 @@ use Rattle.acc_stamp.specs.declared.actors.Actor.{Actor}
 use Rattle.acc_stamp.specs.Actor.{shard_of}
 use Rattle.acc_stamp.specs.Stamp.{id_eq, ballot_lt, zero_ballot}
 use Rattle.acc_stamp.specs.Rising.{id_among, rising_with}
-use Rattle.acc_stamp.proofs.Order.{id_order}
+use Rattle.acc_stamp.proofs.Order.{id_order, eq-sym}
 use Rattle.acc_topology.specs.Layout.{Layout}
 use Rattle.acc_topology.proofs.Bits.{one_if, count_by-cons}
 use Rattle.acc_deps.specs.declared.records.Settled.{Settled}
@@ -47,10 +47,6 @@ sent_in_all [] = 0
 sent_in_all (step ∷ past) = length step.sent + sent_in_all past
 
 -- ---- ballots of Stables
-
-cond_least : (b : Bool) (m n k : ℕ) → m ≤ k → n ≤ k → cond b m n ≤ k
-cond_least true m n k h l = h
-cond_least false m n k h l = l
 
 length-cond : {T : Type 0} (b : Bool) (xs ys : List T) (k : ℕ) → length xs ≤ k → length ys ≤ k → length (cond b xs ys) ≤ k
 length-cond true xs ys k h l = h
@@ -125,10 +121,6 @@ abbrev AreNew : List TxnId → List TxnId → Type 0
 AreNew [] before = Unit {0}
 AreNew (x ∷ ids) before = (id_among x (ids ++ before) ≡ false) × AreNew ids before
 
-not_true : (b : Bool) → not b ≡ true → b ≡ false
-not_true true h = absurd (true≢false (sym h))
-not_true false h = refl
-
 among_none : (x : TxnId) (ids before : List TxnId) → id_among x ids ≡ false → id_among x before ≡ false → id_among x (ids ++ before) ≡ false
 among_none x ids before h k = list_any-append (λ y. id_eq y x) ids before ∙ ap (λ b. b || list_any (λ y. id_eq y x) before) h ∙ k
 
@@ -160,7 +152,7 @@ module _ (shard : ℕ) (history : List Taken) (before applied_before : List TxnI
       with_change (λ ids. AreNew ids before) turn.change (pass shard history before applied_before (with_applied turn.is_applied s.id applied_ones) rest)
       (λ opens. (
         among_none s.id (opened_in (with_applied turn.is_applied s.id applied_ones) rest) before (not_opened s.id (with_applied turn.is_applied s.id applied_ones) rest apart.0)
-            (not_true (id_among s.id before) (and_parts (not (id_among s.id before)) (is_ready shard history applied_ones s.settled) opens).0),
+            (not-true (id_among s.id before) (and_parts (not (id_among s.id before)) (is_ready shard history applied_ones s.settled) opens).0),
         opened_new (with_applied turn.is_applied s.id applied_ones) rest apart.1,
       ))
       (opened_new (with_applied turn.is_applied s.id applied_ones) rest apart.1)
@@ -190,19 +182,10 @@ one_answered x ids (step ∷ past) h =
       here,
     )
   where
-    eq_turn : (a b : TxnId) → id_eq a b ≡ id_eq b a
-    eq_turn a b = by (id_eq a b) (id_eq b a) refl refl
-      where
-        by : (p q : Bool) → id_eq a b ≡ p → id_eq b a ≡ q → p ≡ q
-        by true true e f = refl
-        by false false e f = refl
-        by true false e f = absurd (true≢false (sym ((id_order.decides b a).1 (sym ((id_order.decides a b).0 e))) ∙ f))
-        by false true e f = absurd (true≢false (sym ((id_order.decides a b).1 (sym ((id_order.decides b a).0 f))) ∙ e))
-
     here : one_if (asks_for x step) + one_if (waits_behind (x ∷ ids) step) ≤ one_if (waits_behind ids step)
     here =
         subst (λ e. one_if (asks_for x step) + one_if (is_stable step.message && not (e || id_among (id_of step.message) ids)) ≤ one_if (waits_behind ids step))
-        (eq_turn (id_of step.message) x)
+        (eq-sym id_order (id_of step.message) x)
         (waits_less (is_stable step.message) (id_eq (id_of step.message) x) (id_among (id_of step.message) ids)
         (λ same. subst (λ y. id_among y ids ≡ false) (sym ((id_order.decides (id_of step.message) x).0 same)) h))
 

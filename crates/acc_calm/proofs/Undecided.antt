@@ -24,7 +24,7 @@ use Rattle.acc_message.specs.StoreRules.{body_counting, nack, unless_stable, unl
 use Rattle.acc_message.specs.Attempts.{Attempt, Phase, Voting, Recovering, Accepting, Committing, Executing, fits, same_seat, is_preaccept_ok, majority_everywhere, fast_lost_somewhere}
 use Rattle.acc_message.specs.Coordinator.{is_decided}
 use Rattle.acc_message.specs.NodeRules.{Begins, Takes, Deed, next_id, node_emits}
-use Rattle.acc_message.specs.Run.{Cluster, clock_start, deeds_of, taken_of, is_node, EachStands}
+use Rattle.acc_message.specs.Run.{Cluster, clock_start, deeds_of, taken_of, is_node}
 use Rattle.acc_safety.specs.Calm.{IsCalm}
 use Rattle.acc_safety.specs.Places.{IsIn, First, StandsAt, Whole}
 use Rattle.acc_safety.specs.Histories.{Sending}
@@ -60,12 +60,18 @@ pub record StorePlace (layout : Layout) (body : BodyParts) (store : Actor) : Typ
 number : (node shard : ℕ) → shard ≤ 15 → (node * 64 + shard) % 64 ≡ shard
 number node shard h = omega arith
 
+pub shard_of_store : (layout : Layout) (node shard : ℕ) → IsLayout layout → HasShard layout shard → shard_of (actor_of node shard) ≡ shard
+shard_of_store layout node shard valid has = number node shard (low shard has.1 valid.few_shards)
+  where
+    low : (k : ℕ) {n : ℕ} → k ≤ n → n ≤ 15 → k ≤ 15
+    low k p q = omega (arith, p, q)
+
 pub store_place : (layout : Layout) (body : BodyParts) (store : Actor) → IsLayout layout → IsIn store (stores_used layout body) → StorePlace layout body store
 store_place layout body store valid there =
     let s = IsIn-flat_map (stores_of_shard layout) store (shards_used layout body) there in
     let n = IsIn-map (λ node. actor_of node s.source) store (shard_at layout s.source).replicas s.within in
     let has : HasShard layout s.source = used-HasShard layout body s.source valid (in_among s.source (shards_used layout body) s.there) in
-    let shard_is : shard_of store ≡ s.source = ap shard_of n.is ∙ number n.source s.source (low s.source has.1 valid.few_shards) in
+    let shard_is : shard_of store ≡ s.source = ap shard_of n.is ∙ shard_of_store layout n.source s.source valid has in
     record {
       node = n.source;
       shard = s.source;
@@ -76,9 +82,6 @@ store_place layout body store valid there =
       no_node = false_from_ne_true (shard_of store == 0) (λ zero_is. above s.source has.0 (sym shard_is ∙ eqb-true (shard_of store) 0 zero_is));
     }
   where
-    low : (shard : ℕ) {n : ℕ} → shard ≤ n → n ≤ 15 → shard ≤ 15
-    low shard p q = omega (arith, p, q)
-
     above : (shard : ℕ) → 1 ≤ shard → shard ≡ 0 → ⊥
     above shard p q = omega (arith, p, q)
 
@@ -113,9 +116,6 @@ plain_answer own x kind promised None ok z from_is to_is about is =
     (record { message = ok; there = First ok []; from_is = from_is; to_is = to_is; about = about; kind_is = inr is })
 
 module _ (cluster : Cluster) (items : List Item) (standing : IsStanding cluster items) (calm : IsCalm items) where
-  h : EachStands cluster items
-  h = standing.stands
-
   -- what a store sent in a step was sent
   pub step_sent : (a : Actor) → (step : Taken) (past : List Taken) → StandsAt step past (taken_of cluster a items) → (m : Message) → IsIn m step.sent → Sending items m
   step_sent a step past at m there =
