@@ -44,3 +44,10 @@ JudgesAs layout x new a r (Ended by) = r ≡ end x a by
 
 abbrev pub Judges : Layout → TxnId → Recovery → Attempt → Message → Judged → Type 0
 Judges layout x new a m judged = JudgesAs layout x new a (reaction layout (home_of x a.ballot) x a m) judged
+
+-- an answer other than to wait leaves the recovery as it was
+abbrev pub KeepsUnlessWaits : Recovery → Recovery → Judged → Type 0
+KeepsUnlessWaits old new Wait = Unit {0}
+KeepsUnlessWaits old new (JudgedGo choice) = new ≡ old
+KeepsUnlessWaits old new (Blocked by) = new ≡ old
+KeepsUnlessWaits old new (Ended by) = new ≡ old

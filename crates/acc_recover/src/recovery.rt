@@ -9,7 +9,7 @@ ghost use Rattle.acc_message.specs.Shares.{shards_used, is_store_of};
 ghost use Rattle.acc_stamp.specs.Stamp.{ballot_eq, zero_ballot};
 ghost use Rattle.acc_message.specs.Attempts.{Attempt};
 ghost use Rattle.acc_message.specs.Coordinator.{recovering, ask_for_views};
-ghost use Rattle.acc_recover.specs.Stands.{StandsFor, Judges};
+ghost use Rattle.acc_recover.specs.Stands.{StandsFor, Judges, KeepsUnlessWaits};
 
 use crate::judged::Judged;
 use crate::ruling::ruling;
@@ -59,11 +59,12 @@ impl Recovery {
         Ok((recovery, messages))
     }
 
-    /// Takes a message about the transaction. Where the answer is `Wait` the recovery goes on, and after each other answer it is
-    /// over. A message of another attempt, and an answer that doesn't count, change nothing. Without memory for what is to be kept
-    /// or answered all is as before.
+    /// Takes a message about the transaction. Where the answer is `Wait` the recovery goes on; with each other answer it is over,
+    /// and stays as it was. A message of another attempt, and an answer that doesn't count, change nothing. Without memory for
+    /// what is to be kept or answered all is as before.
     pub fn on_answer(&mut self, topology: &Topology, m: &Message) -> Result<Judged, OutOfMemory>
         ensures ok { IfOk result (λ judged. (x : TxnId) → (a : Attempt) → StandsFor topology.now x self.old a → Judges topology.now x self.new a m.now judged) }
+        ensures kept { IfOk result (λ judged. KeepsUnlessWaits self.old self.new judged) }
         ensures err { OnErr result (self.new ≡ self.old) }
     {
         if m.ballot() != self.ballot {
@@ -97,6 +98,7 @@ impl Recovery {
         ensures ok { IfOk result (λ judged. (x y : TxnId) → (a : Attempt) → (to : Actor) → StandsFor topology.now x self.old a
             → is_store_of topology.now self.old.body store ≡ true
             → Judges topology.now x self.new a (Message.RecoverOk store to y self.old.ballot view.now) judged) }
+        ensures kept { IfOk result (λ judged. KeepsUnlessWaits self.old self.new judged) }
         ensures err { OnErr result (self.new ≡ self.old) }
     {
         let mut tally = self.tally.copy()?;
