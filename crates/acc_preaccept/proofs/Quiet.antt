@@ -16,7 +16,7 @@ use Rattle.acc_message.specs.Fields.{top_of}
 use Rattle.acc_message.specs.Taken.{Taken, taking}
 use Rattle.acc_message.specs.VoteRule.{vote_for, drawn_as}
 use Rattle.acc_message.specs.BallotRules.{stable_of, promise_of}
-use Rattle.acc_message.specs.StoreRules.{replay, store_answer, body_counting, unless_stable, unless_promised, voted}
+use Rattle.acc_message.specs.StoreRules.{replay, store_answer, unless_stable, unless_promised, voted}
 use Rattle.acc_record.specs.declared.record.Record.{Record}
 use Rattle.acc_record.specs.declared.shelf.Shelf.{Shelf}
 use Rattle.acc_record.specs.declared.vote.Vote.{Vote}

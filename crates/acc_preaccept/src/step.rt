@@ -35,7 +35,10 @@ pub fn on_preaccept(
 {
     match m {
         Message::PreAccept {
-            id, ballot, body, ..
+            id,
+            ballot,
+            body,
+            ..
         } => {
             let share = shelf.share(topology, *id, body)?;
             preaccept(shelf, *id, *ballot, body, &share, top(m))
@@ -57,7 +60,10 @@ pub fn answer_preaccept(
 {
     match m {
         Message::PreAccept {
-            id, ballot, body, ..
+            id,
+            ballot,
+            body,
+            ..
         } => {
             let share = shelf.share(topology, *id, body)?;
             answer(shelf, *id, *ballot, &share, top(m))
