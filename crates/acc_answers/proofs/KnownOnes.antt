@@ -41,6 +41,7 @@ learnt_told false id (Some body) before e all k c = ⊎_elim here later (first_o
     here s =
         subst (λ (z : Heard). heard_body z.id (record { id = id; body = body } ∷ before) ≡ Some z.body) s
         (ap (λ b. cond b (Some body) (heard_body id before)) (eq_itself id_order id))
+
     later : Contains before k → heard_body k.id (record { id = id; body = body } ∷ before) ≡ Some k.body
     later r =
         let was : heard_body k.id before ≡ Some k.body = all k r in

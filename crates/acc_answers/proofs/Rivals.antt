@@ -123,6 +123,7 @@ module _ (layout : Layout) (shard : ℕ) (noted : List Noted) (past : List Taken
           (passes (λ s. stamp_lt s (id_of m).0) (stamps_of now q.0.id) q.0.stamp
           (passes (λ (k : Heard). list_all (λ s. stamp_lt s (id_of m).0) (stamps_of now k.id)) (rivals layout shard now (id_of m) body) (record { id = q.0.id; body = f.body_of }) h f.there)
           f.stamp)
+
       heard_below : list_all (λ s. stamp_lt s (id_of m).0) (rival_stamps noted (id_of m) share) ≡ true → (k : Heard) (s : Stamp) → Covers k s → stamp_lt s (id_of m).0 ≡ true
       heard_below h k s f =
           le_lt s f.by (id_of m).0 f.above
@@ -150,6 +151,7 @@ module _ (layout : Layout) (shard : ℕ) (noted : List Noted) (past : List Taken
           let k : Heard = record { id = q.0.id; body = h.body_of } in
           subst (Contains (map (λ (k : Heard). k.id) (from_heard p))) q.2
           (Contains-map (λ (k : Heard). k.id) (from_heard p) k (Contains-filter (λ (k : Heard). p k.id) (rivals layout shard now (id_of m) body) k h.there f.1))
+
       from : (y : TxnId) → (k : Heard) × Contains (from_heard p) k × (k.id ≡ y) → Contains (map (λ (t : Noted). t.id) (from_noted p)) y
       from y q =
           let f = Contains-from_filter (λ (k : Heard). p k.id) (rivals layout shard now (id_of m) body) q.0 q.1 in
