@@ -1,11 +1,10 @@
 -- The rivals that the index has are those of the rules, with as great stamps.
-use Rattle.std.proofs.Common.{◌≡◌, ℕ, ◌+◌, Bool, true, false, not, ◌&&◌, cond, max, List, [], ◌∷◌, ◌++◌, Option, None, Some, is_some, map, refl, sym, ap, subst, ◌∙◌, arith, IsTrue}
+use Rattle.std.proofs.Common.{◌≡◌, ℕ, Bool, true, false, not, ◌&&◌, List, [], ◌∷◌, ◌++◌, None, Some, is_some, map, refl, sym, ap, subst, ◌∙◌, arith}
 use Rattle.std.specs.List.{Contains, filter, list_all, flat_map}
-use Rattle.std.proofs.lemmas.Bool.{and_from, and_parts, not_from_true}
+use Rattle.std.proofs.lemmas.Bool.{and_from, and_parts}
 use Rattle.std.proofs.lemmas.List.Sums.{AllPass-from_list_all, list_all-from_AllPass}
 use Rattle.acc_stamp.specs.declared.stamps.Stamp.{Stamp}
 use Rattle.acc_stamp.specs.declared.stamps.TxnId.{TxnId}
-use Rattle.acc_stamp.specs.Actor.{shard_of}
 use Rattle.acc_stamp.specs.Stamp.{id_eq, stamp_lt, stamp_le}
 use Rattle.acc_stamp.specs.Rising.{ids_union}
 use Rattle.acc_stamp.proofs.Order.{id_order, eq-sym}
@@ -16,16 +15,14 @@ use Rattle.acc_value.specs.declared.key.Key.{Key}
 use Rattle.acc_value.specs.Footprint.{clashes}
 use Rattle.acc_txn.specs.declared.parts.BodyParts.{BodyParts}
 use Rattle.acc_txn.specs.Uses.{footprint_of}
-use Rattle.acc_index.specs.Noted.{Noted, is_rival, rivals as noted_rivals, rival_stamps, rival_ids_below}
+use Rattle.acc_index.specs.Noted.{Noted, is_rival, rivals as noted_rivals, rival_stamps}
 use Rattle.acc_index.proofs.Ids.{same_names}
 use Rattle.acc_message.specs.declared.message.Message.{Message}
 use Rattle.acc_message.specs.Fields.{id_of}
 use Rattle.acc_message.specs.Shares.{conflict_in}
 use Rattle.acc_message.specs.Taken.{Taken, Heard, taking, body_in, known, body_known, rivals}
-use Rattle.acc_message.specs.VoteRule.{vote_of, stamps_of, stamps_of_vote, times_in, all_below, known_below}
+use Rattle.acc_message.specs.VoteRule.{vote_of, stamps_of, stamps_of_vote, times_in, all_below}
 use Rattle.acc_base.specs.Faults.{or_else}
-use Rattle.acc_message.specs.StoreRules.{replay}
-use Rattle.acc_record.specs.declared.shelf.Shelf.{Shelf}
 use Rattle.acc_record.specs.Stands.{IsStampOf, noted_as, IsCovered, AreStamps}
 use Rattle.acc_record.proofs.Greatest.{not_of, le_lt}
 use Rattle.acc_shelf_laws.proofs.Apart.{concerns, or_else-none, times_apart, known_apart}

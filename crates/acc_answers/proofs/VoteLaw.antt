@@ -11,23 +11,21 @@ use Rattle.acc_stamp.specs.Actor.{shard_of, home_of}
 use Rattle.acc_stamp.specs.Stamp.{stamp_lt, ballot_lt, zero_ballot}
 use Rattle.acc_topology.specs.Layout.{Layout}
 use Rattle.acc_deps.specs.declared.records.Settled.{Settled}
-use Rattle.acc_deps.specs.declared.shards.ShardDeps.{ShardDeps}
 use Rattle.acc_deps.specs.Deps.{deps_of}
 use Rattle.acc_value.specs.declared.key.Key.{Key}
 use Rattle.acc_txn.specs.declared.parts.BodyParts.{BodyParts}
 use Rattle.acc_message.specs.declared.message.Message.{Message}
 use Rattle.acc_message.specs.declared.message.Message.TheVariants.{Nack}
 use Rattle.acc_message.specs.Fields.{id_of, top_of}
-use Rattle.acc_message.specs.Taken.{Taken, taking, body_in, body_known, rivals}
+use Rattle.acc_message.specs.Taken.{Taken, taking, body_in, body_known}
 use Rattle.acc_message.specs.VoteRule.{Vote as Given, vote_of, vote_for, vote_given, new_vote, new_stamp, known_below, greatest_h}
 use Rattle.acc_message.specs.BallotRules.{stable_of, promise_of}
 use Rattle.acc_message.specs.StoreRules.{replay, body_or, body_counting, unless_stable, unless_promised}
-use Rattle.acc_record.specs.declared.record.Record.{Record}
 use Rattle.acc_record.specs.declared.shelf.Shelf.{Shelf}
 use Rattle.acc_record.specs.declared.vote.Vote.{Vote}
 use Rattle.acc_record.specs.Shelf.{record_at}
 use Rattle.acc_record.specs.Stands.{StandsFor, record_with, stamp_of_vote, deps_of_vote}
-use Rattle.acc_record.specs.Learning.{vote_with, earlier_vote, stamp_at, deps_below, new_vote_at, given, vote_at, body_of}
+use Rattle.acc_record.specs.Learning.{vote_with, earlier_vote, stamp_at, deps_below, given, vote_at, body_of}
 use Rattle.acc_shelf_laws.proofs.Apart.{known_here}
 use Rattle.acc_shelf_laws.proofs.Resting.{IsUntouched, untouched}
 use Rattle.acc_answers.specs.Refusal.{refusal_with, refusal_of, refusal_or}

@@ -1,5 +1,5 @@
 -- The refusals of a shelf: what it answers where a transaction is decided, or where a greater ballot is promised.
-use Rattle.std.specs.Prelude.{cond, List, [], ◌∷◌, Option, None, Some}
+use Rattle.std.specs.Prelude.{cond, Option, None, Some}
 use Rattle.acc_stamp.specs.declared.actors.Actor.{Actor}
 use Rattle.acc_stamp.specs.declared.stamps.Ballot.{Ballot}
 use Rattle.acc_stamp.specs.declared.stamps.TxnId.{TxnId}
@@ -7,7 +7,7 @@ use Rattle.acc_stamp.specs.Actor.{home_of}
 use Rattle.acc_stamp.specs.Stamp.{ballot_lt}
 use Rattle.acc_deps.specs.declared.records.Settled.{Settled}
 use Rattle.acc_message.specs.declared.message.Message.{Message}
-use Rattle.acc_message.specs.declared.message.Message.TheVariants.{PreAccept, PreAcceptOk, Accept, AcceptOk, Commit, CommitOk, Stable, ReadOk, Apply, Recover, RecoverOk, Nack, Decided, Inform}
+use Rattle.acc_message.specs.declared.message.Message.TheVariants.{Nack, Decided}
 use Rattle.acc_record.specs.declared.record.Record.{Record}
 
 abbrev pub refusal_with : Actor → TxnId → Ballot → Ballot → Option Settled → Ballot → Option Message
