@@ -32,7 +32,7 @@ abbrev pub sent_for_attempt : TxnId → Ballot → List Item → ℕ
 sent_for_attempt x b [] = 0
 sent_for_attempt x b (item ∷ earlier) = sent_for_attempt_in x b item + sent_for_attempt x b earlier
 
--- An attempt sends at most five messages to each store of its transaction, and one to tell the outcome.
+-- An attempt sends in all at most five times as many messages as its transaction has stores, and one to tell the outcome.
 abbrev pub AttemptsAreShort : Cluster → List Item → Type 0
 AttemptsAreShort cluster items =
     (x : TxnId) (b : Ballot) (body : BodyParts) → body_of cluster items x ≡ Some body

@@ -12,8 +12,8 @@ pub fn calm()
     ensures { (cluster : Cluster) (items : List Item) → IsValidCluster cluster → IsRun cluster items → IsCalm items → EachBegunIsAnswered items }
 {}
 
-/// In every run an attempt at a transaction, with whatever ballot, sends at most five messages to each of its stores, and one more to
-/// tell the outcome.
+/// In every run an attempt at a transaction, with whatever ballot, sends in all at most five times as many messages as the transaction
+/// has stores, and one more, which tells the outcome.
 pub fn attempts_are_short()
     ensures { (cluster : Cluster) (items : List Item) → EachStands cluster items → AttemptsAreShort cluster items }
 {}

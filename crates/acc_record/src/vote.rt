@@ -16,7 +16,7 @@ use acc_value::Footprint;
 pub struct Vote {
     /// The timestamp.
     pub stamp: Stamp,
-    /// The known conflicting transactions that were begun before.
+    /// The known conflicting transactions whose own timestamp is smaller.
     pub deps: Deps,
 }
 

@@ -1,4 +1,4 @@
-//! The lines of a report, how they are written, and how they are read again.
+//! A line of a report, and how it is written.
 #![tactic(auto)]
 
 mod line;
