@@ -1,0 +1,3 @@
+pub mod Granting
+pub mod Accepts
+pub mod Commits

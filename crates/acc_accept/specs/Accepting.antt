@@ -1,0 +1,52 @@
+-- What a shelf answers to an Accept and to a Commit, and what the step makes of its transaction.
+use Rattle.std.specs.Prelude.{ℕ, Bool, true, false, List, Option, None, Some}
+use Rattle.acc_stamp.specs.declared.stamps.Stamp.{Stamp}
+use Rattle.acc_stamp.specs.declared.stamps.TxnId.{TxnId}
+use Rattle.acc_stamp.specs.declared.stamps.Ballot.{Ballot}
+use Rattle.acc_stamp.specs.Actor.{home_of}
+use Rattle.acc_value.specs.declared.key.Key.{Key}
+use Rattle.acc_deps.specs.declared.records.Accepted.{Accepted}
+use Rattle.acc_txn.specs.declared.parts.BodyParts.{BodyParts}
+use Rattle.acc_message.specs.declared.message.Message.{Message}
+use Rattle.acc_message.specs.declared.message.Message.TheVariants.{Accept, AcceptOk, Commit, CommitOk}
+use Rattle.acc_message.specs.BallotRules.{greater_ballot}
+use Rattle.acc_record.specs.declared.record.Record.{Record}
+use Rattle.acc_record.specs.declared.shelf.Shelf.{Shelf}
+use Rattle.acc_record.specs.Shelf.{record_at}
+use Rattle.acc_record.specs.Learning.{deps_below, known_or_fresh}
+use Rattle.acc_shelf_laws.specs.LearntAs.{IsLearntAs}
+use Rattle.acc_answers.specs.Refusal.{refusal_of}
+
+abbrev pub is_accept : Message → Bool
+is_accept (Accept from to id ballot body t deps) = true
+is_accept _ = false
+
+abbrev pub is_commit : Message → Bool
+is_commit (Commit from to id ballot body t deps) = true
+is_commit _ = false
+
+-- a greater promise refuses
+abbrev pub refusal_at : Shelf → TxnId → Ballot → Option Message
+refusal_at shelf x b = refusal_of shelf.actor x b b (record_at shelf.records x)
+
+abbrev pub accept_ok : Shelf → TxnId → Ballot → List (Key × Bool) → Stamp → Message
+accept_ok shelf x b share t = AcceptOk shelf.actor (home_of x b) x b (deps_below shelf x share t)
+
+abbrev pub commit_ok : Shelf → TxnId → Ballot → Message
+commit_ok shelf x b = CommitOk shelf.actor (home_of x b) x b
+
+-- ---- the steps: where one is refused, the record stays
+
+abbrev pub with_accepted : Accepted → Record → Record
+with_accepted a r = record r { promised = greater_ballot r.promised a.ballot; accepted = Some a }
+
+abbrev pub with_committed : Accepted → Record → Record
+with_committed a r = record r { promised = greater_ballot r.promised a.ballot; committed = Some a }
+
+abbrev pub unless_refused : Option Message → (Record → Record) → Record → Record
+unless_refused None change r = change r
+unless_refused (Some refusal) change r = r
+
+abbrev pub IsGrantingBy : Option Message → (Record → Record) → Shelf → Shelf → TxnId → BodyParts → List (Key × Bool) → Stamp → ℕ → Type 0
+IsGrantingBy refusal change old new x body share t top =
+    IsLearntAs old new x share (Some t) top (unless_refused refusal change (known_or_fresh (record_at old.records x) x body))
