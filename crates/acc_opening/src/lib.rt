@@ -8,6 +8,7 @@ mod scan;
 mod touched;
 mod turns;
 
+pub use lookup::record_of;
 pub use plan::{Known, Plan, planned};
 pub use touched::{Touched, TouchedWaits};
 pub use turns::Turn;

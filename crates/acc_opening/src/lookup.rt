@@ -7,7 +7,7 @@ use acc_record::{Record, Records};
 use acc_stamp::TxnId;
 
 /// The record of a transaction, where the own one takes the place of the one that is kept.
-pub(crate) fn record_of<'a>(records: &'a Records, own: &'a Record, id: TxnId) -> Option<&'a Record>
+pub fn record_of<'a>(records: &'a Records, own: &'a Record, id: TxnId) -> Option<&'a Record>
     ensures { option_copied result ≡ lookup records.now own.now id }
 {
     if id == own.id {

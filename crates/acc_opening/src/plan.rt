@@ -19,7 +19,7 @@ use std::alloc::Global;
 use std::collections::BTreeMap;
 
 /// What a step is planned by: what the store keeps, and the record that the step gives its own transaction.
-#[derive(Debug)]
+#[derive(Clone, Copy, Debug)]
 pub struct Known<'a> {
     /// The records before the step.
     pub records: &'a Records,
