@@ -19,13 +19,7 @@ use Rattle.acc_message.specs.StoreRules.{read_ok, read_by, stable_ballots, openi
 use Rattle.acc_record.specs.declared.record.Record.{Record}
 use Rattle.acc_opening_laws.specs.Plan.{Lookup, IsRight, EachRight}
 use Rattle.acc_reads.specs.Release.{sent_by, written_in, opening_by, written_at, release_by, written_at_all}
-
--- the records are those of the history with the message of the step: the body heard first, the outcome that is kept, and, as
--- long as the transaction isn't opened, the ballots of its Stables
-pub record AreOf (now : List Taken) (at : Lookup) : Type 0 where
-  pub body : (x : TxnId) (r : Record) → at x ≡ Some r → heard_body x (known now) ≡ Some r.body
-  pub outcome : (x : TxnId) (r : Record) → at x ≡ Some r → r.outcome ≡ kept_outcome now x
-  pub waiters : (x : TxnId) (r : Record) → at x ≡ Some r → r.opened ≡ false → r.waiters ≡ stable_ballots now x
+use Rattle.acc_reads.specs.History.{AreOf}
 
 sent_none : (layout : Layout) (own : Actor) (r : Record) (c : Change) (cells : Key → Option Value) → c.opens ≡ false → sent_by layout own r c cells ≡ []
 sent_none layout own r c cells e = ap (λ b. cond b (map (λ b. read_ok own c.id b (read_by layout (shard_of own) (Some r.body) cells)) r.waiters) []) e

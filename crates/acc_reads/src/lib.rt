@@ -2,6 +2,7 @@
 //! an applied one are made, each in its turn.
 #![tactic(auto)]
 
+pub mod laws;
 mod layer;
 mod read;
 mod turns;
