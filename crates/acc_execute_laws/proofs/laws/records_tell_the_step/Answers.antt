@@ -1,0 +1,8 @@
+use Rattle.acc_execute_laws.proofs.Taking.{is_taking, are_of}
+use Rattle.acc_execute_laws.proofs.laws.records_tell_the_step.Goals as goal
+
+pub returns-clause-taking : goal.returns-clause-taking
+returns-clause-taking c = is_taking
+
+pub returns-clause-reads : goal.returns-clause-reads
+returns-clause-reads c = are_of

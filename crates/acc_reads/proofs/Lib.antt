@@ -1,0 +1,3 @@
+pub mod LayerFacts
+pub mod ReleaseFacts
+pub mod RulesLaw

@@ -1,0 +1,3 @@
+pub mod Layer
+pub mod Release
+pub mod History
