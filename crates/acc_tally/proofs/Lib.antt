@@ -1,0 +1,3 @@
+pub mod Everywhere
+mod Counted
+pub mod Exist

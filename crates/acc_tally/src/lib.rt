@@ -1,0 +1,8 @@
+//! The first answers of stores to an attempt, and the quorums that they make. The terms are those of CEP-15, after the paper by
+//! Elliott Smith, Zhang, Eggleston and Andreas.
+#![tactic(auto)]
+
+mod marks;
+mod tally;
+
+pub use tally::Tally;
