@@ -1,0 +1,3 @@
+mod OneRun
+mod NobodyDown
+mod Drained

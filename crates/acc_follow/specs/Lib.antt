@@ -1,0 +1,4 @@
+pub mod Situations
+pub mod Moves
+pub mod Schedules
+pub mod Laws

@@ -1,0 +1,34 @@
+//! What holds of the runs of schedules. Each law is the contract of a function that does nothing.
+ghost use Rattle.std.specs.Prelude.{◌≡◌, ℕ, List};
+ghost use Rattle.acc_message.specs.declared.item.Item.{Item};
+ghost use Rattle.acc_message.specs.Run.{Cluster};
+ghost use Rattle.acc_safety.specs.Calm.{IsCalm};
+ghost use Rattle.acc_schedule.specs.Content.{Content};
+ghost use Rattle.acc_schedule.specs.declared.plan.Step.{Step};
+ghost use Rattle.acc_follow.specs.Situations.{Situation, opened, whole};
+ghost use Rattle.acc_follow.specs.Moves.{Answers, IsNext};
+ghost use Rattle.acc_follow.specs.Schedules.{Follows, Obeys};
+ghost use Rattle.acc_follow.specs.Laws.{NeverFails, NobodyIsDown, NothingIsLost, EndsWithDrain};
+
+/// A step of a schedule takes a situation to one next situation at most, so a plan has one list of items at most for each answers of
+/// the disks.
+pub fn one_run()
+    ensures next { (cluster : Cluster) (answers : Answers) (number : ℕ) (step : Step) (s one other : Situation) →
+        IsNext cluster answers number step s one → IsNext cluster answers number step s other → one ≡ other }
+    ensures last { (cluster : Cluster) (answers : Answers) (number : ℕ) (steps : List Step) (s one other : Situation) →
+        Follows cluster answers number steps s one → Follows cluster answers number steps s other → one ≡ other }
+    ensures items { (plan : Content) (answers : Answers) (one other : List Item) → Obeys plan answers one → Obeys plan answers other →
+        one ≡ other }
+{}
+
+/// Where no disk fails, nobody goes down and nothing is lost.
+pub fn nobody_goes_down()
+    ensures { (cluster : Cluster) (answers : Answers) (earlier : List Item) (steps : List Step) (last : Situation) → NeverFails answers →
+        NobodyIsDown earlier → Follows cluster answers 0 steps (opened earlier) last → NobodyIsDown (whole last) × NothingIsLost last.own }
+{}
+
+/// A schedule of begins and drains that ends with a drain, over disks that don't fail, leaves no message waiting: its run is calm.
+pub fn drains_leave_nothing()
+    ensures { (plan : Content) (answers : Answers) (items : List Item) → NeverFails answers → EndsWithDrain plan.steps →
+        Obeys plan answers items → IsCalm items }
+{}
