@@ -1,3 +1,6 @@
 mod OneRun
 mod NobodyDown
 mod Drained
+mod Joined
+mod StoppedSteps
+mod GivesRuns

@@ -1,14 +1,16 @@
 //! What holds of the runs of schedules. Each law is the contract of a function that does nothing.
 ghost use Rattle.std.specs.Prelude.{◌≡◌, ℕ, List};
+ghost use Rattle.std.specs.List.{AllByRecursion};
 ghost use Rattle.acc_message.specs.declared.item.Item.{Item};
-ghost use Rattle.acc_message.specs.Run.{Cluster};
+ghost use Rattle.acc_message.specs.Run.{Cluster, IsRun};
 ghost use Rattle.acc_safety.specs.Calm.{IsCalm};
 ghost use Rattle.acc_schedule.specs.Content.{Content};
+ghost use Rattle.acc_schedule.specs.Plan.{IsPlan};
 ghost use Rattle.acc_schedule.specs.declared.plan.Step.{Step};
 ghost use Rattle.acc_follow.specs.Situations.{Situation, opened, whole};
 ghost use Rattle.acc_follow.specs.Moves.{Answers, IsNext};
-ghost use Rattle.acc_follow.specs.Schedules.{Follows, Obeys};
-ghost use Rattle.acc_follow.specs.Laws.{NeverFails, NobodyIsDown, NothingIsLost, EndsWithDrain};
+ghost use Rattle.acc_follow.specs.Schedules.{Follows, cluster_of, Obeys};
+ghost use Rattle.acc_follow.specs.Laws.{NeverFails, NobodyIsDown, NothingIsLost, EndsWithDrain, IsStepOf};
 
 /// A step of a schedule takes a situation to one next situation at most, so a plan has one list of items at most for each answers of
 /// the disks.
@@ -31,4 +33,14 @@ pub fn nobody_goes_down()
 pub fn drains_leave_nothing()
     ensures { (plan : Content) (answers : Answers) (items : List Item) → NeverFails answers → EndsWithDrain plan.steps →
         Obeys plan answers items → IsCalm items }
+{}
+
+/// Whatever the disks answer, the items of a schedule, behind the run that stood before, are a run; from fresh actors those of a plan
+/// are a run of its cluster.
+pub fn schedules_give_runs()
+    ensures behind { (cluster : Cluster) (answers : Answers) (earlier : List Item) (steps : List Step) (last : Situation) →
+        IsRun cluster earlier → AllByRecursion (IsStepOf cluster) steps → Follows cluster answers 0 steps (opened earlier) last →
+        IsRun cluster (whole last) }
+    ensures plan { (plan : Content) (answers : Answers) (items : List Item) → IsPlan plan → Obeys plan answers items →
+        IsRun (cluster_of plan) items }
 {}
