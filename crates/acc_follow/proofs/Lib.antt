@@ -4,3 +4,4 @@ mod Drained
 mod Joined
 mod StoppedSteps
 mod GivesRuns
+mod Skips

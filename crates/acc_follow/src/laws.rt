@@ -1,14 +1,16 @@
 //! What holds of the runs of schedules. Each law is the contract of a function that does nothing.
-ghost use Rattle.std.specs.Prelude.{◌≡◌, ℕ, List};
+ghost use Rattle.std.specs.Prelude.{◌≡◌, ℕ, List, ◌∷◌};
 ghost use Rattle.std.specs.List.{AllByRecursion};
 ghost use Rattle.acc_message.specs.declared.item.Item.{Item};
+ghost use Rattle.acc_message.specs.declared.item.Skip.{Skip};
 ghost use Rattle.acc_message.specs.Run.{Cluster, IsRun};
 ghost use Rattle.acc_safety.specs.Calm.{IsCalm};
 ghost use Rattle.acc_schedule.specs.Content.{Content};
 ghost use Rattle.acc_schedule.specs.Plan.{IsPlan};
 ghost use Rattle.acc_schedule.specs.declared.plan.Step.{Step};
 ghost use Rattle.acc_follow.specs.Situations.{Situation, opened, whole};
-ghost use Rattle.acc_follow.specs.Moves.{Answers, IsNext};
+ghost use Rattle.acc_follow.specs.Moves.{Answers, with_item, IsNext};
+ghost use Rattle.acc_follow.specs.Causes.{IsCause};
 ghost use Rattle.acc_follow.specs.Schedules.{Follows, cluster_of, Obeys};
 ghost use Rattle.acc_follow.specs.Laws.{NeverFails, NobodyIsDown, NothingIsLost, EndsWithDrain, IsStepOf};
 
@@ -43,4 +45,12 @@ pub fn schedules_give_runs()
         IsRun cluster (whole last) }
     ensures plan { (plan : Content) (answers : Answers) (items : List Item) → IsPlan plan → Obeys plan answers items →
         IsRun (cluster_of plan) items }
+{}
+
+/// A step is passed over exactly where it has a cause for that, and then nothing but the skip is entered.
+pub fn skips_have_causes()
+    ensures passed { (cluster : Cluster) (answers : Answers) (number : ℕ) (step : Step) (s next : Situation) (cause : Skip) →
+        IsNext cluster answers number step s next → IsCause cluster s step cause → next ≡ with_item (Item.Skipped number cause) s }
+    ensures only { (cluster : Cluster) (answers : Answers) (number : ℕ) (step : Step) (s next : Situation) (cause : Skip) →
+        IsNext cluster answers number step s next → next.own ≡ Item.Skipped number cause ∷ s.own → IsCause cluster s step cause }
 {}
