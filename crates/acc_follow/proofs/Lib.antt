@@ -1,0 +1,7 @@
+mod OneRun
+mod NobodyDown
+mod Drained
+mod Joined
+mod StoppedSteps
+mod GivesRuns
+mod Skips

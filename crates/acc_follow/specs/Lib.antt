@@ -1,0 +1,5 @@
+pub mod Situations
+pub mod Moves
+pub mod Causes
+pub mod Schedules
+pub mod Laws
