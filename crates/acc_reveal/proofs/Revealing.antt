@@ -23,7 +23,7 @@ use Rattle.acc_record.specs.declared.shelf.Shelf.{Shelf}
 use Rattle.acc_record.specs.Shelf.{record_at}
 use Rattle.acc_record.specs.Stands.{StandsFor, record_with}
 use Rattle.acc_record.specs.Learning.{body_of}
-use Rattle.acc_shelf_laws.proofs.Resting.{IsUntouched, untouched}
+use Rattle.acc_shelf_laws.proofs.KeptFields.{kept_field}
 use Rattle.acc_answers.proofs.Rivals.{names_by}
 use Rattle.acc_answers.proofs.VoteLaw.{counts, votes}
 use Rattle.acc_reveal.specs.Revealed.{promised_in, accepted_in, committed_in, stable_in, rules_out, keeps_waiting, superseded_at, awaited_at, view_at, is_allowed, revealed, refused, answer_at, share_at}
@@ -38,26 +38,17 @@ module _ (layout : Layout) (shelf : Shelf) (messages : List Message) (stands : S
 
   -- ---- records
 
-  -- what a record tells, where the transaction is known, and where it isn't
-  field : {T : Type 0} (of_record : Option Record → T) (rules : T) (y : TxnId) → ((body : BodyParts) → of_record (Some (record_with shard past y body)) ≡ rules)
-      → (IsUntouched past y → of_record None ≡ rules) → of_record (record_at shelf.records y) ≡ rules
-  field of_record rules y known unknown = ap of_record (stands.records y) ∙ by (body_known past y) refl
-    where
-      by : (o : Option BodyParts) → body_known past y ≡ o → of_record (option_map (record_with shard past y) o) ≡ rules
-      by (Some body) is = known body
-      by None is = unknown (untouched layout shelf.actor messages y is)
-
   pub promised_is : (y : TxnId) → promised_in (record_at shelf.records y) ≡ promise_of past y
-  promised_is y = field promised_in (promise_of past y) y (λ body. refl) (λ u. sym u.promise)
+  promised_is y = kept_field layout shelf messages stands promised_in (promise_of past y) y (λ body. refl) (λ u. sym u.promise)
 
   accepted_is : (y : TxnId) → accepted_in (record_at shelf.records y) ≡ accepted_of past y
-  accepted_is y = field accepted_in (accepted_of past y) y (λ body. refl) (λ u. sym u.accepted)
+  accepted_is y = kept_field layout shelf messages stands accepted_in (accepted_of past y) y (λ body. refl) (λ u. sym u.accepted)
 
   committed_is : (y : TxnId) → committed_in (record_at shelf.records y) ≡ committed_of past y
-  committed_is y = field committed_in (committed_of past y) y (λ body. refl) (λ u. sym u.committed)
+  committed_is y = kept_field layout shelf messages stands committed_in (committed_of past y) y (λ body. refl) (λ u. sym u.committed)
 
   stable_is : (y : TxnId) → stable_in (record_at shelf.records y) ≡ stable_of past y
-  stable_is y = field stable_in (stable_of past y) y (λ body. refl) (λ u. sym u.stable)
+  stable_is y = kept_field layout shelf messages stands stable_in (stable_of past y) y (λ body. refl) (λ u. sym u.stable)
 
   rules_out_is : (x y : TxnId) → rules_out shard x y (record_at shelf.records y) ≡ supersedes shard past x y
   rules_out_is x y = λ i. accepted_without shard x y (accepted_is y i) || stable_without shard x (stable_is y i)
