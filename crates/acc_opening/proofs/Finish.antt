@@ -1,9 +1,9 @@
 -- A plan with no turn to come is the plan of the step.
-use Rattle.std.proofs.Common.{◌≡◌, ℕ, ◌+◌, ◌<◌, ◌≤◌, ◌⊎◌, inl, inr, ⊎_elim, Bool, true, false, not, cond, ◌&&◌, ◌||◌, List, [], ◌∷◌, ◌++◌, length, Option, None, Some, is_some, sym, refl, ap, ◌∙◌, subst, arith, append_assoc, map}
-use Rattle.std.specs.List.{AllByRecursion, Contains, list_any, slice_get}
+use Rattle.std.proofs.Common.{◌≡◌, ℕ, inl, inr, ⊎_elim, Bool, true, false, not, ◌&&◌, ◌||◌, List, [], ◌∷◌, ◌++◌, Option, None, Some, is_some, sym, refl, ap, ◌∙◌, subst, arith, append_assoc}
+use Rattle.std.specs.List.{AllByRecursion, Contains, list_any}
 use Rattle.std.specs.Option.{option_map}
 use Rattle.std.specs.Ordering.{is_lt, ordering_then}
-use Rattle.std.proofs.lemmas.Bool.{true≢false, false_from_ne_true, and_from, and_parts, or_left, or_right, or_from, not_from_false}
+use Rattle.std.proofs.lemmas.Bool.{true≢false, false_from_ne_true, and_from, and_parts, or_left, or_right, or_from}
 use Rattle.std.proofs.lemmas.List.{append-nil}
 use Rattle.acc_stamp.specs.declared.stamps.Stamp.{Stamp}
 use Rattle.acc_stamp.specs.declared.stamps.TxnId.{TxnId}
@@ -17,7 +17,7 @@ use Rattle.acc_actor_laws.specs.OpeningOrder.{opens_in, applies_in}
 use Rattle.acc_record.specs.declared.record.Record.{Record}
 use Rattle.acc_record.specs.declared.shelf.Watch.{Watch}
 use Rattle.acc_record.specs.Waits.{is_past_record, IsWatch}
-use Rattle.acc_opening_laws.specs.Plan.{Lookup, settled_in, is_applied_in, is_past_behind, is_ready_behind, IsRight, EachRight, t_of, change_lt, IsPlan}
+use Rattle.acc_opening_laws.specs.Plan.{Lookup, settled_in, is_applied_in, is_past_behind, is_ready_behind, EachRight, t_of, change_lt, IsPlan}
 use Rattle.acc_opening.specs.declared.turns.Turn.{Turn}
 use Rattle.acc_opening.specs.Planned.{changed, after_changes, AreWatches}
 use Rattle.acc_opening.specs.Turns.{turn_lt, change_of, changes_in, HasItsTime, HaveTheirTimes}

@@ -1,11 +1,11 @@
 -- A plan ends: each turn is of another known transaction.
-use Rattle.std.proofs.Common.{◌≡◌, ℕ, ◌+◌, ◌<◌, ◌≤◌, ◌⊎◌, inl, inr, ⊎_elim, Bool, true, false, not, cond, ◌&&◌, ◌||◌, List, [], ◌∷◌, ◌++◌, length, get_or, Option, None, Some, sym, refl, ap, ◌∙◌, subst, arith}
+use Rattle.std.proofs.Common.{◌≡◌, ℕ, ◌+◌, ◌<◌, ◌≤◌, Bool, true, false, cond, ◌||◌, List, [], ◌∷◌, ◌++◌, length, get_or, Some, sym, refl, ap, ◌∙◌, arith}
 use Rattle.std.specs.Map.{lookup as lookup_in}
-use Rattle.std.specs.List.{Contains, list_any, AllByRecursion}
-use Rattle.std.proofs.lemmas.Bool.{true≢false, or_left, or_right, or_from, or_parts, false_from_ne_true}
+use Rattle.std.specs.List.{Contains, list_any}
+use Rattle.std.proofs.lemmas.Bool.{true≢false, or_left, or_right, false_from_ne_true}
 use Rattle.std.proofs.lemmas.List.Folds.{list_any-append}
 use Rattle.acc_stamp.specs.declared.stamps.TxnId.{TxnId}
-use Rattle.acc_stamp.specs.Stamp.{id_cmp, id_eq}
+use Rattle.acc_stamp.specs.Stamp.{id_eq}
 use Rattle.acc_stamp.proofs.Order.{id_order}
 use Rattle.acc_record.specs.declared.record.Record.{Record}
 use Rattle.acc_record.specs.declared.shelf.Watch.{Watch}
@@ -14,7 +14,7 @@ use Rattle.acc_opening_laws.specs.Plan.{Lookup, settled_in}
 use Rattle.acc_opening.specs.declared.turns.Turn.{Turn}
 use Rattle.acc_opening.specs.Lookup.{lookup}
 use Rattle.acc_opening.specs.Touched.{is_same}
-use Rattle.acc_opening.specs.Turns.{key_of, turn_lt, key_lt, HasItsTime}
+use Rattle.acc_opening.specs.Turns.{key_of, key_lt, HasItsTime}
 use Rattle.acc_opening.specs.State.{IsUnderWay, no_turn}
 use Rattle.acc_opening.proofs.TurnFacts.{key_lt-irrefl, Contains-first, Contains-later}
 use Rattle.acc_opening.proofs.StateFacts.{is_same-true, some_same, each_contained}

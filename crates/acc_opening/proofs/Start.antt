@@ -1,29 +1,24 @@
 -- Where a plan starts.
-use Rattle.std.proofs.Common.{◌≡◌, ℕ, ◌+◌, ◌<◌, ◌≤◌, ◌⊎◌, inl, inr, ⊎_elim, Bool, true, false, not, cond, ◌&&◌, ◌||◌, List, [], ◌∷◌, ◌++◌, length, Option, None, Some, is_some, sym, refl, ap, ◌∙◌, subst, arith}
-use Rattle.std.specs.BTreeMap as tree
-use Rattle.std.specs.List.{Contains, slice_get}
+use Rattle.std.proofs.Common.{◌≡◌, ℕ, ◌⊎◌, inl, inr, ⊎_elim, Bool, true, false, cond, ◌||◌, List, [], ◌∷◌, ◌++◌, Option, None, Some, is_some, sym, refl, ap, ◌∙◌, subst, arith}
+use Rattle.std.specs.List.{Contains}
 use Rattle.std.specs.Map.{lookup as lookup_in}
 use Rattle.std.proofs.lemmas.Bool.{true≢false, false_from_ne_true, and_from}
 use Rattle.std.proofs.lemmas.List.Elements.{Contains-append_left, Contains-append_right, Contains-append_cases}
 use Rattle.acc_stamp.specs.declared.stamps.Stamp.{Stamp}
 use Rattle.acc_stamp.specs.declared.stamps.TxnId.{TxnId}
-use Rattle.acc_stamp.specs.Stamp.{id_cmp, id_eq}
+use Rattle.acc_stamp.specs.Stamp.{id_eq}
 use Rattle.acc_stamp.proofs.Order.{id_order}
-use Rattle.acc_deps.specs.Deps.{of_shard}
 use Rattle.acc_deps.specs.declared.records.Settled.{Settled}
 use Rattle.acc_message.specs.Opening.{is_past}
 use Rattle.acc_record.specs.declared.record.Record.{Record}
 use Rattle.acc_record.specs.declared.shelf.Watch.{Watch}
 use Rattle.acc_record.specs.Shelf.{Records, Waits as AllWaits, record_at, watchers}
-use Rattle.acc_record.specs.Waits.{is_past_record, IsWatch, AreWaits}
+use Rattle.acc_record.specs.Waits.{is_past_record, IsWatch}
 use Rattle.acc_opening_laws.specs.Plan.{Lookup, settled_in, is_applied_in, is_past_behind}
-use Rattle.acc_opening.specs.declared.turns.Turn.{Turn}
 use Rattle.acc_opening.specs.Known.{IsKnown}
 use Rattle.acc_opening.specs.Lookup.{lookup}
-use Rattle.acc_opening.specs.Scan.{ArePast}
 use Rattle.acc_opening.specs.Touched.{TouchedWaits, watches_with, watches_now, is_same}
-use Rattle.acc_opening.specs.Turns.{turn_of, HasItsTime}
-use Rattle.acc_opening.specs.State.{IsClosed, IsHeld, IsWoken, HasTurnOf, Waits, IsPlaced, IsUnderWay}
+use Rattle.acc_opening.specs.State.{IsClosed, IsHeld, IsWoken, HasTurnOf, IsPlaced, IsUnderWay}
 use Rattle.acc_opening.proofs.TurnFacts.{Contains-first}
 use Rattle.acc_opening.proofs.StateFacts.{is_same-true, is_same-itself, some_same, only_it}
 

@@ -1,28 +1,26 @@
 -- The steps of a plan that is made.
-use Rattle.std.proofs.Common.{◌≡◌, ℕ, ◌+◌, ◌<◌, ◌≤◌, ◌⊎◌, inl, inr, ⊎_elim, Bool, true, false, not, cond, ◌&&◌, ◌||◌, List, [], ◌∷◌, ◌++◌, length, get_or, drop, Option, None, Some, is_some, sym, refl, ap, ◌∙◌, subst, arith, map}
-use Rattle.std.specs.List.{AllByRecursion, Contains, slice_get}
+use Rattle.std.proofs.Common.{◌≡◌, ℕ, ◌<◌, ◌⊎◌, inl, inr, ⊎_elim, Bool, true, false, not, cond, ◌&&◌, ◌||◌, List, [], ◌∷◌, ◌++◌, length, get_or, drop, Some, sym, refl, ap, ◌∙◌, subst, arith}
+use Rattle.std.specs.List.{AllByRecursion, Contains}
 use Rattle.std.specs.Ordering.{is_lt, is_eq, ordering_then, ordering_reverse}
 use Rattle.std.specs.Cmp.{Equal-is}
 use Rattle.std.specs.declared.cmp.Ordering.{Ordering}
 use Rattle.std.specs.declared.cmp.Ordering.TheVariants.{Less, Equal, Greater}
 use Rattle.std.proofs.lemmas.Bool.{true≢false, and_left, and_right, false_from_ne_true}
-use Rattle.std.proofs.lemmas.List.{map-append}
 use Rattle.std.proofs.lemmas.List.Elements.{Contains-append_left, Contains-append_right, Contains-append_cases}
 use Rattle.acc_stamp.specs.declared.stamps.Stamp.{Stamp}
 use Rattle.acc_stamp.specs.declared.stamps.TxnId.{TxnId}
 use Rattle.acc_stamp.specs.Stamp.{stamp_cmp, stamp_lt, id_cmp, id_eq}
 use Rattle.acc_stamp.specs.Rising.{IsRisingBy}
-use Rattle.acc_stamp.proofs.Order.{id_order, id_cmp_exact, id_cmp_total, stamp_cmp_total, stamp_cmp-ranks}
+use Rattle.acc_stamp.proofs.Order.{id_order, id_cmp_exact, id_cmp_total}
 use Rattle.acc_stamp.proofs.Rising.{each_append}
 use Rattle.acc_deps.specs.declared.records.Settled.{Settled}
 use Rattle.acc_message.specs.Opening.{Change, is_past}
-use Rattle.acc_record.specs.declared.record.Record.{Record}
 use Rattle.acc_record.specs.declared.shelf.Watch.{Watch}
 use Rattle.acc_opening_laws.specs.Plan.{Lookup, settled_in, is_past_behind, is_applied_behind, IsRight, EachRight}
 use Rattle.acc_opening.specs.declared.turns.Turn.{Turn}
-use Rattle.acc_opening.specs.Turns.{key_of, key_cmp, key_lt, turn_lt, change_of, changes_in, HasItsTime, HaveTheirTimes, HasTurn}
+use Rattle.acc_opening.specs.Turns.{key_of, key_lt, turn_lt, change_of, changes_in, HasItsTime, HasTurn}
 use Rattle.acc_opening.specs.Touched.{is_same}
-use Rattle.acc_opening.specs.State.{IsClosed, IsHeld, IsWoken, HasTurnOf, Waits, IsPlaced, IsUnderWay}
+use Rattle.acc_opening.specs.State.{IsClosed, IsHeld, IsWoken, HasTurnOf, IsPlaced, IsUnderWay}
 use Rattle.acc_opening.proofs.TurnFacts.{key_lt-trans, Contains-cons_cases, Contains-first, Contains-later}
 use Rattle.acc_opening.proofs.Behind.{past-same, closed-later, right-later, each-push}
 

@@ -1,7 +1,7 @@
 -- One that was woken waits for another dependency, or its turn comes.
-use Rattle.std.proofs.Common.{◌≡◌, ℕ, ◌+◌, ◌<◌, ◌≤◌, ◌⊎◌, inl, inr, ⊎_elim, Bool, true, false, not, cond, ◌&&◌, ◌||◌, List, [], ◌∷◌, ◌++◌, length, get_or, drop, Option, None, Some, is_some, sym, refl, ap, ◌∙◌, subst, arith, add-one}
+use Rattle.std.proofs.Common.{◌≡◌, ℕ, ◌+◌, ◌<◌, ⊎_elim, true, false, not, cond, ◌&&◌, ◌||◌, List, [], ◌∷◌, ◌++◌, length, get_or, drop, None, Some, is_some, sym, refl, ap, ◌∙◌, subst, arith, add-one}
 use Rattle.std.proofs.Math.Seq.{drop-cons}
-use Rattle.std.specs.List.{Contains, slice_get}
+use Rattle.std.specs.List.{slice_get}
 use Rattle.std.proofs.lemmas.Bool.{cases_lt}
 use Rattle.acc_stamp.specs.declared.stamps.TxnId.{TxnId}
 use Rattle.acc_deps.specs.Deps.{of_shard}
@@ -13,7 +13,7 @@ use Rattle.acc_opening.specs.declared.turns.Turn.{Turn}
 use Rattle.acc_opening.specs.Scan.{AllPastFrom, IsNextHeld}
 use Rattle.acc_opening.specs.Touched.{is_same}
 use Rattle.acc_opening.specs.Turns.{turn_of, change_of, changes_in, HasTurn}
-use Rattle.acc_opening.specs.State.{IsClosed, IsHeld, IsWoken, IsUnderWay}
+use Rattle.acc_opening.specs.State.{IsWoken, IsUnderWay}
 use Rattle.acc_opening.proofs.TurnFacts.{Contains-first}
 use Rattle.acc_opening.proofs.Behind.{all_past}
 use Rattle.acc_opening.proofs.StateFacts.{some_same, moved, queued}

@@ -1,6 +1,5 @@
 -- By what a step is planned.
-use Rattle.std.specs.Prelude.{◌≡◌, ℕ, Bool, false, true, ◌&&◌, [], Option, None, Some, is_some, IsTrue}
-use Rattle.std.specs.BTreeMap as tree
+use Rattle.std.specs.Prelude.{◌≡◌, ℕ, false, ◌&&◌, [], None, Some, is_some, IsTrue}
 use Rattle.acc_stamp.specs.declared.stamps.TxnId.{TxnId}
 use Rattle.acc_deps.specs.declared.records.Settled.{Settled}
 use Rattle.acc_record.specs.declared.record.Record.{Record}

@@ -1,5 +1,5 @@
 -- The records of a store with the record that the step gives its own transaction.
-use Rattle.std.specs.Prelude.{cond, Option, Some}
+use Rattle.std.specs.Prelude.{cond, Some}
 use Rattle.acc_stamp.specs.Stamp.{id_eq}
 use Rattle.acc_record.specs.declared.record.Record.{Record}
 use Rattle.acc_record.specs.Shelf.{Records, record_at}

@@ -1,5 +1,5 @@
 -- What a plan says: the changes of the step, and who waits for whom once they are made.
-use Rattle.std.specs.Prelude.{◌≡◌, ℕ, false, ◌||◌, List, Option, Some, is_some, IsTrue, Contains}
+use Rattle.std.specs.Prelude.{◌≡◌, ℕ, false, ◌||◌, List, Some, is_some, IsTrue, Contains}
 use Rattle.std.specs.Option.{option_map}
 use Rattle.acc_stamp.specs.declared.stamps.TxnId.{TxnId}
 use Rattle.acc_message.specs.Opening.{Change}

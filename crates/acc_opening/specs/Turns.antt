@@ -1,5 +1,5 @@
 -- Turns, and the changes that they are.
-use Rattle.std.specs.Prelude.{◌≡◌, ◌⊎◌, Contains, Bool, not, ◌&&◌, List, Option, Some, is_some, map}
+use Rattle.std.specs.Prelude.{◌≡◌, ◌⊎◌, Contains, Bool, not, ◌&&◌, List, Some, is_some, map}
 use Rattle.std.specs.List.{list_any, AllByRecursion}
 use Rattle.std.specs.Ordering.{ordering_then, is_lt}
 use Rattle.std.specs.declared.cmp.Ordering.{Ordering}

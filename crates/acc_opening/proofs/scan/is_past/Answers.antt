@@ -1,4 +1,4 @@
-use Rattle.std.proofs.Common.{◌≡◌, Bool, true, false, not, ◌||◌, Some, Ordering, rules, sym, ◌∙◌, ap, refl}
+use Rattle.std.proofs.Common.{◌≡◌, Bool, true, false, not, ◌||◌, Some, Ordering, rules, sym, ◌∙◌, refl}
 use Rattle.std.specs.declared.cmp.Ordering.TheVariants.{Less, Equal, Greater}
 use Rattle.std.specs.Ordering.{is_lt, is_ge, is_some_and, ordering_then, partial_ordering_then}
 use Rattle.acc_stamp.specs.Stamp.{stamp_lt}

@@ -1,4 +1,4 @@
-use Rattle.std.proofs.Common.{◌≡◌, true, false, None, Some, cond, ◌++◌, ◌∷◌, [], sym, ap, ◌∙◌, rules}
+use Rattle.std.proofs.Common.{true, None, Some, cond, [], ap, ◌∙◌}
 use Rattle.std.specs.BTreeMap as tree
 use Rattle.acc_stamp.specs.Stamp.{id_cmp}
 use Rattle.acc_opening.specs.declared.touched.Touched.{Touched}

@@ -1,7 +1,6 @@
-use Rattle.std.proofs.Common.{◌≡◌, Result, Ok, Err, insert, sym, ap, ◌∙◌, subst, refl, ℕ}
-use Rattle.std.specs.Result.{MatchResult}
-use Rattle.acc_stamp.specs.Rising.{IsRisingBy, IsPlaceOf, IsGapFor}
-use Rattle.acc_opening.specs.Turns.{key_lt, key_of, turn_lt, HasTurn}
+use Rattle.std.proofs.Common.{sym, subst}
+use Rattle.acc_stamp.specs.Rising.{IsPlaceOf, IsGapFor}
+use Rattle.acc_opening.specs.Turns.{key_lt, key_of, HasTurn}
 use Rattle.acc_opening.proofs.TurnFacts.{HasTurn-gap, HasTurn-place}
 use Rattle.acc_opening.proofs.turns.insert.Goals as goal
 

@@ -1,6 +1,5 @@
-use Rattle.std.proofs.Common.{◌≡◌, ◌<◌, ◌++◌, ◌∷◌, [], List, length, sym, ap, ◌∙◌, subst}
+use Rattle.std.proofs.Common.{◌≡◌, ◌∷◌, [], List, sym, ap, ◌∙◌, subst}
 use Rattle.acc_opening_laws.specs.Plan.{Lookup}
-use Rattle.acc_record.specs.declared.shelf.Watch.{Watch}
 use Rattle.acc_opening.specs.declared.turns.Turn.{Turn}
 use Rattle.acc_opening.specs.Lookup.{lookup}
 use Rattle.acc_opening.specs.Touched.{watches_now}

@@ -1,4 +1,4 @@
-use Rattle.std.proofs.Common.{◌≡◌, ◌<◌, ◌++◌, ◌∷◌, [], length, sym, subst, arith, rules}
+use Rattle.std.proofs.Common.{◌<◌, sym, subst, rules}
 use Rattle.acc_opening.specs.Touched.{watches_now}
 use Rattle.acc_opening.proofs.Measure.{left, less_run}
 use Rattle.acc_opening.proofs.plan.Plan.run.Goals as goal

@@ -1,4 +1,4 @@
-use Rattle.std.proofs.Common.{◌≡◌, ◌+◌, length, get_or, drop, Some, refl, sym, ap, ◌∙◌, subst, rules}
+use Rattle.std.proofs.Common.{◌≡◌, get_or, Some, sym, subst}
 use Rattle.std.specs.List.{slice_get}
 use Rattle.std.proofs.lemmas.Result.{IfOk-weaker}
 use Rattle.std.proofs.lemmas.Option.{slice_get-get_or}
@@ -10,7 +10,6 @@ use Rattle.acc_opening.specs.Lookup.{lookup}
 use Rattle.acc_opening.specs.Scan.{AllPastFrom, IsNextHeld}
 use Rattle.acc_opening.specs.Touched.{watches_now}
 use Rattle.acc_opening.specs.Turns.{changes_in, HasTurn}
-use Rattle.acc_opening.specs.State.{IsUnderWay}
 use Rattle.acc_opening.proofs.Woken.{front, unknown, unsettled, to_queue, to_watch}
 use Rattle.acc_opening.proofs.plan.Plan.wake.Goals as goal
 
