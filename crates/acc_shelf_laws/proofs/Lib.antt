@@ -4,6 +4,8 @@ pub mod Waiting
 pub mod Quiet
 pub mod Noting
 pub mod Records
+pub mod KeptFields
+pub mod Index
 pub mod QuietSteps
 pub mod After
 pub mod Learnt

@@ -1,0 +1,10 @@
+pub mod TurnFacts
+pub mod ScanFacts
+pub mod Behind
+pub mod StateFacts
+pub mod TouchedFacts
+pub mod Woken
+pub mod Measure
+pub mod Start
+pub mod Resume
+pub mod Finish

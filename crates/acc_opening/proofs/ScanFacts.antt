@@ -1,0 +1,54 @@
+-- What a scan sees behind the turns.
+use Rattle.std.proofs.Common.{◌≡◌, ℕ, ◌+◌, ◌<◌, ◌≤◌, Bool, true, false, not, cond, ◌&&◌, ◌||◌, List, [], ◌∷◌, length, get_or, Option, None, Some, sym, refl, ap, ◌∙◌, subst, arith, map}
+use Rattle.std.specs.List.{AllByRecursion}
+use Rattle.std.proofs.lemmas.Bool.{true≢false, cases_Bool}
+use Rattle.acc_stamp.specs.declared.stamps.Stamp.{Stamp}
+use Rattle.acc_stamp.specs.declared.stamps.TxnId.{TxnId}
+use Rattle.acc_stamp.specs.Stamp.{stamp_eq, stamp_lt, id_eq}
+use Rattle.acc_stamp.proofs.Order.{stamp_eq-Decides, id_order}
+use Rattle.acc_deps.specs.declared.records.Settled.{Settled}
+use Rattle.acc_actor_laws.specs.OpeningOrder.{applies_in}
+use Rattle.acc_message.specs.Opening.{is_past}
+use Rattle.acc_record.specs.declared.record.Record.{Record}
+use Rattle.acc_opening_laws.specs.Plan.{Lookup, settled_in, is_applied_in, is_past_behind}
+use Rattle.acc_opening.specs.declared.turns.Turn.{Turn}
+use Rattle.acc_opening.specs.Turns.{changes_in, has_key, is_applied_at, HasItsTime, HaveTheirTimes}
+
+some_is : {X : Type 0} (x y : X) → Some x ≡ Some y → x ≡ y
+some_is x y e = cc
+
+keyed : (b c a : Bool) → (c ≡ true → b ≡ true) → (c && a) ≡ ((b && c) && a)
+keyed b false true h = sym (keyed_none b)
+  where
+    keyed_none : (b : Bool) → ((b && false) && true) ≡ false
+    keyed_none true = refl
+    keyed_none false = refl
+keyed true true a h = refl
+keyed false true a h = absurd (true≢false (sym (h refl)))
+keyed true false false h = refl
+keyed false false false h = refl
+
+same_time : (at : Lookup) (turn : Turn) (y : TxnId) (s : Settled) → settled_in (at y) ≡ Some s → HasItsTime at turn → id_eq turn.id y ≡ true
+    → stamp_eq turn.t s.t ≡ true
+same_time at turn y s is h same =
+    let e : turn.id ≡ y = (id_order.decides turn.id y).0 same in
+    let settled : h.settled ≡ s = some_is h.settled s (sym h.stable ∙ ap (λ x. settled_in (at x)) e ∙ is) in
+    (stamp_eq-Decides turn.t s.t).1 (h.t ∙ ap (λ z. z.t) settled)
+
+-- a turn is found by its transaction, or by its timestamp too
+pub applied_by : (at : Lookup) (turns : List Turn) (y : TxnId) (s : Settled) → settled_in (at y) ≡ Some s → HaveTheirTimes at turns
+    → applies_in y (changes_in turns) ≡ is_applied_at turns s.t y
+applied_by at [] y s is h = refl
+applied_by at (turn ∷ turns) y s is h =
+    ap (λ b. b || applies_in y (changes_in turns)) (keyed (stamp_eq turn.t s.t) (id_eq turn.id y) turn.applies (same_time at turn y s is h.0))
+    ∙ ap (λ b. (has_key s.t y turn && turn.applies) || b) (applied_by at turns y s is h.1)
+
+-- what holds back, by the record
+pub past_value : (at : Lookup) (turns : List Turn) (t : Stamp) (y : TxnId) (r : Record) (s : Settled) → at y ≡ Some r → r.stable ≡ Some s
+    → HaveTheirTimes at turns
+    → is_past_behind at (changes_in turns) t y ≡ (not (stamp_lt s.t t) || (r.applied || is_applied_at turns s.t y))
+past_value at turns t y r s there stable h =
+    let is : settled_in (at y) ≡ Some s = ap settled_in there ∙ stable in
+    ap (λ o. is_past t (is_applied_in (at y) || applies_in y (changes_in turns)) o) is
+    ∙ ap (λ o. not (stamp_lt s.t t) || (is_applied_in o || applies_in y (changes_in turns))) there
+    ∙ ap (λ b. not (stamp_lt s.t t) || (r.applied || b)) (applied_by at turns y s is h)

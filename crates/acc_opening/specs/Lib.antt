@@ -1,0 +1,7 @@
+pub mod Lookup
+pub mod Turns
+pub mod Scan
+pub mod Touched
+pub mod State
+pub mod Known
+pub mod Planned

@@ -1,0 +1,13 @@
+//! The plan of a step: which transactions a store opens and applies when one becomes stable or gets its outcome, told by its
+//! records, and who waits for whom then.
+#![tactic(auto)]
+
+mod lookup;
+mod plan;
+mod scan;
+mod touched;
+mod turns;
+
+pub use plan::{Known, Plan, planned};
+pub use touched::{Touched, TouchedWaits};
+pub use turns::Turn;

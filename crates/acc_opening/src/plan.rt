@@ -1,0 +1,188 @@
+//! The plan of a step.
+ghost use Rattle.std.specs.Prelude.{◌≡◌, ◌&&◌, not, IsTrue, is_some, ◌<◌, ◌++◌, [], ◌∷◌, ◌+◌, length, drop, slice_index_or, OnOk, IfOk};
+ghost use Rattle.acc_opening.specs.Lookup.{lookup};
+ghost use Rattle.acc_opening.specs.Touched.{watches_now};
+ghost use Rattle.acc_opening.specs.State.{IsUnderWay, no_turn};
+ghost use Rattle.acc_opening.specs.Planned.{IsPlanned};
+ghost use Rattle.acc_opening.specs.Known.{IsKnown, IsEmptyPlan};
+ghost use Rattle.acc_opening_laws.specs.Plan.{settled_in};
+ghost use Rattle.acc_record.specs.Shelf.{record_at};
+
+use crate::lookup::record_of;
+use crate::scan::next_held;
+use crate::touched::{TouchedWaits, add_watch, take_watches};
+use crate::turns::{Turn, insert, turn_of};
+use acc_base::OutOfMemory;
+use acc_record::{Record, Records, Waits, Watch};
+use acc_stamp::TxnId;
+use std::alloc::Global;
+use std::collections::BTreeMap;
+
+/// What a step is planned by: what the store keeps, and the record that the step gives its own transaction.
+#[derive(Debug)]
+pub struct Known<'a> {
+    /// The records before the step.
+    pub records: &'a Records,
+    /// The record of the step's transaction, with what the step brings.
+    pub own: &'a Record,
+    /// Who waits for whom before the step.
+    pub waits: &'a Waits,
+    /// The shard of the store.
+    pub shard: u32,
+}
+
+/// The plan of a step, as far as it has come.
+#[derive(Debug, Drop)]
+pub struct Plan {
+    /// The turns so far.
+    pub done: Vec<Turn>,
+    /// The transactions whose turn comes.
+    pub queue: Vec<Turn>,
+    /// What changes in the lists of who waits for whom.
+    pub touched: TouchedWaits,
+}
+
+impl Plan {
+    // Looks at one that no longer waits where it did: it waits for the next dependency that holds it back, or its turn comes.
+    fn wake(&mut self, known: &Known<'_>, woken: &[Watch], place: usize) -> Result<(), OutOfMemory>
+        requires one { place < length woken.now }
+        requires before { IsUnderWay known.now.shard (lookup known.now.records.now known.now.own.now) (watches_now self.old.touched known.now.waits.now) (drop place woken.now) self.old.done.items self.old.queue.items }
+        ensures after { OnOk result (IsUnderWay known.now.shard (lookup known.now.records.now known.now.own.now) (watches_now self.new.touched known.now.waits.now) (drop (place + 1) woken.now) self.new.done.items self.new.queue.items) }
+        ensures done { self.new.done.items ≡ self.old.done.items }
+    {
+        let watch = woken[place];
+        let Some(there) = record_of(known.records, known.own, watch.id) else {
+            return Ok(());
+        };
+        let Some(settled) = &there.stable else {
+            return Ok(());
+        };
+        let ids = settled.deps.of_shard(known.shard);
+        match next_held(
+            known.records,
+            known.own,
+            &self.done,
+            settled.t,
+            ids,
+            watch.place,
+        ) {
+            Some(held) => {
+                let alloc = *self.queue.allocator();
+                let watch = Watch {
+                    id: watch.id,
+                    place: held,
+                };
+                add_watch(alloc, &mut self.touched, ids[held], watch)
+            }
+            None => insert(&mut self.queue, turn_of(there, settled.t, watch.id)),
+        }
+    }
+
+    // Looks at all that no longer wait where they did.
+    fn wake_all(&mut self, known: &Known<'_>, woken: &[Watch]) -> Result<(), OutOfMemory>
+        requires before { IsUnderWay known.now.shard (lookup known.now.records.now known.now.own.now) (watches_now self.old.touched known.now.waits.now) woken.now self.old.done.items self.old.queue.items }
+        ensures after { OnOk result (IsUnderWay known.now.shard (lookup known.now.records.now known.now.own.now) (watches_now self.new.touched known.now.waits.now) [] self.new.done.items self.new.queue.items) }
+        ensures done { self.new.done.items ≡ self.old.done.items }
+    {
+        for place in 0..woken.len() {
+            self.wake(known, woken, place)?;
+        }
+        Ok(())
+    }
+
+    // The least turn that comes is taken.
+    fn advance(&mut self, known: &Known<'_>) -> Result<(), OutOfMemory>
+        requires some { 0 < length self.old.queue.items }
+        requires before { IsUnderWay known.now.shard (lookup known.now.records.now known.now.own.now) (watches_now self.old.touched known.now.waits.now) [] self.old.done.items self.old.queue.items }
+        ensures after { OnOk result (IsUnderWay known.now.shard (lookup known.now.records.now known.now.own.now) (watches_now self.new.touched known.now.waits.now) [] self.new.done.items self.new.queue.items) }
+        ensures done { OnOk result (self.new.done.items ≡ self.old.done.items ++ slice_index_or self.old.queue.items 0 no_turn ∷ []) }
+    {
+        let turn = self.queue.remove(0);
+        self.done.push(turn)?;
+        if turn.applies {
+            let alloc = *self.queue.allocator();
+            let woken = take_watches(alloc, &mut self.touched, known.waits, turn.id)?;
+            self.wake_all(known, &woken)?;
+        }
+        Ok(())
+    }
+
+    // All turns that come are taken.
+    fn run(&mut self, known: &Known<'_>) -> Result<(), OutOfMemory>
+        requires { IsUnderWay known.now.shard (lookup known.now.records.now known.now.own.now) (watches_now self.old.touched known.now.waits.now) [] self.old.done.items self.old.queue.items }
+        ensures { OnOk result (IsUnderWay known.now.shard (lookup known.now.records.now known.now.own.now) (watches_now self.new.touched known.now.waits.now) [] self.new.done.items []) }
+    {
+        while !self.queue.is_empty() {
+            self.advance(known)?;
+        }
+        Ok(())
+    }
+
+    // The own transaction becomes stable: it is looked at, and so are those that waited for it.
+    fn arrive(&mut self, known: &Known<'_>) -> Result<(), OutOfMemory>
+        requires starts { IsEmptyPlan self.old }
+        requires known { IsKnown known.now.shard known.now.records.now known.now.own.now known.now.waits.now }
+        requires fresh { settled_in (record_at known.now.records.now known.now.own.now.id) ≡ None }
+        ensures { OnOk result (IsUnderWay known.now.shard (lookup known.now.records.now known.now.own.now) (watches_now self.new.touched known.now.waits.now) [] self.new.done.items self.new.queue.items) }
+    {
+        let alloc = *self.queue.allocator();
+        let id = known.own.id;
+        let mut woken = take_watches(alloc, &mut self.touched, known.waits, id)?;
+        woken.push(Watch { id, place: 0 })?;
+        self.wake_all(known, &woken)
+    }
+
+    // The own transaction was stable before: if it was opened, and its outcome has come now, its turn comes.
+    fn resume(&mut self, known: &Known<'_>) -> Result<(), OutOfMemory>
+        requires starts { IsEmptyPlan self.old }
+        requires known { IsKnown known.now.shard known.now.records.now known.now.own.now known.now.waits.now }
+        requires stable { IsTrue (is_some (settled_in (record_at known.now.records.now known.now.own.now.id))) }
+        ensures { OnOk result (IsUnderWay known.now.shard (lookup known.now.records.now known.now.own.now) (watches_now self.new.touched known.now.waits.now) [] self.new.done.items self.new.queue.items) }
+    {
+        let own = known.own;
+        let Some(settled) = &own.stable else {
+            return Ok(());
+        };
+        if !is_due(own) {
+            return Ok(());
+        }
+        self.queue.push(turn_of(own, settled.t, own.id))?;
+        Ok(())
+    }
+}
+
+// Whether an opened transaction has an outcome that isn't applied.
+fn is_due(own: &Record) -> bool
+    ensures { result ≡ ((own.now.opened && is_some own.now.outcome) && not own.now.applied) }
+{
+    own.opened && own.outcome.is_some() && !own.applied
+}
+
+// Whether a transaction is stable before the step.
+fn is_stable(records: &Records, id: TxnId) -> bool
+    ensures { result ≡ is_some (settled_in (record_at records.now id)) }
+{
+    match records.get(&id) {
+        Some(there) => there.stable.is_some(),
+        None => false,
+    }
+}
+
+/// Plans a step: what it opens and applies, in the order of the timestamps, and who waits for whom then.
+pub fn planned(alloc: Global, known: &Known<'_>) -> Result<Plan, OutOfMemory>
+    requires { IsKnown known.now.shard known.now.records.now known.now.own.now known.now.waits.now }
+    ensures { IfOk result (IsPlanned known.now.shard known.now.records.now known.now.own.now known.now.waits.now) }
+{
+    let mut plan = Plan {
+        done: Vec::new(alloc),
+        queue: Vec::new(alloc),
+        touched: BTreeMap::new(alloc),
+    };
+    if is_stable(known.records, known.own.id) {
+        plan.resume(known)?;
+    } else {
+        plan.arrive(known)?;
+    }
+    plan.run(known)?;
+    Ok(plan)
+}
