@@ -1,7 +1,7 @@
 -- Begins and drains that end with a drain leave nothing waiting.
 use Rattle.std.proofs.Common.{◌≡◌, ℕ, ◌+◌, ◌<◌, nat_lt, cond, Bool, true, false, not, ◌&&◌, ◌||◌, List, [], ◌∷◌, length, Option, None, Some, refl, sym, ◌∙◌, ap, subst, arith}
 use Rattle.std.specs.List.{list_all, list_any}
-use Rattle.std.proofs.lemmas.Bool.{true≢false, and_from, and_parts}
+use Rattle.std.proofs.lemmas.Bool.{true≢false, and_from, and_parts, not-true}
 use Rattle.std.proofs.lemmas.Bool.Decides.{nat_tests}
 use Rattle.acc_stamp.specs.declared.actors.Actor.{Actor}
 use Rattle.acc_topology.specs.Sets.{is_among}
@@ -87,15 +87,11 @@ none_sent_lost : (items : List Item) (number : ℕ) → NothingIsLost items → 
 none_sent_lost [] number h = refl
 none_sent_lost (item ∷ earlier) number h =
     let parts = and_parts (not (is_lost item)) (list_all (λ i. not (is_lost i)) earlier) h in
-    both (nat_lt number (length (sent_of earlier))) _ _ (none_sent_lost earlier number parts.1) (unlost (is_lost item) parts.0)
+    both (nat_lt number (length (sent_of earlier))) _ _ (none_sent_lost earlier number parts.1) (not-true (is_lost item) parts.0)
   where
     both : (test one other : Bool) → one ≡ false → other ≡ false → cond test one other ≡ false
     both true one other h k = h
     both false one other h k = k
-
-    unlost : (b : Bool) → not b ≡ true → b ≡ false
-    unlost true h = absurd (true≢false (sym h))
-    unlost false h = refl
 
 taken_of : (sent taken lost down : Bool) → sent ≡ true → lost ≡ false → down ≡ false → (sent && (not (taken || lost) && not down)) ≡ false → taken ≡ true
 taken_of true true lost down a b c h = refl

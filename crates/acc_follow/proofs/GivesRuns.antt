@@ -1,7 +1,7 @@
 -- The items of a schedule, behind the run that stood before, are a run.
 use Rattle.std.proofs.Common.{◌≡◌, ℕ, ◌+◌, ◌<◌, ◌≤◌, nat_lt, Bool, true, false, not, ◌&&◌, List, [], ◌∷◌, length, Option, None, Some, refl, sym, ◌∙◌, ap, subst, arith, ⊎_elim}
 use Rattle.std.specs.List.{slice_get, AllByRecursion}
-use Rattle.std.proofs.lemmas.Bool.{true≢false, and_parts}
+use Rattle.std.proofs.lemmas.Bool.{true≢false, and_parts, not-false, not-true}
 use Rattle.std.proofs.lemmas.Option.{slice_get_cases}
 use Rattle.acc_base.specs.Faults.{or_else}
 use Rattle.acc_stamp.specs.declared.actors.Actor.{Actor}
@@ -46,14 +46,6 @@ journalled_in by a (RestartEvent kept) = refl
 or_else-none : (o other : Option Skip) → or_else o other ≡ None → (o ≡ None) × (other ≡ None)
 or_else-none None other e = (refl, e)
 or_else-none (Some cause) other e = absurd (not_none cause (sym e))
-
-not_false : (b : Bool) → not b ≡ false → b ≡ true
-not_false true h = refl
-not_false false h = absurd (true≢false h)
-
-not_true : (b : Bool) → not b ≡ true → b ≡ false
-not_true true h = absurd (true≢false (sym h))
-not_true false h = refl
 
 module _ (cluster : Cluster) (first : List Item) where
   -- The whole past is a run, which goes on from the first one, and each step that was stopped can still be entered.
@@ -188,13 +180,13 @@ module _ (cluster : Cluster) (first : List Item) where
   delivers_it s message h none =
       let parts = or_else-none (message_skip s message) (down_skip s (receiver_in s message)) none in
       let sent = skip_if-none (not (nat_lt message (length (sent_of s.own)))) (NoMessage message (length (sent_of s.own))) parts.0 in
-      takes s message h (not_false (nat_lt message (length (sent_of s.own))) sent) (up_unless s (receiver_in s message) parts.1)
+      takes s message h (not-false (nat_lt message (length (sent_of s.own))) sent) (up_unless s (receiver_in s message) parts.1)
 
   waiting_taken : (s : Situation) (message : ℕ) → Sound s → IsOldestWaiting s message → Steps s (receiver_in s message) (MessageEvent message)
   waiting_taken s message h oldest =
       let parts = and_parts (nat_lt message (length (sent_of s.own))) (not (is_through s message) && not (is_down (receiver_in s message) (whole s))) oldest.0 in
       let later = and_parts (not (is_through s message)) (not (is_down (receiver_in s message) (whole s))) parts.1 in
-      takes s message h parts.0 (not_true (is_down (receiver_in s message) (whole s)) later.1)
+      takes s message h parts.0 (not-true (is_down (receiver_in s message) (whole s)) later.1)
 
   -- ---- restarts
 

@@ -5,3 +5,4 @@ mod Joined
 mod StoppedSteps
 mod GivesRuns
 mod Skips
+mod Answered

@@ -1,5 +1,6 @@
 -- Where no disk fails, nobody goes down and nothing is lost.
 use Rattle.std.proofs.Common.{◌≡◌, ℕ, ◌+◌, Bool, true, false, not, ◌&&◌, List, [], ◌∷◌, length, Option, None, Some, refl, sym, ◌∙◌, ap, subst}
+use Rattle.std.proofs.Math.Bool.{and-false}
 use Rattle.std.proofs.lemmas.Bool.{and_from}
 use Rattle.acc_stamp.specs.declared.actors.Actor.{Actor}
 use Rattle.acc_stamp.specs.Actor.{actor_of}
@@ -42,15 +43,11 @@ kept_none : (keeps : Bool) (a : Actor) (s : Situation) → s.stopped ≡ [] → 
 kept_none true a s none = ap (stopped_at a) none
 kept_none false a s none = refl
 
-no_and : (b : Bool) → (b && false) ≡ false
-no_and true = refl
-no_and false = refl
-
 module _ (cluster : Cluster) (answers : Answers) (never : NeverFails answers) where
   pub tried_is_entered : (s : Situation) (a : Actor) (event : Event) → tried cluster answers s a event ≡ entered cluster s a event false
   tried_is_entered s a event =
       ap (λ b. tried_if (is_journalled a event && b) cluster s a event) (never (length s.own))
-      ∙ ap (λ b. tried_if b cluster s a event) (no_and (is_journalled a event))
+      ∙ ap (λ b. tried_if b cluster s a event) (and-false (is_journalled a event))
 
   clean_tried : (s : Situation) (a : Actor) (event : Event) → Clean s → Clean (tried cluster answers s a event)
   clean_tried s a event h = subst Clean (sym (tried_is_entered s a event)) (clean_item s (entry_of cluster s a event false) refl refl h)

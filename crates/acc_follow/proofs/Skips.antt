@@ -1,6 +1,6 @@
 -- A step is passed over exactly where it has a cause for that.
 use Rattle.std.proofs.Common.{◌≡◌, ◌⊎◌, ℕ, suc, ◌<◌, ◌≤◌, nat_lt, Bool, true, false, not, ◌&&◌, List, [], ◌∷◌, length, Option, None, Some, inl, inr, refl, sym, ◌∙◌, ap, arith}
-use Rattle.std.proofs.lemmas.Bool.{true≢false}
+use Rattle.std.proofs.lemmas.Bool.{not-false, not-true}
 use Rattle.std.proofs.lemmas.Bool.Decides.{nat_tests}
 use Rattle.acc_base.specs.Faults.{or_else}
 use Rattle.acc_stamp.specs.declared.actors.Actor.{Actor}
@@ -47,14 +47,6 @@ is_skip_if test skip cause t is = ap (λ b. skip_if b skip) t ∙ ap Some (sym i
 no_skip_if : (test : Bool) (skip : Skip) → test ≡ false → skip_if test skip ≡ None
 no_skip_if test skip t = ap (λ b. skip_if b skip) t
 
-not_true : (b : Bool) → not b ≡ true → b ≡ false
-not_true true h = absurd (true≢false (sym h))
-not_true false h = refl
-
-not_false : (b : Bool) → not b ≡ false → b ≡ true
-not_false true h = refl
-not_false false h = absurd (true≢false h)
-
 below : {n k : ℕ} → nat_lt n k ≡ true → n < k
 below h = grind (arith, nat_tests)
 
@@ -98,14 +90,14 @@ module _ (s : Situation) where
   is_for_no_message : (message : ℕ) (cause : Skip) → message_skip s message ≡ Some cause → IsForNoMessage s message cause
   is_for_no_message message cause h =
       let parts = skip_if-some (not (nat_lt message (length (sent_of s.own)))) (NoMessage message (length (sent_of s.own))) cause h in
-      (not_below (not_true (nat_lt message (length (sent_of s.own))) parts.0), parts.1)
+      (not_below (not-true (nat_lt message (length (sent_of s.own))) parts.0), parts.1)
 
   sent_is : (message : ℕ) → message < length (sent_of s.own) → message_skip s message ≡ None
   sent_is message less = no_skip_if _ (NoMessage message (length (sent_of s.own))) (ap not (is_below less))
 
   is_sent : (message : ℕ) → message_skip s message ≡ None → message < length (sent_of s.own)
   is_sent message h =
-      below (not_false (nat_lt message (length (sent_of s.own)))
+      below (not-false (nat_lt message (length (sent_of s.own)))
       (skip_if-none (not (nat_lt message (length (sent_of s.own)))) (NoMessage message (length (sent_of s.own))) h))
 
 skip_is : (cluster : Cluster) (s : Situation) (step : Step) (cause : Skip) → IsCause cluster s step cause → skip_for cluster s step ≡ Some cause
@@ -150,7 +142,7 @@ cause_is cluster s (Recover txn node) cause h =
     by (inl down) = inl (is_for_down s (actor_of node 0) cause down)
     by (inr later) =
         let parts = skip_if-some (not (is_begun (whole s) txn)) (Unknown txn) cause later.1 in
-        inr (is_up s (actor_of node 0) later.0, not_true (is_begun (whole s) txn) parts.0, parts.1)
+        inr (is_up s (actor_of node 0) later.0, not-true (is_begun (whole s) txn) parts.0, parts.1)
 cause_is cluster s (Slow txn) cause h =
     by (one_of (down_skip s (home_of_txn cluster txn)) (slow_skip cluster (whole s) txn (id_of_txn (whole s) txn)) cause h)
   where

@@ -1,5 +1,5 @@
 -- What the laws of schedules speak of.
-use Rattle.std.specs.Prelude.{◌≡◌, ℕ, false, not, IsTrue, List, [], ◌∷◌}
+use Rattle.std.specs.Prelude.{◌≡◌, ℕ, ◌<◌, false, not, IsTrue, List, [], ◌∷◌}
 use Rattle.std.specs.List.{list_all}
 use Rattle.acc_message.specs.declared.item.Item.{Item}
 use Rattle.acc_message.specs.Run.{Cluster}
@@ -9,6 +9,11 @@ use Rattle.acc_schedule.specs.declared.plan.Step.{Step}
 use Rattle.acc_schedule.specs.declared.plan.Step.TheVariants.{Begin, Deliver, Drop, Recover, Slow, Restart, Fail, Drain}
 use Rattle.acc_follow.specs.Situations.{is_lost}
 use Rattle.acc_follow.specs.Moves.{Answers}
+
+-- both answer alike at the first places, so many
+abbrev pub AgreeBelow : Answers → Answers → ℕ → Type 0
+AgreeBelow answers other count =
+    (place : ℕ) → place < count → (answers.fails place ≡ other.fails place) × (answers.keeps place ≡ other.keeps place)
 
 -- no disk fails
 abbrev pub NeverFails : Answers → Type 0

@@ -1,5 +1,5 @@
 //! What holds of the runs of schedules. Each law is the contract of a function that does nothing.
-ghost use Rattle.std.specs.Prelude.{◌≡◌, ℕ, List, ◌∷◌};
+ghost use Rattle.std.specs.Prelude.{◌≡◌, ℕ, ◌+◌, List, [], ◌∷◌, ◌++◌, length};
 ghost use Rattle.std.specs.List.{AllByRecursion};
 ghost use Rattle.acc_message.specs.declared.item.Item.{Item};
 ghost use Rattle.acc_message.specs.declared.item.Skip.{Skip};
@@ -12,7 +12,7 @@ ghost use Rattle.acc_follow.specs.Situations.{Situation, opened, whole};
 ghost use Rattle.acc_follow.specs.Moves.{Answers, with_item, IsNext};
 ghost use Rattle.acc_follow.specs.Causes.{IsCause};
 ghost use Rattle.acc_follow.specs.Schedules.{Follows, cluster_of, Obeys};
-ghost use Rattle.acc_follow.specs.Laws.{NeverFails, NobodyIsDown, NothingIsLost, EndsWithDrain, IsStepOf};
+ghost use Rattle.acc_follow.specs.Laws.{AgreeBelow, NeverFails, NobodyIsDown, NothingIsLost, EndsWithDrain, IsStepOf};
 
 /// A step of a schedule takes a situation to one next situation at most, so a plan has one list of items at most for each answers of
 /// the disks.
@@ -53,4 +53,14 @@ pub fn skips_have_causes()
         IsNext cluster answers number step s next → IsCause cluster s step cause → next ≡ with_item (Item.Skipped number cause) s }
     ensures only { (cluster : Cluster) (answers : Answers) (number : ℕ) (step : Step) (s next : Situation) (cause : Skip) →
         IsNext cluster answers number step s next → next.own ≡ Item.Skipped number cause ∷ s.own → IsCause cluster s step cause }
+{}
+
+/// A run is made step by step: the answers are read only at the places of its items, so what the disks answer later may be anything, and
+/// one step more goes on from where the others lead.
+pub fn runs_are_made_step_by_step()
+    ensures answers { (cluster : Cluster) (answers other : Answers) (number : ℕ) (steps : List Step) (s last : Situation) →
+        AgreeBelow answers other (length last.own) → Follows cluster answers number steps s last → Follows cluster other number steps s last }
+    ensures step { (cluster : Cluster) (answers : Answers) (number : ℕ) (steps : List Step) (step : Step) (s between last : Situation) →
+        Follows cluster answers number steps s between → IsNext cluster answers (number + length steps) step between last →
+        Follows cluster answers number (steps ++ step ∷ []) s last }
 {}
