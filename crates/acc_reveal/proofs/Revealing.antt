@@ -1,7 +1,6 @@
 -- What a shelf reveals is what the rules reveal of the history that it stands for.
-use Rattle.std.proofs.Common.{◌≡◌, ℕ, Bool, true, false, ◌&&◌, ◌||◌, cond, List, [], ◌∷◌, Option, None, Some, is_none, map, filter, refl, sym, ◌∙◌, ap}
+use Rattle.std.proofs.Common.{◌≡◌, ℕ, Bool, true, false, ◌&&◌, ◌||◌, cond, List, [], ◌∷◌, Some, is_none, map, filter, refl, sym, ◌∙◌, ap}
 use Rattle.std.specs.List.{list_any}
-use Rattle.std.specs.Option.{option_map}
 use Rattle.acc_stamp.specs.declared.stamps.TxnId.{TxnId}
 use Rattle.acc_stamp.specs.declared.stamps.Ballot.{Ballot}
 use Rattle.acc_stamp.specs.Actor.{shard_of, home_of}
@@ -14,14 +13,13 @@ use Rattle.acc_index.specs.Noted.{Noted, rivals as noted_rivals, rival_ids}
 use Rattle.acc_message.specs.declared.message.Message.{Message}
 use Rattle.acc_message.specs.declared.message.Message.TheVariants.{RecoverOk}
 use Rattle.acc_message.specs.Fields.{id_of, top_of}
-use Rattle.acc_message.specs.Taken.{Taken, Heard, taking, body_in, body_known, rivals}
+use Rattle.acc_message.specs.Taken.{Taken, Heard, taking, body_in, rivals}
 use Rattle.acc_message.specs.BallotRules.{promise_of, accepted_of, committed_of, stable_of}
 use Rattle.acc_message.specs.Evidence.{accepted_without, stable_without, supersedes, superseded, accepted_above, is_awaited, awaited, view_of}
 use Rattle.acc_message.specs.StoreRules.{nack, on_recover, body_counting, replay}
-use Rattle.acc_record.specs.declared.record.Record.{Record}
 use Rattle.acc_record.specs.declared.shelf.Shelf.{Shelf}
 use Rattle.acc_record.specs.Shelf.{record_at}
-use Rattle.acc_record.specs.Stands.{StandsFor, record_with}
+use Rattle.acc_record.specs.Stands.{StandsFor}
 use Rattle.acc_record.specs.Learning.{body_of}
 use Rattle.acc_shelf_laws.proofs.KeptFields.{kept_field}
 use Rattle.acc_answers.proofs.Rivals.{names_by}
