@@ -24,7 +24,7 @@ use Rattle.acc_message.specs.Shares.{shards_used, stores_used, is_store_of}
 use Rattle.acc_message.specs.Attempts.{Phase, Voting, Accepting, Committing, Executing, Attempt, plainly, counts, union_of, has_read, known_among, cell_read, fast_everywhere, majority_everywhere}
 use Rattle.acc_message.specs.Coordinator.{Reaction, slow_down, is_decided, is_past_recover}
 use Rattle.acc_tally.specs.declared.tally.Tally.{Tally}
-use Rattle.acc_tally.specs.Stands.{StandsFor as Tallies}
+use Rattle.acc_tally.specs.Stands.{StandsFor as Tallies, HasShards}
 use Rattle.acc_coord.specs.declared.coord.Coord.{Coord}
 use Rattle.acc_coord.specs.declared.reads.Reads.{Reads as ReadSoFar}
 use Rattle.acc_coord.specs.declared.step.Stage.{Stage}
@@ -86,10 +86,11 @@ StageKeeps layout x body (Accepts s tally) answers = Tallies tally (shards_used 
 StageKeeps layout x body (Commits s tally) answers = Tallies tally (shards_used layout body) (plainly x answers)
 StageKeeps layout x body (Reads s reads) answers = ReadsAre layout reads answers
 
--- the stores and the shards are those of the body
+-- the stores and the shards are those of the body, and the shards exist
 pub record IsPlaced (layout : Layout) (c : Coord) : Type 0 where
   pub stores : c.stores ≡ stores_used layout c.body
   pub shards : members c.shards ≡ shards_used layout c.body
+  pub exist : HasShards layout (shards_used layout c.body)
 
 pub record Keeps (layout : Layout) (c : Coord) (answers : List Message) : Type 0 where
   pub placed : IsPlaced layout c

@@ -11,11 +11,11 @@ ghost use Rattle.acc_coord.specs.Stands.{StandsFor, Answers, MakesFastQuorum, De
 
 use crate::error::SlowError;
 use crate::step::{Next, Stage, Step};
-use crate::stores::{Stores, stores_of};
-use acc_base::OutOfMemory;
+use acc_base::{OutOfMemory, Sequence};
 use acc_deps::Choice;
 use acc_message::{Emitted, Message, Messages};
-use acc_stamp::{Ballot, TxnId};
+use acc_stamp::{Actor, Ballot, TxnId};
+use acc_stores::stores;
 use acc_tally::Tally;
 use acc_topology::{ShardSet, Topology};
 use acc_txn::Body;
@@ -27,7 +27,7 @@ pub struct Coord {
     pub(crate) ballot: Ballot,
     pub(crate) body: Body,
     pub(crate) shards: ShardSet,
-    pub(crate) stores: Stores,
+    pub(crate) stores: Sequence<Actor>,
     pub(crate) stage: Stage,
 }
 
@@ -41,14 +41,16 @@ impl Coord {
     ) -> Result<Coord, OutOfMemory>
         ensures { IfOk result (λ coord. IsNew topology.now id ballot body.now coord) }
     {
+        let alloc = body.parts().lets.allocator();
         let shards = topology.shards_of(body.uses());
+        let stores = stores(alloc, topology, shards)?;
         Ok(Coord {
             id,
             ballot,
             body: body.copy()?,
             shards,
-            stores: stores_of(topology, body)?,
-            stage: Stage::Votes(Tally::new(body.parts().lets.allocator(), shards)),
+            stores,
+            stage: Stage::Votes(Tally::new(alloc, shards)),
         })
     }
 

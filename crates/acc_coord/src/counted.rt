@@ -13,23 +13,11 @@ use crate::coord::Coord;
 use acc_base::OutOfMemory;
 use acc_deps::Deps;
 use acc_stamp::{Actor, Stamp};
+use acc_stores::is_store;
 use acc_tally::Tally;
 use acc_topology::Topology;
-use acc_topology::sets::contains;
 
 impl Coord {
-    /// Whether an actor is a store of the transaction.
-    pub(crate) fn is_store(&self, topology: &Topology, actor: Actor) -> bool
-        ensures value { IsPlaced topology.now self.now → result ≡ is_store_of topology.now self.now.body actor }
-        ensures small { IsTrue result → (shard_of actor ≤ 15) × (node_of actor ≤ 15) }
-    {
-        let shard = actor.shard();
-        1 <= shard
-            && shard <= topology.shards()
-            && contains(self.shards, shard)
-            && contains(topology.replicas(shard), actor.node())
-    }
-
     /// A tally with one more answer, where it is of a store of the transaction and the first one of that store.
     pub(crate) fn counted(
         &self,
@@ -44,7 +32,7 @@ impl Coord {
             Tallies tally.now (shards_used topology.now self.now.body) (plainly self.now.id answers) →
             CountedIs topology.now self.now m answers more) }
     {
-        if !self.is_store(topology, store) {
+        if !is_store(topology, self.shards, store) {
             return Ok(None);
         }
         let mut more = tally.copy()?;

@@ -26,6 +26,7 @@ impl Coord {
     }
 
     /// Proposes a timestamp and dependencies.
+    #[tactic(auto, using(crate::proofs::Moves::proposes))]
     pub(crate) fn propose(&self, settled: Settled) -> Result<Step, OutOfMemory>
         ensures { IfOk result (λ step. (layout : Layout) (answers : List Letter) → IsPlaced layout self.now →
             Follows layout self.now answers step (propose layout (own_of self.now) self.now.id (attempt_in self.now answers) settled)) }
@@ -41,6 +42,7 @@ impl Coord {
     }
 
     /// Commits a timestamp and dependencies.
+    #[tactic(auto, using(crate::proofs::Moves::commits))]
     pub(crate) fn commit(&self, settled: Settled) -> Result<Step, OutOfMemory>
         ensures { IfOk result (λ step. (layout : Layout) (answers : List Letter) → IsPlaced layout self.now →
             Follows layout self.now answers step (commit layout (own_of self.now) self.now.id (attempt_in self.now answers) settled)) }
@@ -56,6 +58,7 @@ impl Coord {
     }
 
     /// Decides a timestamp and dependencies.
+    #[tactic(auto, using(crate::proofs::Moves::decides))]
     pub(crate) fn decide(&self, path: Path, settled: Settled) -> Result<Step, OutOfMemory>
         ensures { IfOk result (λ step. (layout : Layout) (answers : List Letter) → IsPlaced layout self.now →
             Follows layout self.now answers step (decide layout (own_of self.now) self.now.id (attempt_in self.now answers) path settled)) }
@@ -107,6 +110,7 @@ impl Coord {
     }
 
     /// A store has promised another ballot.
+    #[tactic(auto, using(crate::proofs::Moves::ends, crate::proofs::Moves::nack_of_decided, crate::proofs::Moves::nack_below))]
     pub(crate) fn on_nack(&self, promised: Ballot) -> Result<Step, OutOfMemory>
         ensures { IfOk result (λ step. (layout : Layout) (answers : List Letter) →
             Follows layout self.now answers step (on_nack self.now.id (attempt_in self.now answers) promised)) }
@@ -129,6 +133,7 @@ impl Coord {
     }
 
     /// A store tells of a decision.
+    #[tactic(auto, using(crate::proofs::Moves::adopts, crate::proofs::Moves::adopts_not))]
     pub(crate) fn on_decided(&self, t: Stamp, deps: &Deps) -> Result<Step, OutOfMemory>
         ensures { IfOk result (λ step. (layout : Layout) (answers : List Letter) → IsPlaced layout self.now →
             Follows layout self.now answers step (on_decided layout (own_of self.now) self.now.id (attempt_in self.now answers) (record { t = t; deps = deps.now }))) }

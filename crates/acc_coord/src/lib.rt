@@ -11,7 +11,6 @@ mod outcome;
 mod reads;
 mod rounds;
 mod step;
-mod stores;
 mod taken;
 mod votes;
 

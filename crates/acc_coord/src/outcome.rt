@@ -19,6 +19,7 @@ use acc_base::OutOfMemory;
 use acc_deps::Settled;
 use acc_message::{Emitted, Message, Messages, Note, ReadAnswer};
 use acc_stamp::{Actor, Ballot, home};
+use acc_stores::is_store;
 use acc_topology::Topology;
 use acc_topology::sets::contains;
 use acc_txn::Outcome;
@@ -108,7 +109,7 @@ impl Coord {
         match &self.stage {
             Stage::Reads(settled, reads) => {
                 let shard = store.shard();
-                if !self.is_store(topology, store) || contains(reads.heard, shard) {
+                if !is_store(topology, self.shards, store) || contains(reads.heard, shard) {
                     return Ok(silent(self.allocator(), Next::Same));
                 }
                 self.read_one(topology, shard, settled, reads, answer)

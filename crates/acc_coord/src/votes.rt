@@ -26,9 +26,9 @@ use acc_topology::Topology;
 impl Coord {
     // Proposes the greatest vote.
     fn slow_down(&self, tally: &Tally) -> Result<Step, OutOfMemory>
-        ensures { IfOk result (λ step. (layout : Layout) (answers : List Letter) → IsPlaced layout self.now →
-            Tallies tally.now (shards_used layout self.now.body) (plainly self.now.id answers) →
-            Follows layout self.now answers step (slow_down layout (own_of self.now) self.now.id (attempt_at self.now Voting answers))) }
+        ensures { IfOk result (λ step. (layout : Layout) (answers more : List Letter) → IsPlaced layout self.now →
+            Tallies tally.now (shards_used layout self.now.body) (plainly self.now.id more) →
+            Follows layout self.now answers step (slow_down layout (own_of self.now) self.now.id (attempt_at self.now Voting more))) }
     {
         let settled = Settled {
             t: tally.greatest().unwrap_or(Stamp::ZERO),
@@ -84,10 +84,16 @@ impl Coord {
             majority_everywhere topology.now self.now.id self.now.body answers ≡ false) }
     {
         match &self.stage {
-            Stage::Votes(tally) if tally.majority_everywhere(topology) => {
-                Ok(self.slow_down(tally)?)
+            Stage::Votes(tally) => {
+                if !tally.majority_everywhere(topology) {
+                    return Err(SlowError::NoQuorum);
+                }
+                let step = self.slow_down(tally)?;
+                Ok(step)
             }
-            _ => Err(SlowError::NoQuorum),
+            Stage::Accepts(_, _) | Stage::Commits(_, _) | Stage::Reads(_, _) => {
+                Err(SlowError::NoQuorum)
+            }
         }
     }
 }
