@@ -44,10 +44,12 @@ impl Coord {
         let alloc = body.parts().lets.allocator();
         let shards = topology.shards_of(body.uses());
         let stores = stores(alloc, topology, shards)?;
+        let body = body.copy()?;
+        let _ = topology.shards();
         Ok(Coord {
             id,
             ballot,
-            body: body.copy()?,
+            body,
             shards,
             stores,
             stage: Stage::Votes(Tally::new(alloc, shards)),
