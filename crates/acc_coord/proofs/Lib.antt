@@ -1,3 +1,4 @@
 pub mod Moves
 pub mod Counting
 pub mod Reading
+pub mod Made
