@@ -1,9 +1,16 @@
 -- A coordinator after its step stands for what becomes of the attempt.
-use Rattle.std.proofs.Common.{◌≡◌, Bool, List, Some, None, refl, sym, ap, subst}
+use Rattle.std.proofs.Common.{◌≡◌, Bool, false, List, [], Some, None, refl, sym, ap, subst, ◌∙◌}
 use Rattle.std.specs.Prelude.{Option, is_none}
 use Rattle.acc_topology.specs.Layout.{Layout}
 use Rattle.acc_message.specs.declared.message.Message.{Message}
-use Rattle.acc_message.specs.Attempts.{Attempt}
+use Rattle.acc_message.specs.Attempts.{Attempt, Voting}
+use Rattle.acc_message.specs.Coordinator.{go}
+use Rattle.acc_stamp.specs.declared.stamps.Ballot.{Ballot}
+use Rattle.acc_stamp.specs.declared.stamps.TxnId.{TxnId}
+use Rattle.acc_stamp.specs.declared.actors.Actor.{Actor}
+use Rattle.acc_txn.specs.declared.parts.BodyParts.{BodyParts}
+use Rattle.acc_deps.specs.declared.records.Choice.{Choice}
+use Rattle.acc_deps.specs.declared.records.Choice.TheVariants.{Accept as GoAccept, Commit as GoCommit, Stable as GoStable}
 use Rattle.acc_coord.specs.declared.coord.Coord.{Coord}
 use Rattle.acc_coord.specs.declared.step.Next.{Next}
 use Rattle.acc_coord.specs.declared.step.Next.TheVariants.{Same, Stage as Stands, Ended as Ends}
@@ -20,3 +27,23 @@ pub made_ends : (layout : Layout) (c : Coord) (answers : List Message) (next : N
 made_ends layout c answers Same o e = sym (ap is_none e)
 made_ends layout c answers (Stands stage) o n = sym (ap is_none n.1)
 made_ends layout c answers Ends o e = sym (ap is_none e)
+
+-- ---- what a recovery has chosen depends on the ballot and the body of the attempt alone
+
+abbrev bare : Ballot → BodyParts → Attempt
+bare ballot body = record { ballot = ballot; body = body; phase = Voting; answers = [] }
+
+go_bare : (layout : Layout) (own : Actor) (x : TxnId) (a : Attempt) (choice : Choice) → go layout own x a choice ≡ go layout own x (bare a.ballot a.body) choice
+go_bare layout own x a (GoAccept s) = refl
+go_bare layout own x a (GoCommit s) = refl
+go_bare layout own x a (GoStable s) = refl
+
+pub go_same : (layout : Layout) (own : Actor) (x : TxnId) (a b : Attempt) (choice : Choice) → a.ballot ≡ b.ballot → a.body ≡ b.body → go layout own x a choice ≡ go layout own x b choice
+go_same layout own x a b choice e f =
+    go_bare layout own x a choice ∙ ap (λ (t : Ballot). go layout own x (bare t a.body) choice) e ∙ ap (λ (d : BodyParts). go layout own x (bare b.ballot d) choice) f
+    ∙ sym (go_bare layout own x b choice)
+
+pub go_goes_on : (layout : Layout) (own : Actor) (x : TxnId) (a : Attempt) (choice : Choice) → false ≡ is_none (go layout own x a choice).next
+go_goes_on layout own x a (GoAccept s) = refl
+go_goes_on layout own x a (GoCommit s) = refl
+go_goes_on layout own x a (GoStable s) = refl
