@@ -1,4 +1,4 @@
-use Rattle.std.proofs.Common.{◌≡◌, ◌<◌, ◌^◌, Bool, true, ◌&&◌, sym, ◌∙◌, ap, arith}
+use Rattle.std.proofs.Common.{◌≡◌, ◌<◌, ◌^◌, Bool, ◌&&◌, sym, ◌∙◌, ap, arith}
 use Rattle.acc_stamp.specs.Actor.{node_of, shard_of}
 use Rattle.acc_topology.specs.Layout.{shard_at}
 use Rattle.acc_topology.specs.Sets.{in_set, is_among}

@@ -1,6 +1,5 @@
-use Rattle.std.proofs.Common.{◌≡◌, ◌++◌, List, map, sym, ◌∙◌, ap, arith}
+use Rattle.std.proofs.Common.{◌++◌, map, sym, ◌∙◌, ap, arith}
 use Rattle.std.specs.List.{flat_map}
-use Rattle.acc_stamp.specs.declared.actors.Actor.{Actor}
 use Rattle.acc_stamp.specs.Actor.{actor_of}
 use Rattle.acc_message.specs.Shares.{stores_of_shard}
 use Rattle.acc_stores.proofs.Listed.{below-without, below-all, more_shards}

@@ -1,0 +1,5 @@
+mod ClaimOrder
+mod Decision
+mod First
+mod Judging
+mod Ruled
