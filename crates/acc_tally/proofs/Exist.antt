@@ -1,9 +1,9 @@
 -- The shards of keys exist in an accepted layout.
-use Rattle.std.proofs.Common.{◌≡◌, ℕ, ◌<◌, ◌≤◌, Bool, true, false, ◌||◌, eqb, List, [], ◌∷◌, sym, ◌∙◌, subst, ⊎_elim, IsTrue, arith}
+use Rattle.std.proofs.Common.{◌≡◌, ℕ, Bool, true, eqb, List, [], ◌∷◌, sym, ◌∙◌, subst, ⊎_elim, arith}
 use Rattle.std.proofs.lemmas.Bool.{true≢false, or_cases, eqb-true}
 use Rattle.acc_value.specs.declared.key.Key.{Key}
 use Rattle.acc_topology.specs.Sets.{is_among, in_order}
-use Rattle.acc_topology.specs.Layout.{Layout, IsLayout, HasShard, shard_of}
+use Rattle.acc_topology.specs.Layout.{Layout, IsLayout, HasShard}
 use Rattle.acc_topology.specs.Keys.{shard_of_key, shards_of}
 use Rattle.acc_topology.proofs.Ends.{shard_of-holds}
 use Rattle.acc_topology.proofs.Listed.{is_among-in_order, AreSmall}

@@ -1,0 +1,4 @@
+pub mod KnownOnes
+pub mod Rivals
+pub mod VoteLaw
+pub mod Telling

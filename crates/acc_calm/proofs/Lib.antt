@@ -1,0 +1,15 @@
+mod StoreCounts
+mod StoresOnly
+mod AttemptCounts
+mod AttemptsShort
+mod Delivered
+mod ZeroBallots
+mod Reactions
+mod Reached
+mod Courses
+mod AllAnswered
+mod Undecided
+mod Named
+mod ReadsAnswered
+mod Finished
+mod CalmRuns

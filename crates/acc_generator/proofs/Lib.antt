@@ -1,0 +1,10 @@
+mod BodyFacts
+mod DocumentFacts
+mod DrawFacts
+pub mod Feed
+mod NameFacts
+mod PieceFacts
+mod PlanFacts
+mod RuleFacts
+mod TextFacts
+pub mod Written

@@ -1,0 +1,5 @@
+pub mod Bodies
+pub mod Document
+pub mod Draws
+pub mod Plan
+pub mod Texts

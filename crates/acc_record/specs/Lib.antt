@@ -1,0 +1,5 @@
+pub mod Shelf
+pub mod Waits
+pub mod Stands
+pub mod Steps
+pub mod Learning

@@ -1,0 +1,166 @@
+//! Learning: what a message makes known of a transaction, before anything else of its record changes.
+ghost use Rattle.std.specs.Prelude.{◌≡◌, ◌++◌, cond, Some, None, IfOk, OnOk, OnErr};
+ghost use Rattle.acc_stamp.specs.declared.stamps.TxnId.{TxnId};
+ghost use Rattle.acc_stamp.specs.Stamp.{id_eq};
+ghost use Rattle.acc_record.specs.Shelf.{IsSame, record_at};
+ghost use Rattle.acc_record.specs.Steps.{fresh};
+ghost use Rattle.acc_record.specs.Learning.{IsLearnt, is_covered_by, is_below_accepted, is_below_settled, later_of, stamp_to_note, notes_with};
+
+use crate::record::{Record, Records};
+use crate::shelf::Shelf;
+use acc_base::OutOfMemory;
+use acc_deps::{Accepted, Deps, Settled};
+use acc_index::Index;
+use acc_stamp::{Ballot, Ballots, Stamp, TxnId};
+use acc_txn::Body;
+use acc_value::Footprint;
+
+impl Shelf {
+    /// Makes a transaction known, with the body where it was not, notes a stamp of it that isn't covered by those that its
+    /// record has, and raises the greatest `h`. It is the last call of a step that takes memory: without memory for it the
+    /// shelf is as before.
+    pub fn learn(
+        &mut self,
+        id: TxnId,
+        body: &Body,
+        share: &Footprint,
+        stamp: Option<Stamp>,
+        top: u64,
+    ) -> Result<(), OutOfMemory>
+        ensures ok { OnOk result (IsLearnt self.old self.new id body.now share.now stamp top) }
+        ensures err { OnErr result (IsSame self.old self.new) }
+    {
+        let stamp = self.stamp_to_note(id, stamp);
+        if self.records.contains_key(&id) {
+            note(&mut self.index, id, share, stamp)?;
+        } else {
+            let record = Record::new(id, body)?;
+            add(&mut self.records, &mut self.index, record, share, stamp)?;
+        }
+        self.greatest = self.greatest.max(top);
+        Ok(())
+    }
+
+    // The stamp of a transaction that is to be noted, where a step brings this one.
+    fn stamp_to_note(&self, id: TxnId, stamp: Option<Stamp>) -> Option<Stamp>
+        ensures { result ≡ stamp_to_note (record_at self.now.records id) id stamp }
+    {
+        match (self.records.get(&id), stamp) {
+            (None, stamp) => Some(later(id.0, stamp)),
+            (Some(record), Some(stamp)) if !record.covers(id, stamp) => Some(stamp),
+            (Some(_), _) => None,
+        }
+    }
+}
+
+impl Record {
+    // The record of a transaction that was just heard of.
+    fn new(id: TxnId, body: &Body) -> Result<Record, OutOfMemory>
+        ensures { IfOk result (λ made. made ≡ fresh id body.now) }
+    {
+        let alloc = body.parts().lets.allocator();
+        Ok(Record {
+            id,
+            body: body.copy()?,
+            vote: None,
+            vote_deps: Deps::new(alloc),
+            promised: Ballot::ZERO,
+            accepted: None,
+            committed: None,
+            stable: None,
+            waiters: Ballots::new(alloc),
+            opened: false,
+            outcome: None,
+            applied: false,
+        })
+    }
+
+    // Whether a stamp that the record shows is as great. The record is that of this transaction.
+    fn covers(&self, id: TxnId, stamp: Stamp) -> bool
+        ensures { result ≡ is_covered_by id self.now stamp }
+    {
+        stamp <= later(id.0, self.vote)
+            || is_below(stamp, &self.accepted)
+            || is_below(stamp, &self.committed)
+            || is_below_settled(stamp, &self.stable)
+    }
+}
+
+fn later(stamp: Stamp, other: Option<Stamp>) -> Stamp
+    ensures { result ≡ later_of stamp other }
+{
+    match other {
+        Some(other) => stamp.max(other),
+        None => stamp,
+    }
+}
+
+fn is_below(stamp: Stamp, accepted: &Option<Accepted>) -> bool
+    ensures { result ≡ is_below_accepted stamp accepted.now }
+{
+    match accepted {
+        Some(accepted) => stamp <= accepted.t,
+        None => false,
+    }
+}
+
+fn is_below_settled(stamp: Stamp, settled: &Option<Settled>) -> bool
+    ensures { result ≡ is_below_settled stamp settled.now }
+{
+    match settled {
+        Some(settled) => stamp <= settled.t,
+        None => false,
+    }
+}
+
+fn note(
+    index: &mut Index,
+    id: TxnId,
+    share: &Footprint,
+    stamp: Option<Stamp>,
+) -> Result<(), OutOfMemory>
+    ensures ok { OnOk result (index.new ≡ index.old ++ notes_with id share.now stamp) }
+    ensures err { OnErr result (index.new ≡ index.old) }
+{
+    match stamp {
+        Some(stamp) => index.note(id, share, stamp),
+        None => Ok(()),
+    }
+}
+
+// Adds the record of a transaction that has none, and notes a stamp of it.
+fn add(
+    records: &mut Records,
+    index: &mut Index,
+    made: Record,
+    share: &Footprint,
+    stamp: Option<Stamp>,
+) -> Result<(), OutOfMemory>
+    requires { record_at records.old made.id ≡ None }
+    ensures ok { OnOk result ((y : TxnId) → record_at records.new y ≡ cond (id_eq made.id y) (Some made) (record_at records.old y)) }
+    ensures noted { OnOk result (index.new ≡ index.old ++ notes_with made.id share.now stamp) }
+    ensures err { OnErr result ((y : TxnId) → record_at records.new y ≡ record_at records.old y) }
+    ensures not_noted { OnErr result (index.new ≡ index.old) }
+{
+    let id = made.id;
+    put(records, made)?;
+    let noted = note(index, id, share, stamp);
+    if noted.is_err() {
+        forget(records, id);
+    }
+    noted
+}
+
+fn put(records: &mut Records, made: Record) -> Result<(), OutOfMemory>
+    ensures ok { OnOk result ((y : TxnId) → record_at records.new y ≡ cond (id_eq made.id y) (Some made) (record_at records.old y)) }
+    ensures err { OnErr result ((y : TxnId) → record_at records.new y ≡ record_at records.old y) }
+{
+    records.insert(made.id, made)?;
+    Ok(())
+}
+
+fn forget(records: &mut Records, id: TxnId)
+    ensures { (y : TxnId) → record_at records.new y ≡ cond (id_eq id y) None (record_at records.old y) }
+{
+    let _ = records.remove(&id);
+}

@@ -1,0 +1,13 @@
+//! What a store keeps: of each transaction a record, the index of known conflicts, the cells, and who waits for whom.
+#![tactic(auto)]
+
+mod cells;
+mod learn;
+mod record;
+mod shelf;
+mod vote;
+
+pub use cells::Cells;
+pub use record::{Record, Records};
+pub use shelf::{Shelf, Waits, Watch};
+pub use vote::Vote;

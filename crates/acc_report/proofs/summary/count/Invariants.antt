@@ -1,0 +1,10 @@
+-- The notes of the items so far are counted.
+use Rattle.std.proofs.Common.{◌≡◌, take, map, reverse}
+use Rattle.std.specs.Arc.{arc_value}
+use Rattle.std.specs.List.{count_by}
+use Rattle.acc_message.specs.Items.{notes_of}
+use Rattle.acc_report.specs.Counts.{is_counted}
+use Rattle.acc_report.proofs.summary.count.Given as goal
+
+abbrev pub invariant-loop-item : goal.invariant-loop-item
+invariant-loop-item l = l.number ≡ count_by (is_counted l.what) (notes_of (reverse (map arc_value (take l.item-index l.item-items))))

@@ -1,0 +1,116 @@
+//! The names of transactions, by their ids.
+ghost use Rattle.std.specs.Prelude.{◌≡◌, if◌then◌else◌, reverse, [], ◌∷◌, IfOk, OnOk};
+ghost use Rattle.std.specs.List.{list_any};
+ghost use Rattle.acc_base.specs.Faults.{or_else};
+ghost use Rattle.acc_stamp.specs.declared.stamps.TxnId.{TxnId};
+ghost use Rattle.acc_stamp.specs.Stamp.{id_eq};
+ghost use Rattle.acc_message.specs.Items.{begins, txn_in};
+ghost use Rattle.acc_report.specs.Numbers.{number_at, name_in};
+ghost use Rattle.acc_report.specs.Report.{name_at, number_in, number_of};
+
+use acc_base::OutOfMemory;
+use acc_message::{Event, Item, Items, Note, Roll};
+use acc_report_line::Names;
+use acc_stamp::TxnId;
+use std::alloc::Global;
+use std::collections::BTreeMap;
+
+/// The numbers of transactions, by their ids.
+pub(crate) type Numbers = BTreeMap<TxnId, u32>;
+
+/// The names of transactions by their numbers, and their numbers by their ids.
+#[derive(Debug, Drop)]
+pub(crate) struct Directory<'a> {
+    pub names: &'a Names,
+    pub numbers: Numbers,
+}
+
+impl Directory<'_> {
+    /// The name of the transaction with this id, or nothing where none is known by it or its number has no name.
+    #[tactic(auto, unfolding(crate::specs::Numbers::name_in))]
+    pub fn name_of(&self, id: TxnId) -> &[u8]
+        ensures { result.now ≡ name_in self.now id }
+    {
+        match self.numbers.get(&id) {
+            Some(txn) => name_of_number(self.names, *txn),
+            None => b"",
+        }
+    }
+}
+
+/// The name of the transaction with this number, or nothing where there is none.
+pub(crate) fn name_of_number(names: &Names, txn: u32) -> &[u8]
+    ensures { result.now ≡ name_at names.now txn }
+{
+    match names.as_slice().get(txn as usize) {
+        Some(name) => name.as_slice(),
+        None => b"",
+    }
+}
+
+/// The numbers of the transactions of a roll, and of those that the items begin. Of several for one id the first counts.
+pub(crate) fn numbers_of(alloc: Global, roll: &Roll, items: &Items) -> Result<Numbers, OutOfMemory>
+    ensures { IfOk result (λ numbers. (x : TxnId) → number_at numbers x ≡ number_of roll.now (reverse items.now) x) }
+{
+    let mut numbers = numbers_in(alloc, roll)?;
+    for item in items.as_slice() {
+        enter_item(&mut numbers, item)?;
+    }
+    Ok(numbers)
+}
+
+/// The numbers of the transactions of a roll, and of the one that an item begins.
+pub(crate) fn numbers_with(alloc: Global, roll: &Roll, item: &Item) -> Result<Numbers, OutOfMemory>
+    ensures { IfOk result (λ numbers. (x : TxnId) → number_at numbers x ≡ number_of roll.now (item.now ∷ []) x) }
+{
+    let mut numbers = numbers_in(alloc, roll)?;
+    enter_item(&mut numbers, item)?;
+    Ok(numbers)
+}
+
+/// The numbers of the transactions of a roll.
+fn numbers_in(alloc: Global, roll: &Roll) -> Result<Numbers, OutOfMemory>
+    ensures { IfOk result (λ numbers. (x : TxnId) → number_at numbers x ≡ number_in roll.now x) }
+{
+    let mut numbers = BTreeMap::new(alloc);
+    for entry in roll.as_slice() {
+        enter_id(&mut numbers, entry.1, entry.0)?;
+    }
+    Ok(numbers)
+}
+
+/// Enters the transaction that an item begins, if it begins one.
+fn enter_item(numbers: &mut Numbers, item: &Item) -> Result<(), OutOfMemory>
+    ensures { OnOk result ((x : TxnId) → number_at numbers.new x ≡ or_else (number_at numbers.old x) (txn_in x item.now)) }
+{
+    if let Item::Step(entry) = item {
+        if let Event::Begin { txn } = entry.event {
+            enter_notes(numbers, txn, entry.emitted.notes.as_slice())?;
+        }
+    }
+    Ok(())
+}
+
+/// Enters a transaction under the ids that these notes begin.
+fn enter_notes(numbers: &mut Numbers, txn: u32, notes: &[Note]) -> Result<(), OutOfMemory>
+    ensures { OnOk result ((x : TxnId) →
+        number_at numbers.new x ≡ or_else (number_at numbers.old x) (if list_any (begins x) notes.now then Some txn else None)) }
+{
+    for note in notes {
+        if let Note::Begin { id } = note {
+            enter_id(numbers, txn, *id)?;
+        }
+    }
+    Ok(())
+}
+
+/// Enters a transaction under an id, where none is known by it.
+fn enter_id(numbers: &mut Numbers, txn: u32, id: TxnId) -> Result<(), OutOfMemory>
+    ensures { OnOk result ((x : TxnId) →
+        number_at numbers.new x ≡ or_else (number_at numbers.old x) (if id_eq id x then Some txn else None)) }
+{
+    if !numbers.contains_key(&id) {
+        numbers.insert(id, txn)?;
+    }
+    Ok(())
+}

@@ -1,0 +1,64 @@
+//! The text of a report.
+ghost use Rattle.std.specs.Prelude.{◌≡◌, ◌++◌, reverse, IfOk, OnOk};
+ghost use Rattle.acc_report.specs.Numbers.{name_in};
+ghost use Rattle.acc_report.specs.Report.{name_at, lines_in, lines_report, summary_report, report_text};
+ghost use Rattle.acc_report_line.specs.Texts.{lines_text};
+
+use crate::names::{Directory, numbers_of};
+use crate::notes::push_notes;
+use crate::skips::{push_down, push_event, push_skip};
+use crate::summary::{push_decided, push_last};
+use acc_base::{Bytes, OutOfMemory};
+use acc_message::{Item, Items, Roll};
+use acc_report_line::Names;
+use acc_schedule::Print;
+
+/// The report of items: in lines those of each item, and in summary how many decisions each path made; then the last line. A
+/// transaction is called by the name of the number that the roll gives its id, or else the first begin of it among the items,
+/// and by nothing where there is none.
+pub fn text(items: &Items, roll: &Roll, names: &Names, print: Print) -> Result<Bytes, OutOfMemory>
+    ensures { IfOk result (λ text. text ≡ report_text print names.now roll.now (reverse items.now)) }
+{
+    match print {
+        Print::Lines => text_in_lines(items, roll, names),
+        Print::Summary => text_in_summary(items, names),
+    }
+}
+
+fn text_in_lines(items: &Items, roll: &Roll, names: &Names) -> Result<Bytes, OutOfMemory>
+    ensures { IfOk result (λ text. text ≡ lines_text (lines_report names.now roll.now (reverse items.now))) }
+{
+    let alloc = names.allocator();
+    let numbers = numbers_of(alloc, roll, items)?;
+    let directory = Directory { names, numbers };
+    let mut text = Vec::new(alloc);
+    for item in items.as_slice() {
+        push_item(&mut text, &directory, item)?;
+    }
+    push_last(&mut text, items)?;
+    Ok(Bytes::from_vec(text))
+}
+
+fn text_in_summary(items: &Items, names: &Names) -> Result<Bytes, OutOfMemory>
+    ensures { IfOk result (λ text. text ≡ lines_text (summary_report (reverse items.now))) }
+{
+    let mut text = Vec::new(names.allocator());
+    push_decided(&mut text, items)?;
+    push_last(&mut text, items)?;
+    Ok(Bytes::from_vec(text))
+}
+
+/// Appends the lines of an item.
+fn push_item(text: &mut Vec<u8>, directory: &Directory<'_>, item: &Item) -> Result<(), OutOfMemory>
+    ensures { OnOk result (text.new.items
+        ≡ text.old.items ++ lines_text (lines_in (name_in directory.now) (name_at directory.now.names.now) item.now)) }
+{
+    match item {
+        Item::Step(entry) => {
+            push_event(text, entry.actor, entry.event)?;
+            push_notes(text, directory, entry.emitted.notes.as_slice())
+        }
+        Item::Skipped { step, cause } => push_skip(text, directory.names, *step, *cause),
+        Item::Down { actor } => push_down(text, *actor),
+    }
+}

@@ -1,0 +1,3 @@
+pub mod Names
+pub mod Revealing
+pub mod Step

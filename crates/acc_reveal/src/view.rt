@@ -1,0 +1,73 @@
+//! The view that a store gives.
+ghost use Rattle.std.specs.Prelude.{◌≡◌, ◌<◌, ◌^◌, IfOk};
+ghost use Rattle.acc_record.specs.Shelf.{record_at};
+ghost use Rattle.acc_reveal.specs.Revealed.{accepted_in, committed_in, stable_in, view_at, view_with};
+
+use crate::evidence::{awaited, superseded};
+use acc_base::{Duplicate, OutOfMemory};
+use acc_deps::{Accepted, Settled, View};
+use acc_record::{Shelf, Vote};
+use acc_stamp::{Ids, TxnId};
+use acc_value::Footprint;
+
+/// What the store reveals of a transaction that uses these keys here. `top` is the greatest `h` of the message that asks.
+pub(crate) fn view(
+    shelf: &Shelf,
+    id: TxnId,
+    share: &Footprint,
+    top: u64,
+) -> Result<View, OutOfMemory>
+    requires greatest { shelf.now.greatest < 2 ^ 62 }
+    requires top { top < 2 ^ 62 }
+    ensures { IfOk result (λ view. view ≡ view_at shelf.now id share.now top) }
+{
+    let vote = shelf.vote(id, share, top)?;
+    let rivals = shelf.index.conflicting(id, share)?;
+    view_of(shelf, id, rivals, vote)
+}
+
+fn view_of(shelf: &Shelf, id: TxnId, rivals: Ids, vote: Vote) -> Result<View, OutOfMemory>
+    ensures { IfOk result (λ view. view ≡ view_with shelf.now id rivals vote) }
+{
+    let accepted = accepted(shelf, id)?;
+    let committed = committed(shelf, id)?;
+    let stable = stable(shelf, id)?;
+    let Vote { stamp, deps } = vote;
+    Ok(View {
+        store: shelf.actor,
+        vote: stamp,
+        vote_deps: deps,
+        accepted,
+        committed,
+        stable,
+        superseded: superseded(shelf, id, rivals.as_slice()),
+        waits: awaited(shelf, id, rivals),
+    })
+}
+
+fn accepted(shelf: &Shelf, id: TxnId) -> Result<Option<Accepted>, OutOfMemory>
+    ensures { IfOk result (λ accepted. accepted ≡ accepted_in (record_at shelf.now.records id)) }
+{
+    match shelf.find(id) {
+        Some(record) => record.accepted.copy(),
+        None => Ok(None),
+    }
+}
+
+fn committed(shelf: &Shelf, id: TxnId) -> Result<Option<Accepted>, OutOfMemory>
+    ensures { IfOk result (λ committed. committed ≡ committed_in (record_at shelf.now.records id)) }
+{
+    match shelf.find(id) {
+        Some(record) => record.committed.copy(),
+        None => Ok(None),
+    }
+}
+
+fn stable(shelf: &Shelf, id: TxnId) -> Result<Option<Settled>, OutOfMemory>
+    ensures { IfOk result (λ stable. stable ≡ stable_in (record_at shelf.now.records id)) }
+{
+    match shelf.find(id) {
+        Some(record) => record.stable.copy(),
+        None => Ok(None),
+    }
+}
