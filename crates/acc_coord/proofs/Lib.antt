@@ -1,4 +1,5 @@
 pub mod Moves
 pub mod Counting
 pub mod Reading
+pub mod Joining
 pub mod Made

@@ -1,8 +1,8 @@
 //! The coordinator of an attempt.
-ghost use Rattle.std.specs.Prelude.{◌≡◌, [], IsTrue, IfOk, IfErr, OnErr, false};
+ghost use Rattle.std.specs.Prelude.{◌≡◌, [], IsTrue, IfOk, IfErr, OnErr, true, false};
 ghost use Rattle.acc_stamp.specs.declared.stamps.TxnId.{TxnId};
 ghost use Rattle.acc_stamp.specs.Actor.{home_of};
-ghost use Rattle.acc_stamp.specs.Stamp.{zero_ballot};
+ghost use Rattle.acc_stamp.specs.Stamp.{zero_ballot, ballot_eq};
 ghost use Rattle.acc_topology.specs.Layout.{Layout};
 ghost use Rattle.acc_message.specs.Attempts.{Attempt, majority_everywhere};
 ghost use Rattle.acc_message.specs.Coordinator.{begun, ask_for_votes, go, reaction};
@@ -105,7 +105,7 @@ impl Coord {
     }
 
     /// Takes a message that goes to the attempt's node, and tells what the attempt emits and whether it has ended. The node
-    /// adds the reply to an outcome. Without memory all is as before.
+    /// adds the reply to an outcome. Where it has ended, and without memory, the coordinator is as before.
     pub fn on_answer(
         &mut self,
         topology: &Topology,
@@ -115,6 +115,7 @@ impl Coord {
             Answers topology.now x self.new r.0 r.1 (reaction topology.now (home_of x a.ballot) x a m.now)) }
         ensures fast_quorum_decides_at_once { IfOk result (λ r. (x : TxnId) (a : Attempt) → StandsFor topology.now x self.old a →
             MakesFastQuorum topology.now x a m.now → DecidesFast x a m.now r.0) }
+        ensures kept { IfOk result (λ r. r.1 ≡ true → self.new ≡ self.old) }
         ensures err { OnErr result (self.new ≡ self.old) }
     {
         let step = self.step(topology, m)?;
@@ -135,6 +136,13 @@ impl Coord {
         let (emitted, _) = self.make(step);
         let Emitted { notes: _, out } = emitted;
         Ok(out)
+    }
+
+    /// Whether this is the first attempt at its transaction: that of ballot zero.
+    pub fn is_first(&self) -> bool
+        ensures { (layout : Layout) (x : TxnId) (a : Attempt) → StandsFor layout x self.now a → result ≡ ballot_eq a.ballot zero_ballot }
+    {
+        self.ballot == Ballot::ZERO
     }
 
     /// Whether the attempt waits for votes.
