@@ -106,6 +106,7 @@ impl Coord {
 
     /// Takes a message that goes to the attempt's node, and tells what the attempt emits and whether it has ended. The node
     /// adds the reply to an outcome. Where it has ended, and without memory, the coordinator is as before.
+    #[tactic(auto, using(crate::proofs::Made::made_answers, crate::proofs::Made::ended_stays, crate::proofs::Made::decides_fast))]
     pub fn on_answer(
         &mut self,
         topology: &Topology,
