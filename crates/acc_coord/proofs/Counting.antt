@@ -1,5 +1,5 @@
 -- Which answers count: the first of each store of the transaction.
-use Rattle.std.proofs.Common.{◌≡◌, ℕ, ◌+◌, ◌*◌, ◌/◌, ◌%◌, Bool, true, false, not, ◌&&◌, ◌||◌, eqb, List, [], ◌∷◌, Some, None, refl, sym, ap, subst, ◌∙◌, arith}
+use Rattle.std.proofs.Common.{◌≡◌, ℕ, ◌+◌, ◌*◌, ◌/◌, ◌%◌, Bool, true, false, not, ◌||◌, eqb, List, [], ◌∷◌, Some, None, refl, sym, ap, subst, ◌∙◌, arith}
 use Rattle.std.specs.List.{list_any}
 use Rattle.std.proofs.lemmas.Bool.{and_from, and_left, and_right}
 use Rattle.acc_stamp.specs.declared.stamps.TxnId.{TxnId}
@@ -18,7 +18,7 @@ use Rattle.acc_message.specs.Attempts.{plain, plainly, vote_in_answer, deps_in_a
 use Rattle.acc_tally.specs.declared.tally.Tally.{Tally}
 use Rattle.acc_tally.specs.Stands.{StandsFor as Tallies, Counts, answer_of}
 use Rattle.acc_coord.specs.declared.coord.Coord.{Coord}
-use Rattle.acc_coord.specs.Stands.{is_first_answer, CountedIs}
+use Rattle.acc_coord.specs.Stands.{CountedIs}
 
 whole : (n : ℕ) → n / 64 * 64 + n % 64 ≡ n
 whole n = omega arith
@@ -50,6 +50,7 @@ module _ (layout : Layout) (c : Coord) (m : Message) (answers : List Message) (s
 
   pub one_more : (old new : Tally) (u : Bool) (t : Stamp) (deps : List ShardDeps) → is_store_of layout c.body store ≡ true → vote_in_answer m ≡ t → deps_in_answer m ≡ deps → u ≡ stamp_eq t c.id.0
       → Counts old new (shards_used layout c.body) (plainly c.id answers) (answer_of store u t deps) true → CountedIs layout c m answers (Some new)
-  one_more old new u t deps is vote with_deps unchanged counts =
-      (and_from _ _ (ap (is_store_of layout c.body) from ∙ is) (ap not (seats ∙ counts.0)),
-       subst (λ (a : Answer). Tallies new (shards_used layout c.body) (a ∷ plainly c.id answers)) (plain_is c.id m store u t deps from vote with_deps unchanged) counts.1)
+  one_more old new u t deps is vote with_deps unchanged counts = (
+    and_from _ _ (ap (is_store_of layout c.body) from ∙ is) (ap not (seats ∙ counts.0)),
+    subst (λ (a : Answer). Tallies new (shards_used layout c.body) (a ∷ plainly c.id answers)) (plain_is c.id m store u t deps from vote with_deps unchanged) counts.1,
+  )

@@ -1,5 +1,5 @@
 -- One more shard has read: its cells are the ones of its keys.
-use Rattle.std.proofs.Common.{◌≡◌, ℕ, ◌<◌, Bool, true, false, eqb, cond, ◌||◌, List, [], ◌∷◌, Option, Some, None, refl, sym, ap, subst, ◌∙◌, unwrap_or}
+use Rattle.std.proofs.Common.{◌≡◌, ℕ, ◌<◌, Bool, true, false, eqb, cond, ◌||◌, List, [], ◌∷◌, Option, None, refl, sym, ap, ◌∙◌, unwrap_or}
 use Rattle.std.specs.Prelude.{◌==◌, if◌then◌else◌}
 use Rattle.std.proofs.lemmas.Bool.{or_parts, eqb-true, eq-eqb}
 use Rattle.acc_stamp.specs.declared.stamps.TxnId.{TxnId}
@@ -9,7 +9,7 @@ use Rattle.acc_stamp.specs.Actor.{shard_of}
 use Rattle.acc_value.specs.declared.key.Key.{Key}
 use Rattle.acc_value.specs.declared.value.Value.{Value}
 use Rattle.acc_value.specs.Pairs.{find}
-use Rattle.acc_value.specs.Cells.{cell_of, applied}
+use Rattle.acc_value.specs.Cells.{cell_of}
 use Rattle.acc_topology.specs.Layout.{Layout}
 use Rattle.acc_topology.specs.Keys.{shard_of_key}
 use Rattle.acc_topology.specs.Sets.{in_set}
@@ -61,10 +61,10 @@ module _ (layout : Layout) (reads more : ReadSoFar) (shard : ℕ) (answers : Lis
   reads_one_more from to id ballot cells of hears has =
       record {
         heard = λ n lt.
-          hears n ∙ ap (λ (b : Bool). b || eqb shard n) (are.heard n lt) ∙ swapped (has_read answers n) (eqb shard n)
-          ∙ ap (λ (s : ℕ). eqb s n || has_read answers n) (sym of);
+            hears n ∙ ap (λ (b : Bool). b || eqb shard n) (are.heard n lt) ∙ swapped (has_read answers n) (eqb shard n)
+            ∙ ap (λ (s : ℕ). eqb s n || has_read answers n) (sym of);
         unknown = are.unknown;
         cells = λ key.
-          has key ∙ chosen (eqb (shard_of_key layout key) shard) (find cells key) (cell_of reads.cells key) (cell_read layout answers key) (are.cells key) (no_cell key)
-          ∙ ap (λ (b : Bool). cond b (cell_of cells key) (cell_read layout answers key)) (turned (shard_of_key layout key) shard ∙ ap (λ (s : ℕ). eqb s (shard_of_key layout key)) (sym of));
+            has key ∙ chosen (eqb (shard_of_key layout key) shard) (find cells key) (cell_of reads.cells key) (cell_read layout answers key) (are.cells key) (no_cell key)
+            ∙ ap (λ (b : Bool). cond b (cell_of cells key) (cell_read layout answers key)) (turned (shard_of_key layout key) shard ∙ ap (λ (s : ℕ). eqb s (shard_of_key layout key)) (sym of));
       }

@@ -1,5 +1,5 @@
 -- Cells put in one after another: those of one shard's keys, in the order of the keys.
-use Rattle.std.proofs.Common.{◌≡◌, ℕ, ◌+◌, ◌<◌, ◌≤◌, Bool, true, false, eqb, cond, List, [], ◌∷◌, Option, Some, None, length, get_or, drop, refl, sym, ap, subst, ◌∙◌, IsTrue, unwrap_or}
+use Rattle.std.proofs.Common.{◌≡◌, ℕ, ◌+◌, ◌<◌, ◌≤◌, Bool, true, false, cond, List, ◌∷◌, Option, Some, None, length, get_or, drop, refl, sym, ap, subst, ◌∙◌, unwrap_or}
 use Rattle.std.specs.Prelude.{◌==◌, if◌then◌else◌}
 use Rattle.std.specs.Cmp.{first_so, second_so}
 use Rattle.std.proofs.lemmas.List.{drop_more, drop_all}
@@ -58,7 +58,7 @@ module _ (layout : Layout) (shard : ℕ) where
   puts : (so_far rest : List Pair) (w : Pair) → is_in w.0 ≡ true → IsRising (w ∷ rest) → (key : Key) → merged (cell_of (put so_far w.0 w.1)) rest key ≡ merged (cell_of so_far) (w ∷ rest) key
   puts so_far rest w there rises key =
       let now : cell_of (put so_far w.0 w.1) key ≡ cond (key_eq key w.0) w.1 (cell_of so_far key) =
-        ap (λ o. unwrap_or o None) (find-put so_far w.0 w.1 key) ∙ cell_put (key_eq key w.0) w.1 (find so_far key) in
+      ap (λ o. unwrap_or o None) (find-put so_far w.0 w.1 key) ∙ cell_put (key_eq key w.0) w.1 (find so_far key) in
       pick (is_in key) _ _ _ _
       (λ inside. ap (unwrap_or (find rest key)) now
       ∙ first_write (key_eq key w.0) w.1 (find rest key) (cell_of so_far key) (λ same. ap (find rest) (key_eq-true key w.0 same) ∙ find-below rest w.0 (first_so _ _ rises)))

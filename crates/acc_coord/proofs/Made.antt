@@ -1,5 +1,5 @@
 -- A coordinator after its step stands for what becomes of the attempt.
-use Rattle.std.proofs.Common.{◌≡◌, Bool, true, false, ◌&&◌, not, List, [], ◌∷◌, Some, None, refl, sym, ap, subst, ◌∙◌}
+use Rattle.std.proofs.Common.{◌≡◌, Bool, true, false, ◌&&◌, not, List, [], ◌∷◌, refl, sym, ap, subst, ◌∙◌}
 use Rattle.std.proofs.lemmas.Bool.{false≢true}
 use Rattle.std.specs.Prelude.{Option, is_none}
 use Rattle.std.specs.List.{list_any}
@@ -56,9 +56,9 @@ module _ (layout : Layout) (old : Coord) (x : TxnId) (a : Attempt) (m : Message)
         emits = emits ∙ f.emitted ∙ ap (λ (r : Reaction). r.emitted) same_reaction;
         ends = ends ∙ made_ends layout old a.answers step.next first.next f.next ∙ ap (λ (r : Reaction). is_none r.next) same_reaction;
         goes_on =
-          subst (λ (r : Reaction). GoesOn layout x new r.next) same_reaction
-          (subst (λ (id : TxnId). GoesOn layout id new first.next) stands.id
-          (subst (λ (c : Coord). GoesOn layout old.id c first.next) (sym made) (made_goes_on layout old a.answers step.next first.next stands.keeps f.next)));
+            subst (λ (r : Reaction). GoesOn layout x new r.next) same_reaction
+            (subst (λ (id : TxnId). GoesOn layout id new first.next) stands.id
+            (subst (λ (c : Coord). GoesOn layout old.id c first.next) (sym made) (made_goes_on layout old a.answers step.next first.next stands.keeps f.next)));
       }
 
 -- where the attempt ends, the coordinator stays

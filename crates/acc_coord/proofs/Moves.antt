@@ -1,6 +1,5 @@
 -- The steps of a coordinator are those of the attempt that it is at.
-use Rattle.std.proofs.Common.{◌≡◌, ℕ, Bool, true, false, eqb, ◌&&◌, ◌||◌, not, List, [], ◌∷◌, ◌++◌, map, Some, None, refl, sym, ap, subst, ◌∙◌}
-use Rattle.acc_stamp.specs.declared.stamps.TxnId.{TxnId}
+use Rattle.std.proofs.Common.{◌≡◌, ℕ, Bool, true, false, eqb, not, List, [], ◌∷◌, ◌++◌, map, Some, refl, sym, ap, subst, ◌∙◌}
 use Rattle.acc_stamp.specs.declared.stamps.Ballot.{Ballot}
 use Rattle.acc_stamp.specs.Stamp.{ballot_lt, zero_stamp}
 use Rattle.acc_stamp.specs.declared.stamps.Stamp.{Stamp}
@@ -23,20 +22,20 @@ use Rattle.std.proofs.lemmas.Nat.Bits.{bit_at-zero}
 use Rattle.acc_topology.specs.Sets.{in_set}
 use Rattle.acc_message.specs.declared.entry.Emitted.{Emitted}
 use Rattle.acc_message.specs.Shares.{shards_used, stores_used}
-use Rattle.acc_message.specs.Attempts.{Attempt, Phase, Accepting, Committing, Executing, has_read, known_among, cell_read}
-use Rattle.acc_message.specs.Coordinator.{Reaction, silence, stay, when, either, propose, commit, decide, finish, end, inform, on_nack, on_decided, is_decided}
+use Rattle.acc_message.specs.Attempts.{Attempt}
+use Rattle.acc_message.specs.Coordinator.{Reaction, silence, stay, when, either, propose, commit, decide, finish, end, inform, on_nack, on_decided}
 use Rattle.acc_tally.specs.Stands.{StandsFor as Tallies}
 use Rattle.acc_coord.specs.declared.coord.Coord.{Coord}
 use Rattle.acc_coord.specs.declared.reads.Reads.{Reads as ReadSoFar}
 use Rattle.acc_tally.specs.declared.tally.Tally.{Tally}
 use Rattle.acc_coord.specs.declared.rounds.Round.TheVariants.{Propose, Fix, Decided}
 use Rattle.acc_coord.specs.declared.step.Stage.{Stage}
-use Rattle.acc_coord.specs.declared.step.Stage.TheVariants.{Votes, Accepts, Commits, Reads}
+use Rattle.acc_coord.specs.declared.step.Stage.TheVariants.{Accepts, Commits, Reads}
 use Rattle.acc_coord.specs.declared.step.Next.{Next}
 use Rattle.acc_coord.specs.declared.step.Next.TheVariants.{Same, Stage as Stands, Ended as Ends}
 use Rattle.acc_coord.specs.declared.step.Step.{Step}
 use Rattle.acc_coord.specs.Rounds.{message_to, apply_to}
-use Rattle.acc_coord.specs.Stands.{own_of, attempt_in, attempt_at, phase_in, IsPlaced, Keeps, StageKeeps, Follows, NextIs, ReadsAre, has_decided_in, may_adopt_in}
+use Rattle.acc_coord.specs.Stands.{own_of, attempt_in, attempt_at, phase_in, IsPlaced, StageKeeps, Follows, NextIs, ReadsAre, has_decided_in, may_adopt_in}
 
 abbrev emitted_of : List Note → List Message → Emitted
 emitted_of notes out = record { notes = notes; out = out }
@@ -124,7 +123,7 @@ module _ (layout : Layout) (c : Coord) (answers : List Message) (placed : IsPlac
   finishes outcome noted sends =
       record {
         emitted = emits notes (OutcomeNote c.id outcome.reply ∷ []) out (map (apply_to c s outcome) (stores_used layout c.body) ++ inform (own_of c) c.id c.ballot outcome) noted
-          (sends ∙ ap (λ (stores : List Actor). map (apply_to c s outcome) stores ++ inform (own_of c) c.id c.ballot outcome) placed.stores);
+            (sends ∙ ap (λ (stores : List Actor). map (apply_to c s outcome) stores ++ inform (own_of c) c.id c.ballot outcome) placed.stores);
         next = refl;
       }
 

@@ -1,5 +1,5 @@
 -- The outcome of what the shards have read.
-use Rattle.std.proofs.Common.{◌≡◌, ℕ, ◌<◌, ◌^◌, Bool, true, false, ◌&&◌, ◌||◌, eqb, List, [], ◌∷◌, Some, None, refl, sym, ap, ◌∙◌}
+use Rattle.std.proofs.Common.{◌≡◌, ℕ, ◌<◌, ◌^◌, Bool, true, false, ◌&&◌, eqb, List, [], ◌∷◌, Some, None, refl, sym, ap, ◌∙◌}
 use Rattle.std.specs.Prelude.{Option}
 use Rattle.std.specs.List.{list_all}
 use Rattle.std.proofs.lemmas.Bool.{or_left, or_right, eq-eqb}
@@ -9,11 +9,10 @@ use Rattle.acc_topology.specs.Sets.{in_set, is_among, members}
 use Rattle.acc_value.specs.declared.key.Key.{Key}
 use Rattle.acc_value.specs.declared.value.Value.{Value}
 use Rattle.acc_value.specs.Cells.{cell_of}
-use Rattle.acc_txn.specs.declared.parts.BodyParts.{BodyParts}
 use Rattle.acc_txn.specs.declared.outcome.Outcome.{Outcome}
 use Rattle.acc_txn.specs.Meaning.{outcome_of}
 use Rattle.acc_message.specs.declared.message.Message.{Message}
-use Rattle.acc_message.specs.Attempts.{has_read, read_everywhere, known_among, cell_read, outcome_if, outcome_from}
+use Rattle.acc_message.specs.Attempts.{has_read, read_everywhere, outcome_if, outcome_from}
 use Rattle.acc_tally.proofs.Everywhere.{member_below}
 use Rattle.acc_coord.specs.declared.coord.Coord.{Coord}
 use Rattle.acc_coord.specs.declared.reads.Reads.{Reads as ReadSoFar}

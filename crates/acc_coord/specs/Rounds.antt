@@ -1,5 +1,4 @@
 -- The messages that a coordinator sends to all stores.
-use Rattle.std.specs.Prelude.{List, map}
 use Rattle.acc_stamp.specs.declared.actors.Actor.{Actor}
 use Rattle.acc_deps.specs.declared.records.Settled.{Settled}
 use Rattle.acc_message.specs.declared.message.Message.{Message}

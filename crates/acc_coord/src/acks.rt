@@ -62,7 +62,13 @@ impl Coord {
             Follows topology.now self.now answers step (on_message topology.now (own_of self.now) self.now.id (attempt_in self.now answers) (AcceptOk store to id ballot deps.now))) }
     {
         match &self.stage {
-            Stage::Accepts(settled, tally) => match self.counted(topology, tally, store, Stamp::ZERO, deps)? {
+            Stage::Accepts(settled, tally) => match self.counted(
+                topology,
+                tally,
+                store,
+                Stamp::ZERO,
+                deps,
+            )? {
                 Some(tally) => self.after_accept(topology, settled, tally),
                 None => Ok(silent(self.allocator(), Next::Same)),
             },
@@ -87,7 +93,10 @@ impl Coord {
         if tally.majority_everywhere(topology) {
             return self.decide(self.path(), settled);
         }
-        Ok(silent(self.allocator(), Next::Stage(Stage::Commits(settled, tally))))
+        Ok(silent(
+            self.allocator(),
+            Next::Stage(Stage::Commits(settled, tally)),
+        ))
     }
 
     /// A store has committed.

@@ -68,12 +68,7 @@ impl Coord {
     }
 
     // The message of a round to one store.
-    fn message(
-        &self,
-        round: Round,
-        settled: &Settled,
-        store: Actor,
-    ) -> Result<Message, OutOfMemory>
+    fn message(&self, round: Round, settled: &Settled, store: Actor) -> Result<Message, OutOfMemory>
         ensures { IfOk result (λ m. m ≡ message_to self.now round settled.now store) }
     {
         let (from, id, ballot, t) = (self.own(), self.id, self.ballot, settled.t);

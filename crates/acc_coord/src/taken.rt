@@ -18,7 +18,10 @@ impl Coord {
     {
         match m {
             Message::PreAcceptOk {
-                from, vote, deps, ..
+                from,
+                vote,
+                deps,
+                ..
             } => self.on_vote(topology, *from, *vote, deps),
             Message::AcceptOk { from, deps, .. } => self.on_accepted(topology, *from, deps),
             Message::CommitOk { from, .. } => self.on_committed(topology, *from),

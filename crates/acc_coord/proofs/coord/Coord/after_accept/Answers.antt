@@ -1,9 +1,9 @@
-use Rattle.std.proofs.Common.{◌≡◌, true, false, sym, ap, subst, ◌∙◌}
+use Rattle.std.proofs.Common.{◌≡◌, true, false, ap, subst, ◌∙◌}
 use Rattle.std.proofs.lemmas.Result.{IfOk-weaker}
 use Rattle.acc_deps.specs.declared.records.Settled.{Settled}
 use Rattle.acc_deps.specs.Deps.{deps_union}
 use Rattle.acc_message.specs.Shares.{shards_used}
-use Rattle.acc_message.specs.Attempts.{Accepting, plainly, majority_everywhere, union_of}
+use Rattle.acc_message.specs.Attempts.{Accepting, plainly, majority_everywhere}
 use Rattle.acc_message.specs.Coordinator.{commit}
 use Rattle.acc_coord.specs.declared.step.Stage.TheVariants.{Accepts}
 use Rattle.acc_coord.specs.declared.step.Next.TheVariants.{Stage as Stands}

@@ -1,10 +1,10 @@
-use Rattle.std.proofs.Common.{◌≡◌, true, false, sym, ap, subst, ◌∙◌}
+use Rattle.std.proofs.Common.{◌≡◌, true, false, ap, subst, ◌∙◌}
 use Rattle.std.proofs.lemmas.Result.{IfOk-weaker}
 use Rattle.acc_deps.specs.declared.records.Settled.{Settled}
 use Rattle.acc_message.specs.declared.note.Path.{Path}
 use Rattle.acc_message.specs.Shares.{shards_used}
 use Rattle.acc_message.specs.Attempts.{Committing, plainly, majority_everywhere}
-use Rattle.acc_message.specs.Coordinator.{decide, path_of}
+use Rattle.acc_message.specs.Coordinator.{decide}
 use Rattle.acc_coord.specs.declared.step.Stage.TheVariants.{Commits}
 use Rattle.acc_coord.specs.declared.step.Next.TheVariants.{Stage as Stands}
 use Rattle.acc_coord.specs.Stands.{own_of, attempt_in, attempt_at, Follows}

@@ -1,4 +1,4 @@
-use Rattle.std.proofs.Common.{◌≡◌, true, false, ◌&&◌, List, refl, sym, ap, subst, ◌∙◌}
+use Rattle.std.proofs.Common.{◌≡◌, true, false, ◌&&◌, refl, subst, ◌∙◌}
 use Rattle.std.proofs.lemmas.Result.{IfOk-weaker}
 use Rattle.std.proofs.lemmas.Bool.{and_from, and_left, and_right}
 use Rattle.acc_deps.specs.declared.records.Settled.{Settled}
@@ -52,14 +52,14 @@ returns c = λ answers more placed stands.
     let no : fast_everywhere layout self.id self.body more ≡ false = cc in
     let asked_too = c.majority_everywhere.ensures shards (plainly self.id more) placed.exist stands in
     let neither : (majority_everywhere layout self.id self.body more && fast_lost_somewhere layout self.id self.body more) ≡ false =
-      elim c.else-majority_everywhere.branch [
-        | else-majority_everywhere-via-then-majority_everywhere+else-fast_lost w ↦
-            let lost = w.fast_lost.ensures shards (plainly self.id more) placed.exist stands in
-            let not_lost : fast_lost_somewhere layout self.id self.body more ≡ false = cc in
-            and_right _ _ not_lost
-        | else-majority_everywhere-via-else-majority_everywhere w ↦
-            let not_majority : majority_everywhere layout self.id self.body more ≡ false = cc in
-            and_left _ _ not_majority
-      ] in
+    elim c.else-majority_everywhere.branch [
+      | else-majority_everywhere-via-then-majority_everywhere+else-fast_lost w ↦
+          let lost = w.fast_lost.ensures shards (plainly self.id more) placed.exist stands in
+          let not_lost : fast_lost_somewhere layout self.id self.body more ≡ false = cc in
+          and_right _ _ not_lost
+      | else-majority_everywhere-via-else-majority_everywhere w ↦
+          let not_majority : majority_everywhere layout self.id self.body more ≡ false = cc in
+          and_left _ _ not_majority
+    ] in
     either_other layout self answers c.silent.result _ _ _ (attempt_at self Voting more) no
     (when_waits layout self answers c.silent.result (Votes c.args.tally) more _ _ neither c.silent.ensures.emitted c.silent.ensures.next stands)

@@ -1,9 +1,8 @@
 use Rattle.std.proofs.Common.{◌≡◌, ℕ, List, [], refl, sym, ap, subst, ◌∙◌}
 use Rattle.acc_topology.specs.Sets.{members}
-use Rattle.acc_txn.specs.declared.parts.BodyParts.{BodyParts}
 use Rattle.acc_txn.specs.Uses.{footprint_of}
 use Rattle.acc_message.specs.Shares.{shards_used, stores_used}
-use Rattle.acc_tally.specs.Stands.{HasShards, StandsFor as Tallies}
+use Rattle.acc_tally.specs.Stands.{StandsFor as Tallies}
 use Rattle.acc_tally.proofs.Exist.{shards_of-exist}
 use Rattle.acc_topology.specs.Keys.{shards_of}
 use Rattle.acc_topology.specs.Sets.{in_order}
