@@ -14,8 +14,10 @@ mod replies;
 mod requests;
 mod stamps;
 mod view;
+mod weight;
 
 pub use acc_code::CodeError;
 pub use lengths::deps_length;
 pub use message::{decode, encode};
 pub use message_lengths::message_length;
+pub use weight::messages_length;

@@ -7,4 +7,5 @@ mod layer;
 mod read;
 mod turns;
 
+pub use read::{Place, read_here};
 pub use turns::{Released, release};

@@ -15,9 +15,12 @@ use acc_value::{CellList, Duplicate, Key};
 
 /// Where a body reads.
 #[derive(Clone, Copy, Debug)]
-pub(crate) struct Place<'a> {
+pub struct Place<'a> {
+    /// Which keys lie in which shard.
     pub topology: &'a Topology,
+    /// The shard.
     pub shard: u32,
+    /// The cells of the store.
     pub cells: &'a Cells,
 }
 
@@ -68,8 +71,8 @@ fn add_select(
     Ok(())
 }
 
-/// The cells of the keys of the shard that a body reads, in the order of the keys.
-pub(crate) fn read_here(
+/// The cells of the keys of the shard that a body reads, in the order of the keys, with writes laid over those of the store.
+pub fn read_here(
     place: &Place<'_>,
     writes: &CellList,
     body: &BodyParts,

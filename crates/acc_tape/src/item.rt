@@ -1,12 +1,10 @@
 //! The items of a run, as a tape holds them.
-ghost use Rattle.std.specs.Prelude.{◌≡◌, ◌<◌, ◌^◌, All};
+ghost use Rattle.std.specs.Prelude.{◌≡◌};
 ghost use Rattle.acc_message.specs.Items.{sent_in};
-ghost use Rattle.acc_message_code.specs.Short.{IsShortMessage};
-ghost use Rattle.acc_message_code.specs.Weight.{weight_of_all};
 
 use crate::posted::Posted;
 use acc_message::{Event, Item, Message};
-use acc_message_code::message_length;
+use acc_message_code::messages_length;
 
 // The messages that an item sent, those of a lost entry too.
 fn messages_of_item(item: &Item) -> &[Message]
@@ -16,19 +14,6 @@ fn messages_of_item(item: &Item) -> &[Message]
         Item::Step(entry) => entry.emitted.out.as_slice(),
         Item::Skipped { .. } | Item::Down { .. } => &[],
     }
-}
-
-// The bytes of messages.
-fn weight_of_messages(messages: &[Message]) -> u64
-    requires short { All IsShortMessage messages.now }
-    requires fits { weight_of_all messages.now < 2 ^ 64 }
-    ensures { result ≡ weight_of_all messages.now }
-{
-    let mut weight = 0;
-    for message in messages {
-        weight += message_length(message);
-    }
-    weight
 }
 
 impl Posted for Item {
@@ -84,7 +69,7 @@ impl Posted for Item {
     }
 
     fn weight(&self) -> u64 {
-        weight_of_messages(messages_of_item(self))
+        messages_length(messages_of_item(self))
     }
 
     ghost enough = { weighs_enough };
