@@ -29,6 +29,7 @@ pub(crate) fn append_records<D: Disk>(
     ensures fits { length (D.content disk.new) < 2 ^ 64 }
     ensures counted { D.faults disk.old ≤ D.faults disk.new }
     ensures cause { IsErrOf result PortError.Failed → Rose (D.faults disk.old) (D.faults disk.new) }
+    ensures unfailed { ¬ (IsErrOf result PortError.Failed) → D.faults disk.new ≡ D.faults disk.old }
     ensures kind { D.strict disk.new ≡ D.strict disk.old }
 
     // On a strict disk the armed one of the four calls fails, and no other; and what a crash leaves then is known.
@@ -63,6 +64,7 @@ pub(crate) fn put_down<D: Disk>(
 
     ensures counted { D.faults disk.old ≤ D.faults disk.new }
     ensures cause { result ≡ Err JournalError.DiskFault → Rose (D.faults disk.old) (D.faults disk.new) }
+    ensures unfailed { result ≢ Err JournalError.DiskFault → D.faults disk.new ≡ D.faults disk.old }
     ensures kind { D.strict disk.new ≡ D.strict disk.old }
 
     ensures counts { IsTrue (D.strict disk.old) → OnOk result (D.armed disk.new ≡ after_call (after_call (after_call (after_call (D.armed disk.old))))) }

@@ -21,6 +21,7 @@ pub(crate) fn write_durably<D: Disk>(disk: &mut D, at: u64, bytes: &[u8]) -> Res
     ensures fits { length (D.content disk.new) < 2 ^ 64 }
     ensures counted { D.faults disk.old ≤ D.faults disk.new }
     ensures cause { IsErrOf result PortError.Failed → Rose (D.faults disk.old) (D.faults disk.new) }
+    ensures unfailed { ¬ (IsErrOf result PortError.Failed) → D.faults disk.new ≡ D.faults disk.old }
     ensures kind { D.strict disk.new ≡ D.strict disk.old }
 
     // On a strict disk the armed one of the two calls fails, and no other.

@@ -78,6 +78,8 @@ impl<D: Disk> Journal<D> {
         ensures counted { IfOk result (λ r. D.faults disk ≤ D.faults r.0.disk) }
         ensures err_counted { IfErr result (λ e. D.faults disk ≤ D.faults e.1) }
         ensures cause { IfErr result (λ e. e.0 ≡ JournalError.DiskFault → Rose (D.faults disk) (D.faults e.1)) }
+        ensures unfailed { IfErr result (λ e. e.0 ≢ JournalError.DiskFault → D.faults e.1 ≡ D.faults disk) }
+        ensures opened { IfOk result (λ r. D.faults r.0.disk ≡ D.faults disk) }
 
         ensures kind { IfOk result (λ r. D.strict r.0.disk ≡ D.strict disk) }
         ensures err_kind { IfErr result (λ e. D.strict e.1 ≡ D.strict disk) }
@@ -130,6 +132,7 @@ impl<D: Disk> Journal<D> {
 
         ensures counted { D.faults self.old.disk ≤ D.faults self.new.disk }
         ensures cause { result ≡ Err JournalError.DiskFault → Rose (D.faults self.old.disk) (D.faults self.new.disk) }
+        ensures unfailed { result ≢ Err JournalError.DiskFault → D.faults self.new.disk ≡ D.faults self.old.disk }
 
         // On a strict disk the armed one of the four calls fails, and no other; and what a crash leaves then is known.
         ensures kind { D.strict self.new.disk ≡ D.strict self.old.disk }
@@ -169,6 +172,7 @@ impl<D: Disk> Journal<D> {
 
         ensures counted { D.faults self.old.disk ≤ D.faults self.new.disk }
         ensures cause { result ≡ Err JournalError.DiskFault → Rose (D.faults self.old.disk) (D.faults self.new.disk) }
+        ensures unfailed { result ≢ Err JournalError.DiskFault → D.faults self.new.disk ≡ D.faults self.old.disk }
 
         // On a strict disk the armed one of the four calls fails, and no other; and what a crash leaves then is known.
         ensures kind { D.strict self.new.disk ≡ D.strict self.old.disk }

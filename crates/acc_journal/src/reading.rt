@@ -80,6 +80,7 @@ pub(crate) fn read_disk<D: Disk>(alloc: Global, disk: &mut D) -> Result<Told, Jo
     ensures fits { length (D.content disk.new) < 2 ^ 64 }
     ensures counted { D.faults disk.old ≤ D.faults disk.new }
     ensures cause { result ≡ Err JournalError.DiskFault → Rose (D.faults disk.old) (D.faults disk.new) }
+    ensures unfailed { result ≢ Err JournalError.DiskFault → D.faults disk.new ≡ D.faults disk.old }
     ensures kind { D.strict disk.new ≡ D.strict disk.old }
 
     // On a strict disk where nothing is armed no call fails.

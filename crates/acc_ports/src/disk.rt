@@ -51,6 +51,7 @@ pub trait Disk {
         ensures time { Elapses (clock self.old) (clock self.new) (was_image self.old) (was_image self.new) (is_image self.new) }
         ensures counted { faults self.old ≤ faults self.new }
         ensures cause { IsErrOf result PortError.Failed → Rose (faults self.old) (faults self.new) }
+        ensures still { ¬ (IsErrOf result PortError.Failed) → faults self.new ≡ faults self.old }
 
         ensures kind { strict self.new ≡ strict self.old }
         ensures armed { IsTrue (strict self.old) → FailsArmed (armed self.old) (armed self.new) (faults self.old) (faults self.new) result }
@@ -68,6 +69,7 @@ pub trait Disk {
         ensures time { Elapses (clock self.old) (clock self.new) (was_image self.old) (was_image self.new) (is_image self.new) }
         ensures counted { faults self.old ≤ faults self.new }
         ensures cause { IsErrOf result PortError.Failed → Rose (faults self.old) (faults self.new) }
+        ensures still { ¬ (IsErrOf result PortError.Failed) → faults self.new ≡ faults self.old }
 
         ensures kind { strict self.new ≡ strict self.old }
         ensures armed { IsTrue (strict self.old) → FailsArmed (armed self.old) (armed self.new) (faults self.old) (faults self.new) result }
@@ -85,6 +87,7 @@ pub trait Disk {
         ensures time { Elapses (clock self.old) (clock self.new) (was_image self.old) (was_image self.new) (is_image self.new) }
         ensures counted { faults self.old ≤ faults self.new }
         ensures cause { IsErrOf result PortError.Failed → Rose (faults self.old) (faults self.new) }
+        ensures still { ¬ (IsErrOf result PortError.Failed) → faults self.new ≡ faults self.old }
 
         ensures kind { strict self.new ≡ strict self.old }
         ensures armed { IsTrue (strict self.old) → FailsArmed (armed self.old) (armed self.new) (faults self.old) (faults self.new) result }
@@ -101,6 +104,7 @@ pub trait Disk {
         ensures time { Elapses (clock self.old) (clock self.new) (was_image self.old) (was_image self.new) (is_image self.new) }
         ensures counted { faults self.old ≤ faults self.new }
         ensures cause { IsErrOf result PortError.Failed → Rose (faults self.old) (faults self.new) }
+        ensures still { ¬ (IsErrOf result PortError.Failed) → faults self.new ≡ faults self.old }
 
         ensures kind { strict self.new ≡ strict self.old }
         ensures armed { IsTrue (strict self.old) → FailsArmed (armed self.old) (armed self.new) (faults self.old) (faults self.new) result }

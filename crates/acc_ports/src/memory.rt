@@ -71,6 +71,7 @@ impl Source for MemSource {
 
         ensures counted { self.old.faults ≤ self.new.faults }
         ensures cause { IsErrOf result PortError.Failed → Rose self.old.faults self.new.faults }
+        ensures still { ¬ (IsErrOf result PortError.Failed) → self.new.faults ≡ self.old.faults }
     {
         if self.log.next_fails() {
             return Err(self.log.fail());
@@ -145,6 +146,7 @@ impl Sink for MemSink {
 
         ensures counted { self.old.faults ≤ self.new.faults }
         ensures cause { IsErrOf result PortError.Failed → Rose self.old.faults self.new.faults }
+        ensures still { ¬ (IsErrOf result PortError.Failed) → self.new.faults ≡ self.old.faults }
     {
         if self.log.next_fails() {
             return Err(self.log.fail());

@@ -38,5 +38,6 @@ pub trait Source {
 
         // It doesn't give up by itself.
         ensures counted { faults self.old ≤ faults self.new }
-        ensures cause { IsErrOf result PortError.Failed → Rose (faults self.old) (faults self.new) };
+        ensures cause { IsErrOf result PortError.Failed → Rose (faults self.old) (faults self.new) }
+        ensures still { ¬ (IsErrOf result PortError.Failed) → faults self.new ≡ faults self.old };
 }

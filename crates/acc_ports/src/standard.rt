@@ -73,6 +73,7 @@ impl<R: Read> Source for StdSource<R> {
 
         ensures counted { self.old.faults ≤ self.new.faults }
         ensures cause { IsErrOf result PortError.Failed → Rose self.old.faults self.new.faults }
+        ensures still { ¬ (IsErrOf result PortError.Failed) → self.new.faults ≡ self.old.faults }
     {
         match self.reader.read(into) {
             Ok(count) => {
@@ -144,6 +145,7 @@ impl<W: Write> Sink for StdSink<W> {
 
         ensures counted { self.old.faults ≤ self.new.faults }
         ensures cause { IsErrOf result PortError.Failed → Rose self.old.faults self.new.faults }
+        ensures still { ¬ (IsErrOf result PortError.Failed) → self.new.faults ≡ self.old.faults }
     {
         match self.writer.write(piece) {
             Ok(count) if count > 0 || piece.is_empty() => {

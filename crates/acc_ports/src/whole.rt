@@ -15,6 +15,7 @@ pub fn write_all<K: Sink>(sink: &mut K, text: &[u8]) -> Result<(), PortError>
 
     ensures counted { K.faults sink.old ≤ K.faults sink.new }
     ensures cause { IsErrOf result PortError.Failed → Rose (K.faults sink.old) (K.faults sink.new) }
+    ensures still { ¬ (IsErrOf result PortError.Failed) → K.faults sink.new ≡ K.faults sink.old }
 {
     let mut written = 0;
     while written < text.len() {
@@ -45,6 +46,7 @@ pub fn read_all<S: Source>(alloc: Global, source: &mut S, limit: u64) -> Result<
 
     ensures counted { S.faults source.old ≤ S.faults source.new }
     ensures cause { IsErrOf result ReadError.Failed → Rose (S.faults source.old) (S.faults source.new) }
+    ensures still { ¬ (IsErrOf result ReadError.Failed) → S.faults source.new ≡ S.faults source.old }
 {
     let limit = limit as usize;
     let most = limit.saturating_add(1);
@@ -96,6 +98,7 @@ fn read_behind<S: Source>(
     ensures untold { OnErr result (S.reads source.new ≡ S.reads source.old) }
     ensures counted { S.faults source.old ≤ S.faults source.new }
     ensures cause { IsErrOf result PortError.Failed → Rose (S.faults source.old) (S.faults source.new) }
+    ensures still { ¬ (IsErrOf result PortError.Failed) → S.faults source.new ≡ S.faults source.old }
 {
     source.read(&mut bytes[filled..])
 }

@@ -1,5 +1,5 @@
 -- One more read makes the front longer.
-use Rattle.std.proofs.Common.{arith, ap, ◌∙◌}
+use Rattle.std.proofs.Common.{arith, rules, ap, ◌∙◌}
 use Rattle.std.specs.Prelude.{List, Option, ℕ}
 use Rattle.acc_ports.specs.Source.{without_first}
 use Rattle.acc_ports.proofs.SourceLemmas.{without_first-add, HoldsFront-more, ReadsOn-more, ReadsToEnd-last}
@@ -13,6 +13,7 @@ loop-filled-preserved g c = record {
   read = HoldsFront-more _ _ _ _ _ _ _ c.loop-filled.invariant.left c.loop-filled.invariant.read c.in_ok-make_room.ensures.kept c.in_ok-count.ensures.given;
   reads = ReadsOn-more c.in_ok-count.count _ _ _ c.loop-filled.invariant.reads c.in_ok-count.ensures.told (omega arith);
   counted = omega (arith, c.in_ok-count.ensures.counted);
+  still = search rules;
 }
 
 pub returns-then-count-eq0-clause-stops : goal.returns-then-count-eq0-clause-stops

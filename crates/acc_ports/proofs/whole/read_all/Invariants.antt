@@ -12,6 +12,7 @@ invariant-loop-filled g l = record {
   read : HoldsFront l.filled l.bytes.items (g.S.Source.left l.initial.source);
   reads : ReadsOn (g.S.Source.reads l.initial.source) (g.S.Source.reads l.source);
   counted : g.S.Source.faults l.initial.source ≤ g.S.Source.faults l.source;
+  still : g.S.Source.faults l.source ≡ g.S.Source.faults l.initial.source;
 }
 
 abbrev pub decreases-loop-filled : goal.decreases-loop-filled

@@ -8,6 +8,7 @@ invariant-loop-written g l = record {
   within : l.written ≤ length l.text;
   so_far : g.K.Sink.written l.sink ≡ followed_by (take l.written l.text) (g.K.Sink.written l.initial.sink);
   counted : g.K.Sink.faults l.initial.sink ≤ g.K.Sink.faults l.sink;
+  still : g.K.Sink.faults l.sink ≡ g.K.Sink.faults l.initial.sink;
 }
 
 abbrev pub decreases-loop-written : goal.decreases-loop-written
