@@ -1,7 +1,7 @@
 //! The index of messages.
-ghost use Rattle.std.specs.Prelude.{◌≡◌, ℕ, ◌+◌, ◌-◌, ◌%◌, ◌<◌, ◌≤◌, ◌==◌, [], ◌∷◌, ◌++◌, length, not, ◌&&◌, IfOk, OnOk, OnErr, MatchOption, nat_lt, if◌then◌else◌, vec_len, vec_capacity};
+ghost use Rattle.std.specs.Prelude.{◌≡◌, ℕ, ◌+◌, ◌-◌, ◌%◌, ◌^◌, ◌<◌, ◌≤◌, ◌==◌, [], ◌∷◌, ◌++◌, length, not, ◌&&◌, IfOk, OnOk, OnErr, MatchOption, nat_lt, if◌then◌else◌, vec_len, vec_capacity};
 ghost use Rattle.std.specs.List.{list_any};
-ghost use Rattle.acc_posts.specs.Mail.{Mail, taken, early_after, IsOpenTo, IsNext, HasNone};
+ghost use Rattle.acc_posts.specs.Mail.{Mail, posting_at, taken, early_after, IsOpenTo, IsNext, HasNone};
 ghost use Rattle.acc_posts.specs.Indexed.{lane_at};
 
 use crate::lanes::{LANES, join_lane, lane_of, no_places};
@@ -43,6 +43,16 @@ impl Model for Posts {
     ghost invariant = { λ p. Indexed p.postings.items p.links.items p.firsts.items p.lasts.items × (vec_len p.postings + p.room ≤ vec_capacity p.postings) × (vec_len p.postings + p.room ≤ vec_capacity p.links) × (vec_len p.early + p.takings ≤ vec_capacity p.early) };
 }
 
+// Closes the message at a place.
+fn mark_taken(postings: &mut Vec<Posting>, place: usize)
+    requires { place < length postings.old.items }
+    ensures postings { postings.new.items ≡ taken place postings.old.items }
+    ensures room { (vec_len postings.new ≡ vec_len postings.old) × (vec_capacity postings.new ≡ vec_capacity postings.old) }
+{
+    let posting = &mut postings[place];
+    posting.is_open = false;
+}
+
 // Closes the message with this number, or notes the number where no message has it yet.
 fn note_taken(postings: &mut Vec<Posting>, early: &mut Vec<u64>, number: u64)
     requires { vec_len early.old < vec_capacity early.old }
@@ -53,8 +63,7 @@ fn note_taken(postings: &mut Vec<Posting>, early: &mut Vec<u64>, number: u64)
 {
     let place = number as usize;
     if place < postings.len() {
-        let posting = &mut postings[place];
-        posting.is_open = false;
+        mark_taken(postings, place);
     } else {
         early.push_reserved(number);
     }
@@ -130,6 +139,31 @@ impl Posts {
         );
         self.postings.push_reserved(posting);
         self.room -= 1;
+    }
+
+    /// How many messages were noted, of which the next has this number.
+    pub fn len(&self) -> u64
+        ensures count { result ≡ length self.now.sent }
+        ensures most { result < 2 ^ 63 }
+    {
+        self.postings.len() as u64
+    }
+
+    /// The message with this number.
+    pub fn posting(&self, number: u64) -> Posting
+        requires { number < length self.now.sent }
+        ensures { result ≡ posting_at self.now.sent number }
+    {
+        self.postings[number as usize]
+    }
+
+    /// Notes that the message with this number is still to be taken no more. It was noted already, so that no room is
+    /// wanted.
+    pub fn close(&mut self, number: u64)
+        requires { number < length self.old.sent }
+        ensures { self.new ≡ record self.old { sent = taken number self.old.sent } }
+    {
+        mark_taken(&mut self.postings, number as usize);
     }
 
     /// The oldest open message to an actor.
