@@ -11,6 +11,7 @@ use Rattle.acc_topology.specs.Faults.{ids, nodes_fault as topology_nodes_fault, 
 use Rattle.acc_topology.specs.Sets.{in_order, is_among}
 use Rattle.acc_topology.proofs.Accepted.{given_is_layout}
 use Rattle.acc_topology.proofs.Listed.{length-in_order-take}
+use Rattle.acc_txn.specs.Rules.{IsBody}
 use Rattle.acc_lang.specs.Texts.{has_text_value}
 use Rattle.acc_schedule.specs.declared.error.PlanError.{PlanError}
 use Rattle.acc_schedule.specs.declared.error.PlanKind.TheVariants.{Shape, Limit, Name}
@@ -138,8 +139,8 @@ are_transactions r h =
       numbers = λ first. each_all rules (body_of (version_of r)) (λ body. has_text_value body ≡ false) (λ i x e. (kept i x e).3 first) ts 0 parts.1;
     }
 
-IsPlan-plan_in : (r : Root) → fields_fault r ≡ None → IsPlan (plan_in r)
-IsPlan-plan_in r h =
+IsPlan-plan_in : (r : Root) → fields_fault r ≡ None → AllByRecursion IsBody (bodies_of (version_of r) r.txns) → IsPlan (plan_in r)
+IsPlan-plan_in r h bodies =
     let ns = nodes_of r.nodes in
     let ss = shards_of r.shards in
     let cast = cast_of r in
@@ -164,6 +165,7 @@ IsPlan-plan_in r h =
       few = transactions.few;
       homes_as_many = length-map (items r.txns) home_of ∙ sym (length-map (items r.txns) name_of);
       bodies_as_many = length-map (items r.txns) _ ∙ sym (length-map (items r.txns) name_of);
+      bodies = bodies;
       numbers_alone = transactions.numbers;
       named = transactions.named;
       names_once = transactions.once;
@@ -172,13 +174,10 @@ IsPlan-plan_in r h =
       steps_known = each_all (step_fault cast) (step_of cast) (IsStep (length (names_of r.txns)) (layout_of r)) (step_known (names_of r.txns) (layout_of r)) (items r.schedule) 0 (then_none _ _ scheduled.1).1;
     }
 
--- what stands for the plan of fields that break no rule
-pub sound_as : (r : Root) (plan : Content) → fields_fault r ≡ None → plan ≡ plan_in r → IsPlan plan
-sound_as r plan none says = subst IsPlan (sym says) (IsPlan-plan_in r none)
-
-document_sound : (d : Data) (r : Result Content PlanError) → Gives (document_fault d) (λ plan. plan ≡ plan_of d) r → IfOk r IsPlan
-document_sound d (Ok plan) h = let root = root_of d (get (codes "print") d) in sound_as root plan (then_none (root_fault d) (fields_fault root) h.0).1 h.1
-document_sound d (Err error) h = tt
+-- what stands for the plan of fields that break no rule, with bodies that keep theirs
+pub sound_as : (r : Root) (plan : Content) → fields_fault r ≡ None → AllByRecursion IsBody plan.bodies → plan ≡ plan_in r → IsPlan plan
+sound_as r plan none bodies says =
+    subst IsPlan (sym says) (IsPlan-plan_in r none (subst (λ (p : Content). AllByRecursion IsBody p.bodies) says bodies))
 
 -- what a call that reads data answers
 pub record Answered (d : Data) (r : Result Content PlanError) : Type 0 where
@@ -187,8 +186,9 @@ pub record Answered (d : Data) (r : Result Content PlanError) : Type 0 where
   pub built : IfErr r IsOfRule
 
 -- the root is as it must be, and its fields are these
-pub answered : (d : Data) (root : Root) (r : Result Content PlanError) → root_fault d ≡ None → root ≡ root_of d (get (codes "print") d) → Gives (fields_fault root) (λ plan. plan ≡ plan_in root) r → Answered d r
-answered d root r none same h =
+pub answered : (d : Data) (root : Root) (r : Result Content PlanError) → root_fault d ≡ None → root ≡ root_of d (get (codes "print") d) → Gives (fields_fault root) (λ plan. plan ≡ plan_in root) r
+    → IfOk r IsPlan → Answered d r
+answered d root r none same h sound =
     let its = root_of d (get (codes "print") d) in
     let given = given_behind (root_fault d) (fields_fault its) (λ plan. plan ≡ plan_of d) r none (given_same (fields_fault root) (fields_fault its) (plan_in root) (plan_in its) r (ap fields_fault same) (ap plan_in same) h) in
-    record { plan = given; sound = document_sound d r given; built = given_of_rule d (λ (plan : Content). plan ≡ plan_of d) r given }
+    record { plan = given; sound = sound; built = given_of_rule d (λ (plan : Content). plan ≡ plan_of d) r given }

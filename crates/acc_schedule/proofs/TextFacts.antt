@@ -1,8 +1,11 @@
 -- Texts that are in the language of version 1 have no text value.
-use Rattle.std.proofs.Common.{◌≡◌, ℕ, List, Option, Some, None, Result, Ok, Err, false, refl, sym, subst}
+use Rattle.std.proofs.Common.{◌≡◌, ℕ, List, Option, Some, None, Result, Ok, Err, IfOk, Bool, false, refl, sym, subst}
 use Rattle.std.specs.Result.{result_unwrap_or}
 use Rattle.acc_txn.specs.declared.parts.BodyParts.{BodyParts}
+use Rattle.acc_txn.specs.Rules.{IsBody}
+use Rattle.acc_lang.specs.declared.error.LangError.{LangError}
 use Rattle.acc_lang.specs.declared.error.LangKind.{LangKind}
+use Rattle.acc_lang.specs.Grammar.{IsTextOf}
 use Rattle.acc_lang.specs.declared.fault.Fault.{Fault as Place}
 use Rattle.acc_lang.specs.Reading.{placed, reading, reading_fault}
 use Rattle.acc_lang.specs.Texts.{has_text_value}
@@ -10,6 +13,11 @@ use Rattle.acc_lang.proofs.FoundBody.{reading_found}
 use Rattle.acc_lang.proofs.NoTexts.{no_text}
 use Rattle.acc_schedule.specs.Paths.{Path}
 use Rattle.acc_schedule.specs.Texts.{at_path, has_texts, no_parts, text_body, text_fault}
+
+-- what a text says keeps the rules of bodies
+pub said_is_body : (texts : Bool) (text : List ℕ) (r : Result BodyParts LangError) → IfOk r (λ body. IsTextOf texts text body) → IfOk r IsBody
+said_is_body texts text (Ok body) said = said.1
+said_is_body texts text (Err error) said = tt
 
 none_at : (path : Path) (fault : Option (LangKind × ℕ)) → at_path path fault ≡ None → fault ≡ None
 none_at path None h = refl

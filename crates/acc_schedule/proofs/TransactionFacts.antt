@@ -1,10 +1,12 @@
 -- The transactions of a document, one after another.
 use Rattle.std.proofs.Common.{◌≡◌, ℕ, ◌+◌, ◌<◌, ◌≤◌, List, [], ◌∷◌, ◌++◌, length, take, map, get_or, Bool, None, refl, sym, ap, subst, ◌∙◌, arith}
+use Rattle.std.specs.List.{AllByRecursion}
 use Rattle.std.proofs.lemmas.List.{take-map, length-map, length-take}
 use Rattle.serde_json.specs.Data.{Data}
 use Rattle.serde_json.specs.View.{view}
 use Rattle.serde_json.specs.declared.value.Value.{Value}
 use Rattle.acc_txn.specs.declared.parts.BodyParts.{BodyParts}
+use Rattle.acc_txn.specs.Rules.{IsBody}
 use Rattle.acc_schedule.specs.declared.error.PlanError.{PlanError}
 use Rattle.acc_base.specs.Faults.{◌then◌, each}
 use Rattle.acc_schedule.specs.Faults.{Fault, IsFault}
@@ -66,3 +68,16 @@ transactions_read first version is_node vs ds i names homes bodies holds are all
       h.1 ∙ ap (map home_of) are,
       b.1 ∙ ap (map (body_of version)) are,
     )
+
+-- ---- bodies that keep their rules
+
+pub none_keep : (bodies : List BodyParts) → bodies ≡ [] → AllByRecursion IsBody bodies
+none_keep bodies none = subst (AllByRecursion IsBody) (sym none) tt
+
+all_keep : (bodies : List BodyParts) (body : BodyParts) → AllByRecursion IsBody bodies → IsBody body → AllByRecursion IsBody (bodies ++ body ∷ [])
+all_keep [] body keep keeps = (keeps, tt)
+all_keep (first ∷ bodies) body keep keeps = (keep.0, all_keep bodies body keep.1 keeps)
+
+pub one_more_keeps : (bodies : List BodyParts) (body : BodyParts) (more : List BodyParts) → more ≡ bodies ++ body ∷ [] → AllByRecursion IsBody bodies
+    → IsBody body → AllByRecursion IsBody more
+one_more_keeps bodies body more is keep keeps = subst (AllByRecursion IsBody) (sym is) (all_keep bodies body keep keeps)

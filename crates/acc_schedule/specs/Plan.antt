@@ -4,6 +4,7 @@ use Rattle.std.specs.List.{AllByRecursion}
 use Rattle.acc_topology.specs.Faults.{ids}
 use Rattle.acc_topology.specs.Layout.{Layout, IsLayout}
 use Rattle.acc_topology.specs.Sets.{in_order, is_among}
+use Rattle.acc_txn.specs.Rules.{IsBody}
 use Rattle.acc_lang.specs.Texts.{has_text_value}
 use Rattle.acc_schedule.specs.Content.{Content}
 use Rattle.acc_schedule.specs.declared.plan.Step.{Step}
@@ -23,7 +24,8 @@ IsStep count layout (Restart actor choice) = Contains (actors layout) actor × (
 IsStep count layout (Fail actor calls) = Contains (actors layout) actor × (calls ≤ 1000000)
 IsStep count layout Drain = Unit {0}
 
--- a cluster of nodes with their clocks, transactions with names of their own at its nodes, and steps of these
+-- a cluster of nodes with their clocks, transactions with names of their own at its nodes and bodies that keep their rules, and steps
+-- of these
 pub record IsPlan (plan : Content) : Type 0 where
   pub version : (1 ≤ plan.version) × (plan.version ≤ 2)
   pub layout : IsLayout plan.topology
@@ -34,6 +36,7 @@ pub record IsPlan (plan : Content) : Type 0 where
   pub few : length plan.names ≤ 10000
   pub homes_as_many : length plan.homes ≡ length plan.names
   pub bodies_as_many : length plan.bodies ≡ length plan.names
+  pub bodies : AllByRecursion IsBody plan.bodies
   pub numbers_alone : plan.version ≡ 1 → AllByRecursion (λ body. has_text_value body ≡ false) plan.bodies
   pub named : AllByRecursion (λ name. IsTrue (is_name name)) plan.names
   pub names_once : (number : ℕ) → number < length plan.names

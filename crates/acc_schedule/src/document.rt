@@ -116,8 +116,9 @@ fn object_without(alloc: Global, root: &Value, apart: &str) -> Result<(), PlanEr
 
 // The plan that the fields of the root say, with what is printed.
 fn plan_in(alloc: Global, root: &Value, print: Option<&Value>) -> Result<Plan, PlanError>
-    ensures { Gives (fields_fault (root_of (view root.now) (seen_value print.entry)))
+    ensures plan { Gives (fields_fault (root_of (view root.now) (seen_value print.entry)))
         (λ plan. plan ≡ plan_said (root_of (view root.now) (seen_value print.entry))) result }
+    ensures sound { IfOk result IsPlan }
 {
     let version = version(alloc, root)?;
     let (starts, topology) = base(alloc, root)?;

@@ -2,6 +2,7 @@
 ghost use Rattle.std.specs.Prelude.{◌≡◌, Ok, map, IfOk, IfErr};
 ghost use Rattle.acc_lang.specs.Answer.{IsFaultIn};
 ghost use Rattle.acc_lang.specs.Reading.{reading};
+ghost use Rattle.acc_txn.specs.Rules.{IsBody};
 ghost use Rattle.acc_schedule.specs.Faults.{Gives};
 ghost use Rattle.acc_schedule.specs.Parts.{part_text};
 ghost use Rattle.acc_schedule.specs.Texts.{has_texts, text_body, text_fault};
@@ -19,7 +20,7 @@ pub(crate) fn body_in(
     text: &str,
     path: &[Part<'_>],
 ) -> Result<Body, PlanError>
-    ensures { Gives (text_fault version (map part_text path.now) text.now) (λ body. body ≡ text_body version text.now) result }
+    ensures { Gives (text_fault version (map part_text path.now) text.now) (λ body. (body ≡ text_body version text.now) × IsBody body) result }
 {
     match parsed(alloc, version, text) {
         Ok(body) => Ok(body),
@@ -31,9 +32,11 @@ pub(crate) fn body_in(
 }
 
 // What the parser of the document's version answers.
+#[tactic(auto, using(crate::proofs::TextFacts::said_is_body))]
 fn parsed(alloc: Global, version: u8, text: &str) -> Result<Body, LangError>
     ensures read { IfOk result (λ body. reading (has_texts version) text.now ≡ Ok body) }
     ensures fault { IfErr result (IsFaultIn (has_texts version) text.now) }
+    ensures sound { IfOk result IsBody }
 {
     if version == 2 {
         parse_v2(alloc, text)

@@ -1,8 +1,9 @@
 //! The transactions of a document.
 ghost use Rattle.std.specs.Prelude.{◌≡◌, ◌<◌, [], ◌∷◌, ◌++◌, codes, length};
-ghost use Rattle.std.specs.List.{list_all};
+ghost use Rattle.std.specs.List.{list_all, AllByRecursion};
 ghost use Rattle.serde_json.specs.View.{view};
 ghost use Rattle.acc_topology.specs.Sets.{in_set};
+ghost use Rattle.acc_txn.specs.Rules.{IsBody};
 ghost use Rattle.acc_schedule.specs.Document.{txns};
 ghost use Rattle.acc_schedule.specs.Faults.{Gives};
 ghost use Rattle.acc_schedule.specs.Fields.{field};
@@ -44,7 +45,7 @@ pub(crate) fn transactions(
     nodes: NodeSet,
 ) -> Result<TransactionLists, PlanError>
     ensures { Gives (transactions_fault version (in_set nodes) (txns (view root.now)))
-        (λ all. (all.names ≡ names_of (txns (view root.now))) × (all.homes ≡ homes_of (txns (view root.now))) × (all.bodies ≡ bodies_of version (txns (view root.now)))) result }
+        (λ all. (all.names ≡ names_of (txns (view root.now))) × (all.homes ≡ homes_of (txns (view root.now))) × (all.bodies ≡ bodies_of version (txns (view root.now))) × AllByRecursion IsBody all.bodies) result }
 {
     let items = list(
         alloc,
@@ -77,7 +78,7 @@ fn transaction(
 ) -> Result<(u32, Body), PlanError>
     requires { length names.old < 10000 }
     ensures { Gives (transaction_fault version (in_set nodes) names.old place (view item.now))
-        (λ one. (one.0 ≡ home_of (view item.now)) × (one.1 ≡ body_of version (view item.now)) × (names.new ≡ names.old ++ name_of (view item.now) ∷ [])) result }
+        (λ one. (one.0 ≡ home_of (view item.now)) × (one.1 ≡ body_of version (view item.now)) × (names.new ≡ names.old ++ name_of (view item.now) ∷ []) × IsBody one.1) result }
 {
     let path = [Part::Field("txns"), Part::Place(place)];
     object(alloc, item, &["name", "node", "text"], &[], &path)?;
@@ -145,7 +146,7 @@ fn home(alloc: Global, item: &Value, place: usize, nodes: NodeSet) -> Result<u32
 
 fn body(alloc: Global, item: &Value, place: usize, version: u8) -> Result<Body, PlanError>
     ensures { Gives (body_fault version (part_path (codes "txns") place (codes "text")) (field (codes "text") (view item.now)))
-        (λ body. body ≡ body_of version (view item.now)) result }
+        (λ body. (body ≡ body_of version (view item.now)) × IsBody body) result }
 {
     let path = [Part::Field("txns"), Part::Place(place), Part::Field("text")];
     let Some(text) = field_text(item, "text") else {

@@ -12,8 +12,8 @@ use Rattle.acc_schedule.proofs.DocumentFacts.{third_of_five, fourth_of_five, fif
 use Rattle.acc_schedule.proofs.PlanFacts.{sound_as}
 use Rattle.acc_schedule.proofs.document.plan_in.Goals as goal
 
-pub returns-in_err-names : goal.returns-in_err-names
-returns-in_err-names c =
+pub returns-in_err-names-clause-plan : goal.returns-in_err-names-clause-plan
+returns-in_err-names-clause-plan c =
     let r : Root = root_of (view c.args.root.now) (seen_value c.args.print) in
     let given : PlanError = c.in_err-names.field-0.0 in
     let p : (e : PlanError) × (c.from_residual-in_err-names.result ≡ Err e) × (e ≡ given) = err_from_is_err_and c.from_residual-in_err-names.result c.from_residual-in_err-names.ensures.1 in
@@ -21,8 +21,8 @@ returns-in_err-names c =
     let fault : IsFault (transactions_fault (version_of r) (is_node_of r) r.txns) given = subst (λ (f : Fault). IsFault f given) (λ i. transactions_fault (c.in_ok-version.ensures.1 i) (its_nodes i) r.txns) c.in_err-names.ensures in
     rw (p.1, p.2) (third_of_five (version_fault r.version) (base_fault r) (transactions_fault (version_of r) (is_node_of r) r.txns) (schedule_fault (cast_of r) r.schedule) (print_fault r.print) given c.in_ok-version.ensures.0 c.in_ok-starts.ensures.0 fault)
 
-pub returns-in_err-steps : goal.returns-in_err-steps
-returns-in_err-steps c =
+pub returns-in_err-steps-clause-plan : goal.returns-in_err-steps-clause-plan
+returns-in_err-steps-clause-plan c =
     let r : Root = root_of (view c.args.root.now) (seen_value c.args.print) in
     let given : PlanError = c.in_err-steps.field-0.0 in
     let p : (e : PlanError) × (c.from_residual-in_err-steps.result ≡ Err e) × (e ≡ given) = err_from_is_err_and c.from_residual-in_err-steps.result c.from_residual-in_err-steps.ensures.1 in
@@ -32,8 +32,8 @@ returns-in_err-steps c =
     let fault : IsFault (schedule_fault (cast_of r) r.schedule) given = subst (λ (x : Cast). IsFault (schedule_fault x r.schedule) given) cast c.in_err-steps.ensures in
     rw (p.1, p.2) (fourth_of_five (version_fault r.version) (base_fault r) (transactions_fault (version_of r) (is_node_of r) r.txns) (schedule_fault (cast_of r) r.schedule) (print_fault r.print) given c.in_ok-version.ensures.0 c.in_ok-starts.ensures.0 fine fault)
 
-pub returns-in_err-print : goal.returns-in_err-print
-returns-in_err-print c =
+pub returns-in_err-print-clause-plan : goal.returns-in_err-print-clause-plan
+returns-in_err-print-clause-plan c =
     let r : Root = root_of (view c.args.root.now) (seen_value c.args.print) in
     let given : PlanError = c.in_err-print.field-0.0 in
     let p : (e : PlanError) × (c.from_residual-in_err-print.result ≡ Err e) × (e ≡ given) = err_from_is_err_and c.from_residual-in_err-print.result c.from_residual-in_err-print.ensures.1 in
@@ -57,6 +57,7 @@ invariant_of-result-2 c =
     let its_steps = c.in_ok-steps.ensures.1 ∙ ap (λ (x : Cast). steps_of x r.schedule) cast in
     sound_as r _
     (none_of_five (version_fault r.version) (base_fault r) (transactions_fault (version_of r) (is_node_of r) r.txns) (schedule_fault (cast_of r) r.schedule) (print_fault r.print) c.in_ok-version.ensures.0 c.in_ok-starts.ensures.0 fine stepped c.in_ok-print.ensures.0)
+    c.in_ok-names.ensures.1.3
     (λ i. record {
       version = c.in_ok-version.ensures.1 i;
       topology = its_topology i;
@@ -68,8 +69,8 @@ invariant_of-result-2 c =
       print = c.in_ok-print.ensures.1 i;
     })
 
-pub returns : goal.returns
-returns c =
+pub returns-clause-plan : goal.returns-clause-plan
+returns-clause-plan c =
     let r : Root = root_of (view c.args.root.now) (seen_value c.args.print) in
     let its_nodes : in_set c.nodes.result ≡ is_node_of r = same_nodes c.nodes.result c.in_ok-starts.topology (layout_of r) c.nodes.ensures.set c.in_ok-starts.ensures.1.1 in
     let fine : transactions_fault (version_of r) (is_node_of r) r.txns ≡ None = (λ i. transactions_fault (sym c.in_ok-version.ensures.1 i) (sym its_nodes i) r.txns) ∙ c.in_ok-names.ensures.0 in
@@ -92,3 +93,29 @@ returns c =
         print = c.in_ok-print.ensures.1 i;
       },
     )
+
+pub returns-clause-sound : goal.returns-clause-sound
+returns-clause-sound c =
+    let r : Root = root_of (view c.args.root.now) (seen_value c.args.print) in
+    let its_nodes : in_set c.nodes.result ≡ is_node_of r = same_nodes c.nodes.result c.in_ok-starts.topology (layout_of r) c.nodes.ensures.set c.in_ok-starts.ensures.1.1 in
+    let fine : transactions_fault (version_of r) (is_node_of r) r.txns ≡ None = (λ i. transactions_fault (sym c.in_ok-version.ensures.1 i) (sym its_nodes i) r.txns) ∙ c.in_ok-names.ensures.0 in
+    let cast : cast_in c.in_ok-names.field-0.names c.in_ok-starts.topology ≡ cast_of r = λ i. cast_in (c.in_ok-names.ensures.1.0 i) (c.in_ok-starts.ensures.1.1 i) in
+    let stepped : schedule_fault (cast_of r) r.schedule ≡ None = ap (λ (x : Cast). schedule_fault x r.schedule) (sym cast) ∙ c.in_ok-steps.ensures.0 in
+    let its_topology = c.topology.view_is ∙ c.in_ok-starts.ensures.1.1 in
+    let its_starts = c.starts.view_is ∙ c.in_ok-starts.ensures.1.0 in
+    let its_names = c.in_ok-into_names.ensures ∙ c.in_ok-names.ensures.1.0 in
+    let its_bodies = c.in_ok-names.ensures.1.2 ∙ ap (λ (v : ℕ). bodies_of v r.txns) c.in_ok-version.ensures.1 in
+    let its_steps = c.in_ok-steps.ensures.1 ∙ ap (λ (x : Cast). steps_of x r.schedule) cast in
+    sound_as r _
+    (none_of_five (version_fault r.version) (base_fault r) (transactions_fault (version_of r) (is_node_of r) r.txns) (schedule_fault (cast_of r) r.schedule) (print_fault r.print) c.in_ok-version.ensures.0 c.in_ok-starts.ensures.0 fine stepped c.in_ok-print.ensures.0)
+    c.in_ok-names.ensures.1.3
+    (λ i. record {
+      version = c.in_ok-version.ensures.1 i;
+      topology = its_topology i;
+      starts = its_starts i;
+      names = its_names i;
+      homes = c.in_ok-names.ensures.1.1 i;
+      bodies = its_bodies i;
+      steps = its_steps i;
+      print = c.in_ok-print.ensures.1 i;
+    })

@@ -10,5 +10,5 @@ pub returns : goal.returns
 returns c =
     let d = view c.args.root.now in
     let fine = ap (λ (needed : List (List ℕ)). object_fault needed (codes "print" ∷ []) [] d) (sym c.needed.ensures) ∙ c.in_ok-object.ensures.0 in
-    let a = answered d (root_of d (seen_value c.get.result)) c.plan_in.result fine (ap (root_of d) c.get.ensures) c.plan_in.ensures in
+    let a = answered d (root_of d (seen_value c.get.result)) c.plan_in.result fine (ap (root_of d) c.get.ensures) c.plan_in.ensures.plan c.plan_in.ensures.sound in
     record { plan = a.plan; sound = a.sound; built = a.built }

@@ -14,5 +14,5 @@ returns c =
     let seen = without c.args.apart.now d in
     let none = c.in_ok-object_without.ensures.0 in
     let same = ap (root_of d) c.print_without.ensures ∙ same_root c.args.apart.now d (get (codes "print") seen) none in
-    let a = answered seen (root_of d (seen_value c.print_without.result)) c.plan_in.result none same c.plan_in.ensures in
+    let a = answered seen (root_of d (seen_value c.print_without.result)) c.plan_in.result none same c.plan_in.ensures.plan c.plan_in.ensures.sound in
     record { plan = a.plan; sound = a.sound; built = a.built }

@@ -9,5 +9,5 @@ pub returns-in-Ok : goal.returns-in-Ok
 unfolding reading_fault
 returns-in-Ok c = (
   ap (λ read. at_path (map part_text c.args.path.now) (placed c.args.text.now read)) c.in-Ok.ensures.read,
-  sym (ap (λ read. result_unwrap_or read no_parts) c.in-Ok.ensures.read),
+  (sym (ap (λ read. result_unwrap_or read no_parts) c.in-Ok.ensures.read), c.in-Ok.ensures.sound),
 )

@@ -5,12 +5,12 @@ use Rattle.acc_topology.specs.Sets.{in_set}
 use Rattle.acc_schedule.specs.declared.error.PlanError.{PlanError}
 use Rattle.acc_schedule.specs.Document.{txns}
 use Rattle.acc_schedule.specs.Fields.{items}
-use Rattle.acc_schedule.proofs.TransactionFacts.{few_names, nothing_read, one_more_transaction, transaction_fails, transactions_read}
+use Rattle.acc_schedule.proofs.TransactionFacts.{few_names, none_keep, nothing_read, one_more_keeps, one_more_transaction, transaction_fails, transactions_read}
 use Rattle.acc_schedule.proofs.transactions.transactions.Goals as goal
 
 pub loop-place-init : goal.loop-place-init
 loop-place-init c =
-    (nothing_read c.args.version (in_set c.args.nodes) c.in_ok-items.items.now c.new.result c.new-2.result c.new-3.result c.new.ensures c.new-2.ensures c.new-3.ensures, c.in_ok-items.ensures.1.1)
+    (nothing_read c.args.version (in_set c.args.nodes) c.in_ok-items.items.now c.new.result c.new-2.result c.new-3.result c.new.ensures c.new-2.ensures c.new-3.ensures, c.in_ok-items.ensures.1.1, none_keep c.new-3.result c.new-3.ensures)
 
 pub loop-place-preserved : goal.loop-place-preserved
 loop-place-preserved c = (
@@ -18,6 +18,7 @@ loop-place-preserved c = (
       c.index-items-place.result c.in_ok-home.home c.in_ok-home.body c.loop-place.invariant.0 c.loop-place-test.true c.index-items-place.is c.in_ok-home.ensures.0 c.in_ok-home.ensures.1.0 c.in_ok-home.ensures.1.1
       c.in_ok-home.ensures.1.2 c.in_ok-push.ensures.ok c.in_ok-push-2.ensures.ok,
   c.loop-place.invariant.1,
+  one_more_keeps c.loop-place.all.bodies c.in_ok-home.body c.push-in-loop-place.new.self c.in_ok-push-2.ensures.ok c.loop-place.invariant.2 c.in_ok-home.ensures.1.3,
 )
 
 pub transaction-requires : goal.transaction-requires
@@ -36,4 +37,4 @@ pub returns : goal.returns
 returns c =
     let read = transactions_read _ c.args.version (in_set c.args.nodes) c.in_ok-items.items.now (items (txns (view c.args.root.now))) c.loop-place.place c.loop-place.all.names c.loop-place.all.homes c.loop-place.all.bodies
     c.in_ok-items.ensures.0 c.in_ok-items.ensures.1.0 c.loop-place.invariant.0 (omega (arith, c.loop-place-test.false)) in
-    (read.0, (read.1, read.2, read.3))
+    (read.0, (read.1, read.2, read.3, c.loop-place.invariant.2))
