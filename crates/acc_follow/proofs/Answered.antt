@@ -32,14 +32,14 @@ equal_is_most h = omega arith
 chain : {n k m : ℕ} → n ≤ k → k ≤ m → n ≤ m
 chain h k = omega arith
 
-fewer : {answers other : Answers} {n k : ℕ} → n ≤ k → AgreeBelow answers other k → AgreeBelow answers other n
+pub fewer : {answers other : Answers} {n k : ℕ} → n ≤ k → AgreeBelow answers other k → AgreeBelow answers other n
 fewer less agree = λ place below. agree place (both below less)
   where
     both : {p n k : ℕ} → p < n → n ≤ k → p < k
     both h k = omega arith
 
 module _ (cluster : Cluster) where
-  tried_length : (answers : Answers) (s : Situation) (a : Actor) (event : Event) → length (tried cluster answers s a event).own ≡ suc (length s.own)
+  pub tried_length : (answers : Answers) (s : Situation) (a : Actor) (event : Event) → length (tried cluster answers s a event).own ≡ suc (length s.own)
   tried_length answers s a event = by (is_journalled a event && fails_in answers s)
     where
       by : (test : Bool) → length (tried_if test cluster s a event).own ≡ suc (length s.own)
@@ -48,18 +48,18 @@ module _ (cluster : Cluster) where
 
   -- ---- items are only added
 
-  drained_grows : (answers : Answers) (last s : Situation) → Drains cluster answers last s → length s.own ≤ length last.own
+  pub drained_grows : (answers : Answers) (last s : Situation) → Drains cluster answers last s → length s.own ≤ length last.own
   drained_grows answers last s (stops _ none is) = equal_is_most (own_length is)
   drained_grows answers last s (delivers _ n oldest rest) =
       below_is_most (later (tried_length answers s (receiver_in s n) (MessageEvent n))
       (drained_grows answers last (tried cluster answers s (receiver_in s n) (MessageEvent n)) rest))
 
-  stepped_grows : (skip : Option Skip) (answers : Answers) (number : ℕ) (s : Situation) (a : Actor) (event : Event)
+  pub stepped_grows : (skip : Option Skip) (answers : Answers) (number : ℕ) (s : Situation) (a : Actor) (event : Event)
       → length (stepped_unless skip cluster answers number s a event).own ≡ suc (length s.own)
   stepped_grows (Some cause) answers number s a event = refl
   stepped_grows None answers number s a event = tried_length answers s a event
 
-  dropped_grows : (skip : Option Skip) (number : ℕ) (s : Situation) (message : ℕ) → length s.own ≤ length (dropped_unless skip number s message).own
+  pub dropped_grows : (skip : Option Skip) (number : ℕ) (s : Situation) (message : ℕ) → length s.own ≤ length (dropped_unless skip number s message).own
   dropped_grows (Some cause) number s message = below_is_most (next_below refl)
   dropped_grows None number s message = equal_is_most refl
 
@@ -67,7 +67,7 @@ module _ (cluster : Cluster) where
   reopened_grows s a None = next_below refl
   reopened_grows s a (Some event) = later {k = suc (length s.own)} refl (below_is_most (next_below refl))
 
-  restarted_grows : (fails : Bool) (answers : Answers) (s : Situation) (a : Actor) → length s.own < length (restarted_if fails cluster answers s a).own
+  pub restarted_grows : (fails : Bool) (answers : Answers) (s : Situation) (a : Actor) → length s.own < length (restarted_if fails cluster answers s a).own
   restarted_grows true answers s a = next_below refl
   restarted_grows false answers s a = reopened_grows s a (kept_if (answers.keeps (length s.own)) a s)
 
@@ -76,7 +76,7 @@ module _ (cluster : Cluster) where
         → length s.own ≤ length next.own
     by_step skip s next a event is = below_is_most (next_below (own_length is ∙ stepped_grows skip answers number s a event))
 
-    next_grows : (step : Step) (s next : Situation) → IsNext cluster answers number step s next → length s.own ≤ length next.own
+    pub next_grows : (step : Step) (s next : Situation) → IsNext cluster answers number step s next → length s.own ≤ length next.own
     next_grows (Begin txn) s next is = by_step (begin_skip cluster s txn) s next (home_of_txn cluster txn) (BeginEvent txn) is
     next_grows (Deliver message) s next is = by_step (deliver_skip s message) s next (receiver_in s message) (MessageEvent message) is
     next_grows (Drop message) s next is = chain (dropped_grows (message_skip s message) number s message) (equal_is_most (own_length is))
@@ -87,7 +87,7 @@ module _ (cluster : Cluster) where
     next_grows (Fail actor calls) s next is = equal_is_most (own_length is)
     next_grows Drain s next drains = drained_grows answers next s drains
 
-  last_grows : (answers : Answers) (number : ℕ) (steps : List Step) (s last : Situation) → Follows cluster answers number steps s last
+  pub last_grows : (answers : Answers) (number : ℕ) (steps : List Step) (s last : Situation) → Follows cluster answers number steps s last
       → length s.own ≤ length last.own
   last_grows answers number [] s last is = equal_is_most (own_length is)
   last_grows answers number (step ∷ steps) s last follows =
@@ -96,7 +96,7 @@ module _ (cluster : Cluster) where
   -- ---- other answers that agree so far
 
   module _ (answers other : Answers) where
-    tried_same : (s : Situation) (a : Actor) (event : Event) (n : ℕ) → AgreeBelow answers other n → length s.own < n
+    pub tried_same : (s : Situation) (a : Actor) (event : Event) (n : ℕ) → AgreeBelow answers other n → length s.own < n
         → tried cluster answers s a event ≡ tried cluster other s a event
     tried_same s a event n agree less = ap (λ b. tried_if (is_journalled a event && b) cluster s a event) (agree (length s.own) less).0
 
@@ -122,7 +122,7 @@ module _ (cluster : Cluster) where
       stepped_same None s next a event agree is =
           is ∙ tried_same s a event (length next.own) agree (next_below (own_length is ∙ tried_length answers s a event))
 
-      next_same : (step : Step) (s next : Situation) → AgreeBelow answers other (length next.own) → IsNext cluster answers number step s next
+      pub next_same : (step : Step) (s next : Situation) → AgreeBelow answers other (length next.own) → IsNext cluster answers number step s next
           → IsNext cluster other number step s next
       next_same (Begin txn) s next agree is = stepped_same (begin_skip cluster s txn) s next (home_of_txn cluster txn) (BeginEvent txn) agree is
       next_same (Deliver message) s next agree is =

@@ -1,8 +1,8 @@
-mod OneRun
-mod NobodyDown
-mod Drained
+pub mod OneRun
+pub mod NobodyDown
+pub mod Drained
 mod Joined
 mod StoppedSteps
-mod GivesRuns
+pub mod GivesRuns
 mod Skips
-mod Answered
+pub mod Answered

@@ -11,18 +11,18 @@ use Rattle.acc_follow.specs.Situations.{Situation, IsOldestWaiting, receiver_in,
 use Rattle.acc_follow.specs.Moves.{Answers, tried, Drains, stops, delivers, IsNext}
 use Rattle.acc_follow.specs.Schedules.{Follows, cluster_of, Obeys}
 
+pub one_oldest : (s : Situation) (n k : ℕ) → IsOldestWaiting s n → IsOldestWaiting s k → n ≡ k
+one_oldest s n k a b = by (order n k)
+  where
+    order : (n k : ℕ) → (n < k) ⊎ ((k < n) ⊎ (n ≡ k))
+    order n k = grind arith
+
+    by : (n < k) ⊎ ((k < n) ⊎ (n ≡ k)) → n ≡ k
+    by (inl less) = absurd (true≢false (sym a.0 ∙ b.1 n less))
+    by (inr (inl less)) = absurd (true≢false (sym b.0 ∙ a.1 k less))
+    by (inr (inr same)) = same
+
 module _ (cluster : Cluster) (answers : Answers) where
-  one_oldest : (s : Situation) (n k : ℕ) → IsOldestWaiting s n → IsOldestWaiting s k → n ≡ k
-  one_oldest s n k a b = by (order n k)
-    where
-      order : (n k : ℕ) → (n < k) ⊎ ((k < n) ⊎ (n ≡ k))
-      order n k = grind arith
-
-      by : (n < k) ⊎ ((k < n) ⊎ (n ≡ k)) → n ≡ k
-      by (inl less) = absurd (true≢false (sym a.0 ∙ b.1 n less))
-      by (inr (inl less)) = absurd (true≢false (sym b.0 ∙ a.1 k less))
-      by (inr (inr same)) = same
-
   one_drain : (one other s : Situation) → Drains cluster answers one s → Drains cluster answers other s → one ≡ other
   one_drain one other s (stops _ none is) (stops _ none' is') = is ∙ sym is'
   one_drain one other s (stops _ none is) (delivers _ n oldest rest) = absurd (true≢false (sym oldest.0 ∙ none n))
