@@ -1,3 +1,4 @@
 pub mod Cells
 pub mod Stands
 pub mod Rounds
+pub mod Weighing

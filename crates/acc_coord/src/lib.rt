@@ -13,6 +13,7 @@ mod rounds;
 mod step;
 mod taken;
 mod votes;
+mod weigh;
 
 pub use coord::Coord;
 pub use error::SlowError;

@@ -20,12 +20,13 @@ use Rattle.acc_message.specs.declared.message.Message.{Message}
 use Rattle.acc_message.specs.declared.message.Message.TheVariants.{RecoverOk}
 use Rattle.acc_message.specs.Shares.{shards_used, is_store_of}
 use Rattle.acc_message.specs.Attempts.{Attempt, plainly}
+use Rattle.acc_message.specs.Coordinator.{Reaction}
 use Rattle.acc_message.specs.RecoveryDecision.{Ruling, views_in, recovery_decision}
 use Rattle.acc_recover.specs.declared.recovery.Recovery.{Recovery}
 use Rattle.acc_recover.specs.declared.judged.Judged.{Judged}
-use Rattle.acc_recover.specs.declared.judged.Judged.TheVariants.{Wait}
+use Rattle.acc_recover.specs.declared.judged.Judged.TheVariants.{Wait, Go as JudgedGo, Blocked, Ended}
 use Rattle.acc_recover.specs.Rulings.{judged_of}
-use Rattle.acc_recover.specs.Stands.{StandsFor, Judges}
+use Rattle.acc_recover.specs.Stands.{StandsFor, Judges, JudgesAs, WouldJudge, WouldJudgeAs}
 use Rattle.acc_recover.proofs.Judging.{counted_now, waits_on, rules_now}
 
 abbrev pub ToldBy : Layout → TxnId → Tally → List View → (Layout → TxnId → BodyParts → List Message → Ruling) → Judged → Type 0
@@ -70,6 +71,30 @@ module _ (layout : Layout) (valid : IsLayout layout) (r : Recovery) (store : Act
       let now = counted_now layout x y r store to view a unchanged new s u g in
       waits_on layout x y r store to view a unchanged new views s e u g v (sym (m (shards_used layout r.body) _ exist now) ∙ fails)
 
+-- what the copy of a tally counts, by whether the answer was the first
+pub counts_with : (old copy new : Tally) (a : Answer) (first b : Bool) → copy ≡ old → first ≡ b
+    → ((shards : List ℕ) (answers : List Answer) → Counted copy shards answers → Counts copy new shards answers a first)
+    → (shards : List ℕ) (answers : List Answer) → Counted old shards answers → Counts old new shards answers a b
+counts_with old copy new a first b e f h =
+    subst (λ z. (shards : List ℕ) (answers : List Answer) → Counted old shards answers → Counts old new shards answers a z) f
+    (subst (λ z. (shards : List ℕ) (answers : List Answer) → Counted z shards answers → Counts z new shards answers a first) e h)
+
+-- ---- what would be answered
+
+pub would : (layout : Layout) (x : TxnId) (new : Recovery) (a : Attempt) (r : Reaction) (judged : Judged) → JudgesAs layout x new a r judged → WouldJudgeAs layout x a r judged
+would layout x new a r Wait h = h.0
+would layout x new a r (JudgedGo choice) h = h
+would layout x new a r (Blocked by) h = h
+would layout x new a r (Ended by) h = h
+
+abbrev pub WouldJudgeAll : Layout → Recovery → Actor → View → Judged → Type 0
+WouldJudgeAll layout r store view judged =
+    (x y : TxnId) (a : Attempt) (to : Actor) → StandsFor layout x r a → is_store_of layout r.body store ≡ true
+    → WouldJudge layout x a (RecoverOk store to y r.ballot view) judged
+
+pub would_all : (layout : Layout) (r next : Recovery) (store : Actor) (view : View) (judged : Judged) → JudgesAll layout r next store view judged → WouldJudgeAll layout r store view judged
+would_all layout r next store view judged h = λ x y a to s e. would layout x next a _ judged (h x y a to s e)
+
 -- ---- a message that is a RecoverOk of the recovery's ballot
 
 not_differs : (b : Bool) → not b ≡ false → b ≡ true
@@ -84,3 +109,9 @@ pub for_message : (layout : Layout) (x y : TxnId) (r new : Recovery) (a : Attemp
 for_message layout x y r new a m from to b view judged is same h =
     let e : b ≡ r.ballot = sym (ap ballot_of is) ∙ same in
     subst (λ z. Judges layout x new a z judged) (sym (is ∙ ap (λ z. RecoverOk from to y z view) e)) h
+
+pub would_for_message : (layout : Layout) (x y : TxnId) (r : Recovery) (a : Attempt) (m : Message) (from to : Actor) (b : Ballot) (view : View) (judged : Judged)
+    → m ≡ RecoverOk from to y b view → ballot_of m ≡ r.ballot → WouldJudge layout x a (RecoverOk from to y r.ballot view) judged → WouldJudge layout x a m judged
+would_for_message layout x y r a m from to b view judged is same h =
+    let e : b ≡ r.ballot = sym (ap ballot_of is) ∙ same in
+    subst (λ z. WouldJudge layout x a z judged) (sym (is ∙ ap (λ z. RecoverOk from to y z view) e)) h

@@ -45,6 +45,16 @@ JudgesAs layout x new a r (Ended by) = r ≡ end x a by
 abbrev pub Judges : Layout → TxnId → Recovery → Attempt → Message → Judged → Type 0
 Judges layout x new a m judged = JudgesAs layout x new a (reaction layout (home_of x a.ballot) x a m) judged
 
+-- What a recovery would answer to a message, where nothing is told of what the attempt becomes.
+abbrev pub WouldJudgeAs : Layout → TxnId → Attempt → Reaction → Judged → Type 0
+WouldJudgeAs layout x a r Wait = r.emitted ≡ silence
+WouldJudgeAs layout x a r (JudgedGo choice) = r ≡ go layout (home_of x a.ballot) x a choice
+WouldJudgeAs layout x a r (Blocked by) = r ≡ block x a by
+WouldJudgeAs layout x a r (Ended by) = r ≡ end x a by
+
+abbrev pub WouldJudge : Layout → TxnId → Attempt → Message → Judged → Type 0
+WouldJudge layout x a m judged = WouldJudgeAs layout x a (reaction layout (home_of x a.ballot) x a m) judged
+
 -- an answer other than to wait leaves the recovery as it was
 abbrev pub KeepsUnlessWaits : Recovery → Recovery → Judged → Type 0
 KeepsUnlessWaits old new Wait = Unit {0}

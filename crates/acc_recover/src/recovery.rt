@@ -3,13 +3,13 @@ ghost use Rattle.std.specs.Prelude.{◌≡◌, ◌≤◌, true, false, map, IfOk
 ghost use Rattle.acc_stamp.specs.declared.actors.Actor.{Actor};
 ghost use Rattle.acc_stamp.specs.declared.stamps.TxnId.{TxnId};
 ghost use Rattle.acc_stamp.specs.Actor.{home_of, node_of, shard_of};
-ghost use Rattle.acc_topology.specs.Layout.{IsLayout};
+ghost use Rattle.acc_topology.specs.Layout.{Layout, IsLayout};
 ghost use Rattle.acc_topology.specs.Sets.{members};
 ghost use Rattle.acc_message.specs.Shares.{shards_used, is_store_of};
 ghost use Rattle.acc_stamp.specs.Stamp.{ballot_eq, zero_ballot};
 ghost use Rattle.acc_message.specs.Attempts.{Attempt};
 ghost use Rattle.acc_message.specs.Coordinator.{recovering, ask_for_views};
-ghost use Rattle.acc_recover.specs.Stands.{StandsFor, Judges, KeepsUnlessWaits};
+ghost use Rattle.acc_recover.specs.Stands.{StandsFor, Judges, WouldJudge, KeepsUnlessWaits};
 
 use crate::judged::Judged;
 use crate::ruling::ruling;
@@ -57,6 +57,20 @@ impl Recovery {
             views: Sequence::new(alloc),
         };
         Ok((recovery, messages))
+    }
+
+    /// The ballot of the attempt.
+    pub fn ballot(&self) -> Ballot
+        ensures { (layout : Layout) (x : TxnId) (a : Attempt) → StandsFor layout x self.now a → result ≡ a.ballot }
+    {
+        self.ballot
+    }
+
+    /// The body of the transaction.
+    pub fn body(&self) -> &Body
+        ensures { (layout : Layout) (x : TxnId) (a : Attempt) → StandsFor layout x self.now a → result.now ≡ a.body }
+    {
+        &self.body
     }
 
     /// Takes a message about the transaction. Where the answer is `Wait` the recovery goes on; with each other answer it is over,
@@ -111,6 +125,53 @@ impl Recovery {
         }
         self.views.insert(0, view.copy()?)?;
         self.tally = tally;
+        Ok(Judged::Wait)
+    }
+
+    /// What `on_answer` would answer to a message, without a change.
+    pub fn judge(&self, topology: &Topology, m: &Message) -> Result<Judged, OutOfMemory>
+        ensures { IfOk result (λ judged. (x : TxnId) → (a : Attempt) → StandsFor topology.now x self.now a → WouldJudge topology.now x a m.now judged) }
+    {
+        if m.ballot() != self.ballot {
+            return Ok(Judged::Wait);
+        }
+        match m {
+            Message::RecoverOk { from, view, .. } => {
+                if is_store(topology, self.shards, *from) {
+                    self.judge_view(topology, *from, view)
+                } else {
+                    Ok(Judged::Wait)
+                }
+            }
+            Message::Nack { promised, .. } if *promised > self.ballot => {
+                Ok(Judged::Ended(*promised))
+            }
+            _ => Ok(Judged::Wait),
+        }
+    }
+
+    // What would be answered to a store of the transaction.
+    fn judge_view(
+        &self,
+        topology: &Topology,
+        store: Actor,
+        view: &View,
+    ) -> Result<Judged, OutOfMemory>
+        requires valid { IsLayout topology.now }
+        requires shard { shard_of store ≤ 15 }
+        requires node { node_of store ≤ 15 }
+        ensures { IfOk result (λ judged. (x y : TxnId) → (a : Attempt) → (to : Actor) → StandsFor topology.now x self.now a
+            → is_store_of topology.now self.now.body store ≡ true
+            → WouldJudge topology.now x a (Message.RecoverOk store to y self.now.ballot view.now) judged) }
+    {
+        let mut tally = self.tally.copy()?;
+        let unchanged = view.vote == self.id.0;
+        if !tally.first(store, unchanged, view.vote, &view.vote_deps)? {
+            return Ok(Judged::Wait);
+        }
+        if tally.majority_everywhere(topology) {
+            return ruling(topology, self.id, &tally, view, self.views.as_slice());
+        }
         Ok(Judged::Wait)
     }
 }

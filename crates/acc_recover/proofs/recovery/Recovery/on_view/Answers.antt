@@ -4,16 +4,8 @@ use Rattle.acc_tally.specs.declared.tally.Tally.{Tally}
 use Rattle.acc_tally.specs.Stands.{StandsFor as Counted, Counts}
 use Rattle.acc_deps.specs.declared.records.View.{View}
 use Rattle.acc_recover.proofs.Judging.{not_first}
-use Rattle.acc_recover.proofs.Ruled.{rules_all, waits_all}
+use Rattle.acc_recover.proofs.Ruled.{counts_with, rules_all, waits_all}
 use Rattle.acc_recover.proofs.recovery.Recovery.on_view.Goals as goal
-
--- what the copy of a tally counts, by whether the answer was the first
-counts_with : (old copy new : Tally) (a : Answer) (first b : Bool) → copy ≡ old → first ≡ b
-    → ((shards : List ℕ) (answers : List Answer) → Counted copy shards answers → Counts copy new shards answers a first)
-    → (shards : List ℕ) (answers : List Answer) → Counted old shards answers → Counts old new shards answers a b
-counts_with old copy new a first b e f h =
-    subst (λ z. (shards : List ℕ) (answers : List Answer) → Counted old shards answers → Counts old new shards answers a z) f
-    (subst (λ z. (shards : List ℕ) (answers : List Answer) → Counted z shards answers → Counts z new shards answers a first) e h)
 
 pub returns-then-not-branch-clause-ok : goal.returns-then-not-branch-clause-ok
 returns-then-not-branch-clause-ok c = λ x y a to s e.
