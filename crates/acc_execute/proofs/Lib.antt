@@ -1,0 +1,13 @@
+pub mod Ballots
+pub mod Owned
+pub mod Now
+pub mod Tests
+pub mod Lists
+pub mod Turns
+pub mod Waiting
+pub mod Law
+pub mod Kept
+pub mod Stepping
+pub mod Whole
+pub mod Absent
+pub mod Room

@@ -1,0 +1,17 @@
+use Rattle.std.proofs.Common.{◌≡◌, ◌++◌, IfOk, refl, subst}
+use Rattle.acc_message.specs.Fields.{top_of}
+use Rattle.acc_execute.proofs.Whole.{stable_known, stable_answered}
+use Rattle.acc_execute.proofs.step.answer_stable.Goals as goal
+
+pub prepare-requires : goal.prepare-requires
+prepare-requires c =
+    stable_known c.args.topology.now c.args.shelf.now c.args.m.now c.in-Stable.from c.in-Stable.to c.in-Stable.id c.in-Stable.ballot c.in-Stable.body c.in-Stable.t c.in-Stable.deps
+    c.in-Stable.is c.in_ok-own-in-Stable.own c.in_ok-own-in-Stable.ensures c.in_ok-first-in-Stable.first c.in_ok-first-in-Stable.ensures
+    _ refl (top_of c.args.m.now) refl c.requires.stands
+
+pub returns : goal.returns
+returns c =
+    stable_answered c.args.topology.now c.args.shelf.now c.args.m.now c.in-Stable.from c.in-Stable.to c.in-Stable.id c.in-Stable.ballot c.in-Stable.body c.in-Stable.t c.in-Stable.deps
+    c.in-Stable.is c.in_ok-own-in-Stable.own c.in_ok-own-in-Stable.ensures c.in_ok-first-in-Stable.first c.in_ok-first-in-Stable.ensures
+    _ refl (top_of c.args.m.now) refl c.join.result c.in_ok-prepared-in-Stable.prepared
+    (subst (λ list. IfOk c.join.result (λ sent. sent ≡ c.in_ok-first-in-Stable.first ++ list)) c.sent_of.ensures c.join.ensures) c.in_ok-prepared-in-Stable.ensures

@@ -1,0 +1,14 @@
+use Rattle.acc_execute.proofs.Stepping.{left_at_once, left_roomy, learnt_roomy}
+use Rattle.acc_execute.proofs.step.learn_with_room.Goals as goal
+
+pub returns-in_err-make_room-clause-err : goal.returns-in_err-make_room-clause-err
+returns-in_err-make_room-clause-err c =
+    left_at_once c.args.shelf.now c.make_room.new.waits c.make_room.ensures.same c.from_residual.result
+
+pub returns-clause-ok : goal.returns-clause-ok
+returns-clause-ok c =
+    learnt_roomy c.args.shelf.now c.make_room.new.waits c.make_room.ensures.same c.learn.new.self c.args.id c.args.plan.now c.args.news.now.body.now c.args.news.now.share.now c.args.news.now.t c.args.news.now.top
+    c.learn.result c.in_ok-make_room.ensures.room c.learn.ensures.ok
+
+pub returns-clause-err : goal.returns-clause-err
+returns-clause-err c = left_roomy c.args.shelf.now c.make_room.new.waits c.make_room.ensures.same c.learn.new.self c.learn.result c.learn.ensures.err

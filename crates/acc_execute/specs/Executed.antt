@@ -1,0 +1,97 @@
+-- What a step makes of a shelf that opens and applies what a plan says.
+use Rattle.std.specs.Prelude.{◌≡◌, ◌+◌, ◌≤◌, ℕ, cond, ◌||◌, ◌++◌, Bool, List, [], Option, None, Some, Vec, vec_len, vec_capacity}
+use Rattle.std.specs.Option.{option_map}
+use Rattle.std.specs.BTreeMap as tree
+use Rattle.std.specs.declared.alloc.Global.{Global}
+use Rattle.acc_stamp.specs.declared.stamps.Stamp.{Stamp}
+use Rattle.acc_stamp.specs.declared.stamps.TxnId.{TxnId}
+use Rattle.acc_stamp.specs.Stamp.{id_cmp}
+use Rattle.acc_stamp.specs.Actor.{shard_of}
+use Rattle.acc_topology.specs.Layout.{Layout}
+use Rattle.acc_value.specs.declared.key.Key.{Key}
+use Rattle.acc_value.specs.Cells.{applied}
+use Rattle.acc_txn.specs.declared.parts.BodyParts.{BodyParts}
+use Rattle.acc_message.specs.declared.message.Message.{Message}
+use Rattle.acc_value.specs.declared.value.Value.{Value}
+use Rattle.acc_message.specs.Opening.{Change}
+use Rattle.acc_message.specs.StoreRules.{replay}
+use Rattle.acc_record.specs.Stands.{StandsFor}
+use Rattle.acc_record.specs.declared.record.Record.{Record}
+use Rattle.acc_record.specs.declared.shelf.Shelf.{Shelf}
+use Rattle.acc_record.specs.declared.shelf.Watch.{Watch}
+use Rattle.acc_record.specs.Shelf.{Waits, record_at, cell_at, watchers}
+use Rattle.acc_record.specs.Learning.{IsLearnt}
+use Rattle.acc_opening_laws.specs.Plan.{IsPlan}
+use Rattle.acc_opening.specs.declared.touched.Touched.{Touched}
+use Rattle.acc_opening.specs.declared.turns.Turn.{Turn}
+use Rattle.acc_opening.specs.Lookup.{lookup}
+use Rattle.acc_opening.specs.declared.plan.Plan.{Plan}
+use Rattle.acc_opening.specs.Turns.{changes_in}
+use Rattle.acc_opening.specs.Touched.{TouchedWaits, watches_now}
+use Rattle.acc_opening.specs.Planned.{IsPlanned, after_changes, AreWatches}
+use Rattle.acc_reads.specs.declared.turns.Released.{Released}
+use Rattle.acc_reads.specs.Release.{IsReleased}
+use Rattle.acc_opened_laws.specs.Opened.{executed}
+use Rattle.acc_execute.specs.declared.step.Prepared.{Prepared}
+
+-- ---- a turn
+
+-- the record of a transaction after its turn: when it is opened nobody waits any more
+abbrev pub after_turn : Turn → Record → Record
+after_turn turn r =
+    record r { opened = r.opened || turn.opens; applied = r.applied || turn.applies; waiters = cond turn.opens [] r.waiters }
+
+-- ---- room in the lists of who waits for whom
+
+-- there is a list, and what is added fits
+abbrev pub FitsIn : Touched → Option (Vec Watch Global) → Type 0
+FitsIn touched None = ⊥
+FitsIn touched (Some list) = vec_len list + vec_len touched.added ≤ vec_capacity list
+
+abbrev pub AllFit : TouchedWaits → Waits → Type 0
+AllFit touched waits = (y : TxnId) (t : Touched) → tree.get id_cmp touched y ≡ Some t → FitsIn t (tree.get id_cmp waits y)
+
+-- ---- the step
+
+-- the shelf stands for some history
+abbrev pub Stands : Layout → Shelf → Type 0
+Stands layout shelf = (messages : List Message) × StandsFor layout shelf (replay layout shelf.actor messages)
+
+-- what is planned, sent and written is that of the shelf with the own record
+pub record IsPrepared (layout : Layout) (shelf : Shelf) (own : Record) (prepared : Prepared) : Type 0 where
+  pub planned : IsPlanned (shard_of shelf.actor) shelf.records own shelf.waits prepared.plan
+  pub releases :
+      IsReleased layout shelf.actor (lookup shelf.records own) (changes_in prepared.plan.done.items) (cell_at shelf.cells) prepared.released
+
+-- nothing but what is learnt changes, and what the plan adds to the lists of who waits for whom fits
+pub record IsLearntWithRoom (old new : Shelf) (x : TxnId) (plan : Plan) (body : BodyParts) (share : List (Key × Bool)) (stamp : Stamp) (top : ℕ) : Type 0 where
+  pub learns : IsLearnt old (record new { waits = old.waits }) x body share (Some stamp) top
+  pub waits : (y : TxnId) → watchers new.waits y ≡ watchers old.waits y
+  pub room : AllFit plan.touched new.waits
+
+-- the records, the lists and the cells change as planned
+pub record IsCommitted (old new : Shelf) (own : Record) (plan : Plan) (writes : List (Key × Option Value)) : Type 0 where
+  pub actor : new.actor ≡ old.actor
+  pub index : new.index ≡ old.index
+  pub greatest : new.greatest ≡ old.greatest
+  pub records :
+      (y : TxnId) → record_at new.records y ≡ option_map (executed (changes_in plan.done.items) y) (lookup old.records own y)
+  pub waits : (y : TxnId) → watchers new.waits y ≡ watches_now plan.touched old.waits y
+  pub cells : (key : Key) → cell_at new.cells key ≡ applied (cell_at old.cells) writes key
+
+-- The step follows a plan over the records with its own one: it sends and writes what the plan releases, notes what it learns,
+-- and leaves the records and the lists of who waits for whom as the plan does.
+pub record IsExecuted (layout : Layout) (old new : Shelf) (own : Record) (body : BodyParts) (share : List (Key × Bool)) (stamp : Stamp) (top : ℕ) (first sent : List Message) : Type 0 where
+  pub changes : List Change
+  pub plan : IsPlan (shard_of old.actor) (lookup old.records own) changes
+  pub released : Released
+  pub releases : IsReleased layout old.actor (lookup old.records own) changes (cell_at old.cells) released
+  pub sends : sent ≡ first ++ released.sent
+  pub cells : (key : Key) → cell_at new.cells key ≡ applied (cell_at old.cells) released.writes key
+  pub learnt : Shelf
+  pub learns : IsLearnt old learnt own.id body share (Some stamp) top
+  pub actor : new.actor ≡ old.actor
+  pub index : new.index ≡ learnt.index
+  pub greatest : new.greatest ≡ learnt.greatest
+  pub records : (y : TxnId) → record_at new.records y ≡ option_map (executed changes y) (lookup old.records own y)
+  pub waiting : AreWatches (shard_of old.actor) (after_changes (lookup old.records own) changes) (watchers new.waits)

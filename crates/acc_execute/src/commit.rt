@@ -1,0 +1,60 @@
+//! What a step changes once nothing can fail any more.
+ghost use Rattle.std.specs.Prelude.{◌≡◌, cond, IsTrue, is_some};
+ghost use Rattle.std.specs.Option.{option_map};
+ghost use Rattle.acc_stamp.specs.declared.stamps.TxnId.{TxnId};
+ghost use Rattle.acc_stamp.specs.Stamp.{id_eq};
+ghost use Rattle.acc_record.specs.Shelf.{record_at};
+ghost use Rattle.acc_opening.specs.Turns.{changes_in};
+ghost use Rattle.acc_opened_laws.specs.Opened.{executed};
+ghost use Rattle.acc_execute.specs.Executed.{after_turn};
+
+use acc_opening::Turn;
+use acc_record::{Record, Records};
+use acc_stamp::Ballots;
+
+/// Puts the own record in the place of the one that is kept.
+pub(crate) fn keep(records: &mut Records, own: Record)
+    ensures { (y : TxnId) → record_at records.new y ≡ cond (id_eq own.id y) (option_map (λ there. own) (record_at records.old own.id)) (record_at records.old y) }
+{
+    let id = own.id;
+    match records.get_mut(&id) {
+        Some(there) => replace(there, own),
+        None => {}
+    }
+}
+
+fn replace(there: &mut Record, own: Record)
+    ensures { there.new ≡ own }
+{
+    *there = own;
+}
+
+/// Opens and applies what the turns say.
+pub(crate) fn take_turns(records: &mut Records, turns: &[Turn])
+    ensures { (y : TxnId) → record_at records.new y ≡ option_map (executed (changes_in turns.now) y) (record_at records.old y) }
+{
+    for turn in turns {
+        take_turn(records, *turn);
+    }
+}
+
+fn take_turn(records: &mut Records, turn: Turn)
+    ensures { (y : TxnId) → record_at records.new y ≡ cond (id_eq turn.id y) (option_map (after_turn turn) (record_at records.old turn.id)) (record_at records.old y) }
+{
+    match records.get_mut(&turn.id) {
+        Some(there) => change(there, turn),
+        None => {}
+    }
+}
+
+fn change(there: &mut Record, turn: Turn)
+    ensures { there.new ≡ after_turn turn there.old }
+{
+    if turn.opens {
+        there.opened = true;
+        there.waiters = Ballots::new(there.waiters.allocator());
+    }
+    if turn.applies {
+        there.applied = true;
+    }
+}

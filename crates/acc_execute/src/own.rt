@@ -1,0 +1,149 @@
+//! The record that a step gives its own transaction before anything is opened or applied.
+ghost use Rattle.std.specs.Prelude.{◌≡◌, drop, Some, IfOk, OnOk};
+ghost use Rattle.acc_stamp.specs.Stamp.{ballot_lt};
+ghost use Rattle.acc_stamp.specs.Rising.{ballots_with};
+ghost use Rattle.acc_record.specs.Shelf.{record_at};
+ghost use Rattle.acc_record.specs.Steps.{fresh};
+ghost use Rattle.acc_record.specs.Learning.{known_or_fresh};
+ghost use Rattle.acc_execute.specs.Owned.{with_proposed, with_decided, with_settled, with_waiter, with_outcome, is_first, IsSplit};
+
+use acc_base::{Duplicate, OutOfMemory};
+use acc_deps::{Deps, Settled};
+use acc_record::{Record, Shelf};
+use acc_stamp::{Ballot, Ballots, Stamp, TxnId};
+use acc_txn::{Body, Outcome};
+
+/// The record with which a step begins, in memory of its own: the one that is kept, or else one that knows the body alone.
+pub(crate) fn begun(shelf: &Shelf, id: TxnId, body: &Body) -> Result<Record, OutOfMemory>
+    ensures { IfOk result (λ own. own ≡ known_or_fresh (record_at shelf.now.records id) id body.now) }
+{
+    match shelf.find(id) {
+        Some(there) => copy_of(there),
+        None => fresh(id, body),
+    }
+}
+
+fn fresh(id: TxnId, body: &Body) -> Result<Record, OutOfMemory>
+    ensures { IfOk result (λ made. made ≡ fresh id body.now) }
+{
+    let alloc = body.parts().lets.allocator();
+    Ok(Record {
+        id,
+        body: body.copy()?,
+        vote: None,
+        vote_deps: Deps::new(alloc),
+        promised: Ballot::ZERO,
+        accepted: None,
+        committed: None,
+        stable: None,
+        waiters: Ballots::new(alloc),
+        opened: false,
+        outcome: None,
+        applied: false,
+    })
+}
+
+fn copy_of(there: &Record) -> Result<Record, OutOfMemory>
+    ensures { IfOk result (λ copy. copy ≡ there.now) }
+{
+    let mut copy = fresh(there.id, &there.body)?;
+    copy_proposed(&mut copy, there)?;
+    copy_decided(&mut copy, there)?;
+    Ok(copy)
+}
+
+// Takes over the vote, the promise, and what was accepted and committed.
+fn copy_proposed(copy: &mut Record, there: &Record) -> Result<(), OutOfMemory>
+    ensures { OnOk result (copy.new ≡ with_proposed there.now copy.old) }
+{
+    copy.vote = there.vote;
+    copy.promised = there.promised;
+    copy.vote_deps = there.vote_deps.copy()?;
+    copy.accepted = there.accepted.copy()?;
+    copy.committed = there.committed.copy()?;
+    Ok(())
+}
+
+// Takes over what is stable, the outcome, and how far the transaction has come.
+fn copy_decided(copy: &mut Record, there: &Record) -> Result<(), OutOfMemory>
+    ensures { OnOk result (copy.new ≡ with_decided there.now copy.old) }
+{
+    copy.opened = there.opened;
+    copy.applied = there.applied;
+    copy.stable = there.stable.copy()?;
+    copy.waiters = there.waiters.copy()?;
+    copy.outcome = there.outcome.copy()?;
+    Ok(())
+}
+
+/// Puts down what is decided, unless that is known.
+pub(crate) fn settle(own: &mut Record, t: Stamp, deps: &Deps) -> Result<(), OutOfMemory>
+    ensures { OnOk result (own.new ≡ with_settled (record { t = t; deps = deps.now }) own.old) }
+{
+    if own.stable.is_none() {
+        let deps = deps.copy()?;
+        own.stable = Some(Settled { t, deps });
+    }
+    Ok(())
+}
+
+/// Puts down the outcome, unless that is known.
+pub(crate) fn decide(own: &mut Record, outcome: &Outcome) -> Result<(), OutOfMemory>
+    ensures { OnOk result (own.new ≡ with_outcome outcome.now own.old) }
+{
+    if own.outcome.is_none() {
+        own.outcome = Some(outcome.copy()?);
+    }
+    Ok(())
+}
+
+/// Adds an attempt that waits for the cells, unless the transaction is opened.
+pub(crate) fn wait(own: &mut Record, ballot: Ballot) -> Result<(), OutOfMemory>
+    ensures { OnOk result (own.new ≡ with_waiter ballot own.old) }
+{
+    if !own.opened {
+        add_ballot(&mut own.waiters, ballot)?;
+    }
+    Ok(())
+}
+
+fn add_ballot(ballots: &mut Ballots, ballot: Ballot) -> Result<(), OutOfMemory>
+    ensures { OnOk result (ballots.new ≡ ballots_with ballot ballots.old) }
+{
+    let place = place_of(ballots.as_slice(), ballot);
+    if is_at(ballots.as_slice(), place, ballot) {
+        return Ok(());
+    }
+    ballots.insert(place, ballot)?;
+    Ok(())
+}
+
+// Whether this ballot stands at a place.
+fn is_at(ballots: &[Ballot], place: usize, ballot: Ballot) -> bool
+    ensures { result ≡ is_first ballot (drop place ballots.now) }
+{
+    match ballots.get(place) {
+        Some(there) => *there == ballot,
+        None => false,
+    }
+}
+
+fn is_below(a: Ballot, b: Ballot) -> bool
+    ensures { result ≡ ballot_lt a b }
+{
+    a < b
+}
+
+// How many ballots in front are smaller.
+fn place_of(ballots: &[Ballot], ballot: Ballot) -> usize
+    ensures { IsSplit ballot ballots.now result }
+{
+    let mut place = 0;
+    while place < ballots.len() {
+        if !is_below(ballots[place], ballot) {
+            return place;
+        }
+        place += 1;
+    }
+    place
+}

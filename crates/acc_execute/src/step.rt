@@ -1,0 +1,333 @@
+//! The steps, and what they would send.
+ghost use Rattle.std.specs.Prelude.{◌≡◌, [], List, ◌++◌, Some, is_some, IsTrue, IfOk, OnOk, OnErr};
+ghost use Rattle.acc_stamp.specs.Actor.{shard_of};
+ghost use Rattle.acc_message.specs.declared.message.Message.{Message};
+ghost use Rattle.acc_message.specs.StoreRules.{store_answer, replay};
+ghost use Rattle.acc_record.specs.Shelf.{IsSame, record_at};
+ghost use Rattle.acc_record.specs.Stands.{IsFor, StandsFor, AnswersByRules};
+ghost use Rattle.acc_record.specs.Learning.{known_or_fresh};
+ghost use Rattle.acc_opening.specs.Known.{IsKnown};
+ghost use Rattle.acc_execute.specs.Owned.{is_stable, is_apply, with_settled, with_waiter, with_outcome};
+ghost use Rattle.acc_execute.specs.Executed.{AllFit, Stands, IsPrepared, IsLearntWithRoom, IsCommitted, IsExecuted};
+
+use crate::commit::{keep, take_turns};
+use crate::own::{begun, decide, settle, wait};
+use crate::present::at_once;
+use crate::waits::{change_lists, make_room};
+use acc_base::OutOfMemory;
+use acc_deps::Deps;
+use acc_message::{Message, Messages, top};
+use acc_opening::{Known, Plan, planned};
+use acc_reads::{Released, release};
+use acc_record::{Record, Shelf};
+use acc_stamp::{Ballot, Stamp, TxnId};
+use acc_topology::Topology;
+use acc_txn::{Body, Outcome};
+use acc_value::{CellList, Footprint};
+
+/// What a step does, with all memory that it takes.
+#[derive(Debug, Drop)]
+pub(crate) struct Prepared {
+    /// What is opened and applied, and who waits for whom then.
+    pub plan: Plan,
+    /// What this sends and writes.
+    pub released: Released,
+}
+
+/// What a step learns of its transaction.
+#[derive(Clone, Copy, Debug)]
+pub(crate) struct News<'a> {
+    /// The body that the message brings.
+    pub body: &'a Body,
+    /// The keys of the shard that the transaction uses.
+    pub share: &'a Footprint,
+    /// Its timestamp.
+    pub t: Stamp,
+    /// The greatest `h` of the message.
+    pub top: u64,
+}
+
+/// The step of a store that takes a Stable: what it sends, at once and to those whose wait is over. Without memory for it the
+/// shelf is as before.
+pub fn on_stable(
+    shelf: &mut Shelf,
+    topology: &Topology,
+    m: &Message,
+) -> Result<Messages, OutOfMemory>
+    requires store { IsFor shelf.old.actor m.now }
+    requires stable { IsTrue (is_stable m.now) }
+    requires stands { Stands topology.now shelf.old }
+    ensures ok { IfOk result (λ sent. AnswersByRules topology.now shelf.old shelf.new m.now sent) }
+    ensures err { OnErr result (IsSame shelf.old shelf.new) }
+{
+    shelf.cells.flush()?;
+    take_stable(shelf, topology, m)
+}
+
+/// The step of a store that takes an Apply: what it sends to those whose wait is over. Without memory for it the shelf is as
+/// before.
+pub fn on_apply(
+    shelf: &mut Shelf,
+    topology: &Topology,
+    m: &Message,
+) -> Result<Messages, OutOfMemory>
+    requires store { IsFor shelf.old.actor m.now }
+    requires apply { IsTrue (is_apply m.now) }
+    requires stands { Stands topology.now shelf.old }
+    ensures ok { IfOk result (λ sent. AnswersByRules topology.now shelf.old shelf.new m.now sent) }
+    ensures err { OnErr result (IsSame shelf.old shelf.new) }
+{
+    shelf.cells.flush()?;
+    take_apply(shelf, topology, m)
+}
+
+fn take_stable(shelf: &mut Shelf, topology: &Topology, m: &Message) -> Result<Messages, OutOfMemory>
+    requires stable { IsTrue (is_stable m.now) }
+    requires stands { Stands topology.now shelf.old }
+    requires written { shelf.old.cells.pending ≡ [] }
+    ensures ok { IfOk result (λ sent. AnswersByRules topology.now shelf.old shelf.new m.now sent) }
+    ensures err { OnErr result (IsSame shelf.old shelf.new) }
+{
+    match m {
+        Message::Stable {
+            id,
+            ballot,
+            body,
+            t,
+            deps,
+            ..
+        } => {
+            let first = at_once(shelf, topology, *id, *ballot)?;
+            let own = own_of_stable(shelf, *id, *ballot, body, *t, deps)?;
+            let share = shelf.share(topology, *id, body)?;
+            let news = News {
+                body,
+                share: &share,
+                t: *t,
+                top: top(m),
+            };
+            execute(shelf, topology, own, first, &news)
+        }
+        _ => unreachable!(),
+    }
+}
+
+fn take_apply(shelf: &mut Shelf, topology: &Topology, m: &Message) -> Result<Messages, OutOfMemory>
+    requires apply { IsTrue (is_apply m.now) }
+    requires stands { Stands topology.now shelf.old }
+    requires written { shelf.old.cells.pending ≡ [] }
+    ensures ok { IfOk result (λ sent. AnswersByRules topology.now shelf.old shelf.new m.now sent) }
+    ensures err { OnErr result (IsSame shelf.old shelf.new) }
+{
+    match m {
+        Message::Apply {
+            id,
+            body,
+            t,
+            deps,
+            outcome,
+            ..
+        } => {
+            let own = own_of_apply(shelf, *id, body, *t, deps, outcome)?;
+            let share = shelf.share(topology, *id, body)?;
+            let first = Messages::new(own.waiters.allocator());
+            let news = News {
+                body,
+                share: &share,
+                t: *t,
+                top: top(m),
+            };
+            execute(shelf, topology, own, first, &news)
+        }
+        _ => unreachable!(),
+    }
+}
+
+/// What a store sends when it takes a Stable, without the step.
+pub fn answer_stable(
+    shelf: &Shelf,
+    topology: &Topology,
+    m: &Message,
+) -> Result<Messages, OutOfMemory>
+    requires stable { IsTrue (is_stable m.now) }
+    requires stands { Stands topology.now shelf.now }
+    ensures { IfOk result (λ sent. (messages : List Message) → StandsFor topology.now shelf.now (replay topology.now shelf.now.actor messages) → sent ≡ store_answer topology.now shelf.now.actor (replay topology.now shelf.now.actor messages) m.now) }
+{
+    match m {
+        Message::Stable {
+            id,
+            ballot,
+            body,
+            t,
+            deps,
+            ..
+        } => {
+            let first = at_once(shelf, topology, *id, *ballot)?;
+            let own = own_of_stable(shelf, *id, *ballot, body, *t, deps)?;
+            let prepared = prepare(shelf, topology, &own)?;
+            join(first, sent_of(prepared))
+        }
+        _ => unreachable!(),
+    }
+}
+
+/// What a store sends when it takes an Apply, without the step.
+pub fn answer_apply(
+    shelf: &Shelf,
+    topology: &Topology,
+    m: &Message,
+) -> Result<Messages, OutOfMemory>
+    requires apply { IsTrue (is_apply m.now) }
+    requires stands { Stands topology.now shelf.now }
+    ensures { IfOk result (λ sent. (messages : List Message) → StandsFor topology.now shelf.now (replay topology.now shelf.now.actor messages) → sent ≡ store_answer topology.now shelf.now.actor (replay topology.now shelf.now.actor messages) m.now) }
+{
+    match m {
+        Message::Apply {
+            id,
+            body,
+            t,
+            deps,
+            outcome,
+            ..
+        } => {
+            let own = own_of_apply(shelf, *id, body, *t, deps, outcome)?;
+            let prepared = prepare(shelf, topology, &own)?;
+            Ok(sent_of(prepared))
+        }
+        _ => unreachable!(),
+    }
+}
+
+fn own_of_stable(
+    shelf: &Shelf,
+    id: TxnId,
+    ballot: Ballot,
+    body: &Body,
+    t: Stamp,
+    deps: &Deps,
+) -> Result<Record, OutOfMemory>
+    ensures { IfOk result (λ own. own ≡ with_waiter ballot (with_settled (record { t = t; deps = deps.now }) (known_or_fresh (record_at shelf.now.records id) id body.now))) }
+{
+    let mut own = begun(shelf, id, body)?;
+    settle(&mut own, t, deps)?;
+    wait(&mut own, ballot)?;
+    Ok(own)
+}
+
+fn own_of_apply(
+    shelf: &Shelf,
+    id: TxnId,
+    body: &Body,
+    t: Stamp,
+    deps: &Deps,
+    outcome: &Outcome,
+) -> Result<Record, OutOfMemory>
+    ensures { IfOk result (λ own. own ≡ with_outcome outcome.now (with_settled (record { t = t; deps = deps.now }) (known_or_fresh (record_at shelf.now.records id) id body.now))) }
+{
+    let mut own = begun(shelf, id, body)?;
+    settle(&mut own, t, deps)?;
+    decide(&mut own, outcome)?;
+    Ok(own)
+}
+
+// Plans the step of a transaction that has this record now, and what it sends and writes.
+fn prepare(shelf: &Shelf, topology: &Topology, own: &Record) -> Result<Prepared, OutOfMemory>
+    requires { IsKnown (shard_of shelf.now.actor) shelf.now.records own.now shelf.now.waits }
+    ensures { IfOk result (IsPrepared topology.now shelf.now own.now) }
+{
+    let known = Known {
+        records: &shelf.records,
+        own,
+        waits: &shelf.waits,
+        shard: shelf.actor.shard(),
+    };
+    let alloc = own.waiters.allocator();
+    let plan = planned(alloc, &known)?;
+    let released = release(
+        alloc,
+        topology,
+        shelf.actor,
+        &shelf.cells,
+        &known,
+        &plan.done,
+    )?;
+    Ok(Prepared { plan, released })
+}
+
+// What a step sends, for itself.
+fn sent_of(prepared: Prepared) -> Messages
+    ensures { result ≡ prepared.released.sent }
+{
+    let Prepared {
+        plan: _plan,
+        released,
+    } = prepared;
+    let Released {
+        sent,
+        writes: _writes,
+    } = released;
+    sent
+}
+
+fn join(first: Messages, rest: Messages) -> Result<Messages, OutOfMemory>
+    ensures { IfOk result (λ all. all ≡ first ++ rest) }
+{
+    let mut all = first.into_vec();
+    let mut rest = rest.into_vec();
+    all.append(&mut rest)?;
+    Ok(Messages::from_vec(all))
+}
+
+// Takes the step of a transaction that has this record now, where these messages come first.
+fn execute(
+    shelf: &mut Shelf,
+    topology: &Topology,
+    own: Record,
+    first: Messages,
+    news: &News<'_>,
+) -> Result<Messages, OutOfMemory>
+    requires known { IsKnown (shard_of shelf.old.actor) shelf.old.records own shelf.old.waits }
+    requires written { shelf.old.cells.pending ≡ [] }
+    ensures ok { IfOk result (IsExecuted topology.now shelf.old shelf.new own news.now.body.now news.now.share.now news.now.t news.now.top first) }
+    ensures err { OnErr result (IsSame shelf.old shelf.new) }
+{
+    let prepared = prepare(shelf, topology, &own)?;
+    let Prepared { plan, released } = prepared;
+    let Released { sent, writes } = released;
+    let all = join(first, sent)?;
+    learn_with_room(shelf, own.id, &plan, news)?;
+    commit(shelf, own, plan, writes);
+    Ok(all)
+}
+
+// Takes the last memory that the step needs.
+fn learn_with_room(
+    shelf: &mut Shelf,
+    id: TxnId,
+    plan: &Plan,
+    news: &News<'_>,
+) -> Result<(), OutOfMemory>
+    ensures ok { OnOk result (IsLearntWithRoom shelf.old shelf.new id plan.now news.now.body.now news.now.share.now news.now.t news.now.top) }
+    ensures err { OnErr result (IsSame shelf.old shelf.new) }
+{
+    make_room(&mut shelf.waits, &plan.touched)?;
+    shelf.learn(id, news.body, news.share, Some(news.t), news.top)
+}
+
+// Changes the shelf as planned. Takes no memory.
+fn commit(shelf: &mut Shelf, own: Record, plan: Plan, writes: CellList)
+    requires known { IsTrue (is_some (record_at shelf.old.records own.id)) }
+    requires room { AllFit plan.touched shelf.old.waits }
+    requires written { shelf.old.cells.pending ≡ [] }
+    ensures { IsCommitted shelf.old shelf.new own plan writes }
+{
+    let Plan {
+        done,
+        queue: _queue,
+        touched,
+    } = plan;
+    keep(&mut shelf.records, own);
+    take_turns(&mut shelf.records, &done);
+    change_lists(&mut shelf.waits, touched);
+    shelf.cells.write(writes);
+}
