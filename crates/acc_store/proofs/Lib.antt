@@ -1,0 +1,5 @@
+pub mod Writers
+pub mod Applied
+pub mod Heights
+pub mod Refused
+pub mod Weighed

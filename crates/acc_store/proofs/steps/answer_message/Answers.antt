@@ -1,0 +1,6 @@
+use Rattle.std.proofs.Common.{[], ◌∷◌, ◌++◌, ap, ◌∙◌}
+use Rattle.acc_store.proofs.steps.answer_message.Goals as goal
+
+pub returns : goal.returns
+returns c messages stands =
+    c.in_ok-push.ensures.ok ∙ ap (λ list. list ++ c.in_ok-answer.answer ∷ []) c.new-sent.ensures ∙ c.in_ok-answer.ensures messages stands

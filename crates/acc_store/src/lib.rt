@@ -1,0 +1,10 @@
+//! One store: its steps, what a step would send, and what it tells of a key without a message.
+#![tactic(auto)]
+
+pub mod laws;
+mod queries;
+mod quiet;
+mod steps;
+mod store;
+
+pub use store::Store;

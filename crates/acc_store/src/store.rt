@@ -1,0 +1,105 @@
+//! A store.
+ghost use Rattle.std.specs.Prelude.{◌≡◌, ◌+◌, ◌<◌, ◌≤◌, ◌^◌, max, [], List, IfOk, OnOk, OnErr};
+ghost use Rattle.std.specs.Option.{option_map, option_copied};
+ghost use Rattle.acc_stamp.specs.Actor.{shard_of};
+ghost use Rattle.acc_stamp.specs.Rising.{IsRising};
+ghost use Rattle.acc_topology.specs.Layout.{Layout};
+ghost use Rattle.acc_message.specs.declared.message.Message.{Message};
+ghost use Rattle.acc_message.specs.Fields.{top_of};
+ghost use Rattle.acc_message.specs.StoreRules.{store_answer, replay};
+ghost use Rattle.acc_message_code.specs.Weight.{weight_of_all};
+ghost use Rattle.acc_record.specs.Stands.{IsFor};
+
+use crate::queries::are_applied;
+use crate::steps::{answer_message, on_message};
+use acc_base::OutOfMemory;
+use acc_message::{Message, Messages};
+use acc_message_code::messages_length;
+use acc_record::Shelf;
+use acc_stamp::{Actor, Ids};
+use acc_topology::Topology;
+use acc_value::{Key, Value};
+use std::alloc::Global;
+
+/// One store. Its calls are told by the messages that it took: whatever messages it stands for, it sends and tells what the
+/// rules give after these.
+#[derive(Debug, Drop)]
+pub struct Store {
+    shelf: Shelf,
+}
+
+impl Store {
+    ghost use Rattle.acc_store.specs.Queries.{known_writers, cell_if_applied};
+    ghost use Rattle.acc_store.specs.Stands.{actor_of, greatest_in, StandsFor, IsStanding, Answers, IsAsBefore};
+    ghost use Rattle.acc_store.specs.Weighing.{SendsShort};
+
+    /// A store that has taken no message. It takes no memory yet.
+    pub fn new(alloc: Global, actor: Actor) -> Store
+        ensures actor { actor_of result ≡ actor }
+        ensures stands { (layout : Layout) → StandsFor layout result [] }
+    {
+        Store {
+            shelf: Shelf::new(alloc, actor),
+        }
+    }
+
+    /// The store's number.
+    pub fn actor(&self) -> Actor
+        ensures { result ≡ actor_of self.now }
+    {
+        self.shelf.actor
+    }
+
+    /// The greatest `h` of the messages that it took and of the stamps that it drew. A store takes a message only as long as
+    /// this is below 2^62.
+    pub fn greatest(&self) -> u64
+        ensures { result ≡ greatest_in self.now }
+    {
+        self.shelf.greatest
+    }
+
+    /// Takes a message: what it sends. Without memory for it the store is as before.
+    pub fn step(&mut self, topology: &Topology, m: &Message) -> Result<Messages, OutOfMemory>
+        requires store { IsFor (actor_of self.old) m.now }
+        requires top { top_of m.now < 2 ^ 62 }
+        requires greatest { greatest_in self.old < 2 ^ 62 }
+        requires stands { IsStanding topology.now self.old }
+        ensures ok { IfOk result (λ sent. Answers topology.now self.old self.new m.now sent) }
+        // What it draws is at most one above all that it met.
+        ensures low { OnOk result (greatest_in self.new ≤ 1 + max (top_of m.now) (greatest_in self.old)) }
+        ensures err { OnErr result (IsAsBefore self.old self.new) }
+    {
+        on_message(&mut self.shelf, topology, m)
+    }
+
+    /// How many bytes of encoded messages the store would send if it took this message now.
+    pub fn weigh(&self, topology: &Topology, m: &Message) -> Result<u64, OutOfMemory>
+        requires store { IsFor (actor_of self.now) m.now }
+        requires top { top_of m.now < 2 ^ 62 }
+        requires greatest { greatest_in self.now < 2 ^ 62 }
+        requires short { SendsShort topology.now self.now m.now }
+        ensures { IfOk result (λ weight. (messages : List Message) → StandsFor topology.now self.now (replay topology.now (actor_of self.now) messages) → weight ≡ weight_of_all (store_answer topology.now (actor_of self.now) (replay topology.now (actor_of self.now) messages) m.now)) }
+    {
+        let sent = answer_message(&self.shelf, topology, m)?;
+        Ok(messages_length(sent.as_slice()))
+    }
+
+    /// The transactions that the store knows and that write a key of its shard, rising.
+    pub fn known_writers(&self, key: &Key) -> Result<Ids, OutOfMemory>
+        ensures ids { IfOk result (λ ids. (layout : Layout) (messages : List Message) → StandsFor layout self.now (replay layout (actor_of self.now) messages) → ids ≡ known_writers layout (shard_of (actor_of self.now)) (replay layout (actor_of self.now) messages) key.now) }
+        ensures rises { IfOk result IsRising }
+    {
+        self.shelf.index.writers(key)
+    }
+
+    /// The cell of a key, where each of these transactions is applied here. `None` exactly where one of them isn't. Takes no
+    /// memory.
+    pub fn read_if_applied(&self, key: &Key, ids: &Ids) -> Option<Option<&Value>>
+        ensures { (layout : Layout) (messages : List Message) → StandsFor layout self.now (replay layout (actor_of self.now) messages) → option_map option_copied result ≡ cell_if_applied layout (shard_of (actor_of self.now)) (replay layout (actor_of self.now) messages) ids.now key.now }
+    {
+        if !are_applied(&self.shelf, ids.as_slice()) {
+            return None;
+        }
+        Some(self.shelf.cells.get(key))
+    }
+}
