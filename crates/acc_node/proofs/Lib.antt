@@ -1,0 +1,11 @@
+mod Keys
+mod Standing
+mod Drawing
+mod Slowing
+mod Noting
+mod Hearing
+mod Taking
+mod Refusing
+mod ShortStores
+mod Sending
+mod Weighing

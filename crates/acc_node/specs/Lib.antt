@@ -1,0 +1,4 @@
+pub mod Notes
+pub mod Questions
+pub mod Stands
+pub mod Weighing
