@@ -1,0 +1,4 @@
+pub mod Lists
+pub mod Raised
+pub mod Entered
+pub mod Stopped

@@ -1,0 +1,18 @@
+-- What is known of the transaction with a number: its id, once it is begun.
+use Rattle.std.specs.Prelude.{Bool, true, false, Option, None, Some}
+use Rattle.acc_base.specs.Faults.{or_else}
+use Rattle.acc_stamp.specs.declared.stamps.TxnId.{TxnId}
+
+abbrev pub begun_as : Bool → Option TxnId → Option (Option TxnId)
+begun_as true id = Some id
+begun_as false id = None
+
+-- the first id that a begin drew stays
+abbrev pub begun_after : Option TxnId → Option (Option TxnId) → Option TxnId
+begun_after id None = id
+begun_after id (Some first) = or_else first id
+
+-- behind an item that begins it, or doesn't
+abbrev pub begun_with : Bool → Option TxnId → Option (Option TxnId) → Option (Option TxnId)
+begun_with true id before = Some (begun_after id before)
+begun_with false id before = before

@@ -1,0 +1,127 @@
+//! What an item changes in what waits.
+ghost use Rattle.std.specs.Prelude.{◌≡◌, ◌<◌, ◌≤◌, ◌++◌, length, not, ◌&&◌, ◌||◌, OnOk};
+ghost use Rattle.acc_stamp.specs.declared.actors.Actor.{Actor as AnActor};
+ghost use Rattle.acc_message.specs.Items.{same_actor, sent_in};
+ghost use Rattle.acc_message.specs.Run.{down_after};
+ghost use Rattle.acc_waiting.specs.Standing.{is_down_at};
+ghost use Rattle.acc_history.specs.Entering.{IsAsBefore, AreCovered, IsCovered, without_event, without_item, postings_of, postings_in};
+
+use acc_base::OutOfMemory;
+use acc_message::{Entry, Event, Item, Message};
+use acc_stamp::Actor;
+use acc_waiting::Waiting;
+
+/// The messages that an item sent, those of a lost entry too.
+pub(crate) fn messages_of(item: &Item) -> &[Message]
+    ensures { result.now ≡ sent_in item.now }
+{
+    match item {
+        Item::Step(entry) => entry.emitted.out.as_slice(),
+        Item::Skipped { .. } | Item::Down { .. } => &[],
+    }
+}
+
+// Makes room for the actors to which messages go.
+fn cover_receivers(waiting: &mut Waiting, messages: &[Message]) -> Result<(), OutOfMemory>
+    ensures same { IsAsBefore waiting.old waiting.new }
+    ensures covered { OnOk result (AreCovered (length waiting.new.downs) messages.now) }
+{
+    for index in 0..messages.len() {
+        waiting.cover(messages[index].to().0)?;
+    }
+    Ok(())
+}
+
+// Makes room for who stepped and for the actors to which its messages go.
+fn cover_entry(waiting: &mut Waiting, entry: &Entry) -> Result<(), OutOfMemory>
+    ensures same { IsAsBefore waiting.old waiting.new }
+    ensures actor { OnOk result (entry.now.actor.0 < length waiting.new.downs) }
+    ensures receivers { OnOk result (AreCovered (length waiting.new.downs) entry.now.emitted.out) }
+{
+    waiting.cover(entry.actor.0)?;
+    cover_receivers(waiting, entry.emitted.out.as_slice())
+}
+
+/// Makes room for the actors that an item names. In any case nothing else changes.
+pub(crate) fn cover_all(waiting: &mut Waiting, item: &Item) -> Result<(), OutOfMemory>
+    ensures same { IsAsBefore waiting.old waiting.new }
+    ensures covered { OnOk result (IsCovered (length waiting.new.downs) item.now) }
+{
+    match item {
+        Item::Step(entry) => cover_entry(waiting, entry),
+        Item::Skipped { .. } => Ok(()),
+        Item::Down { actor } => waiting.cover(actor.0),
+    }
+}
+
+// Notes the messages that the item at a place sent.
+fn send(waiting: &mut Waiting, messages: &[Message], place: u64, is_lost: bool)
+    requires room { length messages.now ≤ waiting.old.room }
+    requires covered { AreCovered (length waiting.old.downs) messages.now }
+    ensures sent { waiting.new.sent ≡ waiting.old.sent ++ postings_of place 0 is_lost messages.now }
+    ensures downs { waiting.new.downs ≡ waiting.old.downs }
+{
+    for index in 0..messages.len() {
+        waiting.add(messages[index].to().0, place, index as u64, is_lost);
+    }
+}
+
+// Closes the message that an event takes, if it was sent.
+fn take(waiting: &mut Waiting, event: Event)
+    ensures sent { waiting.new.sent ≡ without_event event waiting.old.sent }
+    ensures rest { (waiting.new.room ≡ waiting.old.room) × (waiting.new.downs ≡ waiting.old.downs) }
+{
+    let Event::Message { number } = event else {
+        return;
+    };
+    if number < waiting.len() {
+        waiting.close(number);
+    }
+}
+
+// Behind an entry that isn't lost its actor is up.
+fn come_up(waiting: &mut Waiting, actor: Actor, is_lost: bool)
+    requires { actor.0 < length waiting.old.downs }
+    ensures rest { (waiting.new.sent ≡ waiting.old.sent) × (waiting.new.room ≡ waiting.old.room) × (length waiting.new.downs ≡ length waiting.old.downs) }
+    ensures downs { (a : AnActor) → is_down_at waiting.new.downs a.0 ≡ (is_down_at waiting.old.downs a.0 && (not (same_actor actor a) || is_lost)) }
+{
+    if !is_lost && waiting.is_down(actor.0) {
+        waiting.set_down(actor.0, false);
+    }
+}
+
+// An actor goes down.
+fn go_down(waiting: &mut Waiting, actor: Actor)
+    requires { actor.0 < length waiting.old.downs }
+    ensures sent { waiting.new.sent ≡ waiting.old.sent }
+    ensures downs { (a : AnActor) → is_down_at waiting.new.downs a.0 ≡ (same_actor actor a || is_down_at waiting.old.downs a.0) }
+{
+    waiting.set_down(actor.0, true);
+}
+
+// Notes what an entry took, who is up behind it, and what it sent.
+fn step(waiting: &mut Waiting, entry: &Entry, place: u64)
+    requires room { length entry.now.emitted.out ≤ waiting.old.room }
+    requires actor { entry.now.actor.0 < length waiting.old.downs }
+    requires receivers { AreCovered (length waiting.old.downs) entry.now.emitted.out }
+    ensures sent { waiting.new.sent ≡ without_event entry.now.event waiting.old.sent ++ postings_of place 0 entry.now.lost entry.now.emitted.out }
+    ensures downs { (a : AnActor) → is_down_at waiting.new.downs a.0 ≡ (is_down_at waiting.old.downs a.0 && (not (same_actor entry.now.actor a) || entry.now.lost)) }
+{
+    take(waiting, entry.event);
+    come_up(waiting, entry.actor, entry.lost);
+    send(waiting, entry.emitted.out.as_slice(), place, entry.lost);
+}
+
+/// Notes what the item at a place took, who goes down or comes up by it, and what it sent.
+pub(crate) fn enter(waiting: &mut Waiting, item: &Item, place: u64)
+    requires room { length (sent_in item.now) ≤ waiting.old.room }
+    requires covered { IsCovered (length waiting.old.downs) item.now }
+    ensures sent { waiting.new.sent ≡ without_item item.now waiting.old.sent ++ postings_in place item.now }
+    ensures downs { (a : AnActor) → is_down_at waiting.new.downs a.0 ≡ down_after a item.now (is_down_at waiting.old.downs a.0) }
+{
+    match item {
+        Item::Step(entry) => step(waiting, entry, place),
+        Item::Skipped { .. } => {}
+        Item::Down { actor } => go_down(waiting, *actor),
+    }
+}

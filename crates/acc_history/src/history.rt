@@ -1,0 +1,180 @@
+//! The past of a cluster.
+ghost use Rattle.std.specs.Prelude.{◌≡◌, ℕ, ◌<◌, ◌≤◌, [], length, map, reverse, IfOk, OnOk, OnErr, MatchOption};
+ghost use Rattle.std.specs.Option.{option_copied};
+ghost use Rattle.std.specs.Arc.{arc_value};
+ghost use Rattle.std.specs.BTreeMap.{get};
+ghost use Rattle.std.specs.Ordering.{nat_cmp};
+ghost use Rattle.acc_message.specs.Items.{sent_in, sent_of, message_at, begins_txn, id_begun, is_begun, id_of_txn};
+ghost use Rattle.acc_message.specs.Run.{is_down};
+ghost use Rattle.acc_message_code.specs.Weight.{weight_of, weight_of_items};
+ghost use Rattle.acc_follow.specs.Situations.{Situation, opened, whole, NothingWaits, IsOldestWaiting};
+ghost use Rattle.acc_follow.specs.Moves.{with_item};
+ghost use Rattle.acc_history.specs.Begun.{begun_with};
+ghost use Rattle.acc_history.specs.Stands.{StandsFor, IsWeighed, TakesSent, with_dropped};
+ghost use Rattle.acc_history.specs.Entering.{IsAsBefore, IsCovered};
+
+use crate::begun::{Begun, note_begin};
+use crate::entering::{cover_all, enter, messages_of};
+use acc_base::OutOfMemory;
+use acc_message::{Item, Items, Message};
+use acc_stamp::{Actor, TxnId};
+use acc_waiting::Waiting;
+use std::alloc::Global;
+use std::collections::BTreeMap;
+use std::sync::Arc;
+
+/// The items of a cluster, in the order in which they were entered, and which messages were dropped. A message stands in the
+/// item that sent it, and nowhere else. Messages are numbered from 0.
+#[derive(Debug, Drop)]
+pub struct History {
+    items: Vec<Arc<Item>>,
+    waiting: Waiting,
+    begun: Begun,
+    weight: u64,
+}
+
+// Makes room for what an item changes, and notes what it begins. Without memory for it all else is as before.
+fn prepare(waiting: &mut Waiting, begun: &mut Begun, item: &Item) -> Result<(), OutOfMemory>
+    ensures same { IsAsBefore waiting.old waiting.new }
+    ensures room { OnOk result (length (sent_in item.now) ≤ waiting.new.room) }
+    ensures covered { OnOk result (IsCovered (length waiting.new.downs) item.now) }
+    ensures begun { OnOk result ((number : ℕ) → get nat_cmp begun.new number ≡ begun_with (begins_txn number item.now) (id_begun number item.now) (get nat_cmp begun.old number)) }
+    ensures err { OnErr result ((number : ℕ) → get nat_cmp begun.new number ≡ get nat_cmp begun.old number) }
+{
+    cover_all(waiting, item)?;
+    let sent = messages_of(item).len() as u64;
+    waiting.reserve(sent)?;
+    if note_begin(begun, item).is_err() {
+        waiting.release(sent);
+        return Err(OutOfMemory);
+    }
+    Ok(())
+}
+
+impl History {
+    /// The past of a cluster that has done nothing.
+    pub fn new(alloc: Global) -> Result<History, OutOfMemory>
+        ensures stands { IfOk result (λ history. StandsFor history (opened [])) }
+        ensures weighed { IfOk result (λ history. IsWeighed history (opened [])) }
+    {
+        Ok(History {
+            items: Vec::new(alloc),
+            waiting: Waiting::new(alloc)?,
+            begun: BTreeMap::new(alloc),
+            weight: 0,
+        })
+    }
+
+    /// The items.
+    pub fn items(&self) -> &[Arc<Item>]
+        ensures { (s : Situation) → StandsFor self.now s → map arc_value result.now ≡ reverse s.own }
+    {
+        self.items.as_slice()
+    }
+
+    /// The items, in their own memory.
+    pub fn into_items(self) -> Items
+        ensures { (s : Situation) → StandsFor self s → result ≡ reverse s.own }
+    {
+        let History {
+            items,
+            waiting: _,
+            begun: _,
+            weight: _,
+        } = self;
+        Items::from_vec(items)
+    }
+
+    /// How many items there are.
+    pub fn len(&self) -> usize
+        ensures { (s : Situation) → StandsFor self.now s → result ≡ length s.own }
+    {
+        self.items.len()
+    }
+
+    /// How many messages were sent, those of lost entries too.
+    pub fn sent(&self) -> u64
+        ensures { (s : Situation) → StandsFor self.now s → result ≡ length (sent_of s.own) }
+    {
+        self.waiting.len()
+    }
+
+    /// The bytes of all messages, as they were given with their items.
+    pub fn weight(&self) -> u64
+        ensures { (s : Situation) → IsWeighed self.now s → result ≡ weight_of_items s.own }
+    {
+        self.weight
+    }
+
+    /// The message with this number, if so many were sent.
+    pub fn message(&self, number: u64) -> Option<&Message>
+        ensures { (s : Situation) → StandsFor self.now s → option_copied result ≡ message_at s.own number }
+    {
+        if number >= self.waiting.len() {
+            return None;
+        }
+        let posting = self.waiting.posting(number);
+        let item = self.items.get(posting.place as usize)?;
+        messages_of(&**item).get(posting.index as usize)
+    }
+
+    /// Whether the transaction with this number was begun.
+    pub fn is_begun(&self, txn: u32) -> bool
+        ensures { (s : Situation) → StandsFor self.now s → result ≡ is_begun (whole s) txn }
+    {
+        self.begun.contains_key(&txn)
+    }
+
+    /// The id that the begin of the transaction with this number drew.
+    pub fn id_of(&self, txn: u32) -> Option<TxnId>
+        ensures { (s : Situation) → StandsFor self.now s → result ≡ id_of_txn (whole s) txn }
+    {
+        match self.begun.get(&txn) {
+            Some(id) => *id,
+            None => None,
+        }
+    }
+
+    /// Whether an actor is down.
+    pub fn is_down(&self, actor: Actor) -> bool
+        ensures { (s : Situation) → StandsFor self.now s → result ≡ is_down actor (whole s) }
+    {
+        self.waiting.is_down(actor.0)
+    }
+
+    /// The oldest message that waits: it was neither taken, dropped nor lost, and the actor that it goes to is up.
+    pub fn oldest_waiting(&self) -> Option<u64>
+        ensures { (s : Situation) → StandsFor self.now s → MatchOption result (NothingWaits s) (IsOldestWaiting s) }
+    {
+        self.waiting.oldest()
+    }
+
+    /// Drops the message with this number, if so many were sent: it waits no more, and can still be taken.
+    pub fn drop_message(&mut self, number: u64)
+        ensures stands { (s : Situation) → StandsFor self.old s → number < length (sent_of s.own) → StandsFor self.new (with_dropped number s) }
+        ensures weighed { (s : Situation) → IsWeighed self.old s → IsWeighed self.new (with_dropped number s) }
+    {
+        if number < self.waiting.len() {
+            self.waiting.close(number);
+        }
+    }
+
+    /// Enters an item, whose messages have so many bytes. A message that it takes was sent before. All memory is taken first:
+    /// without it, and where the bytes of all messages pass 64 bits, the past is as before.
+    pub fn add(&mut self, item: Item, weight: u64) -> Result<(), OutOfMemory>
+        ensures stands { OnOk result ((s : Situation) → StandsFor self.old s → TakesSent s item → StandsFor self.new (with_item item s)) }
+        ensures weighed { OnOk result ((s : Situation) → IsWeighed self.old s → weight ≡ weight_of item → IsWeighed self.new (with_item item s)) }
+        ensures still_stands { OnErr result ((s : Situation) → StandsFor self.old s → StandsFor self.new s) }
+        ensures still_weighed { OnErr result ((s : Situation) → IsWeighed self.old s → IsWeighed self.new s) }
+    {
+        let alloc = *self.items.allocator();
+        let weight = self.weight.checked_add(weight).ok_or(OutOfMemory)?;
+        let shared = Arc::new(alloc, item)?;
+        self.items.reserve(1)?;
+        prepare(&mut self.waiting, &mut self.begun, &*shared)?;
+        enter(&mut self.waiting, &*shared, self.items.len() as u64);
+        self.weight = weight;
+        self.items.push_reserved(shared);
+        Ok(())
+    }
+}
