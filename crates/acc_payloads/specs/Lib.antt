@@ -1,0 +1,8 @@
+pub mod Spelling
+pub mod Reading
+pub mod Journals
+pub mod Node
+pub mod Texts
+pub mod Store
+pub mod Items
+pub mod Acts
