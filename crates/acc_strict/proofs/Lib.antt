@@ -1,0 +1,4 @@
+pub mod OneStrictRun
+pub mod Answering
+pub mod Unarmed
+mod Counting
