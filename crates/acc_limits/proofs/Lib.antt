@@ -1,0 +1,6 @@
+mod Beginnings
+mod Reached
+mod InLine
+mod Ended
+mod Made
+mod StrictInLine
