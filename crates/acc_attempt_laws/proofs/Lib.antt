@@ -1,0 +1,4 @@
+mod Seats
+mod Asked
+mod Goings
+mod TellsAttempts
