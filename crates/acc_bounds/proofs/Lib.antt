@@ -1,0 +1,16 @@
+pub mod Bounded
+pub mod Unions
+pub mod Outcomes
+pub mod Cells
+pub mod StoreBounds
+pub mod Addresses
+pub mod Clocks
+pub mod NodeBounds
+pub mod Begun
+pub mod RunBounds
+pub mod Stages
+pub mod ShortMessages
+pub mod Everywhere
+pub mod ByteBounds
+pub mod StoreCounts
+pub mod Sendable

@@ -1,0 +1,4 @@
+pub mod Next
+pub mod Heights
+pub mod Sends
+pub mod Calls
