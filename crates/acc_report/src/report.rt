@@ -1,7 +1,8 @@
 //! The text of a report.
-ghost use Rattle.std.specs.Prelude.{◌≡◌, ◌++◌, reverse, IfOk, OnOk};
+ghost use Rattle.std.specs.Prelude.{◌≡◌, ◌+◌, [], ◌∷◌, ◌++◌, length, reverse, IfOk, OnOk};
+ghost use Rattle.acc_message.specs.Items.{notes_of};
 ghost use Rattle.acc_report.specs.Numbers.{name_in};
-ghost use Rattle.acc_report.specs.Report.{name_at, lines_in, lines_report, summary_report, report_text};
+ghost use Rattle.acc_report.specs.Report.{name_at, last_line, lines_in, lines_from, lines_report, summary_report, report_text};
 ghost use Rattle.acc_report_line.specs.Texts.{lines_text};
 
 use crate::names::{Directory, numbers_of};
@@ -12,6 +13,7 @@ use acc_base::{Bytes, OutOfMemory};
 use acc_message::{Item, Items, Roll};
 use acc_report_line::Names;
 use acc_schedule::Print;
+use std::alloc::Global;
 
 /// The report of items: in lines those of each item, and in summary how many decisions each path made; then the last line. A
 /// transaction is called by the name of the number that the roll gives its id, or else the first begin of it among the items,
@@ -31,12 +33,44 @@ fn text_in_lines(items: &Items, roll: &Roll, names: &Names) -> Result<Bytes, Out
     let alloc = names.allocator();
     let numbers = numbers_of(alloc, roll, items)?;
     let directory = Directory { names, numbers };
-    let mut text = Vec::new(alloc);
+    let mut text = Vec::with_capacity(alloc, length_in_lines(alloc, items, &directory)?)?;
     for item in items.as_slice() {
         push_item(&mut text, &directory, item)?;
     }
     push_last(&mut text, items)?;
     Ok(Bytes::from_vec(text))
+}
+
+/// How many bytes the text in lines has. Its lines are printed one item after another, into memory that is used again, so that
+/// the text itself takes its memory at once.
+fn length_in_lines(
+    alloc: Global,
+    items: &Items,
+    directory: &Directory<'_>,
+) -> Result<usize, OutOfMemory>
+    ensures { IfOk result (λ count. count
+        ≡ length (lines_text (lines_from (name_in directory.now) (name_at directory.now.names.now) (reverse items.now) ++ last_line (notes_of (reverse items.now)) ∷ []))) }
+{
+    let mut count = 0;
+    let mut part = Vec::new(alloc);
+    for item in items.as_slice() {
+        part.clear();
+        push_item(&mut part, directory, item)?;
+        count = sum(count, part.len())?;
+    }
+    part.clear();
+    push_last(&mut part, items)?;
+    sum(count, part.len())
+}
+
+/// The sum of two lengths. One that no memory has is refused as memory is.
+fn sum(one: usize, other: usize) -> Result<usize, OutOfMemory>
+    ensures { IfOk result (λ sum. sum ≡ one + other) }
+{
+    match one.checked_add(other) {
+        Some(sum) => Ok(sum),
+        None => Err(OutOfMemory),
+    }
 }
 
 fn text_in_summary(items: &Items, names: &Names) -> Result<Bytes, OutOfMemory>
