@@ -1,0 +1,14 @@
+pub mod Cutting
+pub mod Digits
+pub mod Failing
+pub mod Feeds
+pub mod LinesExact
+pub mod LinesRead
+pub mod LinesSaid
+pub mod Names
+pub mod Options
+pub mod Pieces
+pub mod Regroup
+pub mod Slices
+pub mod Values
+pub mod WholeReport

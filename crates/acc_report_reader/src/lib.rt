@@ -1,0 +1,18 @@
+//! Reads reports that were printed in lines or in summary, whoever printed them.
+#![tactic(auto)]
+
+mod cells;
+mod counts;
+mod error;
+mod fields;
+pub mod laws;
+mod lines;
+mod notes;
+mod numbers;
+mod parts;
+mod refusal;
+mod report;
+mod skips;
+
+pub use error::ReportError;
+pub use report::read_report;

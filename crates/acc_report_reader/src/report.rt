@@ -1,0 +1,42 @@
+//! A whole report.
+ghost use Rattle.std.specs.Prelude.{◌≡◌};
+ghost use Rattle.acc_report_reader.specs.Reading.{line_in};
+ghost use Rattle.acc_report_reader.specs.Report.{Reads, Says};
+
+use crate::error::ReportError;
+use crate::lines::line;
+use crate::parts::parts;
+use crate::refusal::Refusal;
+use acc_report_line::{Line, Lines};
+use std::alloc::Global;
+
+/// The lines that these bytes are the text of, each with its line feed. A report is read by its lines alone, which may stand in
+/// any order and number. The first line that has no form, or no line feed behind it, is refused.
+pub fn read_report(alloc: Global, bytes: &[u8]) -> Result<Lines, ReportError>
+    ensures { Reads result bytes.now }
+{
+    let mut lines = Lines::new(alloc);
+    let mut rest = bytes;
+    while let Some((first, others)) = parts(rest, b'\n') {
+        let number = lines.len() as u64 + 1;
+        lines.push(numbered(alloc, first, number)?)?;
+        rest = others;
+    }
+    if rest.is_empty() {
+        Ok(lines)
+    } else {
+        let number = lines.len() as u64 + 1;
+        Err(ReportError::Line { number })
+    }
+}
+
+/// The line with this number.
+fn numbered(alloc: Global, bytes: &[u8], number: u64) -> Result<Line, ReportError>
+    ensures { Says result (line_in bytes.now) number }
+{
+    match line(alloc, bytes) {
+        Ok(line) => Ok(line),
+        Err(Refusal::Form) => Err(ReportError::Line { number }),
+        Err(Refusal::Memory) => Err(ReportError::OutOfMemory),
+    }
+}
