@@ -1,0 +1,5 @@
+mod StartsOnce
+mod PlansValid
+mod AllReplied
+mod Safely
+mod OverStrictDisks
