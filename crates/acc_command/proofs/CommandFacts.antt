@@ -11,7 +11,7 @@ use Rattle.acc_command.specs.declared.status.Status.TheVariants.{Done, No, Usage
 use Rattle.acc_command.specs.declared.words.Command.{Command}
 use Rattle.acc_command.specs.declared.words.Command.TheVariants.{Run, Check}
 use Rattle.acc_command.specs.Lines.{IsRefusalOf}
-use Rattle.acc_command.specs.Command.{Ends, EndsOnGiven, IsAccepted, IsCause, IsDone, IsDue, IsRefusal, Says, document_limit}
+use Rattle.acc_command.specs.Command.{Ends, EndsOnGiven, IsAccepted, IsCause, IsDone, IsDue, IsGenerated, IsRefusal, Says, document_limit}
 use Rattle.acc_command.proofs.EndsFacts.{ends_due}
 
 -- the line of an error is that of a refusal with its cause
@@ -68,3 +68,15 @@ completes command bytes WriteFault old new accepted short reads writes ends = ab
 completes command bytes BadInput old new accepted short reads writes ends = absurd (not_refused command bytes ends.0 accepted ends.1.1)
 completes command bytes Limit old new accepted short reads writes ends = absurd (omega (arith, short, ends.1.0))
 completes command bytes OutOfMemory old new accepted short reads writes ends = tt
+
+-- a document is made, unless the sink fails or memory runs out
+pub makes : (seed txns : ℕ) (result : Status) (old new : Option (List ℕ)) → result ≢ ReadFault → result ≢ WriteFault
+    → Ends (IsGenerated seed txns) result old new → IsDone result
+makes seed txns Done old new reads writes ends = tt
+makes seed txns No old new reads writes ends = ends.1
+makes seed txns Usage old new reads writes ends = ends.1
+makes seed txns ReadFault old new reads writes ends = absurd (reads refl)
+makes seed txns WriteFault old new reads writes ends = absurd (writes refl)
+makes seed txns BadInput old new reads writes ends = ends.1
+makes seed txns Limit old new reads writes ends = ends.1
+makes seed txns OutOfMemory old new reads writes ends = tt

@@ -3,7 +3,7 @@ use Rattle.std.proofs.Common.{ℕ, List, Option, sym, subst, inl, inr}
 use Rattle.acc_command.specs.declared.status.Status.{Status}
 use Rattle.acc_command.specs.declared.status.Status.TheVariants.{Done, No, Usage, ReadFault, WriteFault, BadInput, Limit, OutOfMemory}
 use Rattle.acc_command.specs.declared.words.Command.{Command}
-use Rattle.acc_command.specs.Command.{Ends, IsDue, IsUsage, Says, Writes}
+use Rattle.acc_command.specs.Command.{Ends, IsDone, IsDue, IsGenerated, IsUsage, Says, Writes}
 
 module _ (P : Status → List ℕ → Type 0) (status : Status) (text : List ℕ) (result : Status) (old new : Option (List ℕ)) (due : P status text) where
   ends : (Writes P status old new → Ends P status old new) → Says status text result old new → Ends P result old new
@@ -25,3 +25,7 @@ ends_due command bytes Usage text result old new due = absurd due
 ends_due command bytes ReadFault text result old new due = absurd due
 ends_due command bytes WriteFault text result old new due = absurd due
 ends_due command bytes OutOfMemory text result old new due = absurd due
+
+pub ends_generated : (seed txns : ℕ) (text : List ℕ) (result : Status) (old new : Option (List ℕ)) → IsGenerated seed txns Done text
+    → Says Done text result old new → Ends (IsGenerated seed txns) result old new
+ends_generated seed txns text result old new due = ends (IsGenerated seed txns) Done text result old new due (λ w. w)

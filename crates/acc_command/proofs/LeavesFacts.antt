@@ -25,7 +25,7 @@ module _ (bytes : List ℕ) (left now old new : Option (List ℕ)) (short : leng
   leaves_none command No ends = ends.1
   leaves_none command Usage ends = ends.1
   leaves_none command ReadFault ends = taken
-  leaves_none command WriteFault ends = taken
+  leaves_none command WriteFault ends = inl end
   leaves_none command BadInput ends = end
   leaves_none command Limit ends = absurd (omega (arith, short, ends.1.0))
   leaves_none command OutOfMemory ends = taken
@@ -35,5 +35,5 @@ pub leaves_rest : (text : List ℕ) (result : Status) (left now old new : Option
     → now ≡ without_first (document_limit + 1) left → TakesAtMost (document_limit + 1) left now
     → Says Limit text result old new → Leaves result left now
 leaves_rest text result left now old new one_more at_most (inl said) = subst (λ r. Leaves r left now) (sym said.0) one_more
-leaves_rest text result left now old new one_more at_most (inr (inl failed, part)) = subst (λ r. Leaves r left now) (sym failed) at_most
+leaves_rest text result left now old new one_more at_most (inr (inl failed, part)) = subst (λ r. Leaves r left now) (sym failed) (inr one_more)
 leaves_rest text result left now old new one_more at_most (inr (inr no_memory, part)) = subst (λ r. Leaves r left now) (sym no_memory) at_most

@@ -12,6 +12,7 @@ use Rattle.acc_form.specs.Document.{IsCause as IsNotRun, Means}
 use Rattle.acc_first.specs.declared.items.Item.{Item}
 use Rattle.acc_first.specs.Headline.{IsSafeRun}
 use Rattle.acc_first.specs.ReportText.{report_text}
+use Rattle.acc_generator.specs.Document.{document_text}
 use Rattle.acc_command.specs.Lines.{line, limit_text, ok_text, refusal_text, usage_text}
 use Rattle.acc_command.specs.declared.words.Command.{Command}
 use Rattle.acc_command.specs.declared.words.Command.TheVariants.{Run, Check}
@@ -106,14 +107,14 @@ pub record EndsOnGiven (command : Command) (left : Option (List ℕ)) (status : 
   pub given : IfSome left (λ told. bytes ≡ told)
   pub ends : Ends (IsDue command bytes) status old new
 
--- what is left of the source: nothing of a document that was read whole, all behind the byte past the limit, and with a
--- fault or want of memory no less than that
+-- what is left of the source: nothing of a document that was read whole, or all behind the byte past the limit; with a fault of the
+-- source or want of memory no less than that
 abbrev pub Leaves : Status → Option (List ℕ) → Option (List ℕ) → Type 0
 Leaves Done old new = new ≡ none_left old
 Leaves No old new = ⊥
 Leaves Usage old new = ⊥
 Leaves ReadFault old new = TakesAtMost (document_limit + 1) old new
-Leaves WriteFault old new = TakesAtMost (document_limit + 1) old new
+Leaves WriteFault old new = (new ≡ none_left old) ⊎ (new ≡ without_first (document_limit + 1) old)
 Leaves BadInput old new = new ≡ none_left old
 Leaves Limit old new = new ≡ without_first (document_limit + 1) old
 Leaves OutOfMemory old new = TakesAtMost (document_limit + 1) old new
@@ -134,6 +135,17 @@ IsUsage WriteFault text = ⊥
 IsUsage BadInput text = ⊥
 IsUsage Limit text = ⊥
 IsUsage OutOfMemory text = ⊥
+
+-- the document of the seed with so many transactions, and nothing else
+abbrev pub IsGenerated : ℕ → ℕ → Status → List ℕ → Type 0
+IsGenerated seed txns Done text = text ≡ document_text seed txns
+IsGenerated seed txns No text = ⊥
+IsGenerated seed txns Usage text = ⊥
+IsGenerated seed txns ReadFault text = ⊥
+IsGenerated seed txns WriteFault text = ⊥
+IsGenerated seed txns BadInput text = ⊥
+IsGenerated seed txns Limit text = ⊥
+IsGenerated seed txns OutOfMemory text = ⊥
 
 -- unless memory ran out
 abbrev pub IsDone : Status → Type 0

@@ -4,6 +4,7 @@
 
 mod check;
 mod command;
+mod generate;
 mod lines;
 mod reply;
 mod run;

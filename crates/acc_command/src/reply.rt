@@ -1,5 +1,5 @@
 //! What a command answers to a document, and how a text is written.
-ghost use Rattle.std.specs.Prelude.{◌≡◌, ◌⊎◌};
+ghost use Rattle.std.specs.Prelude.{◌≡◌, ◌≢◌, ◌⊎◌};
 ghost use Rattle.acc_ports.specs.Faults.{Rose};
 ghost use Rattle.acc_command.specs.Command.{Says};
 
@@ -17,6 +17,7 @@ pub(crate) struct Reply {
 /// Writes a text that is due with a status.
 pub(crate) fn say<K: Sink>(sink: &mut K, text: &[u8], status: Status) -> Status
     ensures said { Says status text.now result (K.written sink.old) (K.written sink.new) }
+    ensures still { result ≢ Status.WriteFault → K.faults sink.new ≡ K.faults sink.old }
     ensures cause { result ≡ Status.WriteFault → (status ≡ Status.WriteFault) ⊎ Rose (K.faults sink.old) (K.faults sink.new) }
 {
     match write_all(sink, text) {

@@ -1,10 +1,12 @@
 //! The words of a command line.
-ghost use Rattle.std.specs.Prelude.{◌≡◌, ◌↔◌, [], ◌∷◌, codes, IsTrue};
-ghost use Rattle.acc_command.specs.Words.{IsLineOf};
+ghost use Rattle.std.specs.Prelude.{◌≡◌, ◌↔◌, ◌≤◌, [], ◌∷◌, codes, IsTrue, IfOk};
+ghost use Rattle.acc_command.specs.Words.{IsLineOf, IsDocumentLineOf, IsNumbersOf};
 
-use acc_base::Text;
+use acc_base::{OutOfMemory, Text};
+use acc_options::{seed, txns};
+use std::alloc::Global;
 
-/// A command that is built.
+/// A command that reads a document.
 #[derive(Clone, Copy, Debug, PartialEq, Eq)]
 pub enum Command {
     /// From a document to the report of its run.
@@ -13,9 +15,40 @@ pub enum Command {
     Check,
 }
 
-/// The command of these words.
-pub(crate) fn command_of(words: &[Text]) -> Option<Command>
-    ensures { IsLineOf words.now result }
+/// The seed of a generated document, and how many transactions it has.
+#[derive(Clone, Copy, Debug, PartialEq, Eq)]
+pub struct Numbers {
+    /// The seed.
+    pub seed: u64,
+    /// How many transactions.
+    pub txns: u32,
+}
+
+/// A line of words that is built.
+#[derive(Clone, Copy, Debug, PartialEq, Eq)]
+pub enum Line {
+    /// A command that reads a document.
+    Document(Command),
+    /// The command that makes one.
+    Generate(Numbers),
+}
+
+/// The line that these words are.
+pub(crate) fn line_of(alloc: Global, words: &[Text]) -> Result<Option<Line>, OutOfMemory>
+    ensures { IfOk result (IsLineOf words.now) }
+{
+    if let Some(command) = document_line(words) {
+        return Ok(Some(Line::Document(command)));
+    }
+    match generate_line(alloc, words)? {
+        Some(numbers) => Ok(Some(Line::Generate(numbers))),
+        None => Ok(None),
+    }
+}
+
+// The command of these words, if it reads a document.
+fn document_line(words: &[Text]) -> Option<Command>
+    ensures { IsDocumentLineOf words.now result }
 {
     let [word] = words else {
         return None;
@@ -26,6 +59,25 @@ pub(crate) fn command_of(words: &[Text]) -> Option<Command>
         Some(Command::Check)
     } else {
         None
+    }
+}
+
+// The numbers of these words, if they are the line that makes a document.
+fn generate_line(alloc: Global, words: &[Text]) -> Result<Option<Numbers>, OutOfMemory>
+    ensures { IfOk result (IsNumbersOf words.now) }
+{
+    let [command, seed_option, seed_word, txns_option, txns_word] = words else {
+        return Ok(None);
+    };
+    if !is(command, b"gen") || !is(seed_option, b"--seed") || !is(txns_option, b"--txns") {
+        return Ok(None);
+    }
+    let Some(seed) = seed(alloc, seed_word.as_slice())? else {
+        return Ok(None);
+    };
+    match txns(alloc, txns_word.as_slice())? {
+        Some(txns) => Ok(Some(Numbers { seed, txns })),
+        None => Ok(None),
     }
 }
 
