@@ -13,8 +13,8 @@ use Rattle.acc_message.specs.declared.item.Item.TheVariants.{Step as StepItem, S
 use Rattle.acc_message.specs.Items.{sent_of, same_actor}
 use Rattle.acc_message.specs.Run.{Cluster, is_down}
 use Rattle.acc_safety.specs.Calm.{is_calm_item, is_calm_event, item_takes, IsCalm}
-use Rattle.acc_world.specs.Asks.{home_of_txn}
-use Rattle.acc_world.specs.AskLaws.{is_no_down}
+use Rattle.acc_safe_runs.specs.Asks.{home_of_txn}
+use Rattle.acc_safe_runs.specs.AskLaws.{is_no_down}
 use Rattle.acc_schedule.specs.Content.{Content}
 use Rattle.acc_schedule.specs.declared.plan.Step.{Step}
 use Rattle.acc_schedule.specs.declared.plan.Step.TheVariants.{Begin, Deliver, Drop, Recover, Slow, Restart, Fail, Drain}

@@ -16,12 +16,12 @@ use Rattle.acc_message.specs.declared.item.Item.{Item}
 use Rattle.acc_message.specs.declared.item.Item.TheVariants.{Step as StepItem, Skipped, Down}
 use Rattle.acc_message.specs.Items.{same_actor, sent_of, is_begun, id_of_txn}
 use Rattle.acc_message.specs.Run.{Cluster, act_of, StandsOn, is_down, IsRun}
-use Rattle.acc_world.specs.declared.ask.Ask.{Ask}
-use Rattle.acc_world.specs.declared.ask.Ask.TheVariants.{Begin as BeginAsk, Recover as RecoverAsk, Slow as SlowAsk, Deliver as DeliverAsk}
-use Rattle.acc_world.specs.Asks.{home_of_txn, receiver, stepper, event_for, skip_if, skip_of, slow_skip, emits_if, entry_at, entered as asked}
-use Rattle.acc_world.specs.AskLaws.{HasTxn, IsAskOf, IsUp, restart_at}
-use Rattle.acc_world.proofs.AskFacts.{skip_if-none, step_is_run, nothing_is_run}
-use Rattle.acc_world.proofs.LostFacts.{skip_is_run, down_is_run, restart_is_run}
+use Rattle.acc_safe_runs.specs.declared.ask.Ask.{Ask}
+use Rattle.acc_safe_runs.specs.declared.ask.Ask.TheVariants.{Begin as BeginAsk, Recover as RecoverAsk, Slow as SlowAsk, Deliver as DeliverAsk}
+use Rattle.acc_safe_runs.specs.Asks.{home_of_txn, receiver, stepper, event_for, skip_if, skip_of, slow_skip, emits_if, entry_at, entered as asked}
+use Rattle.acc_safe_runs.specs.AskLaws.{HasTxn, IsAskOf, IsUp, restart_at}
+use Rattle.acc_safe_runs.proofs.AskFacts.{skip_if-none, step_is_run, nothing_is_run}
+use Rattle.acc_safe_runs.proofs.LostFacts.{skip_is_run, down_is_run, restart_is_run}
 use Rattle.acc_schedule.specs.Content.{Content}
 use Rattle.acc_schedule.specs.Plan.{IsStep, IsPlan}
 use Rattle.acc_schedule.specs.declared.plan.Step.{Step}

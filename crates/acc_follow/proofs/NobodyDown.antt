@@ -11,8 +11,8 @@ use Rattle.acc_message.specs.declared.item.Item.{Item}
 use Rattle.acc_message.specs.declared.item.Item.TheVariants.{Step as StepItem, Skipped, Down}
 use Rattle.acc_message.specs.Items.{sent_of}
 use Rattle.acc_message.specs.Run.{Cluster}
-use Rattle.acc_world.specs.Asks.{home_of_txn}
-use Rattle.acc_world.specs.AskLaws.{is_no_down}
+use Rattle.acc_safe_runs.specs.Asks.{home_of_txn}
+use Rattle.acc_safe_runs.specs.AskLaws.{is_no_down}
 use Rattle.acc_schedule.specs.declared.plan.Step.{Step}
 use Rattle.acc_schedule.specs.declared.plan.Step.TheVariants.{Begin, Deliver, Drop, Recover, Slow, Restart, Fail, Drain}
 use Rattle.acc_follow.specs.Situations.{Situation, opened, raised, whole, is_lost, stopped_at, without, receiver_in}

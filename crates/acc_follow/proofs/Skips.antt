@@ -13,8 +13,8 @@ use Rattle.acc_message.specs.declared.item.Item.{Item}
 use Rattle.acc_message.specs.declared.item.Item.TheVariants.{Step as StepItem, Skipped, Down}
 use Rattle.acc_message.specs.Items.{sent_of, is_begun, id_of_txn}
 use Rattle.acc_message.specs.Run.{Cluster, is_down}
-use Rattle.acc_world.specs.Asks.{home_of_txn, skip_if, slow_skip}
-use Rattle.acc_world.proofs.AskFacts.{skip_if-none}
+use Rattle.acc_safe_runs.specs.Asks.{home_of_txn, skip_if, slow_skip}
+use Rattle.acc_safe_runs.proofs.AskFacts.{skip_if-none}
 use Rattle.acc_schedule.specs.declared.plan.Step.{Step}
 use Rattle.acc_schedule.specs.declared.plan.Step.TheVariants.{Begin, Deliver, Drop, Recover, Slow, Restart, Fail, Drain}
 use Rattle.acc_actor_laws.proofs.Standing.{not_none}

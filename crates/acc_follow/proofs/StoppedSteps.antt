@@ -18,8 +18,8 @@ use Rattle.acc_message.specs.declared.item.Item.TheVariants.{Step, Skipped, Down
 use Rattle.acc_message.specs.Items.{same_actor, sent_of, sent_in, event_begins, begins_txn, is_begun, id_begun, id_of_txn}
 use Rattle.acc_message.specs.NodeRules.{Act, Takes}
 use Rattle.acc_message.specs.Run.{Cluster, act_of, recovers, IsHomeOf, MayStand, StandsOn, Stands, kept_of, is_down}
-use Rattle.acc_world.specs.Asks.{emits_if, entry_at}
-use Rattle.acc_world.specs.AskLaws.{IsLostOf}
+use Rattle.acc_safe_runs.specs.Asks.{emits_if, entry_at}
+use Rattle.acc_safe_runs.specs.AskLaws.{IsLostOf}
 use Rattle.acc_actor_laws.proofs.Standing.{not_none}
 use Rattle.acc_actor_laws.proofs.OpeningFacts.{some_is}
 use Rattle.acc_safety.proofs.Bridge.{same, same_itself}

@@ -6,7 +6,7 @@ use Rattle.acc_message.specs.declared.item.Skip.{Skip}
 use Rattle.acc_message.specs.declared.item.Skip.TheVariants.{NoMessage, Down, Begun, Unknown}
 use Rattle.acc_message.specs.Items.{sent_of, is_begun, id_of_txn}
 use Rattle.acc_message.specs.Run.{Cluster, is_down}
-use Rattle.acc_world.specs.Asks.{home_of_txn, slow_skip}
+use Rattle.acc_safe_runs.specs.Asks.{home_of_txn, slow_skip}
 use Rattle.acc_schedule.specs.declared.plan.Step.{Step}
 use Rattle.acc_schedule.specs.declared.plan.Step.TheVariants.{Begin, Deliver, Drop, Recover, Slow, Restart, Fail, Drain}
 use Rattle.acc_follow.specs.Situations.{Situation, whole, receiver_in}

@@ -4,7 +4,7 @@ use Rattle.std.specs.List.{list_all}
 use Rattle.acc_message.specs.declared.item.Item.{Item}
 use Rattle.acc_message.specs.Run.{Cluster}
 use Rattle.acc_topology.specs.Sets.{is_among}
-use Rattle.acc_world.specs.AskLaws.{HasTxn, is_no_down}
+use Rattle.acc_safe_runs.specs.AskLaws.{HasTxn, is_no_down}
 use Rattle.acc_schedule.specs.declared.plan.Step.{Step}
 use Rattle.acc_schedule.specs.declared.plan.Step.TheVariants.{Begin, Deliver, Drop, Recover, Slow, Restart, Fail, Drain}
 use Rattle.acc_follow.specs.Situations.{is_lost}

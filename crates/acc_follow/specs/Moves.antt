@@ -11,7 +11,7 @@ use Rattle.acc_message.specs.declared.item.Item.{Item}
 use Rattle.acc_message.specs.declared.item.Item.TheVariants.{Step as StepItem, Skipped, Down}
 use Rattle.acc_message.specs.Items.{sent_of, is_begun, id_of_txn}
 use Rattle.acc_message.specs.Run.{Cluster, act_of, is_node, is_down}
-use Rattle.acc_world.specs.Asks.{home_of_txn, skip_if, slow_skip, emits_if}
+use Rattle.acc_safe_runs.specs.Asks.{home_of_txn, skip_if, slow_skip, emits_if}
 use Rattle.acc_schedule.specs.declared.plan.Step.{Step}
 use Rattle.acc_schedule.specs.declared.plan.Step.TheVariants.{Begin, Deliver, Drop, Recover, Slow, Restart, Fail, Drain}
 use Rattle.acc_follow.specs.Situations.{Stopped, Situation, raised_event, whole, IsOldestWaiting, NothingWaits, receiver_in, stopped_at, without}

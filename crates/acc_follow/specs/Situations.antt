@@ -10,7 +10,7 @@ use Rattle.acc_message.specs.declared.item.Item.TheVariants.{Step, Skipped, Down
 use Rattle.acc_message.specs.Items.{same_actor, sent_of, message_at}
 use Rattle.acc_message.specs.Run.{is_down}
 use Rattle.acc_safety.specs.Calm.{item_takes}
-use Rattle.acc_world.specs.Asks.{receiver}
+use Rattle.acc_safe_runs.specs.Asks.{receiver}
 
 -- a fault of the actor's disk stopped this step of it
 pub record Stopped : Type 0 where

@@ -19,7 +19,7 @@ use Rattle.acc_message.specs.declared.item.Item.TheVariants.{Step, Skipped, Down
 use Rattle.acc_message.specs.Items.{sent_in, sent_of, message_at}
 use Rattle.acc_message.specs.Run.{down_after, is_down}
 use Rattle.acc_safety.specs.Calm.{event_takes, item_takes}
-use Rattle.acc_world.specs.Asks.{receiver}
+use Rattle.acc_safe_runs.specs.Asks.{receiver}
 use Rattle.acc_follow.specs.Situations.{Situation, whole, is_lost, is_sent_lost}
 use Rattle.acc_follow.specs.Moves.{with_item}
 use Rattle.acc_history.specs.Entering.{IsAsBefore, without_event, without_item, posting_of, postings_in}

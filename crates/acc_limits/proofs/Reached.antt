@@ -8,7 +8,7 @@ use Rattle.acc_message.specs.declared.entry.Event.TheVariants.{Begin as BeginEve
 use Rattle.acc_message.specs.declared.item.Item.TheVariants.{Skipped, Down}
 use Rattle.acc_message.specs.declared.item.Skip.{Skip}
 use Rattle.acc_message.specs.Run.{Cluster}
-use Rattle.acc_world.specs.Asks.{home_of_txn}
+use Rattle.acc_safe_runs.specs.Asks.{home_of_txn}
 use Rattle.acc_schedule.specs.declared.plan.Step.{Step}
 use Rattle.acc_schedule.specs.declared.plan.Step.TheVariants.{Begin, Deliver, Drop, Recover, Slow, Restart, Fail, Drain}
 use Rattle.acc_follow.specs.Situations.{Situation, receiver_in}

@@ -1,3 +1,1 @@
-pub mod Asks
-pub mod Schedules
-pub mod AskLaws
+pub mod Values

@@ -1,63 +1,65 @@
-//! What holds of what is asked of a cluster. Each law is the contract of a function that does nothing.
-ghost use Rattle.std.specs.Prelude.{◌≡◌, ℕ, false, List, [], ◌∷◌, length};
-ghost use Rattle.acc_stamp.specs.declared.actors.Actor.{Actor};
-ghost use Rattle.acc_message.specs.declared.entry.Entry.{Entry};
-ghost use Rattle.acc_message.specs.declared.item.Item.{Item};
-ghost use Rattle.acc_message.specs.declared.item.Skip.{Skip};
-ghost use Rattle.acc_message.specs.Run.{Cluster, StandsOn, kept_of, IsRun};
+//! What holds of every run of a cluster, said of values. Each law is the contract of a function that does nothing. The items stand in
+//! the order in which they are printed.
+ghost use Rattle.std.specs.Prelude.{reverse};
+ghost use Rattle.acc_message.specs.Run.{IsRun};
 ghost use Rattle.acc_safety.specs.Agreement.{Agreement};
+ghost use Rattle.acc_safety.specs.Calm.{IsCalm, EachBegunIsAnswered};
 ghost use Rattle.acc_safety.specs.Coverage.{Coverage};
 ghost use Rattle.acc_safety.specs.SerialOutcomes.{SerialOutcomes};
 ghost use Rattle.acc_safety.specs.Valid.{IsValidCluster};
-ghost use Rattle.acc_world.specs.declared.ask.Ask.{Ask};
-ghost use Rattle.acc_world.specs.Asks.{item_for, after_asks};
-ghost use Rattle.acc_world.specs.Schedules.{drained};
-ghost use Rattle.acc_world.specs.AskLaws.{IsAskOf, AreAsksOf, IsUp, IsRunWithoutDowns, IsAsked, AreLostOf, with_entries, restart_at};
+ghost use Rattle.acc_world.specs.Values.{cluster};
 
-/// What a cluster enters when it is asked for a step extends a run to a run. So any asks give a run, and so does a drain.
-pub fn asks_give_a_run()
-    ensures step { (cluster : Cluster) (items : List Item) (step : ℕ) (ask : Ask) → IsRun cluster items → IsAskOf cluster ask →
-        IsUp cluster items ask → IsRun cluster (item_for cluster items step ask ∷ items) }
-    ensures none { (cluster : Cluster) → IsRunWithoutDowns cluster [] }
-    ensures asks { (cluster : Cluster) (step : ℕ) (asks : List Ask) (items : List Item) → IsRunWithoutDowns cluster items →
-        AreAsksOf cluster asks → IsRunWithoutDowns cluster (after_asks cluster step asks items) }
-    ensures drains { (cluster : Cluster) (dropped : List ℕ) (items : List Item) → IsRunWithoutDowns cluster items →
-        IsRunWithoutDowns cluster (drained cluster dropped items) }
+use acc_message::Items;
+use acc_schedule::{Bodies, Starts};
+use acc_topology::{NodeList, Topology};
+
+/// Any two decisions of a transaction have one timestamp, and those of different transactions have different ones.
+pub fn agreement(
+    topology: &Topology,
+    starts: &Starts,
+    homes: &NodeList,
+    bodies: &Bodies,
+    items: &Items,
+)
+    requires valid { IsValidCluster (cluster topology.now starts.now homes.now bodies.now) }
+    requires run { IsRun (cluster topology.now starts.now homes.now bodies.now) (reverse items.now) }
+    ensures { Agreement (reverse items.now) }
 {}
 
-/// A run goes on with a step that was passed over, with a down, and with lost entries of one actor and the restart that kept
-/// as many.
-pub fn runs_go_on()
-    ensures skip { (cluster : Cluster) (items : List Item) (step : ℕ) (cause : Skip) → IsRun cluster items →
-        IsRun cluster (Item.Skipped step cause ∷ items) }
-    ensures down { (cluster : Cluster) (items : List Item) (a : Actor) → IsRun cluster items → IsRun cluster (Item.Down a ∷ items) }
-    ensures restart { (cluster : Cluster) (a : Actor) (items : List Item) (entries : List Entry) → IsRun cluster items →
-        AreLostOf cluster a items entries →
-        IsRun cluster (restart_at cluster (with_entries entries items) a (length entries) ∷ with_entries entries items) }
+/// A decision names, in each shard where they conflict, every transaction that is decided at a smaller timestamp.
+pub fn coverage(
+    topology: &Topology,
+    starts: &Starts,
+    homes: &NodeList,
+    bodies: &Bodies,
+    items: &Items,
+)
+    requires valid { IsValidCluster (cluster topology.now starts.now homes.now bodies.now) }
+    requires run { IsRun (cluster topology.now starts.now homes.now bodies.now) (reverse items.now) }
+    ensures { Coverage (cluster topology.now starts.now homes.now bodies.now) (reverse items.now) }
 {}
 
-/// Each entry that the rules allow behind some items is entered there for some ask, unless it is lost, or a restart that kept
-/// lost ones.
-pub fn allowed_entries_are_asked()
-    ensures { (cluster : Cluster) (earlier : List Item) (step : ℕ) (e : Entry) → StandsOn cluster earlier e → e.lost ≡ false →
-        kept_of e.event ≡ 0 → IsAsked cluster earlier step e }
+/// The first outcomes are those of a serial run of their bodies, no other outcome and no reply differs from them, and each stands
+/// behind its begin and not behind its reply.
+pub fn serial(
+    topology: &Topology,
+    starts: &Starts,
+    homes: &NodeList,
+    bodies: &Bodies,
+    items: &Items,
+)
+    requires valid { IsValidCluster (cluster topology.now starts.now homes.now bodies.now) }
+    requires run { IsRun (cluster topology.now starts.now homes.now bodies.now) (reverse items.now) }
+    ensures { SerialOutcomes (cluster topology.now starts.now homes.now bodies.now) (reverse items.now) }
 {}
 
-/// In every run of a valid cluster any two decisions of a transaction have one timestamp, and those of different transactions
-/// have different ones. It holds with any number of competing recoveries, with restarts, lost entries, downs and slow events,
-/// and for every electorate.
-pub fn agreement()
-    ensures { (cluster : Cluster) (items : List Item) → IsValidCluster cluster → IsRun cluster items → Agreement items }
-{}
-
-/// In every run of a valid cluster a decision names, in each shard where they conflict, every transaction that is decided at a
-/// smaller timestamp.
-pub fn coverage()
-    ensures { (cluster : Cluster) (items : List Item) → IsValidCluster cluster → IsRun cluster items → Coverage cluster items }
-{}
-
-/// In every run of a valid cluster the first outcomes, in the order in which they are printed, are those of a serial run of their
-/// bodies, no other outcome and no reply differs from them, and each stands behind its begin and not behind its reply.
-pub fn serial()
-    ensures { (cluster : Cluster) (items : List Item) → IsValidCluster cluster → IsRun cluster items → SerialOutcomes cluster items }
-{}
+/// Where every message that was sent is taken, and nothing is restarted, recovered or slowed down, each begun transaction has its
+/// reply.
+pub fn calm(topology: &Topology, starts: &Starts, homes: &NodeList, bodies: &Bodies, items: &Items)
+    requires valid { IsValidCluster (cluster topology.now starts.now homes.now bodies.now) }
+    requires run { IsRun (cluster topology.now starts.now homes.now bodies.now) (reverse items.now) }
+    requires calm { IsCalm (reverse items.now) }
+    ensures { EachBegunIsAnswered (reverse items.now) }
+{
+    acc_calm::laws::calm();
+}

@@ -1,7 +1,4 @@
-//! The cluster as one pure list of items: what may be asked of it, and laws of what it is asked.
+//! A cluster as values: its layout, the starts of its nodes, and the homes and bodies of its transactions.
 #![tactic(auto)]
 
-mod ask;
 pub mod laws;
-
-pub use ask::Ask;

@@ -1,5 +1,5 @@
-use Rattle.acc_world.proofs.EveryRun.{agreement_holds}
+use Rattle.acc_safe_runs.proofs.EveryRun.{agreement_holds}
 use Rattle.acc_world.proofs.laws.agreement.Goals as goal
 
 pub returns : goal.returns
-returns c = agreement_holds
+returns c = agreement_holds _ _ c.requires.valid c.requires.run

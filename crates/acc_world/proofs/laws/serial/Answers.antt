@@ -1,5 +1,5 @@
-use Rattle.acc_world.proofs.EveryRun.{serial_holds}
+use Rattle.acc_safe_runs.proofs.EveryRun.{serial_holds}
 use Rattle.acc_world.proofs.laws.serial.Goals as goal
 
 pub returns : goal.returns
-returns c = serial_holds
+returns c = serial_holds _ _ c.requires.valid c.requires.run

@@ -21,8 +21,8 @@ use Rattle.acc_message.specs.Attempts.{Attempt, Phase, Voting, majority_everywhe
 use Rattle.acc_message.specs.NodeRules.{Act}
 use Rattle.acc_message.specs.Coordinator.{silence}
 use Rattle.acc_message.specs.Run.{Cluster, act_of, attempt_at, emits}
-use Rattle.acc_world.specs.declared.ask.Ask.{Ask}
-use Rattle.acc_world.specs.declared.ask.Ask.TheVariants.{Begin, Recover, Slow, Deliver, Restart}
+use Rattle.acc_safe_runs.specs.declared.ask.Ask.{Ask}
+use Rattle.acc_safe_runs.specs.declared.ask.Ask.TheVariants.{Begin, Recover, Slow, Deliver, Restart}
 
 -- ---- who steps, and what it takes
 

@@ -12,8 +12,8 @@ use Rattle.acc_message.specs.declared.item.Item.TheVariants.{Skipped, Down}
 use Rattle.acc_message.specs.Items.{same_actor}
 use Rattle.acc_message.specs.NodeRules.{Restarts}
 use Rattle.acc_message.specs.Run.{Cluster, EachStands, kept_of, lost_fit, is_down, is_restart_event, downs_end, IsRun}
-use Rattle.acc_world.specs.AskLaws.{with_entries, AreLostOf, restart_at}
-use Rattle.acc_world.proofs.AskFacts.{stands_by}
+use Rattle.acc_safe_runs.specs.AskLaws.{with_entries, AreLostOf, restart_at}
+use Rattle.acc_safe_runs.proofs.AskFacts.{stands_by}
 
 pub skip_is_run : (cluster : Cluster) (items : List Item) (step : ℕ) (cause : Skip) → IsRun cluster items → IsRun cluster (Skipped step cause ∷ items)
 skip_is_run cluster items step cause run = record { stands = (tt, run.stands); lost = run.lost; downs = run.downs }

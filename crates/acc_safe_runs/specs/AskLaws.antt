@@ -9,9 +9,9 @@ use Rattle.acc_message.specs.declared.entry.Event.TheVariants.{Restart as Restar
 use Rattle.acc_message.specs.declared.item.Item.{Item}
 use Rattle.acc_message.specs.declared.item.Item.TheVariants.{Step, Skipped, Down}
 use Rattle.acc_message.specs.Run.{Cluster, StandsOn, kept_of, IsRun, is_down}
-use Rattle.acc_world.specs.declared.ask.Ask.{Ask}
-use Rattle.acc_world.specs.declared.ask.Ask.TheVariants.{Begin, Recover, Slow, Deliver, Restart}
-use Rattle.acc_world.specs.Asks.{stepper, entry_at, item_for}
+use Rattle.acc_safe_runs.specs.declared.ask.Ask.{Ask}
+use Rattle.acc_safe_runs.specs.declared.ask.Ask.TheVariants.{Begin, Recover, Slow, Deliver, Restart}
+use Rattle.acc_safe_runs.specs.Asks.{stepper, entry_at, item_for}
 
 -- the cluster has a home and a body for the transaction with this number
 pub record HasTxn (cluster : Cluster) (txn : ℕ) : Type 0 where

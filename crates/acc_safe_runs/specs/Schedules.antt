@@ -7,8 +7,8 @@ use Rattle.acc_message.specs.declared.item.Item.TheVariants.{Step, Skipped}
 use Rattle.acc_message.specs.Items.{sent_of, sent_in}
 use Rattle.acc_message.specs.Run.{Cluster}
 use Rattle.acc_safety.specs.Calm.{item_takes}
-use Rattle.acc_world.specs.declared.ask.Ask.TheVariants.{Deliver}
-use Rattle.acc_world.specs.Asks.{item_for}
+use Rattle.acc_safe_runs.specs.declared.ask.Ask.TheVariants.{Deliver}
+use Rattle.acc_safe_runs.specs.Asks.{item_for}
 
 -- the message waits: it was neither taken nor dropped
 abbrev pub waits : List Item → List ℕ → ℕ → Bool

@@ -24,10 +24,10 @@ use Rattle.acc_message.specs.Attempts.{Attempt, Phase, Voting, Recovering, Accep
 use Rattle.acc_message.specs.Coordinator.{may_slow_down}
 use Rattle.acc_message.specs.NodeRules.{Act, Slows, Takes}
 use Rattle.acc_message.specs.Run.{Cluster, act_of, emits, attempt_at, is_slowable, slows_here, goes_to, IsHomeOf, MayStand, StandsOn, kept_of}
-use Rattle.acc_world.specs.declared.ask.Ask.{Ask}
-use Rattle.acc_world.specs.declared.ask.Ask.TheVariants.{Begin, Recover, Slow, Deliver, Restart}
-use Rattle.acc_world.specs.Asks.{home_of_txn, receiver, stepper, event_for, skip_if, slow_skip_in, slow_skip_at, slow_skip, skip_of, emits_if, entry_at, entered}
-use Rattle.acc_world.specs.AskLaws.{IsAsked}
+use Rattle.acc_safe_runs.specs.declared.ask.Ask.{Ask}
+use Rattle.acc_safe_runs.specs.declared.ask.Ask.TheVariants.{Begin, Recover, Slow, Deliver, Restart}
+use Rattle.acc_safe_runs.specs.Asks.{home_of_txn, receiver, stepper, event_for, skip_if, slow_skip_in, slow_skip_at, slow_skip, skip_of, emits_if, entry_at, entered}
+use Rattle.acc_safe_runs.specs.AskLaws.{IsAsked}
 use Rattle.acc_actor_laws.proofs.Standing.{not_none}
 use Rattle.acc_actor_laws.proofs.OpeningFacts.{some_is}
 

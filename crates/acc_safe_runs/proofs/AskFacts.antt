@@ -23,11 +23,11 @@ use Rattle.acc_message.specs.Attempts.{Attempt, Phase, Voting, Recovering, Accep
 use Rattle.acc_message.specs.Coordinator.{may_slow_down}
 use Rattle.acc_message.specs.NodeRules.{Act, Begins, Recovers, Slows, Takes, Restarts}
 use Rattle.acc_message.specs.Run.{Cluster, act_of, recovers, attempt_at, is_slowable, goes_to, MayStand, StandsOn, Stands, EachStands, kept_of, lost_fit, is_down, downs_end, IsRun}
-use Rattle.acc_world.specs.declared.ask.Ask.{Ask}
-use Rattle.acc_world.specs.declared.ask.Ask.TheVariants.{Begin, Recover, Slow, Deliver, Restart}
-use Rattle.acc_world.specs.Asks.{home_of_txn, receiver, stepper, event_for, skip_if, slow_skip_in, slow_skip_at, slow_skip, skip_of, emits_if, entry_at, entered, item_for, after_asks}
-use Rattle.acc_world.specs.Schedules.{new_messages, waiting, drained_with, drained}
-use Rattle.acc_world.specs.AskLaws.{IsAskOf, AreAsksOf, IsUp, is_no_down, IsRunWithoutDowns}
+use Rattle.acc_safe_runs.specs.declared.ask.Ask.{Ask}
+use Rattle.acc_safe_runs.specs.declared.ask.Ask.TheVariants.{Begin, Recover, Slow, Deliver, Restart}
+use Rattle.acc_safe_runs.specs.Asks.{home_of_txn, receiver, stepper, event_for, skip_if, slow_skip_in, slow_skip_at, slow_skip, skip_of, emits_if, entry_at, entered, item_for, after_asks}
+use Rattle.acc_safe_runs.specs.Schedules.{new_messages, waiting, drained_with, drained}
+use Rattle.acc_safe_runs.specs.AskLaws.{IsAskOf, AreAsksOf, IsUp, is_no_down, IsRunWithoutDowns}
 use Rattle.acc_actor_laws.proofs.Standing.{not_none}
 use Rattle.acc_safety.proofs.BegunFacts.{WasBegun, begun_has, id_was_begun}
 

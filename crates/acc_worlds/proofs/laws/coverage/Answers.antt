@@ -1,5 +1,0 @@
-use Rattle.acc_world.proofs.EveryRun.{coverage_holds}
-use Rattle.acc_worlds.proofs.laws.coverage.Goals as goal
-
-pub returns : goal.returns
-returns c = coverage_holds _ _ c.requires.valid c.requires.run
