@@ -1,0 +1,5 @@
+mod Outcomes
+mod Contents
+mod Stores
+mod Nodes
+mod Everywhere
