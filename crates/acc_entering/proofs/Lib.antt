@@ -1,0 +1,12 @@
+pub mod Deeds
+pub mod Payloads
+pub mod Pasts
+pub mod Replayed
+pub mod Standing
+pub mod Downs
+pub mod Stops
+pub mod Situations
+pub mod Sound
+pub mod Skips
+pub mod Slowing
+pub mod Asked

@@ -1,0 +1,38 @@
+-- Steps that faults of disks stopped can still be entered.
+use Rattle.std.specs.Prelude.{◌≡◌, Bool, true, not, List, Some}
+use Rattle.acc_stamp.specs.declared.actors.Actor.{Actor}
+use Rattle.acc_message.specs.declared.entry.Event.{Event}
+use Rattle.acc_message.specs.declared.item.Item.{Item}
+use Rattle.acc_message.specs.declared.item.Item.TheVariants.{Step, Skipped, Down}
+use Rattle.acc_message.specs.Items.{same_actor}
+use Rattle.acc_message.specs.NodeRules.{Act}
+use Rattle.acc_message.specs.Run.{Cluster, act_of, is_down, IsRun}
+use Rattle.acc_safety.specs.Valid.{IsValidCluster}
+use Rattle.acc_follow.specs.Situations.{Situation, whole, stopped_at}
+use Rattle.acc_follow.specs.Moves.{event_in, is_journalled}
+use Rattle.acc_entering.specs.Entries.{emitted_for, payload_for, MayTake}
+
+-- the item is no entry of the actor
+abbrev pub is_other : Actor → Item → Bool
+is_other a (Step e) = not (same_actor e.actor a)
+is_other a (Skipped step cause) = true
+is_other a (Down actor) = true
+
+-- the actor is down, and may take the event
+pub record CanGoOn (cluster : Cluster) (items : List Item) (a : Actor) (event : Event) : Type 0 where
+  pub down : is_down a items ≡ true
+  pub journalled : is_journalled a event ≡ true
+  pub act : Act
+  pub may : MayTake cluster items a event act
+
+-- The whole past of a valid cluster is a run, and each step that was stopped can still be entered.
+pub record IsSound (cluster : Cluster) (s : Situation) : Type 0 where
+  pub valid : IsValidCluster cluster
+  pub run : IsRun cluster (whole s)
+  pub stopped : (a : Actor) (event : Event) → stopped_at a s.stopped ≡ Some event → CanGoOn cluster (whole s) a (event_in s event)
+
+-- what its entry would be is the same
+pub record IsSameStep (cluster : Cluster) (before now : List Item) (a : Actor) (event : Event) : Type 0 where
+  pub act : act_of cluster now event ≡ act_of cluster before event
+  pub emitted : emitted_for cluster now a event ≡ emitted_for cluster before a event
+  pub payload : payload_for cluster now a event ≡ payload_for cluster before a event
