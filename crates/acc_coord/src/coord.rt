@@ -104,8 +104,9 @@ impl Coord {
         }
     }
 
-    /// Takes a message that goes to the attempt's node, and tells what the attempt emits and whether it has ended. The node
-    /// adds the reply to an outcome. Where it has ended, and without memory, the coordinator is as before.
+    /// Takes a message about the attempt's transaction, and tells what the attempt emits and whether it has ended. Of the message's
+    /// two names, transaction and ballot, only the ballot is looked at here: the node finds the attempt by the transaction. The
+    /// node adds the reply to an outcome. Where it has ended, and without memory, the coordinator is as before.
     #[tactic(auto, using(crate::proofs::Made::made_answers, crate::proofs::Made::ended_stays, crate::proofs::Made::decides_fast))]
     pub fn on_answer(
         &mut self,
@@ -123,14 +124,16 @@ impl Coord {
         Ok(self.make(step))
     }
 
-    /// Gives the fast path up, and proposes the greatest vote. Without a majority somewhere, or without memory, all is as
-    /// before.
+    /// Gives the fast path up, and proposes the greatest vote. NoQuorum comes exactly where some shard lacks a majority of
+    /// answers, since memory is only asked for where none does. After an error all is as before.
     pub fn go_slow(&mut self, topology: &Topology) -> Result<Messages, SlowError>
         requires { IsTrue (is_voting self.old) }
         ensures ok { IfOk result (λ out. (x : TxnId) (a : Attempt) → StandsFor topology.now x self.old a →
             Slows topology.now x self.new out a) }
         ensures no_quorum { IfErr result (λ error. error ≡ Refused.NoQuorum → (x : TxnId) (a : Attempt) → StandsFor topology.now x self.old a →
             majority_everywhere topology.now x a.body a.answers ≡ false) }
+        ensures no_memory { IfErr result (λ error. error ≡ Refused.OutOfMemory → (x : TxnId) (a : Attempt) → StandsFor topology.now x self.old a →
+            majority_everywhere topology.now x a.body a.answers ≡ true) }
         ensures err { OnErr result (self.new ≡ self.old) }
     {
         let step = self.slow_step(topology)?;

@@ -1,5 +1,5 @@
 //! The first phase.
-ghost use Rattle.std.specs.Prelude.{◌≡◌, List, IfOk, IfErr, false, IsTrue};
+ghost use Rattle.std.specs.Prelude.{◌≡◌, List, IfOk, IfErr, true, false, IsTrue};
 ghost use Rattle.acc_stamp.specs.declared.stamps.TxnId.{TxnId};
 ghost use Rattle.acc_stamp.specs.declared.stamps.Ballot.{Ballot as AnyBallot};
 ghost use Rattle.acc_stamp.specs.declared.actors.Actor.{Actor as AnyActor};
@@ -82,6 +82,8 @@ impl Coord {
             SlowStepIs topology.now self.now answers step) }
         ensures no_quorum { IfErr result (λ error. error ≡ Refused.NoQuorum → (answers : List Letter) → Keeps topology.now self.now answers →
             majority_everywhere topology.now self.now.id self.now.body answers ≡ false) }
+        ensures no_memory { IfErr result (λ error. error ≡ Refused.OutOfMemory → (answers : List Letter) → Keeps topology.now self.now answers →
+            majority_everywhere topology.now self.now.id self.now.body answers ≡ true) }
     {
         match &self.stage {
             Stage::Votes(tally) => {

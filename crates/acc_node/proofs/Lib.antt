@@ -1,5 +1,6 @@
 mod Keys
 mod Standing
+pub mod Clocks
 mod Drawing
 mod Slowing
 mod Noting

@@ -12,13 +12,15 @@ module _ {A : Type 0} (waits majority : Bool) where
   unknown_exactly (Err Begun) granted refused = absurd refused
   unknown_exactly (Err Unknown) granted refused = (λ h. refused, λ h. refl)
   unknown_exactly (Err NoQuorum) granted refused = (λ h. cc, λ h. absurd (true≢false (sym refused.0 ∙ h)))
-  unknown_exactly (Err OutOfMemory) granted refused = (λ h. cc, λ h. absurd (true≢false (sym refused ∙ h)))
+  unknown_exactly (Err OutOfMemory) granted refused = (λ h. cc, λ h. absurd (true≢false (sym refused.0 ∙ h)))
 
-pub no_quorum_where : (waits majority : Bool) (error : NodeError) → Refuses waits majority error → error ≡ NoQuorum → (waits ≡ true) × (majority ≡ false)
-no_quorum_where waits majority Begun refused h = absurd refused
-no_quorum_where waits majority Unknown refused h = cc
-no_quorum_where waits majority NoQuorum refused h = refused
-no_quorum_where waits majority OutOfMemory refused h = cc
+  pub no_quorum_exactly : (result : Result A NodeError) → IfOk result (λ _. majority ≡ true)
+      → IfErr result (λ error. Refuses waits majority error) → (result ≡ Err NoQuorum) ↔ ((waits ≡ true) × (majority ≡ false))
+  no_quorum_exactly (Ok value) granted refused = (λ h. cc, λ h. absurd (true≢false (sym granted ∙ h.1)))
+  no_quorum_exactly (Err Begun) granted refused = absurd refused
+  no_quorum_exactly (Err Unknown) granted refused = (λ h. cc, λ h. absurd (true≢false (sym h.0 ∙ refused)))
+  no_quorum_exactly (Err NoQuorum) granted refused = (λ h. refused, λ h. refl)
+  no_quorum_exactly (Err OutOfMemory) granted refused = (λ h. cc, λ h. absurd (true≢false (sym refused.1 ∙ h.1)))
 
 pub never_begun : (waits majority : Bool) (error : NodeError) → Refuses waits majority error → error ≡ Begun → ⊥
 never_begun waits majority Begun refused h = refused
@@ -34,3 +36,8 @@ pub refused_unknown : {A : Type 0} (waits majority : Bool) (result : Result A No
     → (result ≡ Err Unknown) ↔ (waits ≡ false)
 refused_unknown {A} waits majority result error is refused =
     subst (λ (r : Result A NodeError). (r ≡ Err Unknown) ↔ (waits ≡ false)) (sym is) (unknown_exactly waits majority (Err error) tt refused)
+
+pub refused_no_quorum : {A : Type 0} (waits majority : Bool) (result : Result A NodeError) (error : NodeError) → result ≡ Err error → Refuses waits majority error
+    → (result ≡ Err NoQuorum) ↔ ((waits ≡ true) × (majority ≡ false))
+refused_no_quorum {A} waits majority result error is refused =
+    subst (λ (r : Result A NodeError). (r ≡ Err NoQuorum) ↔ ((waits ≡ true) × (majority ≡ false))) (sym is) (no_quorum_exactly waits majority (Err error) tt refused)

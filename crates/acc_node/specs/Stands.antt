@@ -97,7 +97,7 @@ abbrev pub Refuses : Bool → Bool → NodeError → Type 0
 Refuses waits majority Begun = ⊥
 Refuses waits majority Unknown = waits ≡ false
 Refuses waits majority NoQuorum = (waits ≡ true) × (majority ≡ false)
-Refuses waits majority OutOfMemory = waits ≡ true
+Refuses waits majority OutOfMemory = (waits ≡ true) × (majority ≡ true)
 
 -- the node takes the event, with a majority, at a transaction that it has begun
 pub record SlowsBegun (layout : Layout) (number start : ℕ) (after : Node) (acts : List Act) (txn : ℕ) (emitted : Emitted) : Type 0 where

@@ -2,6 +2,7 @@
 ghost use Rattle.std.specs.Prelude.{◌≡◌, ◌≢◌, ◌≤◌, ◌<◌, ◌^◌, ◌↔◌, ℕ, List, [], ◌∷◌, Option, None, Err, true, false, IsSome, IfOk, IfErr, OnOk, OnErr};
 ghost use Rattle.std.specs.Ordering.{nat_cmp};
 ghost use Rattle.std.specs.BTreeMap.{get};
+ghost use Rattle.acc_stamp.specs.Clock.{next_stamp};
 ghost use Rattle.acc_stamp.specs.Stamp.{id_cmp};
 ghost use Rattle.acc_message.specs.Attempts.{Attempt};
 ghost use Rattle.acc_topology.specs.Layout.{Layout};
@@ -54,11 +55,46 @@ impl Node {
         }
     }
 
+    /// A node as its journal gives it back, which tells the greatest `h` that it drew, or the start, and the ids of the transactions
+    /// that it began. It runs no attempt, and no client waits.
+    pub fn reopened(
+        alloc: Global,
+        number: u32,
+        start: u64,
+        drawn: u64,
+        begun: BTreeMap<u32, TxnId>,
+    ) -> Node
+        requires number_from { 1 ≤ number }
+        requires number_to { number ≤ 15 }
+        requires start_in_range { start ≤ 10 ^ 12 }
+        requires above { start ≤ drawn }
+        requires most { drawn ≤ 2 ^ 62 }
+        ensures clock { result.clock ≡ record { node = number; start = start; drawn = drawn; seen = drawn } }
+        ensures begun { (txn : ℕ) → get nat_cmp result.begun txn ≡ get nat_cmp begun txn }
+        ensures attempts { (x : TxnId) → get id_cmp result.attempts x ≡ None }
+        ensures clients { (x : TxnId) → get id_cmp result.clients x ≡ None }
+    {
+        let mut clock = Clock::new(number, start);
+        if start < drawn {
+            clock.saw(drawn - 1);
+            clock.draw();
+            clock.restart();
+        }
+        Node {
+            alloc,
+            clock,
+            begun,
+            attempts: BTreeMap::new(alloc),
+            clients: BTreeMap::new(alloc),
+        }
+    }
+
     /// The stamp that the next begin or recover draws, unless a greater `h` is seen before.
     pub fn next_draw(&self) -> Stamp
         requires drawn_in_range { self.now.clock.drawn < 2 ^ 62 }
         requires seen_in_range { self.now.clock.seen < 2 ^ 62 }
-        ensures { (layout : Layout) (number start : ℕ) (acts : List Act) → StandsFor layout number start self.now acts →
+        ensures stamp { result ≡ next_stamp self.now.clock }
+        ensures rule { (layout : Layout) (number start : ℕ) (acts : List Act) → StandsFor layout number start self.now acts →
             result ≡ next_draw number start (node_replay layout number start acts) }
     {
         self.clock.peek()
@@ -125,16 +161,16 @@ impl Node {
         Ok(Emitted { notes, out })
     }
 
-    /// Gives the fast path of a transaction's first attempt up, and proposes the greatest vote. Unknown comes where this attempt
-    /// doesn't wait for votes, or there is none, and NoQuorum where it waits and some shard lacks a majority of answers; with a
-    /// majority no error but of memory. After an error the node stands for what it stood for.
+    /// Gives the fast path of a transaction's first attempt up, and proposes the greatest vote. Unknown comes exactly where this
+    /// attempt doesn't wait for votes, or there is none, and NoQuorum exactly where it waits and some shard lacks a majority of
+    /// answers, so only want of memory is left with a majority. After an error the node stands for what it stood for.
     pub fn slow(&mut self, topology: &Topology, txn: u32) -> Result<Emitted, NodeError>
         ensures ok { IfOk result (λ emitted. (number start : ℕ) (acts : List Act) → StandsFor topology.now number start self.old acts →
             SlowsBegun topology.now number start self.new acts txn emitted) }
         ensures unknown { (number start : ℕ) (acts : List Act) → StandsFor topology.now number start self.old acts →
             (result ≡ Err Refused.Unknown) ↔ (may_slow topology.now number start txn (node_replay topology.now number start acts) ≡ false) }
-        ensures no_quorum { IfErr result (λ error. error ≡ Refused.NoQuorum → (number start : ℕ) (acts : List Act) → StandsFor topology.now number start self.old acts →
-            (may_slow topology.now number start txn (node_replay topology.now number start acts) ≡ true)
+        ensures no_quorum { (number start : ℕ) (acts : List Act) → StandsFor topology.now number start self.old acts →
+            (result ≡ Err Refused.NoQuorum) ↔ ((may_slow topology.now number start txn (node_replay topology.now number start acts) ≡ true)
             × (is_answered topology.now number start txn (node_replay topology.now number start acts) ≡ false)) }
         ensures not_begun { IfErr result (λ error. (number start : ℕ) (acts : List Act) → StandsFor topology.now number start self.old acts → error ≢ Refused.Begun) }
         ensures err { OnErr result ((number start : ℕ) (acts : List Act) → StandsFor topology.now number start self.old acts →

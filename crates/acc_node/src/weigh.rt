@@ -20,7 +20,7 @@ use acc_txn::Body;
 
 impl Node {
     /// The sum of the lengths of what `encode` makes of each message that `begin` would send now, of a transaction that the node
-    /// has not begun. Nothing changes.
+    /// has not begun. Nothing changes. Its number is at most 15 where it was made so, by what it stands for.
     pub fn weigh_begin(
         &self,
         topology: &Topology,
