@@ -11,3 +11,4 @@ pub mod Stepping
 pub mod Whole
 pub mod Absent
 pub mod Room
+pub mod MayExecute

@@ -10,6 +10,9 @@ use Rattle.acc_deps.specs.declared.records.Settled.{Settled}
 use Rattle.acc_message.specs.declared.answer.ReadAnswer.{ReadAnswer}
 use Rattle.acc_message.specs.declared.answer.ReadAnswer.TheVariants.{Values}
 use Rattle.acc_message.specs.declared.message.Message.{Message}
+use Rattle.acc_message.specs.Taken.{Taken}
+use Rattle.acc_message.specs.BallotRules.{stable_of}
+use Rattle.acc_message.specs.Opening.{is_ready, applied_of}
 use Rattle.acc_message.specs.StoreRules.{read_ok, read_here, kept_or}
 use Rattle.acc_record.specs.declared.record.Record.{Record}
 use Rattle.acc_record.specs.declared.shelf.Shelf.{Shelf}
@@ -37,3 +40,12 @@ is_ready_with shard at (Some s) = list_all (λ y. is_past_record s.t (at y)) (of
 
 abbrev pub is_ready_at : Shelf → TxnId → Bool
 is_ready_at shelf x = is_ready_with (shard_of shelf.actor) (record_at shelf.records) (settled_in (record_at shelf.records x))
+
+-- the same by the rules
+
+abbrev pub may_execute_with : ℕ → List Taken → Option Settled → Bool
+may_execute_with shard history None = false
+may_execute_with shard history (Some s) = is_ready shard history (applied_of shard history) s
+
+abbrev pub may_execute : ℕ → List Taken → TxnId → Bool
+may_execute shard history x = may_execute_with shard history (stable_of history x)

@@ -1,4 +1,5 @@
 pub mod TurnFacts
+pub mod QueueFacts
 pub mod ScanFacts
 pub mod Behind
 pub mod StateFacts

@@ -1,5 +1,5 @@
 -- A plan ends: each turn is of another known transaction.
-use Rattle.std.proofs.Common.{◌≡◌, ℕ, ◌+◌, ◌<◌, ◌≤◌, Bool, true, false, cond, ◌||◌, List, [], ◌∷◌, ◌++◌, length, get_or, Some, sym, refl, ap, ◌∙◌, arith}
+use Rattle.std.proofs.Common.{◌≡◌, ℕ, ◌+◌, ◌<◌, ◌≤◌, Bool, true, false, cond, ◌||◌, List, [], ◌∷◌, ◌++◌, Some, sym, refl, ap, ◌∙◌, arith}
 use Rattle.std.specs.Map.{lookup as lookup_in}
 use Rattle.std.specs.List.{Contains, list_any}
 use Rattle.std.proofs.lemmas.Bool.{true≢false, or_left, or_right, false_from_ne_true}
@@ -15,7 +15,7 @@ use Rattle.acc_opening.specs.declared.turns.Turn.{Turn}
 use Rattle.acc_opening.specs.Lookup.{lookup}
 use Rattle.acc_opening.specs.Touched.{is_same}
 use Rattle.acc_opening.specs.Turns.{key_of, key_lt, HasItsTime}
-use Rattle.acc_opening.specs.State.{IsUnderWay, no_turn}
+use Rattle.acc_opening.specs.State.{IsUnderWay}
 use Rattle.acc_opening.proofs.TurnFacts.{key_lt-irrefl, Contains-first, Contains-later}
 use Rattle.acc_opening.proofs.StateFacts.{is_same-true, some_same, each_contained}
 
@@ -120,8 +120,3 @@ less_left shard records own watching done turn rest s = by (id_eq turn.id own.id
         let a = left-less done turn own.id in
         let b = entries_less done turn records.entries right.there there h in
         omega arith
-
-pub less_run : (shard : ℕ) (records : Records) (own : Record) (watching : TxnId → List Watch) (done queue : List Turn) → 0 < length queue
-    → IsUnderWay shard (lookup records own) watching [] done queue → left records own (done ++ get_or queue 0 no_turn ∷ []) < left records own done
-less_run shard records own watching done [] h s = absurd (omega arith)
-less_run shard records own watching done (turn ∷ rest) h s = less_left shard records own watching done turn rest s

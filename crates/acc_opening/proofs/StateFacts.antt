@@ -1,5 +1,5 @@
 -- The steps of a plan that is made.
-use Rattle.std.proofs.Common.{◌≡◌, ℕ, ◌<◌, ◌⊎◌, inl, inr, ⊎_elim, Bool, true, false, not, cond, ◌&&◌, ◌||◌, List, [], ◌∷◌, ◌++◌, length, get_or, drop, Some, sym, refl, ap, ◌∙◌, subst, arith}
+use Rattle.std.proofs.Common.{◌≡◌, ℕ, ◌⊎◌, inl, inr, ⊎_elim, Bool, true, false, not, cond, ◌&&◌, ◌||◌, List, [], ◌∷◌, ◌++◌, Some, sym, refl, ap, ◌∙◌, subst, arith}
 use Rattle.std.specs.List.{AllByRecursion, Contains}
 use Rattle.std.specs.Ordering.{is_lt, is_eq, ordering_then, ordering_reverse}
 use Rattle.std.specs.Cmp.{Equal-is}
@@ -122,10 +122,6 @@ module _ (shard : ℕ) (at : Lookup) (watching : TxnId → List Watch) (w : Watc
     }
 
 -- ---- the least turn that comes is taken
-
-pub parted : {X : Type 0} (xs : List X) (x : X) → 0 < length xs → x ≡ get_or xs 0 x → xs ≡ x ∷ drop 1 xs
-parted [] x h e = absurd (omega arith)
-parted (y ∷ ys) x h e = ap (λ z. z ∷ ys) (sym e)
 
 changes-push : (done : List Turn) (turn : Turn) → changes_in (done ++ turn ∷ []) ≡ changes_in done ++ change_of turn ∷ []
 changes-push [] turn = refl

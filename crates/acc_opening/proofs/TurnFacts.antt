@@ -1,5 +1,5 @@
 -- Turns in their order.
-use Rattle.std.proofs.Common.{◌≡◌, ℕ, ◌<◌, ◌⊎◌, inl, inr, ⊎_elim, Bool, true, false, ◌&&◌, ◌||◌, List, [], ◌∷◌, ◌++◌, length, get_or, take, drop, insert, suc, zero, Ordering, sym, refl, ap, ◌∙◌, subst, arith}
+use Rattle.std.proofs.Common.{◌≡◌, ℕ, ◌<◌, ◌⊎◌, inl, inr, ⊎_elim, Bool, true, false, ◌&&◌, ◌||◌, List, [], ◌∷◌, ◌++◌, length, get_or, take, drop, suc, zero, Ordering, sym, refl, ap, ◌∙◌, subst, arith}
 use Rattle.std.specs.Bool.{Decides}
 use Rattle.std.specs.Cmp.{IsTotalOrder}
 use Rattle.std.specs.declared.cmp.Ordering.TheVariants.{Less, Equal, Greater}
@@ -14,7 +14,7 @@ use Rattle.std.proofs.lemmas.List.Folds.{list_any-append}
 use Rattle.std.proofs.lemmas.Map.Lookups.{CmpEqualImpliesEq}
 use Rattle.acc_stamp.specs.declared.stamps.Stamp.{Stamp}
 use Rattle.acc_stamp.specs.declared.stamps.TxnId.{TxnId}
-use Rattle.acc_stamp.specs.Rising.{IsRisingBy, IsPlaceOf, IsGapFor}
+use Rattle.acc_stamp.specs.Rising.{IsRisingBy, IsGapFor}
 use Rattle.acc_stamp.proofs.Order.{stamp_eq-Decides, id_order, stamp_cmp_total, stamp_cmp_exact, id_cmp_total, id_cmp_exact}
 use Rattle.acc_stamp.proofs.Rising.{each_append, each_parts}
 use Rattle.acc_opening.specs.declared.turns.Turn.{Turn}
@@ -140,31 +140,11 @@ each_kept x front back a c =
     (λ h. Contains-append_right front (x ∷ back) a (Contains-later x back a h))
     (Contains-append_cases front back a c)
 
-between : (turn : Turn) (front back : List Turn) → IsRisingBy turn_lt (front ++ back) → AllByRecursion (λ y. turn_lt y turn ≡ true) front
+pub between : (turn : Turn) (front back : List Turn) → IsRisingBy turn_lt (front ++ back) → AllByRecursion (λ y. turn_lt y turn ≡ true) front
     → AllByRecursion (λ y. turn_lt turn y ≡ true) back → HasTurn turn (front ++ back) (front ++ turn ∷ back)
 between turn front back r below above = record {
   rises = rising_insert turn front back r below above;
   only = only_one turn front back;
   kept = each_kept turn front back;
   there = (turn, Contains-append_right front (turn ∷ back) turn (Contains-first turn back), refl);
-}
-
-pub HasTurn-gap : (turn : Turn) (turns : List Turn) (i : ℕ) → IsRisingBy turn_lt turns → IsGapFor key_lt key_of turns (key_of turn) i
-    → HasTurn turn turns (insert turns i turn)
-HasTurn-gap turn turns i r g =
-    subst (λ list. HasTurn turn list (insert turns i turn)) (take-append-drop i turns)
-    (between turn (take i turns) (drop i turns) (subst (IsRisingBy turn_lt) (sym (take-append-drop i turns)) r) g.below g.above)
-
-Contains-place : (turns : List Turn) (i : ℕ) (d : Turn) → i < length turns → Contains turns (get_or turns i d)
-Contains-place [] i d h = absurd (omega arith)
-Contains-place (x ∷ xs) zero d h = Contains-first x xs
-Contains-place (x ∷ xs) (suc i) d h = Contains-later x xs _ (Contains-place xs i d (omega arith))
-
-pub HasTurn-place : (turn : Turn) (turns : List Turn) (i : ℕ) → IsRisingBy turn_lt turns → IsPlaceOf key_of turns (key_of turn) i
-    → HasTurn turn turns turns
-HasTurn-place turn turns i r p = record {
-  rises = r;
-  only = λ a c. inl c;
-  kept = λ a c. c;
-  there = (get_or turns i turn, Contains-place turns i turn p.in_range, p.at turn);
 }

@@ -21,7 +21,11 @@ changed changes x r = record r { opened = r.opened || opens_in x changes; applie
 abbrev pub after_changes : Lookup → List Change → Lookup
 after_changes at changes = λ x. option_map (changed changes x) (at x)
 
--- every watch is one, and each stable transaction that isn't opened has one
+-- Every watch is one, and each stable transaction that isn't opened has one. Nothing here keeps a watch from standing twice in a
+-- list, since nothing rests on that. It doesn't come about: a step takes watches away, and puts back at most one for each of
+-- them and one for its own transaction, which had none before it was stable. If one stood twice, both would be looked at in
+-- the same step and go the same way, and of one transaction only one turn comes, so nothing would be opened, applied or sent
+-- twice.
 pub record AreWatches (shard : ℕ) (at : Lookup) (watching : TxnId → List Watch) : Type 0 where
   pub true : (y : TxnId) (w : Watch) → Contains (watching y) w → IsWatch shard at y w
   pub all :

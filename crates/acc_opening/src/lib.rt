@@ -4,11 +4,13 @@
 
 mod lookup;
 mod plan;
+mod queue;
 mod scan;
 mod touched;
 mod turns;
 
 pub use lookup::record_of;
 pub use plan::{Known, Plan, planned};
+pub use queue::{Due, Queue};
 pub use touched::{Touched, TouchedWaits};
 pub use turns::Turn;

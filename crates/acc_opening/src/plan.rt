@@ -1,17 +1,19 @@
 //! The plan of a step.
-ghost use Rattle.std.specs.Prelude.{◌≡◌, ◌&&◌, not, IsTrue, is_some, ◌<◌, ◌++◌, [], ◌∷◌, ◌+◌, length, drop, slice_index_or, OnOk, IfOk};
+ghost use Rattle.std.specs.Prelude.{◌≡◌, ◌&&◌, not, IsTrue, is_some, ◌<◌, ◌++◌, [], ◌∷◌, ◌+◌, length, drop, OnOk, IfOk};
 ghost use Rattle.acc_opening.specs.Lookup.{lookup};
 ghost use Rattle.acc_opening.specs.Touched.{watches_now};
-ghost use Rattle.acc_opening.specs.State.{IsUnderWay, no_turn};
+ghost use Rattle.acc_opening.specs.Queue.{turns_in};
+ghost use Rattle.acc_opening.specs.State.{IsUnderWay};
 ghost use Rattle.acc_opening.specs.Planned.{IsPlanned};
 ghost use Rattle.acc_opening.specs.Known.{IsKnown, IsEmptyPlan};
 ghost use Rattle.acc_opening_laws.specs.Plan.{settled_in};
 ghost use Rattle.acc_record.specs.Shelf.{record_at};
 
 use crate::lookup::record_of;
+use crate::queue::{Queue, insert, take_first};
 use crate::scan::next_held;
 use crate::touched::{TouchedWaits, add_watch, take_watches};
-use crate::turns::{Turn, insert, turn_of};
+use crate::turns::{Turn, turn_of};
 use acc_base::OutOfMemory;
 use acc_record::{Record, Records, Waits, Watch};
 use acc_stamp::TxnId;
@@ -37,7 +39,7 @@ pub struct Plan {
     /// The turns so far.
     pub done: Vec<Turn>,
     /// The transactions whose turn comes.
-    pub queue: Vec<Turn>,
+    pub queue: Queue,
     /// What changes in the lists of who waits for whom.
     pub touched: TouchedWaits,
 }
@@ -46,8 +48,8 @@ impl Plan {
     // Looks at one that no longer waits where it did: it waits for the next dependency that holds it back, or its turn comes.
     fn wake(&mut self, known: &Known<'_>, woken: &[Watch], place: usize) -> Result<(), OutOfMemory>
         requires one { place < length woken.now }
-        requires before { IsUnderWay known.now.shard (lookup known.now.records.now known.now.own.now) (watches_now self.old.touched known.now.waits.now) (drop place woken.now) self.old.done.items self.old.queue.items }
-        ensures after { OnOk result (IsUnderWay known.now.shard (lookup known.now.records.now known.now.own.now) (watches_now self.new.touched known.now.waits.now) (drop (place + 1) woken.now) self.new.done.items self.new.queue.items) }
+        requires before { IsUnderWay known.now.shard (lookup known.now.records.now known.now.own.now) (watches_now self.old.touched known.now.waits.now) (drop place woken.now) self.old.done.items (turns_in self.old.queue) }
+        ensures after { OnOk result (IsUnderWay known.now.shard (lookup known.now.records.now known.now.own.now) (watches_now self.new.touched known.now.waits.now) (drop (place + 1) woken.now) self.new.done.items (turns_in self.new.queue)) }
         ensures done { self.new.done.items ≡ self.old.done.items }
     {
         let watch = woken[place];
@@ -67,7 +69,7 @@ impl Plan {
             watch.place,
         ) {
             Some(held) => {
-                let alloc = *self.queue.allocator();
+                let alloc = *self.done.allocator();
                 let watch = Watch {
                     id: watch.id,
                     place: held,
@@ -80,8 +82,8 @@ impl Plan {
 
     // Looks at all that no longer wait where they did.
     fn wake_all(&mut self, known: &Known<'_>, woken: &[Watch]) -> Result<(), OutOfMemory>
-        requires before { IsUnderWay known.now.shard (lookup known.now.records.now known.now.own.now) (watches_now self.old.touched known.now.waits.now) woken.now self.old.done.items self.old.queue.items }
-        ensures after { OnOk result (IsUnderWay known.now.shard (lookup known.now.records.now known.now.own.now) (watches_now self.new.touched known.now.waits.now) [] self.new.done.items self.new.queue.items) }
+        requires before { IsUnderWay known.now.shard (lookup known.now.records.now known.now.own.now) (watches_now self.old.touched known.now.waits.now) woken.now self.old.done.items (turns_in self.old.queue) }
+        ensures after { OnOk result (IsUnderWay known.now.shard (lookup known.now.records.now known.now.own.now) (watches_now self.new.touched known.now.waits.now) [] self.new.done.items (turns_in self.new.queue)) }
         ensures done { self.new.done.items ≡ self.old.done.items }
     {
         for place in 0..woken.len() {
@@ -90,30 +92,28 @@ impl Plan {
         Ok(())
     }
 
-    // The least turn that comes is taken.
-    fn advance(&mut self, known: &Known<'_>) -> Result<(), OutOfMemory>
-        requires some { 0 < length self.old.queue.items }
-        requires before { IsUnderWay known.now.shard (lookup known.now.records.now known.now.own.now) (watches_now self.old.touched known.now.waits.now) [] self.old.done.items self.old.queue.items }
-        ensures after { OnOk result (IsUnderWay known.now.shard (lookup known.now.records.now known.now.own.now) (watches_now self.new.touched known.now.waits.now) [] self.new.done.items self.new.queue.items) }
-        ensures done { OnOk result (self.new.done.items ≡ self.old.done.items ++ slice_index_or self.old.queue.items 0 no_turn ∷ []) }
+    // The turn of a transaction is taken.
+    fn advance(&mut self, known: &Known<'_>, turn: Turn) -> Result<(), OutOfMemory>
+        requires { IsUnderWay known.now.shard (lookup known.now.records.now known.now.own.now) (watches_now self.old.touched known.now.waits.now) [] self.old.done.items (turn ∷ turns_in self.old.queue) }
+        ensures after { OnOk result (IsUnderWay known.now.shard (lookup known.now.records.now known.now.own.now) (watches_now self.new.touched known.now.waits.now) [] self.new.done.items (turns_in self.new.queue)) }
+        ensures done { OnOk result (self.new.done.items ≡ self.old.done.items ++ turn ∷ []) }
     {
-        let turn = self.queue.remove(0);
         self.done.push(turn)?;
         if turn.applies {
-            let alloc = *self.queue.allocator();
+            let alloc = *self.done.allocator();
             let woken = take_watches(alloc, &mut self.touched, known.waits, turn.id)?;
             self.wake_all(known, &woken)?;
         }
         Ok(())
     }
 
-    // All turns that come are taken.
+    // All turns that come are taken, the least one first.
     fn run(&mut self, known: &Known<'_>) -> Result<(), OutOfMemory>
-        requires { IsUnderWay known.now.shard (lookup known.now.records.now known.now.own.now) (watches_now self.old.touched known.now.waits.now) [] self.old.done.items self.old.queue.items }
+        requires { IsUnderWay known.now.shard (lookup known.now.records.now known.now.own.now) (watches_now self.old.touched known.now.waits.now) [] self.old.done.items (turns_in self.old.queue) }
         ensures { OnOk result (IsUnderWay known.now.shard (lookup known.now.records.now known.now.own.now) (watches_now self.new.touched known.now.waits.now) [] self.new.done.items []) }
     {
-        while !self.queue.is_empty() {
-            self.advance(known)?;
+        while let Some(turn) = take_first(&mut self.queue) {
+            self.advance(known, turn)?;
         }
         Ok(())
     }
@@ -123,9 +123,9 @@ impl Plan {
         requires starts { IsEmptyPlan self.old }
         requires known { IsKnown known.now.shard known.now.records.now known.now.own.now known.now.waits.now }
         requires fresh { settled_in (record_at known.now.records.now known.now.own.now.id) ≡ None }
-        ensures { OnOk result (IsUnderWay known.now.shard (lookup known.now.records.now known.now.own.now) (watches_now self.new.touched known.now.waits.now) [] self.new.done.items self.new.queue.items) }
+        ensures { OnOk result (IsUnderWay known.now.shard (lookup known.now.records.now known.now.own.now) (watches_now self.new.touched known.now.waits.now) [] self.new.done.items (turns_in self.new.queue)) }
     {
-        let alloc = *self.queue.allocator();
+        let alloc = *self.done.allocator();
         let id = known.own.id;
         let mut woken = take_watches(alloc, &mut self.touched, known.waits, id)?;
         woken.push(Watch { id, place: 0 })?;
@@ -137,7 +137,7 @@ impl Plan {
         requires starts { IsEmptyPlan self.old }
         requires known { IsKnown known.now.shard known.now.records.now known.now.own.now known.now.waits.now }
         requires stable { IsTrue (is_some (settled_in (record_at known.now.records.now known.now.own.now.id))) }
-        ensures { OnOk result (IsUnderWay known.now.shard (lookup known.now.records.now known.now.own.now) (watches_now self.new.touched known.now.waits.now) [] self.new.done.items self.new.queue.items) }
+        ensures { OnOk result (IsUnderWay known.now.shard (lookup known.now.records.now known.now.own.now) (watches_now self.new.touched known.now.waits.now) [] self.new.done.items (turns_in self.new.queue)) }
     {
         let own = known.own;
         let Some(settled) = &own.stable else {
@@ -146,8 +146,7 @@ impl Plan {
         if !is_due(own) {
             return Ok(());
         }
-        self.queue.push(turn_of(own, settled.t, own.id))?;
-        Ok(())
+        insert(&mut self.queue, turn_of(own, settled.t, own.id))
     }
 }
 
@@ -175,7 +174,7 @@ pub fn planned(alloc: Global, known: &Known<'_>) -> Result<Plan, OutOfMemory>
 {
     let mut plan = Plan {
         done: Vec::new(alloc),
-        queue: Vec::new(alloc),
+        queue: BTreeMap::new(alloc),
         touched: BTreeMap::new(alloc),
     };
     if is_stable(known.records, known.own.id) {

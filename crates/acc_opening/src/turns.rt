@@ -1,9 +1,8 @@
 //! Turns: what a step does to a transaction, in the order of the timestamps.
-ghost use Rattle.std.specs.Prelude.{◌≡◌, [], ◌∷◌, ◌++◌, OnOk, OnErr, MatchResult};
+ghost use Rattle.std.specs.Prelude.{◌≡◌, MatchResult};
 ghost use Rattle.acc_stamp.specs.Rising.{IsRisingBy, IsPlaceOf, IsGapFor};
-ghost use Rattle.acc_opening.specs.Turns.{turn_lt, key_lt, key_of, is_applied_at, HasTurn, turn_of};
+ghost use Rattle.acc_opening.specs.Turns.{turn_lt, key_lt, key_of, is_applied_at, turn_of};
 
-use acc_base::OutOfMemory;
 use acc_record::Record;
 use acc_stamp::{Stamp, TxnId};
 
@@ -49,16 +48,4 @@ pub(crate) fn is_applied_at(turns: &[Turn], t: Stamp, id: TxnId) -> bool
         Ok(place) => turns[place].applies,
         Err(_) => false,
     }
-}
-
-/// Puts a turn in its place, unless its transaction stands there. Without memory for it the turns are as before.
-pub(crate) fn insert(turns: &mut Vec<Turn>, turn: Turn) -> Result<(), OutOfMemory>
-    requires { IsRisingBy turn_lt turns.old.items }
-    ensures ok { OnOk result (HasTurn turn turns.old.items turns.new.items) }
-    ensures err { OnErr result (turns.new.items ≡ turns.old.items) }
-{
-    if let Err(place) = place_of(turns, turn.t, turn.id) {
-        turns.insert(place, turn)?;
-    }
-    Ok(())
 }

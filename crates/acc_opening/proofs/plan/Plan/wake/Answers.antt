@@ -7,6 +7,7 @@ use Rattle.acc_record.specs.declared.shelf.Watch.{Watch}
 use Rattle.acc_deps.specs.Deps.{of_shard}
 use Rattle.acc_opening_laws.specs.Plan.{Lookup}
 use Rattle.acc_opening.specs.Lookup.{lookup}
+use Rattle.acc_opening.specs.Queue.{turns_in}
 use Rattle.acc_opening.specs.Scan.{AllPastFrom, IsNextHeld}
 use Rattle.acc_opening.specs.Touched.{watches_now}
 use Rattle.acc_opening.specs.Turns.{changes_in, HasTurn}
@@ -57,6 +58,6 @@ returns-in-None-clause-after c =
     let past_done = subst (λ turns. AllPastFrom at (changes_in turns) settled.t (of_shard settled.deps known.shard) w.place) c.deref.ensures.value past in
     IfOk-weaker _ _ _
     (λ _ has.
-    to_queue known.shard at _ _ _ _ _ s r (sym c.in-Some.ensures) settled c.in-Some-stable.is past_done c.insert.new.turns.items
-    (subst (λ turn. HasTurn turn c.args.self.now.queue.items c.insert.new.turns.items) c.turn_of.ensures has))
-    c.insert.ensures.ok
+    to_queue known.shard at _ _ _ _ _ s r (sym c.in-Some.ensures) settled c.in-Some-stable.is past_done (turns_in c.insert.new.queue)
+    (subst (λ turn. HasTurn turn (turns_in c.args.self.now.queue) (turns_in c.insert.new.queue)) c.turn_of.ensures has))
+    c.insert.ensures
