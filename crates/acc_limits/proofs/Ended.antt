@@ -24,11 +24,11 @@ at_most h k = omega arith
 never_both : {n k : ℕ} → k < n → n ≤ k → ⊥
 never_both h k = omega arith
 
-within_part : (one other : List Item) → Begins one other → IsWithin other → IsWithin one
+pub within_part : (one other : List Item) → Begins one other → IsWithin other → IsWithin one
 within_part one other a within =
     record { few = at_most (begins_shorter one other a) within.few; light = at_most (no_heavier one other a) within.light }
 
-not_within : (items : List Item) (item : Item) (which : Which) (number : ℕ) → WouldPass items item which number → IsWithin (item ∷ items) → ⊥
+pub not_within : (items : List Item) (item : Item) (which : Which) (number : ℕ) → WouldPass items item which number → IsWithin (item ∷ items) → ⊥
 not_within items item Document number passed within = passed
 not_within items item Items number passed within = never_both passed.1 within.few
 not_within items item Bytes number passed within = never_both passed.2 within.light
@@ -91,19 +91,19 @@ module _ (Front : List Item → Type 0) (line : (one other : List Item) → Fron
 
 -- ---- or the run is within the limits
 
-record Passes (items : List Item) : Type 0 where
-  front : List Item
-  next : Item
-  which : Which
-  number : ℕ
-  begins : Begins (next ∷ front) items
-  within : IsWithin front
-  passed : WouldPass front next which number
+pub record Passes (items : List Item) : Type 0 where
+  pub front : List Item
+  pub next : Item
+  pub which : Which
+  pub number : ℕ
+  pub begins : Begins (next ∷ front) items
+  pub within : IsWithin front
+  pub passed : WouldPass front next which number
 
 up_to : (n k : ℕ) → (n ≤ k) ⊎ (k < n)
 up_to n k = grind arith
 
-within_or_passes : (items : List Item) → IsWithin items ⊎ Passes items
+pub within_or_passes : (items : List Item) → IsWithin items ⊎ Passes items
 within_or_passes [] = inl (record { few = omega arith; light = omega arith })
 within_or_passes (item ∷ items) = by (within_or_passes items)
   where

@@ -4,3 +4,4 @@ mod InLine
 mod Ended
 mod Made
 mod StrictInLine
+mod StrictWhole

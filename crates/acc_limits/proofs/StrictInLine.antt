@@ -33,7 +33,7 @@ module _ (cluster : Cluster) where
   strict_tried_adds : (s : StrictSituation) (a : Actor) (event : Event) → Begins s.found.own (tried_strictly cluster s a event).found.own
   strict_tried_adds s a event = tried_adds cluster (step_answers s.disks a) s.found a event
 
-  strict_next_adds : (number : ℕ) (step : Step) (s next : StrictSituation) → IsStrictNext cluster number step s next
+  pub strict_next_adds : (number : ℕ) (step : Step) (s next : StrictSituation) → IsStrictNext cluster number step s next
       → Begins s.found.own next.found.own
   strict_next_adds number step s next is =
       let found = next_answered cluster no_faults number s next step is in next_adds cluster found.0 number step s.found next.found found.2
@@ -58,7 +58,7 @@ module _ (cluster : Cluster) where
   comes_adds number (Fail actor calls) s reached is = strict_next_adds number (Fail actor calls) s reached is
   comes_adds number Drain s reached drains = drained_adds reached s drains
 
-  reaches_adds : (number : ℕ) (steps : List Step) (s reached : StrictSituation) → StrictlyReaches cluster number steps s reached
+  pub reaches_adds : (number : ℕ) (steps : List Step) (s reached : StrictSituation) → StrictlyReaches cluster number steps s reached
       → Begins s.found.own reached.found.own
   reaches_adds number [] s reached is = same_adds s reached is
   reaches_adds number (step ∷ steps) s reached (inl part) = comes_adds number step s reached part
@@ -99,7 +99,7 @@ module _ (cluster : Cluster) where
   comes_in_line number Drain s one other a b = drained_in_line one other s a b
 
   -- a step that ends comes only to beginnings of its end
-  whole_drain : (next s : StrictSituation) → StrictDrains cluster next s → StrictlyDrainsTo cluster next s
+  pub whole_drain : (next s : StrictSituation) → StrictDrains cluster next s → StrictlyDrainsTo cluster next s
   whole_drain next s (stops _ none is) = comes s is
   whole_drain next s (delivers_one _ n oldest rest) =
       goes_on s n oldest (whole_drain next (tried_strictly cluster s (receiver_in s.found n) (MessageEvent n)) rest)
@@ -114,7 +114,7 @@ module _ (cluster : Cluster) where
       (subst (λ m. StrictDrains cluster next (tried_strictly cluster s (receiver_in s.found m) (MessageEvent m)))
       (one_oldest s.found k n oldest' oldest) rest')
 
-  comes_within : (number : ℕ) (step : Step) (s reached next : StrictSituation) → StrictlyComesTo cluster number step s reached
+  pub comes_within : (number : ℕ) (step : Step) (s reached next : StrictSituation) → StrictlyComesTo cluster number step s reached
       → IsStrictNext cluster number step s next → Begins reached.found.own next.found.own
   comes_within number (Begin txn) s reached next a b = same_end number (Begin txn) s reached next a b
   comes_within number (Deliver message) s reached next a b = same_end number (Deliver message) s reached next a b
@@ -208,7 +208,7 @@ module _ (plan : Content) where
       by (inl first) = both_begin one other b.reached.found.own (begins_chain one a.reached.found.own b.reached.found.own a.begins first) b.begins less
       by (inr first) = both_begin one other a.reached.found.own a.begins (begins_chain other b.reached.found.own a.reached.found.own b.begins first) less
 
-  part_is_strict_front : (front items : List Item) → Begins front items → IsStrictFront plan items → IsStrictFront plan front
+  pub part_is_strict_front : (front items : List Item) → Begins front items → IsStrictFront plan items → IsStrictFront plan front
   part_is_strict_front front items begins is =
       record { reached = is.reached; reaches = is.reaches; begins = begins_chain front items is.reached.found.own begins is.begins }
 

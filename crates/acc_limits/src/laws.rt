@@ -9,9 +9,11 @@ ghost use Rattle.acc_follow.specs.Situations.{Situation};
 ghost use Rattle.acc_follow.specs.Moves.{Answers, IsNext};
 ghost use Rattle.acc_follow.specs.Schedules.{Follows, Obeys};
 ghost use Rattle.acc_follow.specs.Laws.{AgreeBelow};
+ghost use Rattle.acc_strict.specs.Moves.{StrictSituation};
+ghost use Rattle.acc_strict.specs.Schedules.{FollowsStrictly, ObeysStrictly};
 ghost use Rattle.acc_limits.specs.Limits.{IsWithin};
 ghost use Rattle.acc_limits.specs.Fronts.{ComesTo, Reaches, Begins, IsFront, LimitEnds};
-ghost use Rattle.acc_limits.specs.StrictFronts.{IsStrictFront, StrictLimitEnds};
+ghost use Rattle.acc_limits.specs.StrictFronts.{StrictlyComesTo, StrictlyReaches, IsStrictFront, StrictLimitEnds};
 
 /// The fronts of a plan's run with given answers of the disks stand in one line: of two, the longer one begins with the other. Where the
 /// run has an end, its items are the longest.
@@ -58,4 +60,18 @@ pub fn one_limit_over_strict_disks()
         (one ≡ other) × (which ≡ which_other) × (number ≡ number_other) }
     ensures answered { (plan : Content) (items : List Item) (which : Which) (number : ℕ) → StrictLimitEnds plan items which number →
         (answers : Answers) × LimitEnds plan answers items which number }
+{}
+
+/// Over strict disks too a run that has an end is within the limits, or a limit ends a front of it, and never both; and a front is made step
+/// by step.
+pub fn a_limit_or_the_whole_over_strict_disks()
+    ensures whole { (plan : Content) (items : List Item) → ObeysStrictly plan items → IsStrictFront plan items }
+    ensures longest { (plan : Content) (items front : List Item) → ObeysStrictly plan items → IsStrictFront plan front → Begins front items }
+    ensures one { (plan : Content) (items : List Item) → ObeysStrictly plan items →
+        IsWithin items ⊎ ((front : List Item) × (which : Which) × (number : ℕ) × StrictLimitEnds plan front which number) }
+    ensures not_both { (plan : Content) (items front : List Item) (which : Which) (number : ℕ) → ObeysStrictly plan items →
+        IsWithin items → StrictLimitEnds plan front which number → ⊥ }
+    ensures step { (cluster : Cluster) (number : ℕ) (steps more : List Step) (step : Step) (s between reached : StrictSituation) →
+        FollowsStrictly cluster number steps s between → StrictlyComesTo cluster (number + length steps) step between reached →
+        StrictlyReaches cluster number (steps ++ step ∷ more) s reached }
 {}
