@@ -1,26 +1,38 @@
 //! The lines of one item.
-ghost use Rattle.std.specs.Prelude.{◌≡◌, ◌++◌, [], ◌∷◌, map, IfOk, OnOk};
+ghost use Rattle.std.specs.Prelude.{◌≡◌, ℕ, ◌++◌, List, [], ◌∷◌, map, IfOk, OnOk};
+ghost use Rattle.acc_stamp.specs.declared.stamps.TxnId.{TxnId};
+ghost use Rattle.acc_message.specs.declared.item.Item.{Item};
 ghost use Rattle.acc_deps.specs.Deps.{all_ids};
-ghost use Rattle.acc_report.specs.Numbers.{name_in};
-ghost use Rattle.acc_report.specs.Report.{name_at, note_line, skip_line, event_lines, lines_in, lines_of};
+ghost use Rattle.acc_report.specs.Numbers.{name_in, IsOf};
+ghost use Rattle.acc_report.specs.Report.{name_of, name_at, note_line, skip_line, event_lines, lines_in, lines_of};
 
-use crate::names::{Directory, name_of_number, numbers_with};
+use crate::names::{Directory, name_of_number};
 use acc_base::{OutOfMemory, Text};
 use acc_message::{Event, Item, Note, Roll, Skip};
 use acc_report_line::{Line, Lines, Names};
 use acc_stamp::{Actor, TxnId};
 
 /// The lines of one item, as they stand in the report of a run where the roll has the ids of the transactions that earlier
-/// items began. A transaction is called as in the text of a report.
+/// items began. A transaction is called as in the text of a report. The roll is entered into a directory each time: for the
+/// lines of many items, make that once and ask it for the lines of each.
 pub fn line(item: &Item, roll: &Roll, names: &Names) -> Result<Lines, OutOfMemory>
     ensures { IfOk result (λ lines. lines ≡ lines_of names.now roll.now (item.now ∷ [])) }
 {
-    let alloc = names.allocator();
-    let numbers = numbers_with(alloc, roll, item)?;
-    let directory = Directory { names, numbers };
-    let mut lines = Lines::new(alloc);
-    add_item(&mut lines, &directory, item)?;
-    Ok(lines)
+    let known = Directory::new(names, roll)?;
+    let directory = known.with(item)?;
+    directory.lines(item)
+}
+
+impl Directory<'_> {
+    /// The lines of one item, with the names of this directory.
+    pub fn lines(&self, item: &Item) -> Result<Lines, OutOfMemory>
+        ensures { IfOk result (λ lines. (names : List (List ℕ)) (roll : List (TxnId × ℕ)) (items : List Item) →
+            IsOf self.now names roll items → lines ≡ lines_in (name_of names roll items) (name_at names) item.now) }
+    {
+        let mut lines = Lines::new(self.names.allocator());
+        add_item(&mut lines, self, item)?;
+        Ok(lines)
+    }
 }
 
 fn add_item(lines: &mut Lines, directory: &Directory<'_>, item: &Item) -> Result<(), OutOfMemory>

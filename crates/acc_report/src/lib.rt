@@ -10,4 +10,5 @@ mod skips;
 mod summary;
 
 pub use item_lines::line;
+pub use names::Directory;
 pub use report::text;

@@ -1,11 +1,12 @@
 //! The names of transactions, by their ids.
-ghost use Rattle.std.specs.Prelude.{◌≡◌, if◌then◌else◌, reverse, [], ◌∷◌, IfOk, OnOk};
+ghost use Rattle.std.specs.Prelude.{◌≡◌, ℕ, if◌then◌else◌, List, reverse, [], ◌∷◌, IfOk, OnOk};
 ghost use Rattle.std.specs.List.{list_any};
 ghost use Rattle.acc_base.specs.Faults.{or_else};
 ghost use Rattle.acc_stamp.specs.declared.stamps.TxnId.{TxnId};
 ghost use Rattle.acc_stamp.specs.Stamp.{id_eq};
 ghost use Rattle.acc_message.specs.Items.{begins, txn_in};
-ghost use Rattle.acc_report.specs.Numbers.{number_at, name_in};
+ghost use Rattle.acc_message.specs.declared.item.Item.{Item};
+ghost use Rattle.acc_report.specs.Numbers.{number_at, name_in, IsOf};
 ghost use Rattle.acc_report.specs.Report.{name_at, number_in, number_of};
 
 use acc_base::OutOfMemory;
@@ -18,14 +19,45 @@ use std::collections::BTreeMap;
 /// The numbers of transactions, by their ids.
 pub(crate) type Numbers = BTreeMap<TxnId, u32>;
 
-/// The names of transactions by their numbers, and their numbers by their ids.
+/// The names of transactions by their numbers, and their numbers by their ids: what is looked up for each name of a report.
+/// It is made once, and grows with the items.
 #[derive(Debug, Drop)]
-pub(crate) struct Directory<'a> {
-    pub names: &'a Names,
-    pub numbers: Numbers,
+pub struct Directory<'a> {
+    pub(crate) names: &'a Names,
+    pub(crate) numbers: Numbers,
 }
 
-impl Directory<'_> {
+impl<'a> Directory<'a> {
+    /// The directory of a roll. Of several numbers for one id the first counts.
+    pub fn new(names: &'a Names, roll: &Roll) -> Result<Directory<'a>, OutOfMemory>
+        ensures { IfOk result (λ directory. IsOf directory names.now roll.now []) }
+    {
+        let numbers = numbers_in(names.allocator(), roll)?;
+        Ok(Directory { names, numbers })
+    }
+
+    /// The directory of a roll and of items.
+    pub fn of_items(
+        names: &'a Names,
+        roll: &Roll,
+        items: &Items,
+    ) -> Result<Directory<'a>, OutOfMemory>
+        ensures { IfOk result (λ directory. IsOf directory names.now roll.now (reverse items.now)) }
+    {
+        let numbers = numbers_of(names.allocator(), roll, items)?;
+        Ok(Directory { names, numbers })
+    }
+
+    /// The directory with one more item. An id that was known before keeps its number.
+    pub fn with(self, item: &Item) -> Result<Directory<'a>, OutOfMemory>
+        ensures { IfOk result (λ directory. (names : List (List ℕ)) (roll : List (TxnId × ℕ)) (items : List Item) →
+            IsOf self.entry names roll items → IsOf directory names roll (item.now ∷ items)) }
+    {
+        let Directory { names, mut numbers } = self;
+        enter_item(&mut numbers, item)?;
+        Ok(Directory { names, numbers })
+    }
+
     /// The name of the transaction with this id, or nothing where none is known by it or its number has no name.
     #[tactic(auto, unfolding(crate::specs::Numbers::name_in))]
     pub fn name_of(&self, id: TxnId) -> &[u8]
@@ -49,22 +81,13 @@ pub(crate) fn name_of_number(names: &Names, txn: u32) -> &[u8]
 }
 
 /// The numbers of the transactions of a roll, and of those that the items begin. Of several for one id the first counts.
-pub(crate) fn numbers_of(alloc: Global, roll: &Roll, items: &Items) -> Result<Numbers, OutOfMemory>
+fn numbers_of(alloc: Global, roll: &Roll, items: &Items) -> Result<Numbers, OutOfMemory>
     ensures { IfOk result (λ numbers. (x : TxnId) → number_at numbers x ≡ number_of roll.now (reverse items.now) x) }
 {
     let mut numbers = numbers_in(alloc, roll)?;
     for item in items.as_slice() {
         enter_item(&mut numbers, item)?;
     }
-    Ok(numbers)
-}
-
-/// The numbers of the transactions of a roll, and of the one that an item begins.
-pub(crate) fn numbers_with(alloc: Global, roll: &Roll, item: &Item) -> Result<Numbers, OutOfMemory>
-    ensures { IfOk result (λ numbers. (x : TxnId) → number_at numbers x ≡ number_of roll.now (item.now ∷ []) x) }
-{
-    let mut numbers = numbers_in(alloc, roll)?;
-    enter_item(&mut numbers, item)?;
     Ok(numbers)
 }
 

@@ -5,7 +5,7 @@ ghost use Rattle.acc_report.specs.Numbers.{name_in};
 ghost use Rattle.acc_report.specs.Report.{name_at, last_line, lines_in, lines_from, lines_report, summary_report, report_text};
 ghost use Rattle.acc_report_line.specs.Texts.{lines_text};
 
-use crate::names::{Directory, numbers_of};
+use crate::names::Directory;
 use crate::notes::push_notes;
 use crate::skips::{push_down, push_event, push_skip};
 use crate::summary::{push_decided, push_last};
@@ -31,8 +31,7 @@ fn text_in_lines(items: &Items, roll: &Roll, names: &Names) -> Result<Bytes, Out
     ensures { IfOk result (λ text. text ≡ lines_text (lines_report names.now roll.now (reverse items.now))) }
 {
     let alloc = names.allocator();
-    let numbers = numbers_of(alloc, roll, items)?;
-    let directory = Directory { names, numbers };
+    let directory = Directory::of_items(names, roll, items)?;
     let mut text = Vec::with_capacity(alloc, length_in_lines(alloc, items, &directory)?)?;
     for item in items.as_slice() {
         push_item(&mut text, &directory, item)?;

@@ -3,17 +3,16 @@ use Rattle.std.proofs.lemmas.List.{take_all}
 use Rattle.std.specs.Arc.{arc_value}
 use Rattle.acc_message.specs.Items.{notes_of}
 use Rattle.acc_report_line.specs.Texts.{full_text, lines_text}
-use Rattle.acc_report.specs.declared.names.Directory.{Directory}
 use Rattle.acc_report.specs.Numbers.{name_in}
-use Rattle.acc_report.specs.Report.{name_at, last_line, lines_from, lines_of}
+use Rattle.acc_report.specs.Report.{name_at, name_of, last_line, lines_from, lines_of}
 use Rattle.acc_report.proofs.Joined.{ended}
 use Rattle.acc_report.proofs.NameFacts.{name_in-is}
 use Rattle.acc_report.proofs.report.text_in_lines.Goals as goal
 
 pub returns : goal.returns
 returns c =
-    let directory : Directory = record { names = c.args.names; numbers = c.in_ok-numbers.numbers } in
-    let called = name_at c.args.names.now in
+    let directory = c.in_ok-directory.directory in
+    let called = name_at directory.names.now in
     let history = reverse c.args.items.now in
     let last = last_line (notes_of history) in
     c.from_vec.ensures ∙ c.in_ok-push_last.ensures
@@ -22,5 +21,6 @@ returns c =
     ∙ ap (λ items. lines_text (lines_from (name_in directory) called (reverse (map arc_value items))))
     (take_all c.loop-item.item-index c.as_slice-item-items.result.now c.loop-item-test.false)
     ∙ ap (λ items. lines_text (lines_from (name_in directory) called (reverse items))) c.as_slice-item-items.ensures
-    ∙ ap (λ name. lines_text (lines_from name called history)) (name_in-is directory c.args.roll.now history c.in_ok-numbers.ensures))
+    ∙ ap (λ name. lines_text (lines_from name called history)) (name_in-is directory c.args.names.now c.args.roll.now history c.in_ok-directory.ensures)
+    ∙ ap (λ names. lines_text (lines_from (name_of c.args.names.now c.args.roll.now history) (name_at names) history)) c.in_ok-directory.ensures.0)
     ∙ sym (ended (lines_of c.args.names.now c.args.roll.now history) last)
