@@ -16,3 +16,14 @@ begun_after id (Some first) = or_else first id
 abbrev pub begun_with : Bool → Option TxnId → Option (Option TxnId) → Option (Option TxnId)
 begun_with true id before = Some (begun_after id before)
 begun_with false id before = before
+
+-- what is known by the ids of begun transactions, each at its number
+abbrev pub known_as : Option (Option TxnId) → Option (Option TxnId)
+known_as None = None
+known_as (Some None) = None
+known_as (Some (Some id)) = Some (Some id)
+
+-- behind one more of them, which stands at this number or at another one
+abbrev pub known_with : Bool → Option TxnId → Option (Option TxnId) → Option (Option TxnId)
+known_with here None before = before
+known_with here (Some id) before = begun_with here (Some id) before

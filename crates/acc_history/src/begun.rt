@@ -1,13 +1,14 @@
 //! Which transactions are begun.
-ghost use Rattle.std.specs.Prelude.{◌≡◌, ◌==◌, ℕ, OnOk, OnErr};
+ghost use Rattle.std.specs.Prelude.{◌≡◌, ◌==◌, ◌<◌, ◌^◌, ℕ, length, slice_get, IfOk, OnOk, OnErr};
 ghost use Rattle.std.specs.BTreeMap.{get};
 ghost use Rattle.std.specs.Ordering.{nat_cmp};
 ghost use Rattle.acc_message.specs.Items.{id_drawn, begins_txn, id_begun};
-ghost use Rattle.acc_history.specs.Begun.{begun_with};
+ghost use Rattle.acc_history.specs.Begun.{begun_with, known_as, known_with};
 
 use acc_base::OutOfMemory;
 use acc_message::{Event, Item, Note};
 use acc_stamp::TxnId;
+use std::alloc::Global;
 use std::collections::BTreeMap;
 
 /// For each transaction that is begun, by its number, the id that its begin drew.
@@ -47,4 +48,26 @@ pub(crate) fn note_begin(begun: &mut Begun, item: &Item) -> Result<(), OutOfMemo
         return Ok(());
     };
     note(begun, txn, drawn(entry.emitted.notes.as_slice()))
+}
+
+// Notes the id that stands at the number of a transaction, if one stands there.
+fn know(begun: &mut Begun, txn: u32, id: Option<TxnId>) -> Result<(), OutOfMemory>
+    ensures { OnOk result ((number : ℕ) → get nat_cmp begun.new number ≡ known_with (txn == number) id (get nat_cmp begun.old number)) }
+{
+    match id {
+        Some(id) => note(begun, txn, Some(id)),
+        None => Ok(()),
+    }
+}
+
+/// What is begun by these ids, each of which stands at the number of its transaction.
+pub(crate) fn known(alloc: Global, ids: &[Option<TxnId>]) -> Result<Begun, OutOfMemory>
+    requires { length ids.now < 2 ^ 32 }
+    ensures { IfOk result (λ begun. (number : ℕ) → get nat_cmp begun number ≡ known_as (slice_get ids.now number)) }
+{
+    let mut begun = BTreeMap::new(alloc);
+    for (txn, id) in ids.iter().enumerate() {
+        know(&mut begun, txn as u32, *id)?;
+    }
+    Ok(begun)
 }

@@ -1,5 +1,5 @@
 //! The past of a cluster.
-ghost use Rattle.std.specs.Prelude.{◌≡◌, ℕ, ◌<◌, ◌≤◌, [], length, map, reverse, IfOk, OnOk, OnErr, MatchOption};
+ghost use Rattle.std.specs.Prelude.{◌≡◌, ℕ, ◌<◌, ◌≤◌, ◌^◌, false, List, [], length, map, reverse, slice_get, IfOk, OnOk, OnErr, MatchOption};
 ghost use Rattle.std.specs.Option.{option_copied};
 ghost use Rattle.std.specs.Arc.{arc_value};
 ghost use Rattle.std.specs.BTreeMap.{get};
@@ -9,11 +9,13 @@ ghost use Rattle.acc_message.specs.Run.{is_down};
 ghost use Rattle.acc_message_code.specs.Weight.{weight_of, weight_of_items};
 ghost use Rattle.acc_follow.specs.Situations.{Situation, opened, whole, NothingWaits, IsOldestWaiting};
 ghost use Rattle.acc_follow.specs.Moves.{with_item};
-ghost use Rattle.acc_history.specs.Begun.{begun_with};
+ghost use Rattle.acc_history.specs.Begun.{begun_as, begun_with, known_as};
+ghost use Rattle.acc_message.specs.declared.item.Item.{Item as AnItem};
+ghost use Rattle.acc_stamp.specs.declared.actors.Actor.{Actor as AnActor};
 ghost use Rattle.acc_history.specs.Stands.{StandsFor, IsWeighed, TakesSent, with_dropped};
 ghost use Rattle.acc_history.specs.Entering.{IsAsBefore, IsCovered};
 
-use crate::begun::{Begun, note_begin};
+use crate::begun::{Begun, known, note_begin};
 use crate::entering::{cover_all, enter, messages_of};
 use acc_base::OutOfMemory;
 use acc_message::{Item, Items, Message};
@@ -61,6 +63,25 @@ impl History {
             items: Vec::new(alloc),
             waiting: Waiting::new(alloc)?,
             begun: BTreeMap::new(alloc),
+            weight: 0,
+        })
+    }
+
+    /// The past of a cluster that was opened behind an earlier run, in which nobody is down. Each id is that of the transaction with its
+    /// number, where the run has begun it.
+    pub fn behind(alloc: Global, ids: &[Option<TxnId>]) -> Result<History, OutOfMemory>
+        requires { length ids.now < 2 ^ 32 }
+        ensures stands { IfOk result (λ history. (earlier : List AnItem) → ((a : AnActor) → is_down a earlier ≡ false)
+            → ((txn : ℕ) → known_as (slice_get ids.now txn) ≡ begun_as (is_begun earlier txn) (id_of_txn earlier txn)) → StandsFor history (opened earlier)) }
+        ensures weighed { IfOk result (λ history. (earlier : List AnItem) → IsWeighed history (opened earlier)) }
+    {
+        let waiting = Waiting::new(alloc)?;
+        let begun = known(alloc, ids)?;
+        let items = Vec::new(alloc);
+        Ok(History {
+            items,
+            waiting,
+            begun,
             weight: 0,
         })
     }
