@@ -1,5 +1,5 @@
 -- What two stores that have taken the same messages make of one more.
-use Rattle.std.proofs.Common.{◌≡◌, ◌<◌, ◌^◌, ℕ, List, [], ◌∷◌, All, sym, ap, ◌∙◌, subst, refl}
+use Rattle.std.proofs.Common.{◌≡◌, ◌<◌, ◌^◌, List, [], ◌∷◌, All, sym, ap, ◌∙◌, subst}
 use Rattle.acc_topology.specs.Layout.{Layout}
 use Rattle.acc_stamp.specs.declared.actors.Actor.{Actor}
 use Rattle.acc_message.specs.declared.message.Message.{Message}

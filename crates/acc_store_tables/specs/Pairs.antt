@@ -3,7 +3,6 @@ use Rattle.std.specs.Prelude.{◌≡◌, List}
 use Rattle.acc_topology.specs.Layout.{Layout}
 use Rattle.acc_message.specs.declared.message.Message.{Message}
 use Rattle.acc_message.specs.StoreRules.{replay}
-use Rattle.acc_stamp.specs.declared.actors.Actor.{Actor}
 use Rattle.acc_store.specs.declared.store.Store.{Store}
 use Rattle.acc_store.specs.Stands.{actor_of, StandsFor}
 

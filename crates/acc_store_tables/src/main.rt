@@ -16,8 +16,6 @@
 mod asked;
 mod case;
 mod layout;
-mod short;
-mod short_view;
 mod twins;
 
 use anyhow::{Context, Result, ensure};

@@ -1,15 +1,12 @@
 //! Two stores that take the same messages, so that one can be asked for the weight of what the other one has sent.
-ghost use Rattle.std.specs.Prelude.{◌≡◌, ◌<◌, ◌^◌, All, IsTrue, is_some, OnOk, IfOk, IfSome};
-ghost use Rattle.std.specs.List.{AllByRecursion};
+ghost use Rattle.std.specs.Prelude.{◌≡◌, ◌<◌, ◌^◌, IsTrue, is_some, OnOk};
 ghost use Rattle.acc_message.specs.Taken.{body_in};
 ghost use Rattle.acc_record.specs.Stands.{IsFor};
-ghost use Rattle.acc_message_code.specs.Short.{IsShortMessage};
-ghost use Rattle.acc_message_code.specs.Weight.{weight_of_all};
 
-use crate::short::is_short;
 use acc_base::Bytes;
 use acc_message::{Message, top};
-use acc_message_code::{encode, message_length};
+use acc_message_code::encode;
+use acc_short::{is_short, weight};
 use acc_stamp::Actor;
 use acc_store::Store;
 use acc_topology::Topology;
@@ -84,45 +81,6 @@ fn brings_body(m: &Message) -> bool
         | Message::Recover { .. } => true,
         _ => false,
     }
-}
-
-/// How many bytes some messages have. None where one has no spelling.
-fn weight(sent: &[Message]) -> Option<u64>
-    ensures { IfSome result (λ weight. All IsShortMessage sent.now × (weight_of_all sent.now ≡ weight)) }
-{
-    if !are_short(sent) {
-        return None;
-    }
-    total_length(sent)
-}
-
-fn are_short(sent: &[Message]) -> bool
-    ensures { IsTrue result → All IsShortMessage sent.now }
-{
-    is_each_short(sent)
-}
-
-fn is_each_short(sent: &[Message]) -> bool
-    ensures { IsTrue result → AllByRecursion IsShortMessage sent.now }
-{
-    for m in sent {
-        if !is_short(m) {
-            return false;
-        }
-    }
-    true
-}
-
-/// The sum of the lengths of some messages. None where it has more than 64 bits.
-fn total_length(sent: &[Message]) -> Option<u64>
-    requires { All IsShortMessage sent.now }
-    ensures { IfSome result (λ total. weight_of_all sent.now ≡ total) }
-{
-    let mut total: u64 = 0;
-    for m in sent {
-        total = total.checked_add(message_length(m))?;
-    }
-    Some(total)
 }
 
 /// The bytes of some messages.

@@ -1,0 +1,14 @@
+-- The second node would send what the first one has sent.
+use Rattle.std.proofs.Common.{arith}
+use Rattle.acc_node_tables.proofs.Stepping.{second_sends_short}
+use Rattle.acc_node_tables.proofs.twins.Twins.take.Goals as goal
+
+pub weigh_step-requires : goal.weigh_step-requires
+weigh_step-requires c =
+    let s = c.args.self.now in
+    let weighed = rw c.in_ok-context.ensures at c.weight.ensures in
+    let range = rw c.in_ok-context.ensures at c.weight.type_inv in
+    let short = rw c.as_slice.ensures at weighed.0 in
+    let total = rw c.as_slice.ensures at weighed.1 in
+    second_sends_short s.topology s.height s.first s.second c.requires c.step.new.self c.args.m.now c.in_ok-sent.sent c.in_ok-sent.ensures.ok
+    short (omega (arith, total, range))
