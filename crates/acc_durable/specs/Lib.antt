@@ -1,0 +1,4 @@
+pub mod Node
+pub mod Staged
+pub mod Replay
+pub mod Store

@@ -1,0 +1,172 @@
+//! A journal with payloads that wait for it.
+ghost use Rattle.std.specs.Prelude.{◌≡◌, ◌≢◌, ◌^◌, ◌<◌, ◌≤◌, IsTrue, true, false, List, [], ◌++◌, ℕ, length, take, Some, Err, IfOk, IfErr, OnOk, OnErr, IsErr};
+ghost use Rattle.acc_ports.specs.Disk.{NoFurther, Elapses, LeavesOnly};
+ghost use Rattle.acc_ports.specs.Faults.{Rose};
+ghost use Rattle.acc_ports.specs.Strict.{after_call, LeftByChoice};
+ghost use Rattle.acc_payloads.specs.Journals.{appended};
+
+use acc_base::{Bytes, OutOfMemory};
+use acc_journal::{Journal, JournalError, Payloads};
+use acc_payloads::put_payload;
+use acc_ports::{Disk, Rig};
+use std::alloc::Global;
+use std::marker::Model;
+
+/// How much room a payload takes in a group besides its bytes, at most: a mark, and five bytes for each.
+const MORE: u64 = 12;
+
+/// A journal, and a group of payloads that is staged for it. The journal has room for all of the group, so that appending it takes no
+/// memory of the journal's own.
+#[derive(Debug, Drop)]
+pub(crate) struct StagedJournal<D: Disk> {
+    journal: Journal<D>,
+    group: Payloads,
+    /// How much room the group takes in the journal.
+    room: u64,
+}
+
+impl<D: Disk> Model for StagedJournal<D> {
+    ghost use Rattle.std.specs.Prelude.{◌≡◌, false};
+    ghost use Rattle.acc_durable.specs.Staged.{StagedState, HasRoom};
+
+    ghost Value = { StagedState D };
+
+    ghost view = { λ s. record { disk = s.journal.disk; payloads = s.journal.payloads; group = s.group; broken = s.journal.broken } };
+
+    ghost invariant = { λ s. s.journal.broken ≡ false → HasRoom s.group s.room s.journal.spare };
+}
+
+impl<D: Disk> StagedJournal<D> {
+    ghost use Rattle.acc_journal.specs.Layout.{Reads};
+    ghost use Rattle.acc_journal.specs.Journal.{ReadsAsEither, IsOfTheDisk, FailsWithin, left_by_choice, group_room};
+
+    /// A journal with nothing staged.
+    pub(crate) fn new(alloc: Global, journal: Journal<D>) -> StagedJournal<D>
+        ensures { result ≡ record { disk = journal.disk; payloads = journal.payloads; group = []; broken = journal.broken } }
+    {
+        StagedJournal {
+            journal,
+            group: Payloads::new(alloc),
+            room: 0,
+        }
+    }
+
+    /// Stages a payload, with a mark in front of it where one is due, and answers how much room what was staged before takes. It makes
+    /// no call of the disk. Without memory nothing more is staged.
+    pub(crate) fn put(
+        &mut self,
+        version: u8,
+        marked: bool,
+        payload: Bytes,
+    ) -> Result<u64, OutOfMemory>
+        requires sound { self.old.broken ≡ false }
+        requires short { length payload < 2 ^ 32 }
+        ensures ok { OnOk result (self.new ≡ record self.old { group = self.old.group ++ appended version marked payload }) }
+        ensures fits { OnOk result (length self.new.group < 2 ^ 64) }
+        ensures room { IfOk result (λ room. group_room self.old.group ≤ room) }
+        ensures err { OnErr result (self.new ≡ self.old) }
+    {
+        let before = self.room;
+        let Some(room) = before.checked_add(payload.len() as u64 + MORE) else {
+            return Err(OutOfMemory);
+        };
+        self.journal.reserve(room)?;
+        put_payload(&mut self.group, version, marked, payload)?;
+        self.room = room;
+        let _fits = self.group.len();
+        Ok(before)
+    }
+
+    /// Takes back what was staged behind the first payloads of the group, which take no more than this room.
+    pub(crate) fn cancel(&mut self, kept: usize, room: u64)
+        requires { group_room (take kept self.old.group) ≤ room }
+        ensures { self.new ≡ record self.old { group = take kept self.old.group } }
+    {
+        self.group.truncate(kept);
+        if room < self.room {
+            self.room = room;
+        }
+    }
+
+    /// How many payloads are staged.
+    pub(crate) fn count(&self) -> usize
+        ensures { result ≡ length self.now.group }
+    {
+        self.group.len()
+    }
+
+    /// Appends all that is staged as one group, in four calls of the disk. After an error the journal is broken, and either all of the
+    /// group stands on the disk or nothing of it.
+    pub(crate) fn append(&mut self) -> Result<(), JournalError>
+        requires sound { self.old.broken ≡ false }
+        requires some { 0 < length self.old.group }
+
+        ensures ok { OnOk result (self.new ≡ record { disk = self.new.disk; payloads = self.old.payloads ++ self.old.group; group = []; broken = false }) }
+        ensures lasts { OnOk result ((image : List ℕ) → D.is_image self.new.disk image → Reads image (self.old.payloads ++ self.old.group)) }
+        ensures broken { OnErr result (self.new.broken ≡ true) }
+        ensures error { IfErr result IsOfTheDisk }
+        ensures any_moment { LeavesOnly D.clock D.was_image self.old.disk self.new.disk (ReadsAsEither self.old.payloads self.old.group) }
+
+        ensures counted { D.faults self.old.disk ≤ D.faults self.new.disk }
+        ensures cause { result ≡ Err JournalError.DiskFault → Rose (D.faults self.old.disk) (D.faults self.new.disk) }
+        ensures unfailed { result ≢ Err JournalError.DiskFault → D.faults self.new.disk ≡ D.faults self.old.disk }
+
+        // On a strict disk the armed one of the four calls fails, and no other; and what a crash leaves then is known.
+        ensures kind { D.strict self.new.disk ≡ D.strict self.old.disk }
+        ensures counts { IsTrue (D.strict self.old.disk) → OnOk result (D.armed self.new.disk ≡ after_call (after_call (after_call (after_call (D.armed self.old.disk))))) }
+        ensures early { IsTrue (D.strict self.old.disk) → FailsWithin 4 (D.armed self.old.disk) → IsErr result }
+        ensures late { IsTrue (D.strict self.old.disk) → ¬ FailsWithin 4 (D.armed self.old.disk) → result ≢ Err JournalError.DiskFault }
+        ensures still { IsTrue (D.strict self.old.disk) → ¬ FailsWithin 4 (D.armed self.old.disk) → D.faults self.new.disk ≡ D.faults self.old.disk }
+        ensures failed { IsTrue (D.strict self.old.disk) → result ≡ Err JournalError.DiskFault → (choice : ℕ) (left : List ℕ) → LeftByChoice choice (D.content self.new.disk) (D.synced self.new.disk) (D.written self.new.disk) left
+            → Reads left (left_by_choice (D.armed self.old.disk) choice self.old.payloads self.old.group) }
+    {
+        match self.journal.append_group(&self.group) {
+            Ok(()) => {
+                self.group.truncate(0);
+                self.room = 0;
+                Ok(())
+            }
+            Err(error) => Err(error),
+        }
+    }
+
+    /// Whether a call of the disk failed or found no memory.
+    pub(crate) fn is_broken(&self) -> bool
+        ensures value { result ≡ self.now.broken }
+        ensures sound { self.now.broken ≡ false → (image : List ℕ) → D.is_image self.now.disk image → Reads image self.now.payloads }
+        ensures rests { self.now.broken ≡ false → LeavesOnly D.clock D.was_image self.now.disk self.now.disk (λ image. Reads image self.now.payloads) }
+    {
+        self.journal.is_broken()
+    }
+
+    /// The disk under the journal.
+    pub(crate) fn into_disk(self) -> D
+        ensures { result ≡ self.disk }
+    {
+        let StagedJournal {
+            journal,
+            group: _,
+            room: _,
+        } = self;
+        journal.into_disk()
+    }
+}
+
+impl<D: Rig> StagedJournal<D> {
+    /// Arms a call of the disk: so many more pass, and the next one fails.
+    pub(crate) fn arm(&mut self, calls: u64)
+        ensures armed { IsTrue (D.strict self.old.disk) → D.armed self.new.disk ≡ Some calls }
+        ensures same { self.new ≡ record self.old { disk = self.new.disk } }
+
+        ensures content { D.content self.new.disk ≡ D.content self.old.disk }
+        ensures images { NoFurther (D.is_image self.old.disk) (D.is_image self.new.disk) }
+        ensures no_fewer { NoFurther (D.is_image self.new.disk) (D.is_image self.old.disk) }
+        ensures clock { D.clock self.new.disk ≡ D.clock self.old.disk }
+        ensures time { Elapses (D.clock self.old.disk) (D.clock self.new.disk) (D.was_image self.old.disk) (D.was_image self.new.disk) (D.is_image self.new.disk) }
+        ensures faults { D.faults self.new.disk ≡ D.faults self.old.disk }
+        ensures kind { D.strict self.new.disk ≡ D.strict self.old.disk }
+        ensures strict { IsTrue (D.strict self.old.disk) → (D.synced self.new.disk ≡ D.synced self.old.disk) × (D.written self.new.disk ≡ D.written self.old.disk) }
+    {
+        self.journal.arm(calls);
+    }
+}
