@@ -1,0 +1,9 @@
+pub mod Left
+pub mod Marked
+pub mod Marks
+pub mod NodeRestarts
+pub mod NodeSteps
+pub mod Nodes
+pub mod StoreRestarts
+pub mod StoreSteps
+pub mod Stores

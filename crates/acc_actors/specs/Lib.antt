@@ -1,0 +1,3 @@
+pub mod Stops
+pub mod Node
+pub mod Store

@@ -1,0 +1,148 @@
+-- When a store with its disk stands for its past.
+--     StandsFor images layout own version past actor      the actor is this one, has this version, and this past
+--     IsStrictAt ..      it does over a strict disk, on which this call is armed
+use Rattle.std.specs.Prelude.{◌≡◌, ℕ, ◌^◌, ◌<◌, Bool, true, false, IsTrue, List, [], Option, None, Some, IfSome, Result, Ok, Err, IsErr}
+use Rattle.acc_base.specs.declared.memory.OutOfMemory.{OutOfMemory}
+use Rattle.acc_stamp.specs.declared.actors.Actor.{Actor}
+use Rattle.acc_topology.specs.Layout.{Layout}
+use Rattle.acc_ports.specs.Strict.{Ranges, LeftByChoice}
+use Rattle.acc_message.specs.declared.message.Message.{Message}
+use Rattle.acc_message.specs.declared.entry.Event.{Event}
+use Rattle.acc_message.specs.declared.entry.Event.TheVariants.{Message as MessageEvent}
+use Rattle.acc_message.specs.declared.entry.Emitted.{Emitted}
+use Rattle.acc_message.specs.StoreRules.{store_answer, replay}
+use Rattle.acc_message.specs.Fields.{top_of}
+use Rattle.acc_message.specs.VoteRule.{greatest_h}
+use Rattle.acc_message_code.specs.Short.{IsShortMessage}
+use Rattle.acc_message_code.specs.MessageSpelling.{message_bytes}
+use Rattle.acc_record.specs.Stands.{IsFor}
+use Rattle.acc_payloads.specs.declared.store.StorePayload.{StorePayload}
+use Rattle.acc_payloads.specs.Store.{IsStoreJournal, taken_in}
+use Rattle.acc_payloads.specs.Items.{without_marks}
+use Rattle.acc_payloads.specs.Texts.{has_text}
+use Rattle.acc_journal.specs.Journal.{keeps_group}
+use Rattle.acc_durable.specs.declared.store.DurableStore.{DurableStore}
+use Rattle.acc_durable.specs.declared.error.StepError.{StepError}
+use Rattle.acc_durable.specs.declared.error.StepError.TheVariants.{DiskFault}
+use Rattle.acc_durable.specs.declared.error.StepError.TheVariants as errors
+use Rattle.acc_durable.specs.Store as durable
+use Rattle.acc_actors.specs.declared.stops.Restarted.{Restarted}
+use Rattle.acc_actors.specs.declared.stops.Restarted.TheVariants.{Up, Down}
+use Rattle.acc_actors.specs.declared.store.StoreState.{StoreState}
+use Rattle.acc_actors.specs.declared.store.StoreState.TheVariants.{Open, Shut}
+use Rattle.acc_actors.specs.declared.store.StoreActor.{StoreActor}
+use Rattle.acc_actors.specs.Stops.{Stop, Past, count_of, after_step, kept_if, past_with, IsLeft, ReadsIf, IsUnsent, IsKept}
+
+-- ---- the state
+
+abbrev pub disk_in : {D : Type 0} → StoreState D → D
+disk_in (Open s) = s.journal.disk
+disk_in (Shut disk) = disk
+
+abbrev pub disk_of : {D : Type 0} → StoreActor D → D
+disk_of actor = disk_in actor.state
+
+abbrev pub is_shut : {D : Type 0} → StoreState D → Bool
+is_shut (Open s) = s.journal.broken
+is_shut (Shut disk) = true
+
+abbrev pub is_down : {D : Type 0} → StoreActor D → Bool
+is_down actor = is_shut actor.state
+
+-- ---- what the rules give
+
+-- a store notes nothing
+abbrev pub sends : List Message → Emitted
+sends out = record { notes = []; out = out }
+
+abbrev pub emits_next : Layout → Actor → Past Message → Message → Emitted
+emits_next layout own past m = sends (store_answer layout own (replay layout own past.acts) m)
+
+-- a message with this number, as a fault stops it
+abbrev pub message_stop : ℕ → Message → Stop Message
+message_stop number m = record { event = MessageEvent number; act = m; payload = message_bytes m }
+
+-- ---- the past
+
+-- payloads are the journal of a store that took these messages, the newest first
+pub record IsJournal (layout : Layout) (own : Actor) (version : ℕ) (payloads : List (List ℕ)) (messages : List Message) : Type 0 where
+  pub items : List StorePayload
+  pub journal : IsStoreJournal layout version own payloads items
+  pub taken : taken_in items ≡ messages
+
+-- the durable store of an actor that is up
+pub record IsUp {D : Type 0} (layout : Layout) (own : Actor) (version : ℕ) (past : Past Message) (s : DurableStore D) : Type 0 where
+  pub stands : durable.StandsFor layout s past.acts
+  pub own_is : durable.actor_in s ≡ own
+  pub version_is : s.version ≡ version
+  pub none_staged : s.journal.group ≡ []
+  pub held_are : without_marks s.journal.payloads ≡ past.held
+  pub none_stopped : past.stopped ≡ None
+
+abbrev pub IsUpIn : {D : Type 0} → Layout → Actor → ℕ → Past Message → StoreState D → Type 0
+IsUpIn layout own version past (Open s) = IsUp layout own version past s
+IsUpIn layout own version past (Shut disk) = ⊥
+
+pub record StandsFor {D : Type 0} (images : D → List ℕ → Type 0) (layout : Layout) (own : Actor) (version : ℕ) (past : Past Message) (actor : StoreActor D) : Type 0 where
+  pub own_is : actor.actor ≡ own
+  pub version_is : actor.version ≡ version
+  pub left : (image : List ℕ) → images (disk_of actor) image → IsLeft (IsJournal layout own version) past image
+  pub unsent : IsUnsent (emits_next layout own past) past.stopped actor.stopped
+  pub up : is_down actor ≡ false → IsUpIn layout own version past actor.state
+  pub kept_is : is_down actor ≡ true → actor.kept ≡ count_of past
+
+-- ---- what calls need
+
+-- it may take the message
+pub record MayTake {D : Type 0} (images : D → List ℕ → Type 0) (layout : Layout) (actor : StoreActor D) (m : Message) : Type 0 where
+  pub own : Actor
+  pub version : ℕ
+  pub past : Past Message
+  pub stands : StandsFor images layout own version past actor
+  pub short : IsShortMessage m
+  pub goes_here : IsFor own m
+  pub top : top_of m < 2 ^ 62
+  pub greatest : greatest_h own (replay layout own past.acts) < 2 ^ 62
+  pub texts : has_text m ≡ true → version ≡ 2
+
+-- ---- what calls leave
+
+-- What is given is what the rules say, and the actor has then taken the message, or a fault has stopped it.
+pub record Steps {D : Type 0} (images : D → List ℕ → Type 0) (layout : Layout) (own : Actor) (version : ℕ) (past : Past Message) (stop : Stop Message) (new : StoreActor D) (given : Option Emitted) : Type 0 where
+  pub emits : IfSome given (λ emitted. emitted ≡ emits_next layout own past stop.act)
+  pub stands : StandsFor images layout own version (after_step given past stop) new
+
+-- Restarted: the journal has more payloads than were held, or not; or the disk failed.
+abbrev pub past_found : Option Bool → Past Message → Past Message
+past_found (Some more) past = kept_if more past
+past_found None past = past
+
+pub record IsFound {D : Type 0} (images : D → List ℕ → Type 0) (layout : Layout) (own : Actor) (version : ℕ) (past : Past Message) (found : Option Bool) (state : StoreState D) : Type 0 where
+  pub left : (image : List ℕ) → images (disk_in state) image → IsLeft (IsJournal layout own version) (past_found found past) image
+  pub up : is_shut state ≡ false → IsUpIn layout own version (past_found found past) state
+
+-- with what was kept; or down as before
+abbrev pub past_after : Restarted → Past Message → Past Message
+past_after (Up kept) past = past_with kept past
+past_after Down past = past
+
+abbrev pub KeptIn : Layout → Actor → Past Message → Restarted → Type 0
+KeptIn layout own past (Up kept) = IsKept (emits_next layout own past) past.stopped kept
+KeptIn layout own past Down = Unit {0}
+
+-- a durable store answered a message that came with so many in the journal
+abbrev pub IsSettled : {D : Type 0} → Event → ℕ → Result (List Message) StepError → StoreActor D → StoreActor D → Result (Option Emitted) OutOfMemory → Type 0
+IsSettled event kept (Ok sent) old new result = (result ≡ Ok (Some (sends sent))) × (new ≡ old)
+IsSettled event kept (Err (DiskFault unsent)) old new result =
+    (result ≡ Ok None) × (new ≡ record old { stopped = Some (record { event = event; emitted = sends unsent }); kept = kept })
+IsSettled event kept (Err errors.OutOfMemory) old new result = IsErr result × (new ≡ old)
+
+-- ---- strict disks
+
+-- The disk is strict. Where the actor is up, this call is armed; where it is down, so many calls of the append that failed passed, and
+-- what a crash by choice leaves follows from that.
+pub record IsStrictAt {D : Type 0} (strict : D → Bool) (armed_of : D → Option ℕ) (content synced : D → List ℕ) (written : D → Ranges) (layout : Layout) (own : Actor) (version : ℕ) (armed passed : Option ℕ) (past : Past Message) (actor : StoreActor D) : Type 0 where
+  pub is_strict : IsTrue (strict (disk_of actor))
+  pub armed_is : is_down actor ≡ false → armed_of (disk_of actor) ≡ armed
+  pub left : is_down actor ≡ true → (choice : ℕ) (bytes : List ℕ) → LeftByChoice choice (content (disk_of actor)) (synced (disk_of actor)) (written (disk_of actor)) bytes
+      → ReadsIf (IsJournal layout own version) past (keeps_group passed choice) bytes
