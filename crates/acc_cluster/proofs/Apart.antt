@@ -1,0 +1,162 @@
+-- What items of one actor leave of another.
+use Rattle.std.proofs.Common.{◌≡◌, ℕ, ◌+◌, Bool, true, false, not, cond, List, ◌∷◌, Option, None, Some, length, refl, sym, ◌∙◌, ap}
+use Rattle.acc_stamp.specs.declared.actors.Actor.{Actor}
+use Rattle.acc_message.specs.declared.entry.Event.{Event}
+use Rattle.acc_message.specs.declared.entry.Event.TheVariants.{Restart}
+use Rattle.acc_message.specs.declared.item.Skip.{Skip}
+use Rattle.acc_message.specs.declared.item.Item.{Item}
+use Rattle.acc_message.specs.declared.item.Item.TheVariants.{Step, Skipped, Down}
+use Rattle.acc_message.specs.Items.{same_actor, sent_of}
+use Rattle.acc_message.specs.NodeRules.{Act, Restarts}
+use Rattle.acc_message.specs.Run.{Cluster, Stands}
+use Rattle.acc_actor_laws.specs.TakenAlone.{messages_taken}
+use Rattle.acc_message.specs.Run.{taken_from}
+use Rattle.acc_safety.specs.RunLaws.{acts_done}
+use Rattle.acc_payloads.specs.Items.{is_item_of, downs_in}
+use Rattle.acc_entering.specs.Entries.{MayTake}
+use Rattle.acc_entering.specs.Pasts.{IsUntouched}
+use Rattle.acc_entering.specs.Stopped.{CanGoOn, IsSound, is_other}
+use Rattle.acc_entering.proofs.Pasts.{untouched, untouched_on}
+use Rattle.acc_entering.proofs.Standing.{entry_stands, restart_may}
+use Rattle.acc_entering.proofs.Situations.{without_other, stopped_other}
+use Rattle.acc_entering.proofs.Stops.{still, same_step}
+use Rattle.acc_follow.specs.Situations.{Stopped, Situation, raised, whole, stopped_at, without}
+use Rattle.acc_follow.specs.Moves.{with_item, with_stopped, event_in, entry_of, entered, stopped_by, tried_if, with_kept, count_of, reopened}
+use Rattle.acc_cluster.specs.Pasts.{stop_in, stop_at, store_stop, node_past, store_past}
+use Rattle.acc_cluster.proofs.Pasts.{same_past, stop_still}
+
+-- nothing of the actor has changed
+pub record IsApart (cluster : Cluster) (s next : Situation) (b : Actor) : Type 0 where
+  pub untouched : IsUntouched cluster (whole s) (whole next) b
+  pub stop : stop_at cluster next b ≡ stop_at cluster s b
+  pub downs : downs_in b next.own ≡ downs_in b s.own
+
+pub apart_itself : (cluster : Cluster) (s : Situation) (b : Actor) → IsApart cluster s s b
+apart_itself cluster s b = record { untouched = record { deeds = refl; payloads = refl; downs = refl; down = refl; ends = refl }; stop = refl; downs = refl }
+
+pub apart_on : (cluster : Cluster) (s between next : Situation) (b : Actor) → IsApart cluster s between b → IsApart cluster between next b → IsApart cluster s next b
+apart_on cluster s between next b one two =
+    record {
+      untouched = untouched_on cluster (whole s) (whole between) (whole next) b one.untouched two.untouched;
+      stop = two.stop ∙ one.stop;
+      downs = two.downs ∙ one.downs;
+    }
+
+-- its stopped step can go on
+abbrev pub GoesOn : Cluster → Situation → Actor → Type 0
+GoesOn cluster s b = (event : Event) → stopped_at b s.stopped ≡ Some event → CanGoOn cluster (whole s) b (event_in s event)
+
+item_apart : (by : ℕ) (b : Actor) (item : Item) → is_item_of b item ≡ false → is_item_of b (raised by item) ≡ false
+item_apart by b (Step e) apart = apart
+item_apart by b (Skipped step cause) apart = apart
+item_apart by b (Down actor) apart = apart
+
+other_is : (by : ℕ) (b : Actor) (item : Item) → is_item_of b item ≡ false → is_other b (raised by item) ≡ true
+other_is by b (Step e) apart = ap not apart
+other_is by b (Skipped step cause) apart = refl
+other_is by b (Down actor) apart = refl
+
+downs_apart : (b : Actor) (own : List Item) (item : Item) → is_item_of b item ≡ false → downs_in b (item ∷ own) ≡ downs_in b own
+downs_apart b own (Step e) apart = refl
+downs_apart b own (Skipped step cause) apart = refl
+downs_apart b own (Down actor) apart = ap (λ t. cond t (1 + downs_in b own) (downs_in b own)) apart
+
+module _ (cluster : Cluster) (s : Situation) (item : Item) (b : Actor) (apart : is_item_of b item ≡ false) (goes : GoesOn cluster s b)
+    (stands : Stands cluster (whole s) (raised (length (sent_of s.earlier)) item)) where
+  abbrev by : ℕ
+  by = length (sent_of s.earlier)
+
+  pub goes_item : GoesOn cluster (with_item item s) b
+  goes_item event is = still cluster (whole s) (raised by item) b (event_in s event) stands (other_is by b item apart) (goes event is)
+
+  stop_item : stop_at cluster (with_item item s) b ≡ stop_at cluster s b
+  stop_item = find (stopped_at b s.stopped) refl
+    where
+      find : (o : Option Event) → stopped_at b s.stopped ≡ o → stop_in cluster (with_item item s) b o ≡ stop_in cluster s b o
+      find None is = refl
+      find (Some event) is =
+          let can : CanGoOn cluster (whole s) b (event_in s event) = goes event is in
+          stop_still cluster s item b event (same_step cluster (whole s) (raised by item) b (event_in s event) can.act (other_is by b item apart) can.may)
+
+  pub apart_item : IsApart cluster s (with_item item s) b
+  apart_item =
+      record {
+        untouched = untouched cluster (whole s) (raised by item) b (item_apart by b item apart);
+        stop = stop_item;
+        downs = downs_apart b s.own item apart;
+      }
+
+-- other steps were stopped, or aren't any more
+pub apart_stopped : (cluster : Cluster) (s : Situation) (stopped : List Stopped) (b : Actor) → stopped_at b stopped ≡ stopped_at b s.stopped
+    → IsApart cluster s (with_stopped stopped s) b
+apart_stopped cluster s stopped b is =
+    record {
+      untouched = record { deeds = refl; payloads = refl; downs = refl; down = refl; ends = refl };
+      stop = ap (stop_in cluster s b) is;
+      downs = refl;
+    }
+
+-- ---- each move
+
+module _ (cluster : Cluster) (s : Situation) (sound : IsSound cluster s) where
+  abbrev goes_on : (b : Actor) → GoesOn cluster s b
+  goes_on b = λ event is. sound.stopped b event is
+
+  pub apart_skip : (number : ℕ) (cause : Skip) (b : Actor) → IsApart cluster s (with_item (Skipped number cause) s) b
+  apart_skip number cause b = apart_item cluster s (Skipped number cause) b refl (goes_on b) tt
+
+  pub apart_down : (a b : Actor) → same_actor a b ≡ false → IsApart cluster s (with_item (Down a) s) b
+  apart_down a b apart = apart_item cluster s (Down a) b apart (goes_on b) tt
+
+  pub apart_tried : (fails : Bool) (a b : Actor) (event : Event) (act : Act) → same_actor a b ≡ false → MayTake cluster (whole s) a (event_in s event) act
+      → IsApart cluster s (tried_if fails cluster s a event) b
+  apart_tried true a b event act apart may =
+      apart_on cluster s (with_item (Down a) s) (stopped_by a event s) b (apart_down a b apart)
+      (apart_stopped cluster (with_item (Down a) s) (record { actor = a; event = event } ∷ without a s.stopped) b (stopped_other a b event s apart))
+  apart_tried false a b event act apart may =
+      apart_item cluster s (entry_of cluster s a event false) b apart (goes_on b) (entry_stands cluster (whole s) a (event_in s event) act may false)
+
+  -- a restart
+  restarted_apart : (between : Situation) (kept : ℕ) (a b : Actor) → same_actor a b ≡ false → GoesOn cluster between b
+      → IsApart cluster between (entered cluster between a (Restart kept) false) b
+  restarted_apart between kept a b apart goes =
+      apart_item cluster between (entry_of cluster between a (Restart kept) false) b apart goes
+      (entry_stands cluster (whole between) a (Restart kept) Restarts (restart_may cluster (whole between) a kept) false)
+
+  pub apart_reopened : (a b : Actor) (kept : Option Event) → same_actor a b ≡ false → ((event : Event) → kept ≡ Some event → stopped_at a s.stopped ≡ Some event)
+      → IsApart cluster s (reopened cluster s a kept) b
+  apart_reopened a b kept apart was =
+      apart_on cluster s between (reopened cluster s a kept) b first.0
+      (apart_on cluster between (entered cluster between a (Restart (count_of kept)) false) (reopened cluster s a kept) b
+      (restarted_apart between (count_of kept) a b apart first.1)
+      (apart_stopped cluster (entered cluster between a (Restart (count_of kept)) false) (without a s.stopped) b
+      (without_other b a apart s.stopped ∙ sym (ap (stopped_at b) (same_stopped kept)))))
+    where
+      between : Situation
+      between = with_kept cluster s a kept
+
+      same_stopped : (kept : Option Event) → (with_kept cluster s a kept).stopped ≡ s.stopped
+      same_stopped None = refl
+      same_stopped (Some event) = refl
+
+      by : (kept : Option Event) → ((event : Event) → kept ≡ Some event → stopped_at a s.stopped ≡ Some event)
+          → IsApart cluster s (with_kept cluster s a kept) b × GoesOn cluster (with_kept cluster s a kept) b
+      by None was = (apart_itself cluster s b, goes_on b)
+      by (Some event) was =
+          let can : CanGoOn cluster (whole s) a (event_in s event) = sound.stopped a event (was event refl) in
+          let stands = entry_stands cluster (whole s) a (event_in s event) can.act can.may true in (
+            apart_item cluster s (entry_of cluster s a event true) b apart (goes_on b) stands,
+            goes_item cluster s (entry_of cluster s a event true) b apart (goes_on b) stands,
+          )
+
+      first : IsApart cluster s between b × GoesOn cluster between b
+      first = by kept was
+
+-- ---- pasts
+
+pub node_apart : (cluster : Cluster) (s next : Situation) (b : Actor) → IsApart cluster s next b → node_past cluster next b ≡ node_past cluster s b
+node_apart cluster s next b is = same_past _ _ _ _ _ _ (ap acts_done is.untouched.deeds) is.untouched.payloads is.stop
+
+pub store_apart : (cluster : Cluster) (s next : Situation) (b : Actor) → IsApart cluster s next b → store_past cluster next b ≡ store_past cluster s b
+store_apart cluster s next b is =
+    same_past _ _ _ _ _ _ (ap (λ deeds. messages_taken (taken_from deeds)) is.untouched.deeds) is.untouched.payloads (ap store_stop is.stop)

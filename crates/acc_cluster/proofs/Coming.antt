@@ -1,0 +1,229 @@
+-- How far a drain has come: the invariant of its loop.
+use Rattle.std.proofs.Common.{◌≡◌, ℕ, suc, ◌<◌, ◌≤◌, Bool, true, false, ◌&&◌, List, [], ◌∷◌, Option, None, Contains, length, refl, sym, ◌∙◌, ap, subst, inl, inr, arith}
+use Rattle.acc_stamp.specs.declared.actors.Actor.{Actor}
+use Rattle.acc_ports.specs.Strict.{Ranges}
+use Rattle.acc_message.specs.declared.entry.Event.{Event}
+use Rattle.acc_message.specs.declared.entry.Event.TheVariants.{Message as MessageEvent}
+use Rattle.acc_message.specs.declared.error.Which.{Which}
+use Rattle.acc_message.specs.declared.item.Item.{Item}
+use Rattle.acc_message.specs.Run.{Cluster as RunCluster}
+use Rattle.acc_payloads.specs.Items.{downs_in}
+use Rattle.acc_schedule.specs.Actors.{actors}
+use Rattle.acc_schedule.specs.Content.{Content}
+use Rattle.acc_follow.specs.Situations.{Situation, IsOldestWaiting, NothingWaits, receiver_in}
+use Rattle.acc_follow.specs.Moves.{Answers, is_journalled, tried_if}
+use Rattle.acc_follow.specs.Schedules.{cluster_of}
+use Rattle.acc_follow.specs.Laws.{AgreeBelow}
+use Rattle.acc_strict.specs.Disks.{Disks, after_step}
+use Rattle.acc_strict.specs.Moves.{StrictSituation, tried_strictly}
+use Rattle.acc_strict.proofs.Answering.{behind, agree_behind, fails_behind, agree_on}
+use Rattle.acc_limits.specs.Limits.{EndsAt}
+use Rattle.acc_limits.specs.Fronts.{Begins, DrainsTo, comes}
+use Rattle.acc_limits.specs.StrictFronts.{StrictlyDrainsTo, comes as comes_strictly}
+use Rattle.acc_cluster.specs.declared.cluster.Cluster.{Cluster}
+use Rattle.acc_cluster.specs.Stands.{StandsFor, AreStrict, faults_at}
+use Rattle.acc_cluster.specs.Steps.{RoseByDowns}
+use Rattle.acc_cluster.specs.Tried.{fails_strictly, HasStepped, HitsLimit, HasDrained, HitsLimitInDrain}
+use Rattle.acc_cluster.proofs.Counts.{at_most, most_on, rose_on}
+use Rattle.acc_cluster.proofs.Drained.{one_more, to_the_end, one_more_strictly, to_the_strict_end}
+
+-- a situation over strict disks
+abbrev pub over : Situation → Disks → StrictSituation
+over s disks = record { found = s; disks = disks }
+
+-- no count of faults has fallen
+abbrev pub NoneFell : {D : Type 0} → (D → ℕ) → Content → Cluster D → Cluster D → Type 0
+NoneFell faults plan old now = (a : Actor) → Contains (actors plan.topology) a → faults_at faults old a ≤ faults_at faults now a
+
+-- with some answers, and whatever is answered later
+abbrev pub HasComeBy : RunCluster → Situation → Situation → Answers → Type 0
+HasComeBy cluster reached s answers =
+    (other : Answers) × AgreeBelow answers other (length s.own) × ((more : Answers) → AgreeBelow other more (length reached.own) → DrainsTo cluster more reached s)
+
+pub record HasCome {D : Type 0} (images : D → List ℕ → Type 0) (faults : D → ℕ) (strict : D → Bool) (armed : D → Option ℕ) (content synced : D → List ℕ) (written : D → Ranges) (plan : Content) (old now : Cluster D) (s : Situation) : Type 0 where
+  pub reached : Situation
+  pub stands : StandsFor images faults plan now reached
+  pub counted : NoneFell faults plan old now
+  pub rose : RoseByDowns faults plan old now s reached
+  pub grows : length s.own ≤ length reached.own
+  pub answered : (answers : Answers) → HasComeBy (cluster_of plan) reached s answers
+  pub strictly :
+      (disks : Disks) → AreStrict strict armed content synced written plan old.slots.items s disks
+      → (later : Disks) × StrictlyDrainsTo (cluster_of plan) (over reached later) (over s disks) × AreStrict strict armed content synced written plan now.slots.items reached later
+
+-- ---- answers
+
+abbrev always : Bool → Answers
+always fails = record { fails = λ place. fails; keeps = λ place. false }
+
+only_journalled : (journalled fails : Bool) → (fails ≡ true → journalled ≡ true) → (journalled && fails) ≡ fails
+only_journalled true true may = refl
+only_journalled true false may = refl
+only_journalled false true may = may refl
+only_journalled false false may = refl
+
+pub longer : (fails : Bool) (cluster : RunCluster) (s : Situation) (a : Actor) (event : Event) → length (tried_if fails cluster s a event).own ≡ suc (length s.own)
+longer true cluster s a event = refl
+longer false cluster s a event = refl
+
+next_below : {n k : ℕ} → k ≡ suc n → n < k
+next_below is = omega (arith, is)
+
+next_most : {n k : ℕ} → k ≡ suc n → n ≤ k
+next_most is = omega (arith, is)
+
+begins_same : (front own : List Item) → front ≡ own → Begins front own
+begins_same front own is = record { later = []; items_are = sym is }
+
+-- one delivery more, with an answer for it
+come_further : (cluster : RunCluster) (reached s : Situation) (message : ℕ) (fails : Bool) → length s.own ≤ length reached.own → IsOldestWaiting reached message
+    → (fails ≡ true → is_journalled (receiver_in reached message) (MessageEvent message) ≡ true) → (answers : Answers) → HasComeBy cluster reached s answers
+    → HasComeBy cluster (tried_if fails cluster reached (receiver_in reached message) (MessageEvent message)) s answers
+come_further cluster reached s message fails grows oldest may answers come = (
+  other,
+  agree_on answers come.0 other (length s.own) count grows come.1 (agree_behind count come.0 (always fails)),
+  λ more agree. goes more agree (agree count (next_below (longer fails cluster reached a event))).0,
+)
+  where
+    a : Actor
+    a = receiver_in reached message
+
+    event : Event
+    event = MessageEvent message
+
+    count : ℕ
+    count = length reached.own
+
+    other : Answers
+    other = behind count come.0 (always fails)
+
+    next : Situation
+    next = tried_if fails cluster reached a event
+
+    goes : (more : Answers) → AgreeBelow other more (length next.own) → other.fails count ≡ more.fails count → DrainsTo cluster more next s
+    goes more agree here =
+        let at : more.fails count ≡ fails = sym here ∙ fails_behind count come.0 (always fails) in
+        let so_far : AgreeBelow come.0 more count =
+        agree_on come.0 other more count (length next.own) (next_most (longer fails cluster reached a event)) (agree_behind count come.0 (always fails)) agree in
+        subst (λ (t : Situation). DrainsTo cluster more t s)
+        (ap (λ b. tried_if (is_journalled a event && b) cluster reached a event) at ∙ ap (λ b. tried_if b cluster reached a event) (only_journalled (is_journalled a event) fails may))
+        (one_more cluster more reached message oldest s (come.2 more so_far))
+
+module _ {D : Type 0} (images : D → List ℕ → Type 0) (faults : D → ℕ) (strict : D → Bool) (armed : D → Option ℕ) (content synced : D → List ℕ) (written : D → Ranges)
+    (plan : Content) (old : Cluster D) (s : Situation) where
+  -- ---- at the start
+
+  pub start : StandsFor images faults plan old s → HasCome images faults strict armed content synced written plan old old s
+  start stands =
+      record {
+        reached = s;
+        stands = stands;
+        counted = λ a there. at_most (faults_at faults old a);
+        rose = λ a there. inl refl;
+        grows = at_most (length s.own);
+        answered = λ answers. (answers, λ place below. (refl, refl), λ more agree. comes s refl);
+        strictly = λ disks are. (disks, comes_strictly (over s disks) refl, are);
+      }
+
+  module _ (now : Cluster D) (come : HasCome images faults strict armed content synced written plan old now s) where
+    -- ---- one delivery more
+
+    -- over strict disks
+    come_strictly : (message : ℕ) (fails : Bool) (later : Disks) → IsOldestWaiting come.reached message
+        → fails ≡ fails_strictly later (receiver_in come.reached message) (MessageEvent message) → (disks : Disks)
+        → StrictlyDrainsTo (cluster_of plan) (over come.reached later) (over s disks)
+        → StrictlyDrainsTo (cluster_of plan)
+        (over (tried_if fails (cluster_of plan) come.reached (receiver_in come.reached message) (MessageEvent message))
+        (after_step (is_journalled (receiver_in come.reached message) (MessageEvent message)) (receiver_in come.reached message) later)) (over s disks)
+    come_strictly message fails later oldest is disks path =
+        let a : Actor = receiver_in come.reached message in
+        let event : Event = MessageEvent message in
+        subst
+        (λ b. StrictlyDrainsTo (cluster_of plan) (over (tried_if b (cluster_of plan) come.reached a event) (after_step (is_journalled a event) a later)) (over s disks))
+        (sym is) (one_more_strictly (cluster_of plan) (over come.reached later) message oldest (over s disks) path)
+
+    pub come_on : (new : Cluster D) (message : ℕ) → IsOldestWaiting come.reached message
+        → HasStepped images faults strict armed content synced written plan None 0 (receiver_in come.reached message) (MessageEvent message) now new come.reached
+        → NoneFell faults plan now new → HasCome images faults strict armed content synced written plan old new s
+    come_on new message oldest stepped none_fell =
+        let a : Actor = receiver_in come.reached message in
+        let event : Event = MessageEvent message in
+        let next : Situation = tried_if stepped.fails (cluster_of plan) come.reached a event in
+        record {
+          reached = next;
+          stands = stepped.stands;
+          counted = λ b there. most_on (faults_at faults old b) (faults_at faults now b) (faults_at faults new b) (come.counted b there) (none_fell b there);
+          rose = λ b there.
+              rose_on (faults_at faults old b) (faults_at faults now b) (faults_at faults new b) (downs_in b s.own) (downs_in b come.reached.own) (downs_in b next.own)
+              (come.counted b there) (none_fell b there) (come.rose b there) (stepped.rose b there);
+          grows = most_on (length s.own) (length come.reached.own) (length next.own) come.grows (next_most (longer stepped.fails (cluster_of plan) come.reached a event));
+          answered = λ answers. come_further (cluster_of plan) come.reached s message stepped.fails come.grows oldest stepped.may answers (come.answered answers);
+          strictly = λ disks are.
+              let before = come.strictly disks are in
+              let answer = stepped.strictly before.0 before.2 in (
+                after_step (is_journalled a event) a before.0,
+                come_strictly message stepped.fails before.0 oldest (answer.0 refl) disks before.1,
+                answer.1,
+              );
+        }
+
+    -- ---- the end
+
+    pub has_drained : NothingWaits come.reached → HasDrained images faults strict armed content synced written plan old now s
+    has_drained none =
+        record {
+          next = come.reached;
+          stands = come.stands;
+          rose = come.rose;
+          answered = λ answers.
+              let found = come.answered answers in
+              (found.0, found.1, to_the_end (cluster_of plan) found.0 come.reached none s (found.2 found.0 (λ place below. (refl, refl))));
+          strictly = λ disks are.
+              let found = come.strictly disks are in
+              (found.0, to_the_strict_end (cluster_of plan) (over come.reached found.0) none (over s disks) found.1, found.2);
+        }
+
+    -- ---- a limit
+
+    at_front : (P Q : List Item → Type 0) → ((front : List Item) → P front → Q front) → (items : List Item) (which : Which) (limit : ℕ)
+        → EndsAt P items which limit → EndsAt Q items which limit
+    at_front P Q f items which limit h = record { next = h.next; front = f (h.next ∷ items) h.front; within = h.within; passed = h.passed }
+
+    module _ (message : ℕ) (oldest : IsOldestWaiting come.reached message) (which : Which) (limit : ℕ)
+        (hits : HitsLimit strict armed content synced written plan None 0 (receiver_in come.reached message) (MessageEvent message) now come.reached which limit) where
+      abbrev HitsAt : Bool → Type 0
+      HitsAt fails =
+          EndsAt (λ front. front ≡ (tried_if fails (cluster_of plan) come.reached (receiver_in come.reached message) (MessageEvent message)).own) come.reached.own which limit
+
+      unfailing : HitsLimit strict armed content synced written plan None 0 (receiver_in come.reached message) (MessageEvent message) now come.reached which limit → HitsAt false
+      unfailing (inl all) = all false
+      unfailing (inr known) = known.0
+
+      by_disks : HitsLimit strict armed content synced written plan None 0 (receiver_in come.reached message) (MessageEvent message) now come.reached which limit
+          → (later : Disks) → AreStrict strict armed content synced written plan now.slots.items come.reached later
+          → HitsAt (fails_strictly later (receiver_in come.reached message) (MessageEvent message))
+      by_disks (inl all) later are = all (fails_strictly later (receiver_in come.reached message) (MessageEvent message))
+      by_disks (inr known) later are = subst (λ b. HitsAt b) (sym (known.1 later are refl)) known.0
+
+      pub hits_in_drain : HitsLimitInDrain strict armed content synced written plan old s which limit
+      hits_in_drain =
+          record {
+            items = come.reached.own;
+            answered = λ answers.
+                let further = come_further (cluster_of plan) come.reached s message false come.grows oldest (λ fails. cc) answers (come.answered answers) in
+                let next : Situation = tried_if false (cluster_of plan) come.reached (receiver_in come.reached message) (MessageEvent message) in (
+                  further.0,
+                  further.1,
+                  at_front (λ front. front ≡ next.own) (λ front. (reached : Situation) × DrainsTo (cluster_of plan) further.0 reached s × Begins front reached.own)
+                      (λ front is. (next, further.2 further.0 (λ place below. (refl, refl)), begins_same front next.own is)) come.reached.own which limit (unfailing hits),
+                );
+            strictly = λ disks are.
+                let found = come.strictly disks are in
+                let reached : StrictSituation = tried_strictly (cluster_of plan) (over come.reached found.0) (receiver_in come.reached message) (MessageEvent message) in
+                at_front (λ front. front ≡ reached.found.own) (λ front. (reached : StrictSituation) × StrictlyDrainsTo (cluster_of plan) reached (over s disks) × Begins front reached.found.own)
+                (λ front is. (
+                  reached,
+                  one_more_strictly (cluster_of plan) (over come.reached found.0) message oldest (over s disks) found.1,
+                  begins_same front reached.found.own is,
+                )) come.reached.own which limit (by_disks hits found.0 found.2);
+          }

@@ -1,0 +1,63 @@
+-- Limits that end a step of one actor.
+use Rattle.std.proofs.Common.{◌≡◌, ℕ, suc, ◌<◌, ◌≤◌, Bool, true, false, List, ◌∷◌, Option, None, Some, Result, Ok, Err, IfErr, IsErrAnd, length, refl, sym, subst, inl, arith}
+use Rattle.acc_stamp.specs.declared.actors.Actor.{Actor}
+use Rattle.acc_ports.specs.Strict.{Ranges}
+use Rattle.acc_message.specs.declared.entry.Event.{Event}
+use Rattle.acc_message.specs.declared.error.Which.{Which}
+use Rattle.acc_message.specs.declared.error.Which.TheVariants.{Items}
+use Rattle.acc_message.specs.declared.error.RunError.{RunError}
+use Rattle.acc_message.specs.declared.error.RunError.TheVariants.{Limit, OutOfMemory}
+use Rattle.acc_message.specs.declared.item.Item.{Item}
+use Rattle.acc_message.specs.declared.item.Item.TheVariants.{Skipped, Down}
+use Rattle.acc_message.specs.declared.item.Skip.{Skip}
+use Rattle.acc_schedule.specs.Content.{Content}
+use Rattle.acc_follow.specs.Situations.{Situation}
+use Rattle.acc_follow.specs.Moves.{entry_of}
+use Rattle.acc_follow.specs.Schedules.{cluster_of}
+use Rattle.acc_limits.specs.Limits.{IsWithin, EndsAt, most_items}
+use Rattle.acc_cluster.specs.declared.cluster.Cluster.{Cluster}
+use Rattle.acc_history.specs.Stands as history
+use Rattle.acc_cluster.specs.Stands.{StandsFor}
+use Rattle.acc_cluster.specs.Steps.{IfLimit}
+use Rattle.acc_cluster.specs.Tried.{stepped_if, HitsLimit}
+
+pub map_limit : (P Q : Which → ℕ → Type 0) → ((which : Which) (limit : ℕ) → P which limit → Q which limit) → (e : RunError) → IfLimit P e → IfLimit Q e
+map_limit P Q f (Limit which limit) h = f which limit h
+map_limit P Q f OutOfMemory h = tt
+
+above : (n : ℕ) → most_items ≤ n → most_items < suc n
+above n high = omega (arith, high)
+
+-- no place for one more item
+pub full_at : (s : Situation) (item : Item) → IsWithin s.own → most_items ≤ length s.own → EndsAt (λ front. front ≡ item ∷ s.own) s.own Items most_items
+full_at s item within full = record { next = item; front = refl; within = within; passed = (refl, above (length s.own) full) }
+
+module _ {D : Type 0} (strict : D → Bool) (armed : D → Option ℕ) (content synced : D → List ℕ) (written : D → Ranges) (plan : Content) (number : ℕ) (a : Actor) (event : Event) (old : Cluster D) (s : Situation) where
+  pub hits_full : (skip : Option Skip) → IsWithin s.own → most_items ≤ length s.own → HitsLimit strict armed content synced written plan skip number a event old s Items most_items
+  hits_full skip within full = inl (λ fails. by skip fails)
+    where
+      by : (skip : Option Skip) (fails : Bool) → EndsAt (λ front. front ≡ (stepped_if skip fails (cluster_of plan) number s a event).own) s.own Items most_items
+      by (Some cause) fails = full_at s (Skipped number cause) within full
+      by None true = full_at s (Down a) within full
+      by None false = full_at s (entry_of (cluster_of plan) s a event false) within full
+
+  -- where the check of the place refuses
+  pub refused_full : (skip : Option Skip) (e : RunError) → e ≡ Limit Items most_items → IsWithin s.own → most_items ≤ length s.own
+      → IfLimit (λ which limit. HitsLimit strict armed content synced written plan skip number a event old s which limit) e
+  refused_full skip e is within full =
+      subst (IfLimit (λ which limit. HitsLimit strict armed content synced written plan skip number a event old s which limit)) (sym is) (hits_full skip within full)
+
+-- what the exit of a `?` returns
+pub exit_is : {T : Type 0} (r : Result T RunError) (e : RunError) (P : RunError → Type 0) → IsErrAnd r (λ y. y ≡ e) → P e → IfErr r P
+exit_is (Ok x) e P is h = absurd is
+exit_is (Err y) e P is h = subst P (sym is) h
+
+-- where the check of the place refuses, for whatever skip and actor
+pub full_refused : {D T : Type 0} (images : D → List ℕ → Type 0) (faults : D → ℕ) (strict : D → Bool) (armed : D → Option ℕ) (content synced : D → List ℕ) (written : D → Ranges) (plan : Content) (number : ℕ)
+    (old : Cluster D) (skip : Situation → Option Skip) (actor : Situation → Actor) (event : Event) (r : Result T RunError) (e : RunError) → IsErrAnd r (λ y. y ≡ e)
+    → (e ≡ Limit Items most_items) × ((s : Situation) → history.StandsFor old.history s → most_items ≤ length s.own)
+    → IfErr r (IfLimit (λ which limit. (s : Situation) → StandsFor images faults plan old s → HitsLimit strict armed content synced written plan (skip s) number (actor s) event old s which limit))
+full_refused images faults strict armed content synced written plan number old skip actor event r e is told =
+    exit_is r e (IfLimit (λ which limit. (s : Situation) → StandsFor images faults plan old s → HitsLimit strict armed content synced written plan (skip s) number (actor s) event old s which limit)) is
+    (subst (IfLimit (λ which limit. (s : Situation) → StandsFor images faults plan old s → HitsLimit strict armed content synced written plan (skip s) number (actor s) event old s which limit)) (sym told.0)
+    (λ s h. hits_full strict armed content synced written plan number (actor s) event old s (skip s) h.past.within (told.1 s h.past.stands)))

@@ -1,0 +1,109 @@
+-- What a round of a drain asks and gives.
+use Rattle.std.proofs.Common.{◌≡◌, ℕ, suc, ◌-◌, ◌<◌, ◌≤◌, Bool, true, false, List, ◌∷◌, Option, None, Result, Err, IfErr, IsTrue, length, refl, sym, ◌∙◌, ap, subst, inl, arith}
+use Rattle.std.specs.Result.{IsErrAnd}
+use Rattle.std.proofs.lemmas.Result.{err_from_is_err_and}
+use Rattle.std.specs.Arc.{arc_value}
+use Rattle.std.proofs.lemmas.List.{length-map, length-reverse}
+use Rattle.acc_ports.specs.Strict.{Ranges}
+use Rattle.acc_stamp.specs.declared.actors.Actor.{Actor}
+use Rattle.acc_message.specs.declared.entry.Event.{Event}
+use Rattle.acc_message.specs.declared.entry.Event.TheVariants.{Message as MessageEvent}
+use Rattle.acc_message.specs.declared.error.Which.{Which}
+use Rattle.acc_message.specs.declared.error.Which.TheVariants.{Items}
+use Rattle.acc_message.specs.declared.error.RunError.{RunError}
+use Rattle.acc_message.specs.declared.error.RunError.TheVariants.{Limit, OutOfMemory}
+use Rattle.acc_message.specs.declared.item.Item.{Item}
+use Rattle.acc_message.specs.declared.item.Item.TheVariants.{Down}
+use Rattle.acc_message.specs.Run.{Cluster as RunCluster}
+use Rattle.acc_schedule.specs.Content.{Content}
+use Rattle.acc_entering.proofs.Skips.{deliver_skip_is, waiting_goes}
+use Rattle.acc_follow.specs.Situations.{Situation, waits, IsOldestWaiting, receiver_in}
+use Rattle.acc_follow.specs.Moves.{deliver_skip, entry_of, tried_if}
+use Rattle.acc_follow.specs.Schedules.{cluster_of}
+use Rattle.acc_limits.specs.Limits.{IsWithin, EndsAt, most_items}
+use Rattle.acc_history.specs.declared.history.History.{History}
+use Rattle.acc_history.specs.Stands as history
+use Rattle.acc_cluster.specs.declared.cluster.Cluster.{Cluster}
+use Rattle.acc_cluster.specs.Entering.{HasPlace}
+use Rattle.acc_cluster.specs.Stands.{StandsFor}
+use Rattle.acc_cluster.specs.Steps.{IfLimit}
+use Rattle.acc_cluster.specs.Tried.{HasStepped, HitsLimit, HitsLimitInDrain}
+use Rattle.acc_cluster.proofs.Coming.{longer, HasCome, hits_in_drain}
+
+-- a message that waits isn't passed over
+pub waiting_is_taken : (cluster : RunCluster) (s : Situation) (message : ℕ) → IsTrue (waits s message) → deliver_skip s message ≡ None
+waiting_is_taken cluster s message waiting =
+    let found = waiting_goes cluster s message waiting in
+    deliver_skip_is cluster s message true false found.0 found.1
+
+pub as_many : (h : History) (s : Situation) → history.StandsFor h s → length h.items.items ≡ length s.own
+as_many h s stands = sym (length-map h.items.items arc_value) ∙ ap length stands.holds.items_are ∙ length-reverse s.own
+
+-- ---- the room that is left gets smaller
+
+less_room : (before now n : ℕ) → before ≡ n → now ≡ suc n → n < most_items → most_items - now < most_items - before
+less_room before now n is grown place = omega (arith, is, grown, place)
+
+pub smaller : {D : Type 0} (images : D → List ℕ → Type 0) (faults : D → ℕ) (strict : D → Bool) (armed : D → Option ℕ) (content synced : D → List ℕ) (written : D → Ranges)
+    (plan : Content) (now new : Cluster D) (s : Situation) (message : ℕ) → StandsFor images faults plan now s → HasPlace s
+    → HasStepped images faults strict armed content synced written plan None 0 (receiver_in s message) (MessageEvent message) now new s
+    → most_items - length new.history.items.items < most_items - length now.history.items.items
+smaller images faults strict armed content synced written plan now new s message stands place stepped =
+    less_room (length now.history.items.items) (length new.history.items.items) (length s.own)
+    (as_many now.history s stands.past.stands)
+    (as_many new.history _ stepped.stands.past.stands ∙ longer stepped.fails (cluster_of plan) s (receiver_in s message) (MessageEvent message))
+    place
+
+-- ---- limits
+
+above : (n : ℕ) → most_items ≤ n → most_items < suc n
+above n full = omega (arith, full)
+
+-- no place for one item more
+at_full : (s : Situation) (item : Item) → IsWithin s.own → most_items ≤ length s.own → EndsAt (λ front. front ≡ item ∷ s.own) s.own Items most_items
+at_full s item within full = record { next = item; front = refl; within = within; passed = (refl, above (length s.own) full) }
+
+-- the limits that end a round, where its error is passed on
+module _ {D : Type 0} (images : D → List ℕ → Type 0) (faults : D → ℕ) (strict : D → Bool) (armed : D → Option ℕ) (content synced : D → List ℕ) (written : D → Ranges)
+    (plan : Content) (old now : Cluster D) (message : ℕ) (come : (s : Situation) → StandsFor images faults plan old s → HasCome images faults strict armed content synced written plan old now s)
+    (oldest : (s : Situation) → history.StandsFor now.history s → IsOldestWaiting s message) where
+  abbrev Hits : Which → ℕ → Type 0
+  Hits which most = (s : Situation) → StandsFor images faults plan old s → HitsLimitInDrain strict armed content synced written plan old s which most
+
+  passed_on : (e : RunError) → IfLimit Hits e → (r : Result (Unit {0}) RunError) → IsErrAnd r (λ x. x ≡ e) → IfErr r (IfLimit Hits)
+  passed_on e h r is =
+      let found = err_from_is_err_and r is in
+      subst (λ (x : Result (Unit {0}) RunError). IfErr x (IfLimit Hits)) (sym (found.1 ∙ ap Err found.2)) h
+
+  -- there is no place
+  pub ends_full : (e : RunError) → (e ≡ Limit Items most_items) × ((s : Situation) → history.StandsFor now.history s → most_items ≤ length s.own)
+      → (r : Result (Unit {0}) RunError) → IsErrAnd r (λ x. x ≡ e) → IfErr r (IfLimit Hits)
+  ends_full e full = passed_on e (subst (IfLimit Hits) (sym full.0) hits)
+    where
+      by : (s : Situation) (a : Actor) (event : Event) (fails : Bool) → IsWithin s.own → most_items ≤ length s.own
+          → EndsAt (λ front. front ≡ (tried_if fails (cluster_of plan) s a event).own) s.own Items most_items
+      by s a event true within less = at_full s (Down a) within less
+      by s a event false within less = at_full s (entry_of (cluster_of plan) s a event false) within less
+
+      hits : Hits Items most_items
+      hits s stands =
+          let reached : HasCome images faults strict armed content synced written plan old now s = come s stands in
+          hits_in_drain images faults strict armed content synced written plan old s now reached message (oldest reached.reached reached.stands.past.stands) Items most_items
+          (inl (λ fails.
+          by reached.reached (receiver_in reached.reached message) (MessageEvent message) fails reached.stands.past.within
+          (full.1 reached.reached reached.stands.past.stands)))
+
+  -- the step hits one
+  pub ends_taken : (e : RunError)
+      → IfLimit (λ which most. (number : ℕ) (s : Situation) → StandsFor images faults plan now s → HasPlace s → deliver_skip s message ≡ None
+      → HitsLimit strict armed content synced written plan None number (receiver_in s message) (MessageEvent message) now s which most) e
+      → ((s : Situation) → history.StandsFor now.history s → HasPlace s) → (r : Result (Unit {0}) RunError) → IsErrAnd r (λ x. x ≡ e) → IfErr r (IfLimit Hits)
+  ends_taken OutOfMemory h place = passed_on OutOfMemory tt
+  ends_taken (Limit which most) h place = passed_on (Limit which most) hits
+    where
+      hits : Hits which most
+      hits s stands =
+          let reached : HasCome images faults strict armed content synced written plan old now s = come s stands in
+          let first : IsOldestWaiting reached.reached message = oldest reached.reached reached.stands.past.stands in
+          hits_in_drain images faults strict armed content synced written plan old s now reached message first which most
+          (h 0 reached.reached reached.stands (place reached.reached reached.stands.past.stands) (waiting_is_taken (cluster_of plan) reached.reached message first.0))

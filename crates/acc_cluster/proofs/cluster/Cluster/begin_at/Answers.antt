@@ -1,0 +1,36 @@
+use Rattle.std.proofs.Common.{◌≡◌, None, Ok, refl, ap, subst, arith}
+use Rattle.acc_message.specs.declared.entry.Event.TheVariants.{Begin as BeginEvent}
+use Rattle.acc_message.specs.NodeRules.{Begins}
+use Rattle.acc_schedule.specs.Plan.{IsPlan}
+use Rattle.acc_schedule.specs.View.{content}
+use Rattle.acc_follow.specs.Situations.{Situation}
+use Rattle.acc_follow.specs.Moves.{begin_skip}
+use Rattle.acc_follow.specs.Schedules.{cluster_of}
+use Rattle.acc_cluster.proofs.Going.{body_read, goes_begin}
+use Rattle.acc_cluster.proofs.Taken.{asked_at, sendable_at, taken_ok, taken_limit}
+use Rattle.acc_cluster.proofs.cluster.Cluster.begin_at.Goals as goal
+
+pub begin-requires : goal.begin-requires
+begin-requires g c =
+    let s : Situation = c.requires.standing.0 in
+    (s, asked_at g.D.Disk.is_image g.D.Disk.faults c.args.plan.now c.args.self.now c.args.home (BeginEvent c.args.txn) (Begins c.args.txn c.index-as_slice-txn.result) c.index_mut.result.now c.index_mut.ensures.value (omega (arith, c.if-place-len.false, c.len.ensures)) s c.requires.standing.1 (goes_begin c.args.plan.now (subst IsPlan c.plan.view_is c.plan.invariant) c.args.txn c.requires.known c.index-as_slice-txn.result (body_read c.args.plan.now (content c.plan.inside) c.as_slice.result.now c.args.txn c.index-as_slice-txn.result c.plan.view_is c.as_slice.ensures c.plan.invariant c.requires.known c.index-as_slice-txn.is) c.args.home c.requires.home c.requires.standing.0 c.requires.standing.1.sound c.requires.standing.3))
+
+pub enter_given-requires : goal.enter_given-requires
+enter_given-requires g c =
+    let s : Situation = c.requires.standing.0 in
+    let h = c.requires.standing.1 in
+    record {
+      sendable =
+          sendable_at g.D.Disk.is_image g.D.Disk.faults c.args.plan.now c.args.self.now c.args.home (BeginEvent c.args.txn) (Begins c.args.txn c.index-as_slice-txn.result) c.index_mut.result.now c.index_mut.ensures.value (omega (arith, c.if-place-len.false, c.len.ensures)) s h (goes_begin c.args.plan.now (subst IsPlan c.plan.view_is c.plan.invariant) c.args.txn c.requires.known c.index-as_slice-txn.result (body_read c.args.plan.now (content c.plan.inside) c.as_slice.result.now c.args.txn c.index-as_slice-txn.result c.plan.view_is c.as_slice.ensures c.plan.invariant c.requires.known c.index-as_slice-txn.is) c.args.home c.requires.home c.requires.standing.0 c.requires.standing.1.sound c.requires.standing.3) c.in_ok-given.given
+          (c.in_ok-given.ensures.ok s (asked_at g.D.Disk.is_image g.D.Disk.faults c.args.plan.now c.args.self.now c.args.home (BeginEvent c.args.txn) (Begins c.args.txn c.index-as_slice-txn.result) c.index_mut.result.now c.index_mut.ensures.value (omega (arith, c.if-place-len.false, c.len.ensures)) s h (goes_begin c.args.plan.now (subst IsPlan c.plan.view_is c.plan.invariant) c.args.txn c.requires.known c.index-as_slice-txn.result (body_read c.args.plan.now (content c.plan.inside) c.as_slice.result.now c.args.txn c.index-as_slice-txn.result c.plan.view_is c.as_slice.ensures c.plan.invariant c.requires.known c.index-as_slice-txn.is) c.args.home c.requires.home c.requires.standing.0 c.requires.standing.1.sound c.requires.standing.3))).emitted;
+    }
+
+pub returns-clause-ok : goal.returns-clause-ok
+returns-clause-ok g c =
+    taken_ok g.D.Disk.is_image g.D.Disk.faults c.args.plan.now c.args.self.now c.args.home (BeginEvent c.args.txn) (Begins c.args.txn c.index-as_slice-txn.result) c.index_mut.result.now c.index_mut.ensures.value (omega (arith, c.if-place-len.false, c.len.ensures)) g.D.Disk.strict g.D.Disk.armed g.D.Disk.content g.D.Disk.synced g.D.Disk.written c.begin.new.self c.in_ok-given.given c.in_ok-given.ensures.ok c.in_ok-given.ensures.strict
+    (λ s. begin_skip (cluster_of c.args.plan.now) s c.args.txn ≡ None) (λ s h p. goes_begin c.args.plan.now (subst IsPlan c.plan.view_is c.plan.invariant) c.args.txn c.requires.known c.index-as_slice-txn.result (body_read c.args.plan.now (content c.plan.inside) c.as_slice.result.now c.args.txn c.index-as_slice-txn.result c.plan.view_is c.as_slice.ensures c.plan.invariant c.requires.known c.index-as_slice-txn.is) c.args.home c.requires.home s h.sound p) c.enter_given.result _ refl (λ none. c.in_ok-given.ensures.cause (ap Ok none)) c.enter_given.ensures.ok
+
+pub returns-clause-limit : goal.returns-clause-limit
+returns-clause-limit g c =
+    taken_limit g.D.Disk.is_image g.D.Disk.faults c.args.plan.now c.args.self.now c.args.home (BeginEvent c.args.txn) (Begins c.args.txn c.index-as_slice-txn.result) c.index_mut.result.now c.index_mut.ensures.value (omega (arith, c.if-place-len.false, c.len.ensures)) g.D.Disk.strict g.D.Disk.armed g.D.Disk.content g.D.Disk.synced g.D.Disk.written c.begin.new.self c.in_ok-given.given c.in_ok-given.ensures.ok c.in_ok-given.ensures.strict
+    (λ s. begin_skip (cluster_of c.args.plan.now) s c.args.txn ≡ None) (λ s h p. goes_begin c.args.plan.now (subst IsPlan c.plan.view_is c.plan.invariant) c.args.txn c.requires.known c.index-as_slice-txn.result (body_read c.args.plan.now (content c.plan.inside) c.as_slice.result.now c.args.txn c.index-as_slice-txn.result c.plan.view_is c.as_slice.ensures c.plan.invariant c.requires.known c.index-as_slice-txn.is) c.args.home c.requires.home s h.sound p) c.enter_given.result c.enter_given.ensures.limit

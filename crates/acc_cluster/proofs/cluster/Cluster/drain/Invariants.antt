@@ -1,0 +1,15 @@
+-- The messages so far were delivered, each as the oldest that waited.
+use Rattle.std.proofs.Common.{◌-◌, length}
+use Rattle.acc_follow.specs.Situations.{Situation}
+use Rattle.acc_limits.specs.Limits.{most_items}
+use Rattle.acc_cluster.specs.Stands.{StandsFor}
+use Rattle.acc_cluster.proofs.Coming.{HasCome}
+use Rattle.acc_cluster.proofs.cluster.Cluster.drain.Given as goal
+
+abbrev pub invariant-loop-message : goal.invariant-loop-message
+invariant-loop-message g l =
+    (s : Situation) → StandsFor g.D.Disk.is_image g.D.Disk.faults l.plan l.initial.self s
+    → HasCome g.D.Disk.is_image g.D.Disk.faults g.D.Disk.strict g.D.Disk.armed g.D.Disk.content g.D.Disk.synced g.D.Disk.written l.plan l.initial.self l.self s
+
+abbrev pub decreases-loop-message : goal.decreases-loop-message
+decreases-loop-message g l = most_items - length l.self.history.items.items

@@ -1,0 +1,50 @@
+-- A store of the plan is opened in its slot.
+use Rattle.std.proofs.Common.{◌≡◌, ℕ, ◌==◌, cond, sym, ◌∙◌, ap, subst}
+use Rattle.std.specs.List.{slice_index_or}
+use Rattle.acc_stamp.specs.declared.actors.Actor.{Actor}
+use Rattle.acc_message.specs.Run.{is_node}
+use Rattle.acc_store.specs.Stands.{actor_of}
+use Rattle.acc_durable.specs.Store.{actor_in}
+use Rattle.acc_schedule.specs.Content.{Content}
+use Rattle.acc_follow.specs.Situations.{opened}
+use Rattle.acc_cluster.specs.declared.slot.Slot.TheVariants.{Empty, Store}
+use Rattle.acc_cluster.specs.Slots.{SlotStands}
+use Rattle.acc_cluster.proofs.Filled.{store_opens, filled_store, filled_store_strictly}
+use Rattle.acc_cluster.proofs.Unarmed.{on_ok, store_unarmed}
+use Rattle.acc_cluster.proofs.opening.put_store.Goals as goal
+
+pub returns-clause-filled : goal.returns-clause-filled
+returns-clause-filled g c =
+    let d = g.D.Disk in
+    let plan = c.args.plan.now in
+    let actor = c.opened-opened.result in
+    let own = c.actor-own.result in
+    let owned : own ≡ actor_in c.args.store = c.actor-own.ensures ∙ ap actor_of c.store.ensures in
+    let version = ap (λ (p : Content). p.version) c.plan.view_is in
+    on_ok c.put.result
+    (λ put nodes stores filled.
+    filled_store d.is_image d.faults plan c.args.slots.now.items c.put.new.slots.items nodes stores (Store actor) tt c.args.store
+    (subst (λ (a : Actor). (k : ℕ) → slice_index_or c.put.new.slots.items k Empty ≡ cond (k == a.0) (Store actor) (slice_index_or c.args.slots.now.items k Empty)) owned put)
+    c.requires.number.member
+    (λ earlier up took.
+    subst (λ (a : Actor). SlotStands d.is_image d.faults plan (opened earlier) a (Store actor)) owned
+    (store_opens d.is_image d.faults plan c.plan.inside.version c.args.store own actor (sym owned) (ap is_node owned ∙ c.requires.number.kind) version
+    (λ messages h. c.opened-opened.ensures.stands plan.topology messages h) c.opened-opened.ensures.up earlier up took))
+    filled)
+    c.put.ensures
+
+pub returns-clause-strictly : goal.returns-clause-strictly
+returns-clause-strictly g c =
+    let d = g.D.Disk in
+    let plan = c.args.plan.now in
+    let actor = c.opened-opened.result in
+    let own = c.actor-own.result in
+    let version = ap (λ (p : Content). p.version) c.plan.view_is in
+    on_ok c.put.result
+    (λ put nodes stores filled.
+    filled_store_strictly d.is_image d.faults plan d.strict d.armed d.content d.synced d.written c.args.slots.now.items c.put.new.slots.items nodes stores own (Store actor) put c.args.store
+    (λ unarmed earlier.
+    store_unarmed d.strict d.armed d.content d.synced d.written plan own c.plan.inside.version (d.armed c.args.store.journal.disk) actor version unarmed.1
+    (λ passed past. c.opened-opened.ensures.strict unarmed.0 plan.topology passed past) earlier)
+    filled)
+    c.put.ensures

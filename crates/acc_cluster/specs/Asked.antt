@@ -1,0 +1,99 @@
+-- When an actor may be asked for a step, and what it answers.
+use Rattle.std.specs.Prelude.{◌≡◌, ℕ, ◌≤◌, Bool, true, false, ◌&&◌, List, length, Option, None, Some, is_none, is_some}
+use Rattle.acc_stamp.specs.declared.actors.Actor.{Actor}
+use Rattle.acc_ports.specs.Strict.{Ranges}
+use Rattle.acc_message.specs.declared.entry.Event.{Event}
+use Rattle.acc_message.specs.declared.entry.Emitted.{Emitted}
+use Rattle.acc_message.specs.declared.item.Skip.{Skip}
+use Rattle.acc_message.specs.declared.item.Skip.TheVariants as skips
+use Rattle.acc_message.specs.declared.item.Item.TheVariants.{Down}
+use Rattle.acc_message.specs.Items.{id_of_txn}
+use Rattle.acc_message.specs.NodeRules.{Act}
+use Rattle.acc_message.specs.Run.{Cluster, act_of, is_down, IsHomeOf}
+use Rattle.acc_node.specs.declared.error.NodeError.{NodeError}
+use Rattle.acc_node.specs.declared.error.NodeError.TheVariants.{Begun, Unknown, NoQuorum, OutOfMemory}
+use Rattle.acc_journal.specs.Journal.{keeps_group}
+use Rattle.acc_actors.specs.declared.stops.Unsent.{Unsent}
+use Rattle.acc_actors.specs.declared.stops.Restarted.{Restarted}
+use Rattle.acc_actors.specs.declared.stops.Restarted.TheVariants.{Up, Down as RestartedDown}
+use Rattle.acc_safe_runs.specs.Asks.{emits_if, slow_skip}
+use Rattle.acc_entering.specs.Entries.{MayTake}
+use Rattle.acc_entering.specs.Stopped.{IsSound}
+use Rattle.acc_schedule.specs.Content.{Content}
+use Rattle.acc_follow.specs.Situations.{Situation, whole, stopped_at}
+use Rattle.acc_follow.specs.Moves.{with_item, event_in, is_journalled, tried_if, kept_if, reopened}
+use Rattle.acc_follow.specs.Schedules.{cluster_of}
+use Rattle.acc_strict.specs.Disks.{Disks, fails_append, after_step, after_restart}
+use Rattle.acc_limits.specs.Limits.{most_items}
+use Rattle.acc_cluster.specs.Slots.{SlotStands, IsStrictSlot}
+use Rattle.acc_cluster.specs.Entering.{HasRoom}
+use Rattle.acc_cluster.specs.declared.slot.Slot.{Slot}
+
+-- so few items that all that calls ask of heights and lengths holds
+abbrev pub IsFew : Situation → Type 0
+IsFew s = HasRoom s × (length s.own ≤ most_items)
+
+-- the actor in the slot is up, and may take the event
+pub record IsAsked {D : Type 0} (images : D → List ℕ → Type 0) (faults : D → ℕ) (plan : Content) (s : Situation) (a : Actor) (event : Event) (act : Act) (slot : Slot D) : Type 0 where
+  pub sound : IsSound (cluster_of plan) s
+  pub few : IsFew s
+  pub stands : SlotStands images faults plan s a slot
+  pub up : is_down a (whole s) ≡ false
+  pub may : MayTake (cluster_of plan) (whole s) a (event_in s event) act
+
+-- it gives what the rules say, if anything
+abbrev pub IsEmitted : Cluster → Situation → Actor → Event → Option Emitted → Type 0
+IsEmitted cluster s a event None = is_journalled a event ≡ true
+IsEmitted cluster s a event (Some emitted) = emitted ≡ emits_if cluster (whole s) a (act_of cluster (whole s) (event_in s event))
+
+-- the slot's actor took it, or went down by it
+pub record HasTried {D : Type 0} (images : D → List ℕ → Type 0) (faults : D → ℕ) (plan : Content) (s : Situation) (a : Actor) (event : Event) (slot : Slot D) (given : Option Emitted) : Type 0 where
+  pub emitted : IsEmitted (cluster_of plan) s a event given
+  pub stands : SlotStands images faults plan (tried_if (is_none given) (cluster_of plan) s a event) a slot
+
+-- over a strict disk, which fails just where its armed call is one of the append
+pub record HasTriedStrictly {D : Type 0} (strict : D → Bool) (armed : D → Option ℕ) (content synced : D → List ℕ) (written : D → Ranges) (plan : Content) (s : Situation) (disks : Disks) (a : Actor) (event : Event) (slot : Slot D) (given : Option Emitted) : Type 0 where
+  pub fails : is_none given ≡ (is_journalled a event && fails_append (disks.armed a))
+  pub strictly : IsStrictSlot strict armed content synced written plan (tried_if (is_none given) (cluster_of plan) s a event) (after_step (is_journalled a event) a disks) a slot
+
+abbrev pub MayAsk : {D : Type 0} → (D → List ℕ → Type 0) → (D → ℕ) → Content → Actor → Event → Act → Slot D → Type 0
+MayAsk images faults plan a event act slot = (s : Situation) × IsAsked images faults plan s a event act slot
+
+-- ---- slowing
+
+-- the home of the transaction is up
+pub record IsHomeUp {D : Type 0} (images : D → List ℕ → Type 0) (faults : D → ℕ) (plan : Content) (s : Situation) (a : Actor) (txn : ℕ) (slot : Slot D) : Type 0 where
+  pub sound : IsSound (cluster_of plan) s
+  pub stands : SlotStands images faults plan s a slot
+  pub up : is_down a (whole s) ≡ false
+  pub home : IsHomeOf (cluster_of plan) txn a
+
+abbrev pub skips_slow : Content → Situation → ℕ → Option Skip
+skips_slow plan s txn = slow_skip (cluster_of plan) (whole s) txn (id_of_txn (whole s) txn)
+
+-- why it isn't slowed down
+abbrev pub IsSlowRefused : Content → Situation → ℕ → NodeError → Type 0
+IsSlowRefused plan s txn Unknown = skips_slow plan s txn ≡ Some (skips.Unknown txn)
+IsSlowRefused plan s txn NoQuorum = skips_slow plan s txn ≡ Some (skips.NoQuorum txn)
+IsSlowRefused plan s txn Begun = ⊥
+IsSlowRefused plan s txn OutOfMemory = Unit {0}
+
+-- ---- restarts
+
+-- what was kept is the step that was stopped, with what the rules say that it gives
+abbrev pub IsKeptStep : Cluster → Situation → Actor → Option Unsent → Type 0
+IsKeptStep cluster s a None = Unit {0}
+IsKeptStep cluster s a (Some unsent) =
+    (stopped_at a s.stopped ≡ Some unsent.event)
+    × (unsent.emitted ≡ emits_if cluster (whole s) a (act_of cluster (whole s) (event_in s unsent.event)))
+
+abbrev pub HasRestartedAt : {D : Type 0} → (D → List ℕ → Type 0) → (D → ℕ) → Content → Situation → Actor → Restarted → Slot D → Type 0
+HasRestartedAt images faults plan s a (Up kept) slot =
+    IsKeptStep (cluster_of plan) s a kept × SlotStands images faults plan (reopened (cluster_of plan) s a (kept_if (is_some kept) a s)) a slot
+HasRestartedAt images faults plan s a RestartedDown slot = SlotStands images faults plan (with_item (Down a) s) a slot
+
+abbrev pub HasRestartedStrictlyAt : {D : Type 0} → (D → Bool) → (D → Option ℕ) → (D → List ℕ) → (D → List ℕ) → (D → Ranges) → Content → Situation → Disks → Actor → ℕ → Restarted → Slot D → Type 0
+HasRestartedStrictlyAt strict armed content synced written plan s disks a choice (Up kept) slot =
+    (kept_if (is_some kept) a s ≡ kept_if (keeps_group (disks.passed a) choice) a s)
+    × IsStrictSlot strict armed content synced written plan (reopened (cluster_of plan) s a (kept_if (is_some kept) a s)) (after_restart a disks) a slot
+HasRestartedStrictlyAt strict armed content synced written plan s disks a choice RestartedDown slot = ⊥

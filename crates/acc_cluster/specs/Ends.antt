@@ -1,0 +1,55 @@
+-- What is left of a cluster.
+use Rattle.std.specs.Prelude.{◌≡◌, ℕ, ◌+◌, ◌≤◌, List, [], ◌∷◌, ◌++◌, map, reverse, Contains}
+use Rattle.std.specs.List.{AllByRecursion}
+use Rattle.acc_stamp.specs.declared.actors.Actor.{Actor}
+use Rattle.acc_payloads.specs.Items.{Keeps}
+use Rattle.acc_actors.specs.Stops.{HoldsPayloads}
+use Rattle.acc_actors.specs.Node as node
+use Rattle.acc_actors.specs.Store as store
+use Rattle.acc_schedule.specs.Actors.{actors}
+use Rattle.acc_schedule.specs.Content.{Content}
+use Rattle.acc_follow.specs.Situations.{Situation}
+use Rattle.acc_follow.specs.Schedules.{cluster_of}
+use Rattle.acc_cluster.specs.Pasts.{node_past, store_past}
+use Rattle.acc_cluster.specs.Slots.{SlotStands}
+use Rattle.acc_cluster.specs.declared.slot.Slot.{Slot}
+use Rattle.acc_cluster.specs.declared.slot.Slot.TheVariants.{Empty, Node, Store}
+use Rattle.acc_cluster.specs.declared.ending.Ended.{Ended}
+
+-- ---- the disks of slots
+
+abbrev pub entry_of : {D : Type 0} → ℕ → Slot D → List (Actor × D)
+entry_of number Empty = []
+entry_of number (Node n) = (record { 0 = number }, node.disk_of n) ∷ []
+entry_of number (Store t) = (record { 0 = number }, store.disk_of t) ∷ []
+
+-- each with its number, from this one on
+abbrev pub disks_from : {D : Type 0} → ℕ → List (Slot D) → List (Actor × D)
+disks_from number [] = []
+disks_from number (slot ∷ slots) = entry_of number slot ++ disks_from (number + 1) slots
+
+-- each image of the disk holds the payloads of the past for which the actor stands
+abbrev pub SlotHolds : {D : Type 0} → (D → List ℕ → Type 0) → Content → Situation → Actor → Slot D → Type 0
+SlotHolds images plan s a Empty = Unit {0}
+SlotHolds images plan s a (Node n) = (image : List ℕ) → images (node.disk_of n) image → HoldsPayloads plan.version (node_past (cluster_of plan) s a) image
+SlotHolds images plan s a (Store t) = (image : List ℕ) → images (store.disk_of t) image → HoldsPayloads plan.version (store_past (cluster_of plan) s a) image
+
+abbrev pub LeavesHeld : {D : Type 0} → (D → List ℕ → Type 0) → (D → ℕ) → Slot D → Type 0
+LeavesHeld images faults slot = (plan : Content) (s : Situation) (a : Actor) → SlotStands images faults plan s a slot → SlotHolds images plan s a slot
+
+-- ---- the whole
+
+abbrev pub Rises : {D : Type 0} → ℕ → List (Actor × D) → Type 0
+Rises least [] = Unit {0}
+Rises least (entry ∷ entries) = (least ≤ entry.0.0) × Rises (entry.0.0 + 1) entries
+
+-- a disk of each actor of the plan, in rising order of the actors
+pub record AreDisksOf {D : Type 0} (plan : Content) (disks : List (Actor × D)) : Type 0 where
+  pub rise : Rises 0 disks
+  pub known : AllByRecursion (λ (entry : Actor × D). Contains (actors plan.topology) entry.0) disks
+  pub each : (a : Actor) → Contains (actors plan.topology) a → Contains (map (λ (entry : Actor × D). entry.0) disks) a
+
+pub record IsEndOf {D : Type 0} (images : D → List ℕ → Type 0) (faults : D → ℕ) (plan : Content) (s : Situation) (ended : Ended D) : Type 0 where
+  pub items_are : ended.items ≡ reverse s.own
+  pub disks_are : AreDisksOf plan ended.disks.items
+  pub kept : s.earlier ≡ [] → AllByRecursion (λ (entry : Actor × D). Keeps plan.version entry.0 s.own (faults entry.1) (images entry.1)) ended.disks.items

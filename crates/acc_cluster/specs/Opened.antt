@@ -1,0 +1,94 @@
+-- What a cluster begins with.
+use Rattle.std.specs.Prelude.{◌≡◌, ℕ, Bool, false, List, [], ◌++◌, map, Option, None, Contains, IsTrue}
+use Rattle.std.specs.List.{AllByRecursion}
+use Rattle.acc_stamp.specs.declared.actors.Actor.{Actor}
+use Rattle.acc_stamp.specs.Actor.{actor_of}
+use Rattle.acc_journal.specs.Layout.{Reads}
+use Rattle.acc_message.specs.declared.item.Item.{Item}
+use Rattle.acc_message.specs.Run.{clock_start, deeds_of, taken_of, is_node, is_down}
+use Rattle.acc_actor_laws.specs.TakenAlone.{messages_taken}
+use Rattle.acc_safety.specs.RunLaws.{acts_done}
+use Rattle.acc_payloads.specs.Items.{payloads_in, without_marks}
+use Rattle.acc_schedule.specs.Actors.{actors}
+use Rattle.acc_schedule.specs.Content.{Content}
+use Rattle.acc_durable.specs.declared.node.DurableNode.{DurableNode}
+use Rattle.acc_durable.specs.declared.store.DurableStore.{DurableStore}
+use Rattle.acc_durable.specs.Node as node
+use Rattle.acc_durable.specs.Store as store
+use Rattle.acc_entering.specs.Stopped.{IsSound}
+use Rattle.acc_follow.specs.Situations.{opened}
+use Rattle.acc_follow.specs.Schedules.{cluster_of}
+use Rattle.acc_strict.specs.Disks.{fresh_disks}
+use Rattle.acc_ports.specs.Strict.{Ranges}
+use Rattle.acc_cluster.specs.Entering.{HasRoom}
+use Rattle.acc_cluster.specs.Slots.{SlotStands, IsStrictSlot, IsTaken}
+use Rattle.acc_cluster.specs.Stands.{slot_at}
+use Rattle.acc_cluster.specs.declared.slot.Slot.{Slot}
+
+-- a durable node of the plan that isn't broken, and whose disk keeps its journal
+pub record IsNodeOf {D : Type 0} (images : D → List ℕ → Type 0) (plan : Content) (n : DurableNode D) : Type 0 where
+  pub sound : n.journal.broken ≡ false
+  pub start_is : n.start ≡ clock_start plan.starts n.number
+  pub version_is : n.version ≡ plan.version
+  pub lasts : (image : List ℕ) → images n.journal.disk image → Reads image n.journal.payloads
+
+-- a durable store of the plan, with nothing staged
+pub record IsStoreOf {D : Type 0} (images : D → List ℕ → Type 0) (plan : Content) (t : DurableStore D) : Type 0 where
+  pub sound : t.journal.broken ≡ false
+  pub none_staged : t.journal.group ≡ []
+  pub version_is : t.version ≡ plan.version
+  pub lasts : (image : List ℕ) → images t.journal.disk image → Reads image t.journal.payloads
+
+-- they stand for their parts in the earlier run
+pub record HasDone {D : Type 0} (plan : Content) (earlier : List Item) (n : DurableNode D) : Type 0 where
+  pub stands : node.StandsFor plan.topology n (acts_done (deeds_of (cluster_of plan) (actor_of n.number 0) earlier))
+  pub held : without_marks n.journal.payloads ≡ payloads_in (actor_of n.number 0) earlier
+
+pub record HasTaken {D : Type 0} (plan : Content) (earlier : List Item) (t : DurableStore D) : Type 0 where
+  pub stands : store.StandsFor plan.topology t (messages_taken (taken_of (cluster_of plan) (store.actor_in t) earlier))
+  pub held : without_marks t.journal.payloads ≡ payloads_in (store.actor_in t) earlier
+
+-- a store has the number of a store of the plan
+pub record IsStoreNumber {D : Type 0} (plan : Content) (t : DurableStore D) : Type 0 where
+  pub member : Contains (actors plan.topology) (store.actor_in t)
+  pub kind : is_node (store.actor_in t) ≡ false
+
+-- The actors of the plan: a node for each of its nodes, in rising order, and stores, among which each of its stores is.
+pub record AreActorsOf {D : Type 0} (plan : Content) (nodes : List (DurableNode D)) (stores : List (DurableStore D)) : Type 0 where
+  pub nodes_are : map (λ (n : DurableNode D). n.number) nodes ≡ plan.topology.nodes
+  pub known : AllByRecursion (IsStoreNumber plan) stores
+  pub each : (a : Actor) → Contains (actors plan.topology) a
+      → Contains (map (λ (n : DurableNode D). actor_of n.number 0) nodes ++ map store.actor_in stores) a
+
+-- a run that stood before, with room for one more, in which nobody is down, and for which these actors stand
+pub record IsEarlier {D : Type 0} (plan : Content) (nodes : List (DurableNode D)) (stores : List (DurableStore D)) (earlier : List Item) : Type 0 where
+  pub sound : IsSound (cluster_of plan) (opened earlier)
+  pub room : HasRoom (opened earlier)
+  pub up : (a : Actor) → is_down a earlier ≡ false
+  pub nodes_did : AllByRecursion (HasDone plan earlier) nodes
+  pub stores_did : AllByRecursion (HasTaken plan earlier) stores
+
+-- all disks are strict, and nothing is armed there
+abbrev pub IsUnarmed : {D : Type 0} → (D → Bool) → (D → Option ℕ) → D → Type 0
+IsUnarmed strict armed disk = IsTrue (strict disk) × (armed disk ≡ None)
+
+pub record AreUnarmed {D : Type 0} (strict : D → Bool) (armed : D → Option ℕ) (nodes : List (DurableNode D)) (stores : List (DurableStore D)) : Type 0 where
+  pub nodes_are : AllByRecursion (λ (n : DurableNode D). IsUnarmed strict armed n.journal.disk) nodes
+  pub stores_are : AllByRecursion (λ (t : DurableStore D). IsUnarmed strict armed t.journal.disk) stores
+
+-- ---- the slots, as they are filled with actors
+
+-- The actors of these nodes and stores stand in the slots, none stands at a number that isn't the plan's, and those that are there
+-- stand for an earlier run in which nobody is down if they did their parts in it.
+pub record AreFilled {D : Type 0} (images : D → List ℕ → Type 0) (faults : D → ℕ) (plan : Content) (nodes : List (DurableNode D)) (stores : List (DurableStore D)) (slots : List (Slot D)) : Type 0 where
+  pub only : (a : Actor) → IsTaken (slot_at slots a) → Contains (actors plan.topology) a
+  pub nodes_there : AllByRecursion (λ (n : DurableNode D). IsTaken (slot_at slots (actor_of n.number 0))) nodes
+  pub stores_there : AllByRecursion (λ (t : DurableStore D). IsTaken (slot_at slots (store.actor_in t))) stores
+  pub stand : (earlier : List Item) → ((a : Actor) → is_down a earlier ≡ false) → AllByRecursion (HasDone plan earlier) nodes → AllByRecursion (HasTaken plan earlier) stores
+      → (a : Actor) → IsTaken (slot_at slots a) → SlotStands images faults plan (opened earlier) a (slot_at slots a)
+
+-- and if nothing is armed on their disks, and all are strict, that is so in their slots
+abbrev pub AreFilledStrictly : {D : Type 0} → (D → Bool) → (D → Option ℕ) → (D → List ℕ) → (D → List ℕ) → (D → Ranges) → Content → List (DurableNode D) → List (DurableStore D) → List (Slot D) → Type 0
+AreFilledStrictly strict armed content synced written plan nodes stores slots =
+    AreUnarmed strict armed nodes stores → (earlier : List Item) (a : Actor) → IsTaken (slot_at slots a)
+    → IsStrictSlot strict armed content synced written plan (opened earlier) fresh_disks a (slot_at slots a)

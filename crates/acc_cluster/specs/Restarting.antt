@@ -1,0 +1,40 @@
+-- What a restart finds at the actor's number, and what entering it comes to.
+use Rattle.std.specs.Prelude.{◌≡◌, ℕ, Bool, false, List, Option, is_some}
+use Rattle.acc_stamp.specs.declared.actors.Actor.{Actor}
+use Rattle.acc_ports.specs.Faults.{Rose}
+use Rattle.acc_ports.specs.Strict.{Ranges}
+use Rattle.acc_message.specs.declared.error.Which.{Which}
+use Rattle.acc_message.specs.declared.item.Item.{Item}
+use Rattle.acc_message.specs.Items.{same_actor}
+use Rattle.acc_message.specs.Run.{Cluster}
+use Rattle.acc_actors.specs.declared.stops.Unsent.{Unsent}
+use Rattle.acc_actors.specs.declared.stops.Restarted.{Restarted}
+use Rattle.acc_actors.specs.declared.stops.Restarted.TheVariants.{Down}
+use Rattle.acc_schedule.specs.Content.{Content}
+use Rattle.acc_follow.specs.Situations.{Situation}
+use Rattle.acc_follow.specs.Moves.{kept_if, reopened}
+use Rattle.acc_strict.specs.Disks.{Disks}
+use Rattle.acc_limits.specs.Limits.{EndsAt}
+use Rattle.acc_limits.specs.Fronts.{Begins}
+use Rattle.acc_cluster.specs.declared.slot.Slot.{Slot}
+use Rattle.acc_cluster.specs.Slots.{IsStrictSlot, faults_in}
+use Rattle.acc_cluster.specs.Stands.{slot_at}
+use Rattle.acc_cluster.specs.Asked.{HasRestartedAt, HasRestartedStrictlyAt}
+
+-- The actor has restarted in its slot, and the other slots are as before.
+pub record HasReopened {D : Type 0} (images : D → List ℕ → Type 0) (faults : D → ℕ) (strict : D → Bool) (armed : D → Option ℕ) (content synced : D → List ℕ) (written : D → Ranges) (plan : Content) (a : Actor) (choice : ℕ) (before now : List (Slot D)) (found : Restarted) (s : Situation) : Type 0 where
+  pub others : (b : Actor) → same_actor a b ≡ false → slot_at now b ≡ slot_at before b
+  pub restarted : HasRestartedAt images faults plan s a found (slot_at now a)
+  pub strictly :
+      (disks : Disks) → IsStrictSlot strict armed content synced written plan s disks a (slot_at before a)
+      → HasRestartedStrictlyAt strict armed content synced written plan s disks a choice found (slot_at now a)
+  pub cause : found ≡ Down → Rose (faults_in faults (slot_at before a)) (faults_in faults (slot_at now a))
+
+-- the situation behind a restart that kept this
+abbrev pub come_up : Cluster → Situation → Actor → Option Unsent → Situation
+come_up cluster s a kept = reopened cluster s a (kept_if (is_some kept) a s)
+
+-- a limit ends the run behind some items of the restart's
+pub record EndsInRestart (cluster : Cluster) (s : Situation) (a : Actor) (kept : Option Unsent) (which : Which) (limit : ℕ) : Type 0 where
+  pub items : List Item
+  pub ends : EndsAt (λ front. Begins front (come_up cluster s a kept).own) items which limit

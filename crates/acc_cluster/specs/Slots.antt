@@ -1,0 +1,60 @@
+-- When the actor at a number stands for a situation.
+--     SlotStands      for its past, and its disk has counted its downs
+--     IsStrictSlot      its disk is strict, and what is armed there is known
+use Rattle.std.specs.Prelude.{◌≡◌, ℕ, ◌≤◌, Bool, true, false, List, Option}
+use Rattle.acc_stamp.specs.declared.actors.Actor.{Actor}
+use Rattle.acc_stamp.specs.Actor.{node_of}
+use Rattle.acc_ports.specs.Strict.{Ranges}
+use Rattle.acc_message.specs.Run.{clock_start, is_node, is_down}
+use Rattle.acc_payloads.specs.Items.{downs_in}
+use Rattle.acc_actors.specs.declared.node.NodeActor.{NodeActor}
+use Rattle.acc_actors.specs.declared.store.StoreActor.{StoreActor}
+use Rattle.acc_actors.specs.Node as node
+use Rattle.acc_actors.specs.Store as store
+use Rattle.acc_schedule.specs.Content.{Content}
+use Rattle.acc_follow.specs.Situations.{Situation, whole}
+use Rattle.acc_follow.specs.Schedules.{cluster_of}
+use Rattle.acc_strict.specs.Disks.{Disks}
+use Rattle.acc_cluster.specs.Pasts.{node_past, store_past}
+use Rattle.acc_cluster.specs.declared.slot.Slot.{Slot}
+use Rattle.acc_cluster.specs.declared.slot.Slot.TheVariants.{Empty, Node, Store}
+
+pub record NodeStands {D : Type 0} (images : D → List ℕ → Type 0) (faults : D → ℕ) (plan : Content) (s : Situation) (a : Actor) (n : NodeActor D) : Type 0 where
+  pub kind : is_node a ≡ true
+  pub stands : node.StandsFor images plan.topology (node_of a) (clock_start plan.starts (node_of a)) plan.version (node_past (cluster_of plan) s a) n
+  pub down : node.is_down n ≡ is_down a (whole s)
+  pub counted : downs_in a s.own ≤ faults (node.disk_of n)
+
+pub record StoreStands {D : Type 0} (images : D → List ℕ → Type 0) (faults : D → ℕ) (plan : Content) (s : Situation) (a : Actor) (t : StoreActor D) : Type 0 where
+  pub kind : is_node a ≡ false
+  pub stands : store.StandsFor images plan.topology a plan.version (store_past (cluster_of plan) s a) t
+  pub down : store.is_down t ≡ is_down a (whole s)
+  pub counted : downs_in a s.own ≤ faults (store.disk_of t)
+
+abbrev pub SlotStands : {D : Type 0} → (D → List ℕ → Type 0) → (D → ℕ) → Content → Situation → Actor → Slot D → Type 0
+SlotStands images faults plan s a Empty = ⊥
+SlotStands images faults plan s a (Node n) = NodeStands images faults plan s a n
+SlotStands images faults plan s a (Store t) = StoreStands images faults plan s a t
+
+-- the disk of the actor has counted so many faults
+abbrev pub faults_in : {D : Type 0} → (D → ℕ) → Slot D → ℕ
+faults_in faults Empty = 0
+faults_in faults (Node n) = faults (node.disk_of n)
+faults_in faults (Store t) = faults (store.disk_of t)
+
+-- ---- over strict disks
+
+abbrev pub IsStrictSlot : {D : Type 0} → (D → Bool) → (D → Option ℕ) → (D → List ℕ) → (D → List ℕ) → (D → Ranges) → Content → Situation → Disks → Actor → Slot D → Type 0
+IsStrictSlot strict armed content synced written plan s disks a Empty = ⊥
+IsStrictSlot strict armed content synced written plan s disks a (Node n) =
+    node.IsStrictAt strict armed content synced written plan.topology (node_of a) (clock_start plan.starts (node_of a)) plan.version (disks.armed a) (disks.passed a) (node_past (cluster_of plan) s a) n
+IsStrictSlot strict armed content synced written plan s disks a (Store t) =
+    store.IsStrictAt strict armed content synced written plan.topology a plan.version (disks.armed a) (disks.passed a) (store_past (cluster_of plan) s a) t
+
+-- ---- by their numbers
+
+-- an actor stands there
+abbrev pub IsTaken : {D : Type 0} → Slot D → Type 0
+IsTaken Empty = ⊥
+IsTaken (Node n) = Unit {0}
+IsTaken (Store t) = Unit {0}

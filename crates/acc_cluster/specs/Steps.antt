@@ -1,0 +1,59 @@
+-- What a step of the schedule leads to: the next situation, or a limit that ends the run.
+use Rattle.std.specs.Prelude.{◌≡◌, ◌⊎◌, ℕ, Bool, List, length, Option, Contains}
+use Rattle.acc_ports.specs.Faults.{Rose}
+use Rattle.acc_ports.specs.Strict.{Ranges}
+use Rattle.acc_stamp.specs.declared.actors.Actor.{Actor}
+use Rattle.acc_message.specs.declared.item.Item.{Item}
+use Rattle.acc_message.specs.declared.error.Which.{Which}
+use Rattle.acc_message.specs.declared.error.RunError.{RunError}
+use Rattle.acc_message.specs.declared.error.RunError.TheVariants.{Limit, OutOfMemory}
+use Rattle.acc_payloads.specs.Items.{downs_in}
+use Rattle.acc_schedule.specs.Actors.{actors}
+use Rattle.acc_schedule.specs.Content.{Content}
+use Rattle.acc_schedule.specs.declared.plan.Step.{Step}
+use Rattle.acc_follow.specs.Situations.{Situation}
+use Rattle.acc_follow.specs.Moves.{Answers, IsNext}
+use Rattle.acc_follow.specs.Schedules.{cluster_of}
+use Rattle.acc_follow.specs.Laws.{AgreeBelow}
+use Rattle.acc_strict.specs.Moves.{StrictSituation, IsStrictNext}
+use Rattle.acc_limits.specs.Limits.{EndsAt}
+use Rattle.acc_limits.specs.Fronts.{ComesTo, Begins}
+use Rattle.acc_limits.specs.StrictFronts.{StrictlyComesTo}
+use Rattle.acc_cluster.specs.declared.cluster.Cluster.{Cluster}
+use Rattle.acc_cluster.specs.Stands.{StandsFor, StandsStrictly, faults_at}
+
+-- an actor goes down only where its disk failed
+abbrev pub RoseByDowns : {D : Type 0} → (D → ℕ) → Content → Cluster D → Cluster D → Situation → Situation → Type 0
+RoseByDowns faults plan old new s next =
+    (a : Actor) → Contains (actors plan.topology) a → (downs_in a next.own ≡ downs_in a s.own) ⊎ Rose (faults_at faults old a) (faults_at faults new a)
+
+-- Some answers of the disks, those given so far among them, take the situation to the next one by the step, and the cluster stands for it.
+pub record StepsTo {D : Type 0} (images : D → List ℕ → Type 0) (faults : D → ℕ) (plan : Content) (answers : Answers) (number : ℕ) (step : Step) (old new : Cluster D) (s : Situation) : Type 0 where
+  pub other : Answers
+  pub next : Situation
+  pub agree : AgreeBelow answers other (length s.own)
+  pub next_is : IsNext (cluster_of plan) other number step s next
+  pub stands : StandsFor images faults plan new next
+  pub rose : RoseByDowns faults plan old new s next
+
+-- the same over strict disks, which answer by themselves
+pub record StepsStrictly {D : Type 0} (images : D → List ℕ → Type 0) (faults : D → ℕ) (strict : D → Bool) (armed : D → Option ℕ) (content synced : D → List ℕ) (written : D → Ranges) (plan : Content) (number : ℕ) (step : Step) (new : Cluster D) (s : StrictSituation) : Type 0 where
+  pub next : StrictSituation
+  pub next_is : IsStrictNext (cluster_of plan) number step s next
+  pub stands : StandsStrictly images faults strict armed content synced written plan new next
+
+-- a limit is hit, and what holds then
+abbrev pub IfLimit : (Which → ℕ → Type 0) → RunError → Type 0
+IfLimit Holds (Limit which number) = Holds which number
+IfLimit Holds OutOfMemory = Unit {0}
+
+-- With some answers, those given so far among them, the limit ends the run inside the step.
+pub record EndsIn (plan : Content) (answers : Answers) (number : ℕ) (step : Step) (s : Situation) (which : Which) (limit : ℕ) : Type 0 where
+  pub other : Answers
+  pub items : List Item
+  pub agree : AgreeBelow answers other (length s.own)
+  pub ends : EndsAt (λ front. (reached : Situation) × ComesTo (cluster_of plan) other number step s reached × Begins front reached.own) items which limit
+
+pub record EndsStrictlyIn (plan : Content) (number : ℕ) (step : Step) (s : StrictSituation) (which : Which) (limit : ℕ) : Type 0 where
+  pub items : List Item
+  pub ends : EndsAt (λ front. (reached : StrictSituation) × StrictlyComesTo (cluster_of plan) number step s reached × Begins front reached.found.own) items which limit

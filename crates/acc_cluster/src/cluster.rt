@@ -1,0 +1,77 @@
+//! The steps of a schedule.
+ghost use Rattle.std.specs.Prelude.{◌≡◌, reverse, map, length, IfErr, OnOk};
+ghost use Rattle.std.specs.Arc.{arc_value};
+ghost use Rattle.acc_stamp.specs.declared.actors.Actor.{Actor as AnActor};
+ghost use Rattle.acc_message.specs.declared.error.Which.{Which as AWhich};
+ghost use Rattle.acc_message.specs.Run.{is_down};
+ghost use Rattle.acc_schedule.specs.Content.{Content};
+ghost use Rattle.acc_schedule.specs.Plan.{IsStep};
+ghost use Rattle.acc_follow.specs.Situations.{Situation, whole};
+ghost use Rattle.acc_follow.specs.Moves.{Answers};
+ghost use Rattle.acc_strict.specs.Moves.{StrictSituation};
+
+use crate::slot::Slot;
+use acc_history::History;
+use acc_message::{Item, RunError};
+use acc_ports::Rig;
+use acc_schedule::{Plan, Step};
+use acc_stamp::Actor;
+use std::alloc::Global;
+use std::sync::Arc;
+
+/// The actors of a plan over their disks, and the past that they made together since they were opened.
+#[derive(Debug, Drop)]
+pub struct Cluster<D: Rig> {
+    pub(crate) alloc: Global,
+    pub(crate) history: History,
+    // The actors at their numbers.
+    pub(crate) slots: Vec<Slot<D>>,
+}
+
+impl<D: Rig + Drop> Cluster<D> {
+    ghost use Rattle.acc_cluster.specs.Stands.{StandsFor, StandsStrictly};
+    ghost use Rattle.acc_cluster.specs.Steps.{StepsTo, StepsStrictly, IfLimit, EndsIn, EndsStrictlyIn};
+
+    /// Takes the step of the schedule that has this number. After an error no step may follow. Where the step enters an item, one more has
+    /// to be within the limit of items, which is asked first; then the step is passed over by its first cause, or its actor takes it over
+    /// its disk; and what that gave is entered within the limit of bytes.
+    pub fn step(&mut self, plan: &Plan, number: u32, step: &Step) -> Result<(), RunError>
+        requires standing { (s : Situation) × StandsFor D.is_image D.faults plan.now self.old s }
+        requires known { IsStep (length plan.now.names) plan.now.topology step.now }
+
+        ensures ok { OnOk result ((s : Situation) (answers : Answers) → StandsFor D.is_image D.faults plan.now self.old s
+            → StepsTo D.is_image D.faults plan.now answers number step.now self.old self.new s) }
+        ensures strict { OnOk result ((s : StrictSituation) → StandsStrictly D.is_image D.faults D.strict D.armed D.content D.synced D.written plan.now self.old s
+            → StepsStrictly D.is_image D.faults D.strict D.armed D.content D.synced D.written plan.now number step.now self.new s) }
+
+        ensures limit { IfErr result (IfLimit (λ which most. (s : Situation) (answers : Answers) → StandsFor D.is_image D.faults plan.now self.old s
+            → EndsIn plan.now answers number step.now s which most)) }
+        ensures strict_limit { IfErr result (IfLimit (λ which most. (s : StrictSituation) → StandsStrictly D.is_image D.faults D.strict D.armed D.content D.synced D.written plan.now self.old s
+            → EndsStrictlyIn plan.now number step.now s which most)) }
+    {
+        match *step {
+            Step::Begin { txn } => self.begin(plan, number, txn),
+            Step::Deliver { number: message } => self.deliver(plan, number, message),
+            Step::Drop { number: message } => self.drop_message(plan, number, message),
+            Step::Recover { txn, node } => self.recover(plan, number, txn, node),
+            Step::Slow { txn } => self.slow(plan, number, txn),
+            Step::Restart { actor, choice } => self.restart(plan, actor, choice),
+            Step::Fail { actor, calls } => self.fail(plan, actor, calls),
+            Step::Drain => self.drain(plan),
+        }
+    }
+
+    /// The items since the cluster was opened, in the order in which they were entered.
+    pub fn items(&self) -> &[Arc<Item>]
+        ensures { (plan : Content) (s : Situation) → StandsFor D.is_image D.faults plan self.now s → map arc_value result.now ≡ reverse s.own }
+    {
+        self.history.items()
+    }
+
+    /// Whether an actor is down.
+    pub fn is_down(&self, actor: Actor) -> bool
+        ensures { (plan : Content) (s : Situation) → StandsFor D.is_image D.faults plan self.now s → result ≡ is_down actor (whole s) }
+    {
+        self.history.is_down(actor)
+    }
+}

@@ -1,0 +1,31 @@
+//! Drains.
+ghost use Rattle.std.specs.Prelude.{ℕ, Bool, List, Option as Maybe, IfErr, OnOk};
+ghost use Rattle.acc_follow.specs.Situations.{Situation};
+
+use crate::cluster::Cluster;
+use crate::entering::check_place;
+use acc_message::RunError;
+use acc_ports::Rig;
+use acc_schedule::Plan;
+
+impl<D: Rig + Drop> Cluster<D> {
+    ghost use Rattle.acc_cluster.specs.Stands.{StandsFor};
+    ghost use Rattle.acc_cluster.specs.Steps.{IfLimit};
+    ghost use Rattle.acc_cluster.specs.Tried.{HasDrained, HitsLimitInDrain};
+
+    /// All messages that wait are delivered, the oldest first, and those that come meanwhile. Each delivery enters an item, so that the limit
+    /// of items ends a drain that would go on for ever.
+    pub(crate) fn drain(&mut self, plan: &Plan) -> Result<(), RunError>
+        requires standing { (s : Situation) × StandsFor D.is_image D.faults plan.now self.old s }
+        ensures ok { OnOk result ((s : Situation) → StandsFor D.is_image D.faults plan.now self.old s
+            → HasDrained D.is_image D.faults D.strict D.armed D.content D.synced D.written plan.now self.old self.new s) }
+        ensures limit { IfErr result (IfLimit (λ which most. (s : Situation) → StandsFor D.is_image D.faults plan.now self.old s
+            → HitsLimitInDrain D.strict D.armed D.content D.synced D.written plan.now self.old s which most)) }
+    {
+        while let Some(message) = self.history.oldest_waiting() {
+            check_place(&self.history)?;
+            self.take(plan, message)?;
+        }
+        Ok(())
+    }
+}

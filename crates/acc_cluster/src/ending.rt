@@ -1,0 +1,85 @@
+//! The end of a cluster.
+ghost use Rattle.std.specs.Prelude.{◌≡◌, ℕ, ◌+◌, ◌++◌, IfOk, OnOk};
+ghost use Rattle.std.specs.List.{AllByRecursion};
+ghost use Rattle.acc_schedule.specs.Content.{Content};
+ghost use Rattle.acc_follow.specs.Situations.{Situation};
+
+use crate::cluster::Cluster;
+use crate::slot::Slot;
+use acc_base::OutOfMemory;
+use acc_message::Items;
+use acc_ports::Rig;
+use acc_stamp::Actor;
+use std::alloc::Global;
+
+/// Disks with their actors.
+pub type Disks<D> = Vec<(Actor, D)>;
+
+/// What is left of a cluster.
+#[derive(Debug, Drop)]
+pub struct Ended<D: Rig> {
+    /// The items since the cluster was opened, in the order in which they were entered.
+    pub items: Items,
+    /// The disks, in rising order of the actors.
+    pub disks: Disks<D>,
+}
+
+impl<D: Rig + Drop> Cluster<D> {
+    ghost use Rattle.acc_cluster.specs.Stands.{StandsFor};
+    ghost use Rattle.acc_cluster.specs.Ends.{IsEndOf};
+
+    /// Gives the items and the disks back.
+    pub fn finish(self) -> Result<Ended<D>, OutOfMemory>
+        ensures ok { IfOk result (λ ended. (plan : Content) (s : Situation) → StandsFor D.is_image D.faults plan self s → IsEndOf D.is_image D.faults plan s ended) }
+    {
+        let Cluster {
+            alloc,
+            history,
+            slots,
+        } = self;
+        Ok(Ended {
+            items: history.into_items(),
+            disks: disks_of(alloc, slots)?,
+        })
+    }
+}
+
+ghost use Rattle.acc_cluster.specs.Ends.{disks_from, entry_of, LeavesHeld};
+
+// The disks of the slots, each with its number.
+fn disks_of<D: Rig + Drop>(alloc: Global, slots: Vec<Slot<D>>) -> Result<Disks<D>, OutOfMemory>
+    ensures disks { IfOk result (λ disks. disks.items ≡ disks_from 0 slots.items) }
+    ensures left { OnOk result (AllByRecursion (LeavesHeld D.is_image D.faults) slots.items) }
+{
+    let mut disks = Vec::new(alloc);
+    let mut number = 0;
+    for slot in slots {
+        put_disk(&mut disks, number, slot)?;
+        number = next_number(number)?;
+    }
+    Ok(disks)
+}
+
+// Slots that can't be numbered with 32 bits are more than memory holds.
+fn next_number(number: u32) -> Result<u32, OutOfMemory>
+    ensures { IfOk result (λ next. next ≡ number + 1) }
+{
+    number.checked_add(1).ok_or(OutOfMemory)
+}
+
+// Puts the disk of a slot, if an actor stands there, behind the others.
+fn put_disk<D: Rig + Drop>(
+    disks: &mut Disks<D>,
+    number: u32,
+    slot: Slot<D>,
+) -> Result<(), OutOfMemory>
+    ensures disks { OnOk result (disks.new.items ≡ disks.old.items ++ entry_of number slot) }
+    ensures left { OnOk result (LeavesHeld D.is_image D.faults slot) }
+{
+    match slot {
+        Slot::Empty => {}
+        Slot::Node(node) => disks.push((Actor(number), node.into_disk()))?,
+        Slot::Store(store) => disks.push((Actor(number), store.into_disk()))?,
+    }
+    Ok(())
+}

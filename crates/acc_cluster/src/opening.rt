@@ -1,0 +1,202 @@
+//! The beginning of a cluster.
+ghost use Rattle.std.specs.Prelude.{ℕ, ◌≡◌, ◌==◌, ◌<◌, ◌++◌, cond, length, List, [], ◌∷◌, map, IfOk, OnOk, IsTrue, slice_index_or};
+ghost use Rattle.std.specs.List.{AllByRecursion};
+ghost use Rattle.acc_topology.specs.Sets.{in_set, is_among, members};
+ghost use Rattle.acc_message.specs.declared.item.Item.{Item as AnItem};
+ghost use Rattle.acc_message.specs.Run.{clock_start};
+ghost use Rattle.acc_follow.specs.Situations.{opened};
+ghost use Rattle.acc_strict.specs.Moves.{opened_strictly};
+ghost use Rattle.acc_durable.specs.declared.node.DurableNode.{DurableNode as ANode};
+ghost use Rattle.acc_durable.specs.declared.store.DurableStore.{DurableStore as AStore};
+ghost use Rattle.acc_cluster.specs.Opened.{IsNodeOf, IsStoreOf, IsStoreNumber, AreActorsOf, IsEarlier, AreUnarmed, AreFilled, AreFilledStrictly};
+ghost use Rattle.acc_cluster.specs.declared.slot.Slot.TheVariants.{Empty};
+
+use crate::cluster::Cluster;
+use crate::slot::Slot;
+use acc_actors::{NodeActor, StoreActor};
+use acc_base::OutOfMemory;
+use acc_durable::{DurableNode, DurableStore};
+use acc_history::History;
+use acc_ports::Rig;
+use acc_schedule::Plan;
+use acc_stamp::actor;
+use acc_topology::NodeSpec;
+use acc_topology::sets::{NodeSet, contains};
+use std::alloc::Global;
+
+impl<D: Rig + Drop> Cluster<D> {
+    ghost use Rattle.acc_cluster.specs.Stands.{StandsFor, StandsStrictly};
+
+    /// The cluster of the actors of a plan, behind any run that stood before and for which these actors stand. From fresh actors that is none.
+    /// The nodes stand in rising order, and the stores in any order.
+    pub fn of(
+        alloc: Global,
+        plan: &Plan,
+        nodes: Vec<DurableNode<D>>,
+        stores: Vec<DurableStore<D>>,
+    ) -> Result<Cluster<D>, OutOfMemory>
+        requires nodes { AllByRecursion (IsNodeOf D.is_image plan.now) nodes.items }
+        requires stores { AllByRecursion (IsStoreOf D.is_image plan.now) stores.items }
+        requires actors { AreActorsOf plan.now nodes.items stores.items }
+        ensures ok { IfOk result (λ cluster. (earlier : List AnItem) → IsEarlier plan.now nodes.items stores.items earlier → earlier ≡ []
+            → StandsFor D.is_image D.faults plan.now cluster (opened earlier)) }
+        ensures strict { IfOk result (λ cluster. (earlier : List AnItem) → IsEarlier plan.now nodes.items stores.items earlier → earlier ≡ []
+            → AreUnarmed D.strict D.armed nodes.items stores.items
+            → StandsStrictly D.is_image D.faults D.strict D.armed D.content D.synced D.written plan.now cluster (opened_strictly earlier)) }
+    {
+        let history = History::new(alloc)?;
+        let placed = node_slots(alloc, plan, nodes)?;
+        let slots = with_stores(alloc, plan, placed, stores)?;
+        Ok(Cluster {
+            alloc,
+            history,
+            slots,
+        })
+    }
+}
+
+// The nodes in their slots.
+fn node_slots<D: Rig + Drop>(
+    alloc: Global,
+    plan: &Plan,
+    nodes: Vec<DurableNode<D>>,
+) -> Result<Vec<Slot<D>>, OutOfMemory>
+    requires nodes { AllByRecursion (IsNodeOf D.is_image plan.now) nodes.items }
+    requires numbers { map (λ (n : ANode D). n.number) nodes.items ≡ plan.now.topology.nodes }
+    ensures filled { IfOk result (λ slots. AreFilled D.is_image D.faults plan.now nodes.items [] slots.items) }
+    ensures strictly { IfOk result (λ slots. AreFilledStrictly D.strict D.armed D.content D.synced D.written plan.now nodes.items [] slots.items) }
+{
+    let numbers = numbers_of(alloc, plan.topology.nodes())?;
+    let mut slots = Vec::new(alloc);
+    let mut place = 0;
+    for node in nodes {
+        if place >= numbers.len() {
+            return Err(OutOfMemory);
+        }
+        put_node(alloc, plan, &mut slots, numbers[place], node)?;
+        place += 1;
+    }
+    Ok(slots)
+}
+
+// The stores in their slots, beside the nodes.
+fn with_stores<D: Rig + Drop>(
+    alloc: Global,
+    plan: &Plan,
+    slots: Vec<Slot<D>>,
+    stores: Vec<DurableStore<D>>,
+) -> Result<Vec<Slot<D>>, OutOfMemory>
+    requires stores { AllByRecursion (IsStoreOf D.is_image plan.now) stores.items }
+    requires numbers { AllByRecursion (IsStoreNumber plan.now) stores.items }
+    ensures filled { IfOk result (λ full. (nodes : List (ANode D)) → AreFilled D.is_image D.faults plan.now nodes [] slots.items
+        → AreFilled D.is_image D.faults plan.now nodes stores.items full.items) }
+    ensures strictly { IfOk result (λ full. (nodes : List (ANode D)) → AreFilledStrictly D.strict D.armed D.content D.synced D.written plan.now nodes [] slots.items
+        → AreFilledStrictly D.strict D.armed D.content D.synced D.written plan.now nodes stores.items full.items) }
+{
+    let mut full = slots;
+    for store in stores {
+        put_store(alloc, plan, &mut full, store)?;
+    }
+    Ok(full)
+}
+
+// Puts the actor of a node into its slot.
+fn put_node<D: Rig + Drop>(
+    alloc: Global,
+    plan: &Plan,
+    slots: &mut Vec<Slot<D>>,
+    number: u32,
+    node: DurableNode<D>,
+) -> Result<(), OutOfMemory>
+    requires node { IsNodeOf D.is_image plan.now node }
+    requires number { node.number ≡ number }
+    requires known { IsTrue (is_among plan.now.topology.nodes number) }
+    ensures filled { OnOk result ((nodes : List (ANode D)) (stores : List (AStore D)) → AreFilled D.is_image D.faults plan.now nodes stores slots.old.items
+        → AreFilled D.is_image D.faults plan.now (nodes ++ node ∷ []) stores slots.new.items) }
+    ensures strictly { OnOk result ((nodes : List (ANode D)) (stores : List (AStore D))
+        → AreFilledStrictly D.strict D.armed D.content D.synced D.written plan.now nodes stores slots.old.items
+        → AreFilledStrictly D.strict D.armed D.content D.synced D.written plan.now (nodes ++ node ∷ []) stores slots.new.items) }
+{
+    let start = start_of(plan.starts.as_slice(), number);
+    let place = actor(number, 0).0;
+    let opened = NodeActor::opened(alloc, number, start, plan.version, node);
+    put(slots, place, Slot::Node(opened))
+}
+
+// Puts the actor of a store into its slot.
+fn put_store<D: Rig + Drop>(
+    alloc: Global,
+    plan: &Plan,
+    slots: &mut Vec<Slot<D>>,
+    store: DurableStore<D>,
+) -> Result<(), OutOfMemory>
+    requires store { IsStoreOf D.is_image plan.now store }
+    requires number { IsStoreNumber plan.now store }
+    ensures filled { OnOk result ((nodes : List (ANode D)) (stores : List (AStore D)) → AreFilled D.is_image D.faults plan.now nodes stores slots.old.items
+        → AreFilled D.is_image D.faults plan.now nodes (stores ++ store ∷ []) slots.new.items) }
+    ensures strictly { OnOk result ((nodes : List (ANode D)) (stores : List (AStore D))
+        → AreFilledStrictly D.strict D.armed D.content D.synced D.written plan.now nodes stores slots.old.items
+        → AreFilledStrictly D.strict D.armed D.content D.synced D.written plan.now nodes (stores ++ store ∷ []) slots.new.items) }
+{
+    let own = store.store().actor();
+    let opened = StoreActor::opened(alloc, own, plan.version, store);
+    put(slots, own.0, Slot::Store(opened))
+}
+
+// Puts an actor into the slot with this number.
+fn put<D: Rig + Drop>(
+    slots: &mut Vec<Slot<D>>,
+    number: u32,
+    slot: Slot<D>,
+) -> Result<(), OutOfMemory>
+    ensures { OnOk result ((k : ℕ) → slice_index_or slots.new.items k Empty ≡ cond (k == number) slot (slice_index_or slots.old.items k Empty)) }
+{
+    let place = number as usize;
+    make_room(slots, place)?;
+    slots[place] = slot;
+    Ok(())
+}
+
+// Makes a slot with this number, in which nobody stands.
+fn make_room<D: Rig + Drop>(slots: &mut Vec<Slot<D>>, place: usize) -> Result<(), OutOfMemory>
+    ensures same { OnOk result ((k : ℕ) → slice_index_or slots.new.items k Empty ≡ slice_index_or slots.old.items k Empty) }
+    ensures room { OnOk result (place < length slots.new.items) }
+{
+    'room: while slots.len() <= place {
+        slots.push(Slot::Empty)?;
+    }
+    Ok(())
+}
+
+// The numbers of a set, rising.
+fn numbers_of(alloc: Global, set: NodeSet) -> Result<Vec<u32>, OutOfMemory>
+    ensures { IfOk result (λ numbers. numbers.items ≡ members set) }
+{
+    let mut numbers = Vec::new(alloc);
+    for number in 0..16 {
+        put_member(&mut numbers, set, number)?;
+    }
+    Ok(numbers)
+}
+
+// Puts a number behind the others if it is in the set.
+fn put_member(numbers: &mut Vec<u32>, set: NodeSet, number: u32) -> Result<(), OutOfMemory>
+    ensures { OnOk result (numbers.new.items ≡ numbers.old.items ++ cond (in_set set number) (number ∷ []) []) }
+{
+    if contains(set, number) {
+        numbers.push(number)?;
+    }
+    Ok(())
+}
+
+// Where the clock of a node starts.
+fn start_of(starts: &[NodeSpec], node: u32) -> u64
+    ensures { result ≡ clock_start starts.now node }
+{
+    for spec in starts {
+        if spec.id == node {
+            return spec.clock;
+        }
+    }
+    0
+}

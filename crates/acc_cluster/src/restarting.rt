@@ -1,0 +1,131 @@
+//! Restarts.
+ghost use Rattle.std.specs.Prelude.{◌≡◌, IfOk, IfErr, OnOk, IfSome, Contains, false, Some};
+ghost use Rattle.acc_message.specs.declared.entry.Event.{Event as AnEvent};
+ghost use Rattle.acc_message.specs.Run.{Cluster as RunCluster};
+ghost use Rattle.acc_bounds.specs.Sends.{AreSendable};
+ghost use Rattle.acc_schedule.specs.Actors.{actors};
+ghost use Rattle.acc_entering.specs.Stopped.{IsSound};
+ghost use Rattle.acc_follow.specs.Situations.{Situation};
+ghost use Rattle.acc_follow.specs.Moves.{entered};
+ghost use Rattle.acc_limits.specs.Limits.{EndsAt};
+ghost use Rattle.acc_cluster.specs.Steps.{IfLimit};
+ghost use Rattle.acc_cluster.specs.Entering.{HasPlace, IsPastOf};
+ghost use Rattle.acc_cluster.specs.Asked.{IsKeptStep};
+ghost use Rattle.acc_cluster.specs.Restarting.{EndsInRestart};
+ghost use Rattle.acc_cluster.specs.Restarting.{come_up as behind_restart};
+
+use crate::cluster::Cluster;
+use crate::entering::{check_place, enter_down, enter_entry};
+use crate::slot::Slot;
+use acc_actors::{Restarted, Unsent};
+use acc_base::OutOfMemory;
+use acc_history::History;
+use acc_message::{Emitted, Event, Messages, Notes, RunError};
+use acc_ports::Rig;
+use acc_schedule::Plan;
+use acc_stamp::Actor;
+use std::alloc::Global;
+use std::mem;
+
+// Enters a restart whose journal kept so many entries.
+fn enter_restart(
+    history: &mut History,
+    alloc: Global,
+    actor: Actor,
+    count: u32,
+) -> Result<(), RunError>
+    ensures ok { OnOk result ((cluster : RunCluster) (s : Situation) → IsPastOf history.old s → HasPlace s → IsPastOf history.new (entered cluster s actor (AnEvent.Restart count) false)) }
+    ensures limit { IfErr result (IfLimit (λ which most. (cluster : RunCluster) (s : Situation) → IsPastOf history.old s → HasPlace s
+        → EndsAt (λ front. front ≡ (entered cluster s actor (AnEvent.Restart count) false).own) s.own which most)) }
+{
+    let silence = Emitted {
+        notes: Notes::new(alloc),
+        out: Messages::new(alloc),
+    };
+    enter_entry(
+        history,
+        actor,
+        Event::Restart { kept: count },
+        silence,
+        false,
+    )
+}
+
+// Enters what was kept as lost, and the restart.
+fn enter_kept(
+    history: &mut History,
+    alloc: Global,
+    actor: Actor,
+    unsent: Unsent,
+) -> Result<(), RunError>
+    requires sendable { AreSendable unsent.emitted.out }
+    ensures ok { OnOk result ((cluster : RunCluster) (s : Situation) → IsSound cluster s → IsPastOf history.old s → HasPlace s → IsKeptStep cluster s actor (Some unsent)
+        → IsPastOf history.new (behind_restart cluster s actor (Some unsent))) }
+    ensures limit { IfErr result (IfLimit (λ which most. (cluster : RunCluster) (s : Situation) → IsSound cluster s → IsPastOf history.old s → HasPlace s → IsKeptStep cluster s actor (Some unsent)
+        → EndsInRestart cluster s actor (Some unsent) which most)) }
+{
+    let Unsent { event, emitted } = unsent;
+    enter_entry(history, actor, event, emitted, true)?;
+    check_place(history)?;
+    enter_restart(history, alloc, actor, 1)
+}
+
+// Enters what was kept, if anything, and the restart.
+fn come_up(
+    history: &mut History,
+    alloc: Global,
+    actor: Actor,
+    kept: Option<Unsent>,
+) -> Result<(), RunError>
+    requires sendable { IfSome kept (λ unsent. AreSendable unsent.emitted.out) }
+    ensures ok { OnOk result ((cluster : RunCluster) (s : Situation) → IsSound cluster s → IsPastOf history.old s → HasPlace s → IsKeptStep cluster s actor kept
+        → IsPastOf history.new (behind_restart cluster s actor kept)) }
+    ensures limit { IfErr result (IfLimit (λ which most. (cluster : RunCluster) (s : Situation) → IsSound cluster s → IsPastOf history.old s → HasPlace s → IsKeptStep cluster s actor kept
+        → EndsInRestart cluster s actor kept which most)) }
+{
+    match kept {
+        None => enter_restart(history, alloc, actor, 0),
+        Some(unsent) => enter_kept(history, alloc, actor, unsent),
+    }
+}
+
+impl<D: Rig + Drop> Cluster<D> {
+    ghost use Rattle.acc_cluster.specs.Stands.{StandsFor};
+    ghost use Rattle.acc_cluster.specs.Restarting.{HasReopened};
+    ghost use Rattle.acc_cluster.specs.Tried.{HasRestarted, HitsLimitInRestart};
+
+    /// An actor's disk crashes, in the way of the choice, and the actor opens it again. What it kept of a step that was stopped is entered as
+    /// lost, and then the restart.
+    pub(crate) fn restart(&mut self, plan: &Plan, actor: Actor, choice: u8) -> Result<(), RunError>
+        requires standing { (s : Situation) × StandsFor D.is_image D.faults plan.now self.old s }
+        requires known { Contains (actors plan.now.topology) actor }
+        ensures ok { OnOk result ((s : Situation) → StandsFor D.is_image D.faults plan.now self.old s
+            → HasRestarted D.is_image D.faults D.strict D.armed D.content D.synced D.written plan.now actor choice self.old self.new s) }
+        ensures limit { IfErr result (IfLimit (λ which most. (s : Situation) → StandsFor D.is_image D.faults plan.now self.old s
+            → HitsLimitInRestart D.strict D.armed D.content D.synced D.written plan.now actor choice self.old s which most)) }
+    {
+        check_place(&self.history)?;
+        match self.reopen(plan, actor, choice)? {
+            Restarted::Down => enter_down(&mut self.history, actor),
+            Restarted::Up { kept } => come_up(&mut self.history, self.alloc, actor, kept),
+        }
+    }
+
+    // Restarts the actor in its slot.
+    fn reopen(&mut self, plan: &Plan, actor: Actor, choice: u8) -> Result<Restarted, OutOfMemory>
+        requires standing { (s : Situation) × StandsFor D.is_image D.faults plan.now self.old s }
+        requires known { Contains (actors plan.now.topology) actor }
+        ensures history { self.new.history ≡ self.old.history }
+        ensures ok { IfOk result (λ found. (s : Situation) → StandsFor D.is_image D.faults plan.now self.old s → HasPlace s
+            → HasReopened D.is_image D.faults D.strict D.armed D.content D.synced D.written plan.now actor choice self.old.slots.items self.new.slots.items found s) }
+    {
+        let place = actor.0 as usize;
+        if place >= self.slots.len() {
+            return Err(OutOfMemory);
+        }
+        let slot = mem::replace(&mut self.slots[place], Slot::Empty);
+        let (slot, found) = slot.restart(plan, actor, choice);
+        self.slots[place] = slot;
+        found
+    }
+}
