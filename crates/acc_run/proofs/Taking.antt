@@ -1,0 +1,165 @@
+-- A cluster has taken the steps so far, and takes one more.
+use Rattle.std.proofs.Common.{◌≡◌, ℕ, suc, ◌+◌, ◌<◌, ◌≤◌, Bool, List, [], ◌∷◌, ◌++◌, length, take, drop, get_or, length-take-le, take_all, Result, Err, ◌^◌, Option, refl, sym, ◌∙◌, ap, subst, arith}
+use Rattle.std.specs.Prelude.{IfErr, IsErrAnd}
+use Rattle.std.proofs.lemmas.List.{append_assoc, take-append-drop, take_more}
+use Rattle.std.proofs.lemmas.Result.{err_from_is_err_and}
+use Rattle.acc_ports.specs.Strict.{Ranges}
+use Rattle.acc_message.specs.declared.error.Which.{Which}
+use Rattle.acc_message.specs.declared.error.RunError.{RunError}
+use Rattle.acc_message.specs.declared.error.RunError.TheVariants.{Limit, OutOfMemory}
+use Rattle.acc_message.specs.declared.item.Item.{Item}
+use Rattle.acc_message.specs.Run.{Cluster as Of}
+use Rattle.acc_schedule.specs.Content.{Content}
+use Rattle.acc_schedule.specs.declared.plan.Step.{Step}
+use Rattle.acc_follow.specs.Situations.{Situation, opened}
+use Rattle.acc_follow.specs.Moves.{Answers, IsNext}
+use Rattle.acc_follow.specs.Schedules.{cluster_of, Follows}
+use Rattle.acc_follow.specs.Laws.{AgreeBelow}
+use Rattle.acc_strict.specs.Moves.{StrictSituation, opened_strictly, IsStrictNext}
+use Rattle.acc_strict.specs.Schedules.{FollowsStrictly}
+use Rattle.acc_strict.specs.Laws.{no_faults}
+use Rattle.acc_limits.specs.Limits.{EndsAt}
+use Rattle.acc_limits.specs.Fronts.{ComesTo, Reaches, Begins, IsFront, LimitEnds}
+use Rattle.acc_limits.specs.StrictFronts.{StrictlyComesTo, StrictlyReaches, IsStrictFront, StrictLimitEnds}
+use Rattle.acc_cluster.specs.declared.cluster.Cluster.{Cluster}
+use Rattle.acc_cluster.specs.Stands.{StandsFor, StandsStrictly}
+use Rattle.acc_cluster.specs.Steps.{StepsTo, StepsStrictly, IfLimit, EndsIn, EndsStrictlyIn}
+use Rattle.acc_run.specs.Taken.{HasTaken, HasTakenStrictly}
+
+-- the laws of runs and fronts that are made step by step
+pub record GoOn : Type 0 where
+  pub answers : (cluster : Of) (answers other : Answers) (number : ℕ) (steps : List Step) (s last : Situation) → AgreeBelow answers other (length last.own)
+      → Follows cluster answers number steps s last → Follows cluster other number steps s last
+  pub step : (cluster : Of) (answers : Answers) (number : ℕ) (steps : List Step) (step : Step) (s between last : Situation) → Follows cluster answers number steps s between
+      → IsNext cluster answers (number + length steps) step between last → Follows cluster answers number (steps ++ step ∷ []) s last
+  pub front : (cluster : Of) (answers : Answers) (number : ℕ) (steps more : List Step) (step : Step) (s between reached : Situation) → Follows cluster answers number steps s between
+      → ComesTo cluster answers (number + length steps) step between reached → Reaches cluster answers number (steps ++ step ∷ more) s reached
+
+pub record GoOnStrictly : Type 0 where
+  pub step : (cluster : Of) (number : ℕ) (steps : List Step) (step : Step) (s between last : StrictSituation) → FollowsStrictly cluster number steps s between
+      → IsStrictNext cluster (number + length steps) step between last → FollowsStrictly cluster number (steps ++ step ∷ []) s last
+  pub front : (cluster : Of) (number : ℕ) (steps more : List Step) (step : Step) (s between reached : StrictSituation) → FollowsStrictly cluster number steps s between
+      → StrictlyComesTo cluster (number + length steps) step between reached → StrictlyReaches cluster number (steps ++ step ∷ more) s reached
+
+module _ {D : Type 0} (images : D → List ℕ → Type 0) (faults : D → ℕ) (plan : Content) where
+  pub none_taken : (cluster : Cluster D) → StandsFor images faults plan cluster (opened []) → HasTaken images faults plan cluster []
+  none_taken cluster stands = record { answers = no_faults; last = opened []; follows = refl; stands = stands }
+
+  module _ (law : GoOn) (steps : List Step) (step : Step) (number : ℕ) (numbered : number ≡ 0 + length steps) where
+    pub one_more : (old new : Cluster D) → HasTaken images faults plan old steps
+        → ((s : Situation) (answers : Answers) → StandsFor images faults plan old s → StepsTo images faults plan answers number step old new s)
+        → HasTaken images faults plan new (steps ++ step ∷ [])
+    one_more old new taken steps_to =
+        let n = steps_to taken.last taken.answers taken.stands in
+        record {
+          answers = n.other;
+          last = n.next;
+          follows =
+              law.step (cluster_of plan) n.other 0 steps step (opened []) taken.last n.next
+              (law.answers (cluster_of plan) taken.answers n.other 0 steps (opened []) taken.last n.agree taken.follows)
+              (subst (λ k. IsNext (cluster_of plan) n.other k step taken.last n.next) numbered n.next_is);
+          stands = n.stands;
+        }
+
+    -- a limit inside the step ends the plan's run
+    pub limit_ends : (more : List Step) → plan.steps ≡ steps ++ step ∷ more → (cluster : Cluster D) → HasTaken images faults plan cluster steps → (which : Which) (most : ℕ)
+        → ((s : Situation) (answers : Answers) → StandsFor images faults plan cluster s → EndsIn plan answers number step s which most)
+        → (answers : Answers) × (front : List Item) × LimitEnds plan answers front which most
+    limit_ends more whole cluster taken which most ends_in =
+        let e = ends_in taken.last taken.answers taken.stands in
+        let f = e.ends.front in (
+          e.other,
+          e.items,
+          record {
+            next = e.ends.next;
+            front =
+                record {
+                  reached = f.0;
+                  reaches =
+                      subst (λ all. Reaches (cluster_of plan) e.other 0 all (opened []) f.0) (sym whole)
+                      (law.front (cluster_of plan) e.other 0 steps more step (opened []) taken.last f.0
+                      (law.answers (cluster_of plan) taken.answers e.other 0 steps (opened []) taken.last e.agree taken.follows)
+                      (subst (λ k. ComesTo (cluster_of plan) e.other k step taken.last f.0) numbered f.1));
+                  begins = f.2;
+                };
+            within = e.ends.within;
+            passed = e.ends.passed;
+          },
+        )
+
+    pub if_limit_ends : (more : List Step) → plan.steps ≡ steps ++ step ∷ more → (cluster : Cluster D) → HasTaken images faults plan cluster steps → (error : RunError)
+        → IfLimit (λ which most. (s : Situation) (answers : Answers) → StandsFor images faults plan cluster s → EndsIn plan answers number step s which most) error
+        → IfLimit (λ which most. (answers : Answers) × (front : List Item) × LimitEnds plan answers front which most) error
+    if_limit_ends more whole cluster taken (Limit which most) ends_in = limit_ends more whole cluster taken which most ends_in
+    if_limit_ends more whole cluster taken OutOfMemory ends_in = tt
+
+  module _ (strict : D → Bool) (armed : D → Option ℕ) (content synced : D → List ℕ) (written : D → Ranges) where
+    pub none_taken_strictly : (cluster : Cluster D) → StandsStrictly images faults strict armed content synced written plan cluster (opened_strictly [])
+        → HasTakenStrictly images faults strict armed content synced written plan cluster []
+    none_taken_strictly cluster stands = record { last = opened_strictly []; follows = refl; stands = stands }
+
+    module _ (law : GoOnStrictly) (steps : List Step) (step : Step) (number : ℕ) (numbered : number ≡ 0 + length steps) where
+      pub one_more_strictly : (old new : Cluster D) → HasTakenStrictly images faults strict armed content synced written plan old steps
+          → ((s : StrictSituation) → StandsStrictly images faults strict armed content synced written plan old s → StepsStrictly images faults strict armed content synced written plan number step new s)
+          → HasTakenStrictly images faults strict armed content synced written plan new (steps ++ step ∷ [])
+      one_more_strictly old new taken steps_to =
+          let n = steps_to taken.last taken.stands in
+          record {
+            last = n.next;
+            follows =
+                law.step (cluster_of plan) 0 steps step (opened_strictly []) taken.last n.next taken.follows
+                (subst (λ k. IsStrictNext (cluster_of plan) k step taken.last n.next) numbered n.next_is);
+            stands = n.stands;
+          }
+
+      pub if_limit_ends_strictly : (more : List Step) → plan.steps ≡ steps ++ step ∷ more → (cluster : Cluster D) → HasTakenStrictly images faults strict armed content synced written plan cluster steps
+          → (error : RunError)
+          → IfLimit (λ which most. (s : StrictSituation) → StandsStrictly images faults strict armed content synced written plan cluster s → EndsStrictlyIn plan number step s which most) error
+          → IfLimit (λ which most. (front : List Item) × StrictLimitEnds plan front which most) error
+      if_limit_ends_strictly more whole cluster taken OutOfMemory ends_in = tt
+      if_limit_ends_strictly more whole cluster taken (Limit which most) ends_in =
+          let e = ends_in taken.last taken.stands in
+          let f = e.ends.front in (
+            e.items,
+            record {
+              next = e.ends.next;
+              front =
+                  record {
+                    reached = f.0;
+                    reaches =
+                        subst (λ all. StrictlyReaches (cluster_of plan) 0 all (opened_strictly []) f.0) (sym whole)
+                        (law.front (cluster_of plan) 0 steps more step (opened_strictly []) taken.last f.0 taken.follows
+                        (subst (λ k. StrictlyComesTo (cluster_of plan) k step taken.last f.0) numbered f.1));
+                    begins = f.2;
+                  };
+              within = e.ends.within;
+              passed = e.ends.passed;
+            },
+          )
+
+-- ---- the steps
+
+pub at_most : (xs ys : List Step) (most : ℕ) → xs ≡ ys → length ys ≤ most → length xs ≤ most
+at_most xs ys most same le = subst (λ (l : List Step). length l ≤ most) (sym same) le
+
+pub place_is : (xs : List Step) (i number : ℕ) → number ≡ i → i < length xs → number ≡ 0 + length (take i xs)
+place_is xs i number same lt = same ∙ sym (plus (length (take i xs)) i (length-take-le i xs (less i (length xs) lt)))
+  where
+    less : (n m : ℕ) → n < m → n ≤ m
+    less n m lt = omega (arith, lt)
+
+    plus : (n m : ℕ) → n ≡ m → 0 + n ≡ m
+    plus n m e = omega (arith, e)
+
+pub split_at : (xs : List Step) (i : ℕ) (d : Step) → i < length xs → xs ≡ take i xs ++ get_or xs i d ∷ drop (i + 1) xs
+split_at xs i d lt =
+    sym (take-append-drop (i + 1) xs) ∙ ap (λ front. front ++ drop (i + 1) xs) (take_more xs i d lt) ∙ append_assoc (take i xs) (get_or xs i d ∷ []) (drop (i + 1) xs)
+
+pub all_taken : (xs ys : List Step) (i : ℕ) → xs ≡ ys → length xs ≤ i → take i xs ≡ ys
+all_taken xs ys i same le = take_all i xs le ∙ same
+
+-- an error that is handed on
+pub handed_on : {X : Type 0} (P : RunError → Type 0) (result : Result X RunError) (error : RunError) → IsErrAnd result (λ e. e ≡ error) → P error → IfErr result P
+handed_on P result error is p =
+    let e = err_from_is_err_and result is in
+    subst (λ r. IfErr r P) (sym (e.1 ∙ ap Err e.2)) p

@@ -1,0 +1,37 @@
+use Rattle.std.proofs.Common.{◌≡◌, ℕ, List, ◌++◌, map, ◌∙◌, ap}
+use Rattle.acc_message.specs.declared.error.Which.{Which}
+use Rattle.acc_message.specs.declared.error.RunError.{RunError as Why}
+use Rattle.acc_message.specs.declared.item.Item.{Item}
+use Rattle.acc_follow.specs.Moves.{Answers}
+use Rattle.acc_follow.specs.Schedules.{Obeys}
+use Rattle.acc_strict.specs.Schedules.{ObeysStrictly}
+use Rattle.acc_limits.specs.Limits.{IsWithin}
+use Rattle.acc_limits.specs.Fronts.{LimitEnds}
+use Rattle.acc_limits.specs.StrictFronts.{StrictLimitEnds}
+use Rattle.acc_run.specs.Given.{GivesBack, numbered}
+use Rattle.acc_run.proofs.Whole.{obeys, obeys_strictly, gives, limit_told}
+use Rattle.acc_run.proofs.run.run_plan.Goals as goal
+
+pub returns-clause-obeys : goal.returns-clause-obeys
+returns-clause-obeys g c =
+    obeys g.M.D.Disk.is_image g.M.D.Disk.faults c.args.plan.now c.take_all.new.cluster c.in_ok-ended.ended c.in_ok-take_all.ensures.ok c.in_ok-ended.ensures.ok
+
+pub returns-clause-strict : goal.returns-clause-strict
+returns-clause-strict g c = λ strict.
+    obeys_strictly g.M.D.Disk.is_image g.M.D.Disk.faults c.args.plan.now g.M.D.Disk.strict g.M.D.Disk.armed g.M.D.Disk.content g.M.D.Disk.synced g.M.D.Disk.written c.take_all.new.cluster c.in_ok-ended.ended
+    (c.in_ok-take_all.ensures.strict (c.in_ok-cluster.ensures.strict strict)) c.in_ok-ended.ensures.ok
+
+pub returns-clause-given : goal.returns-clause-given
+returns-clause-given g c =
+    gives g.M.D.Disk.is_image g.M.D.Disk.faults c.args.plan.now c.take_all.new.cluster c.in_ok-ended.ended
+    (g.M.DiskMaker.given c.args.disks.now) (g.M.DiskMaker.given c.give_back.new.disks) c.in_ok-take_all.ensures.ok c.in_ok-ended.ensures.ok
+    (c.in_ok-give_back.ensures.given ∙ ap (λ before. before ++ map numbered c.in_ok-ended.ended.disks.items) c.opened.ensures.given)
+
+pub returns-in_err-take_all-clause-limit : goal.returns-in_err-take_all-clause-limit
+returns-in_err-take_all-clause-limit g c =
+    limit_told _ c.in_err-take_all.field-0.0 c.from_residual-in_err-take_all.result c.from_residual-in_err-take_all.ensures.1 c.in_err-take_all.ensures.limit
+
+pub returns-in_err-take_all-clause-strict_limit : goal.returns-in_err-take_all-clause-strict_limit
+returns-in_err-take_all-clause-strict_limit g c = λ strict.
+    limit_told _ c.in_err-take_all.field-0.0 c.from_residual-in_err-take_all.result c.from_residual-in_err-take_all.ensures.1
+    (c.in_err-take_all.ensures.strict_limit (c.in_ok-cluster.ensures.strict strict))

@@ -1,0 +1,29 @@
+-- Actors that have done nothing, over new disks.
+use Rattle.std.specs.Prelude.{◌≡◌, ℕ, false, List, [], map}
+use Rattle.std.specs.List.{AllByRecursion}
+use Rattle.acc_message.specs.Run.{is_node}
+use Rattle.acc_schedule.specs.Actors.{stores_from}
+use Rattle.acc_schedule.specs.Content.{Content}
+use Rattle.acc_durable.specs.declared.node.DurableNode.{DurableNode}
+use Rattle.acc_durable.specs.declared.store.DurableStore.{DurableStore}
+use Rattle.acc_durable.specs.Store as store
+use Rattle.acc_cluster.specs.Opened.{IsNodeOf, IsStoreOf, HasDone, HasTaken}
+
+pub record IsFreshNode {D : Type 0} (images : D → List ℕ → Type 0) (plan : Content) (n : DurableNode D) : Type 0 where
+  pub of_plan : IsNodeOf images plan n
+  pub did_nothing : HasDone plan [] n
+
+pub record IsFreshStore {D : Type 0} (images : D → List ℕ → Type 0) (plan : Content) (t : DurableStore D) : Type 0 where
+  pub of_plan : IsStoreOf images plan t
+  pub took_nothing : HasTaken plan [] t
+  pub kind : is_node (store.actor_in t) ≡ false
+
+-- a node for each node of the plan, in rising order
+pub record AreFreshNodes {D : Type 0} (images : D → List ℕ → Type 0) (plan : Content) (nodes : List (DurableNode D)) : Type 0 where
+  pub numbers : map (λ (n : DurableNode D). n.number) nodes ≡ plan.topology.nodes
+  pub each : AllByRecursion (IsFreshNode images plan) nodes
+
+-- a store for each replica of each shard, in the order of the shards
+pub record AreFreshStores {D : Type 0} (images : D → List ℕ → Type 0) (plan : Content) (stores : List (DurableStore D)) : Type 0 where
+  pub actors_are : map store.actor_in stores ≡ stores_from 1 plan.topology.shards
+  pub each : AllByRecursion (IsFreshStore images plan) stores

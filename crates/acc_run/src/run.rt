@@ -1,0 +1,49 @@
+//! The run of a plan.
+ghost use Rattle.std.specs.Prelude.{◌≡◌, ℕ, IsTrue, List, reverse, IfOk, IfErr};
+ghost use Rattle.acc_message.specs.declared.error.Which.{Which};
+ghost use Rattle.acc_message.specs.declared.error.RunError.{RunError as Why};
+ghost use Rattle.acc_message.specs.declared.item.Item.{Item};
+ghost use Rattle.acc_schedule.specs.Plan.{IsPlan};
+ghost use Rattle.acc_follow.specs.Moves.{Answers};
+ghost use Rattle.acc_follow.specs.Schedules.{Obeys};
+ghost use Rattle.acc_strict.specs.Schedules.{ObeysStrictly};
+ghost use Rattle.acc_limits.specs.Limits.{IsWithin};
+ghost use Rattle.acc_limits.specs.Fronts.{LimitEnds};
+ghost use Rattle.acc_limits.specs.StrictFronts.{StrictLimitEnds};
+ghost use Rattle.acc_run.specs.Given.{GivesBack};
+
+use crate::ending::give_back;
+use crate::opening::opened;
+use crate::steps::take_all;
+use acc_message::{Items, RunError};
+use acc_ports::DiskMaker;
+use acc_schedule::Plan;
+use std::alloc::Global;
+
+/// Takes all steps of a plan over new disks, from actors that have done nothing, and gives the disks back at the end, in rising order of
+/// the actors' numbers. A run past a limit, or without memory, has no items, and its disks may be gone.
+pub fn run_plan<M: DiskMaker>(alloc: Global, plan: &Plan, disks: &mut M) -> Result<Items, RunError>
+where
+    M::D: Drop,
+    requires is_plan { IsPlan plan.now }
+
+    // Whatever the disks answered, the items are those of the schedule with these answers, and within the limits.
+    ensures obeys { IfOk result (λ items. (answers : Answers) × Obeys plan.now answers (reverse items)) }
+    ensures within { IfOk result (λ items. IsWithin (reverse items)) }
+    ensures limit { IfErr result (λ e. (which : Which) (number : ℕ) → e ≡ Why.Limit which number →
+        (answers : Answers) × (front : List Item) × LimitEnds plan.now answers front which number) }
+
+    // Over strict disks the plan alone fixes them, and where a limit ends them.
+    ensures strict { IsTrue (M.strict disks.old) → IfOk result (λ items. ObeysStrictly plan.now (reverse items)) }
+    ensures strict_limit { IsTrue (M.strict disks.old) → IfErr result (λ e. (which : Which) (number : ℕ) → e ≡ Why.Limit which number →
+        (front : List Item) × StrictLimitEnds plan.now front which number) }
+
+    ensures given { IfOk result (λ items. GivesBack M.D.faults M.D.is_image plan.now (reverse items) (M.given disks.old) (M.given disks.new)) }
+    ensures kind { M.strict disks.new ≡ M.strict disks.old }
+{
+    let mut cluster = opened(alloc, plan, disks)?;
+    take_all(&mut cluster, plan)?;
+    let ended = cluster.finish()?;
+    give_back(disks, ended.disks)?;
+    Ok(ended.items)
+}

@@ -1,0 +1,45 @@
+//! The steps of a plan.
+ghost use Rattle.std.specs.Prelude.{ℕ, List, [], IfErr, OnOk};
+ghost use Rattle.acc_message.specs.declared.item.Item.{Item};
+ghost use Rattle.acc_schedule.specs.Plan.{IsPlan};
+ghost use Rattle.acc_follow.specs.Situations.{opened as opened_behind};
+ghost use Rattle.acc_follow.specs.Moves.{Answers};
+ghost use Rattle.acc_strict.specs.Moves.{opened_strictly};
+ghost use Rattle.acc_limits.specs.Fronts.{LimitEnds};
+ghost use Rattle.acc_limits.specs.StrictFronts.{StrictLimitEnds};
+ghost use Rattle.acc_cluster.specs.Stands.{StandsFor, StandsStrictly};
+ghost use Rattle.acc_cluster.specs.Steps.{IfLimit};
+ghost use Rattle.acc_run.specs.Taken.{HasTaken, HasTakenStrictly};
+
+use acc_cluster::Cluster;
+use acc_follow::laws::runs_are_made_step_by_step;
+use acc_limits::laws::{a_limit_or_the_whole_over_strict_disks, fronts_are_made_step_by_step};
+use acc_message::RunError;
+use acc_ports::Rig;
+use acc_schedule::Plan;
+use acc_strict::laws::strict_runs_are_made_step_by_step;
+
+/// Takes all steps of a plan, numbered from 0.
+pub(crate) fn take_all<D: Rig + Drop>(cluster: &mut Cluster<D>, plan: &Plan) -> Result<(), RunError>
+    requires is_plan { IsPlan plan.now }
+    requires stands { StandsFor D.is_image D.faults plan.now cluster.old (opened_behind []) }
+
+    ensures ok { OnOk result (HasTaken D.is_image D.faults plan.now cluster.new plan.now.steps) }
+    ensures limit { IfErr result (IfLimit (λ which most. (answers : Answers) × (front : List Item) × LimitEnds plan.now answers front which most)) }
+
+    ensures strict { StandsStrictly D.is_image D.faults D.strict D.armed D.content D.synced D.written plan.now cluster.old (opened_strictly [])
+        → OnOk result (HasTakenStrictly D.is_image D.faults D.strict D.armed D.content D.synced D.written plan.now cluster.new plan.now.steps) }
+    ensures strict_limit { StandsStrictly D.is_image D.faults D.strict D.armed D.content D.synced D.written plan.now cluster.old (opened_strictly [])
+        → IfErr result (IfLimit (λ which most. (front : List Item) × StrictLimitEnds plan.now front which most)) }
+{
+    runs_are_made_step_by_step();
+    strict_runs_are_made_step_by_step();
+    fronts_are_made_step_by_step();
+    a_limit_or_the_whole_over_strict_disks();
+    let mut number: u32 = 0;
+    for step in plan.steps.as_slice() {
+        cluster.step(plan, number, step)?;
+        number += 1;
+    }
+    Ok(())
+}
