@@ -1,1 +1,4 @@
 pub mod Values
+pub mod Held
+pub mod Stands
+pub mod Steps

@@ -1,0 +1,12 @@
+pub mod Kept
+pub mod Acting
+pub mod SlowSteps
+pub mod Acted
+pub mod Homes
+pub mod Noted
+pub mod Rebuilt
+pub mod Known
+pub mod Entered
+pub mod Fast
+pub mod Asks
+pub mod Told
