@@ -6,7 +6,7 @@ use Rattle.acc_ports.specs.Source.{without_first, none_left, TakesAtMost}
 use Rattle.acc_command.specs.declared.status.Status.{Status}
 use Rattle.acc_command.specs.declared.status.Status.TheVariants.{Done, No, Usage, ReadFault, WriteFault, BadInput, Limit, OutOfMemory}
 use Rattle.acc_command.specs.declared.words.Command.{Command}
-use Rattle.acc_command.specs.Command.{Ends, Says, IsDue, Leaves, document_limit}
+use Rattle.acc_command.specs.Command.{Ends, Says, IsDue, Leaves, Over, document_limit}
 
 -- a source with no more bytes than these is read whole
 takes_all : (n : ℕ) (left : Option (List ℕ)) (bytes : List ℕ) → length bytes ≤ n → IfSome left (λ l. bytes ≡ l)
@@ -20,20 +20,20 @@ module _ (bytes : List ℕ) (left now old new : Option (List ℕ)) (short : leng
   taken = (document_limit + 1, omega arith, end ∙ takes_all (document_limit + 1) left bytes (omega (arith, short)) all)
 
   -- a document that was read whole
-  pub leaves_none : (command : Command) (result : Status) → Ends (IsDue command bytes) result old new → Leaves result left now
-  leaves_none command Done ends = end
-  leaves_none command No ends = ends.1
-  leaves_none command Usage ends = ends.1
-  leaves_none command ReadFault ends = taken
-  leaves_none command WriteFault ends = inl end
-  leaves_none command BadInput ends = end
-  leaves_none command Limit ends = absurd (omega (arith, short, ends.1.0))
-  leaves_none command OutOfMemory ends = taken
+  pub leaves_none : (over : Over) (command : Command) (result : Status) → Ends (IsDue over command bytes) result old new → Leaves result left now
+  leaves_none over command Done ends = end
+  leaves_none over command No ends = ends.1
+  leaves_none over command Usage ends = ends.1
+  leaves_none over command ReadFault ends = taken
+  leaves_none over command WriteFault ends = inl end
+  leaves_none over command BadInput ends = end
+  leaves_none over command Limit ends = inl end
+  leaves_none over command OutOfMemory ends = taken
 
 -- a document that is too long
 pub leaves_rest : (text : List ℕ) (result : Status) (left now old new : Option (List ℕ))
     → now ≡ without_first (document_limit + 1) left → TakesAtMost (document_limit + 1) left now
     → Says Limit text result old new → Leaves result left now
-leaves_rest text result left now old new one_more at_most (inl said) = subst (λ r. Leaves r left now) (sym said.0) one_more
+leaves_rest text result left now old new one_more at_most (inl said) = subst (λ r. Leaves r left now) (sym said.0) (inr one_more)
 leaves_rest text result left now old new one_more at_most (inr (inl failed, part)) = subst (λ r. Leaves r left now) (sym failed) (inr one_more)
 leaves_rest text result left now old new one_more at_most (inr (inr no_memory, part)) = subst (λ r. Leaves r left now) (sym no_memory) at_most

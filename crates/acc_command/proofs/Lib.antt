@@ -1,3 +1,6 @@
 pub mod EndsFacts
 pub mod CommandFacts
 pub mod LeavesFacts
+pub mod DueFacts
+pub mod StrictReports
+pub mod CalmReports

@@ -1,19 +1,28 @@
 -- What a command writes and how it ends, from its words and the bytes of its document.
-use Rattle.std.specs.Prelude.{◌≡◌, ◌⊎◌, ℕ, ◌+◌, ◌<◌, ◌≤◌, List, length, reverse, Option, IfSome}
+use Rattle.std.specs.Prelude.{◌≡◌, ◌⊎◌, ℕ, ◌+◌, ◌<◌, ◌≤◌, Bool, IsTrue, List, [], length, Option, IfSome}
 use Rattle.acc_ports.specs.Sink.{followed_by, WritesPart}
 use Rattle.acc_ports.specs.Source.{without_first, none_left, TakesAtMost}
-use Rattle.acc_plan.specs.declared.plan.Plan.{Plan}
+use Rattle.acc_message.specs.declared.error.Which.{Which}
+use Rattle.acc_message.specs.declared.item.Item.{Item}
+use Rattle.acc_message.specs.Run.{IsRun}
+use Rattle.acc_safety.specs.Agreement.{Agreement}
+use Rattle.acc_safety.specs.Coverage.{Coverage}
+use Rattle.acc_safety.specs.SerialOutcomes.{SerialOutcomes}
 use Rattle.acc_schedule.specs.declared.error.PlanKind.{PlanKind}
 use Rattle.acc_schedule.specs.declared.error.PlanError.{PlanError}
 use Rattle.acc_schedule.specs.declared.error.PlanError.TheVariants.{Bad}
-use Rattle.acc_schedule.specs.Content.{Content as Whole}
-use Rattle.acc_schedule.specs.Document.{IsCause as IsNoDocument, Means as IsDocument}
-use Rattle.acc_form.specs.Document.{IsCause as IsNotRun, Means}
-use Rattle.acc_first.specs.declared.items.Item.{Item}
-use Rattle.acc_first.specs.Headline.{IsSafeRun}
-use Rattle.acc_first.specs.ReportText.{report_text}
+use Rattle.acc_schedule.specs.Content.{Content}
+use Rattle.acc_schedule.specs.Document.{IsCause, Means}
+use Rattle.acc_follow.specs.Moves.{Answers}
+use Rattle.acc_follow.specs.Schedules.{cluster_of, Obeys}
+use Rattle.acc_strict.specs.Schedules.{ObeysStrictly}
+use Rattle.acc_limits.specs.Limits.{IsWithin}
+use Rattle.acc_limits.specs.Fronts.{LimitEnds}
+use Rattle.acc_limits.specs.StrictFronts.{StrictLimitEnds}
+use Rattle.acc_report.specs.Report.{report_text}
+use Rattle.acc_run.specs.Given.{GivesBack}
 use Rattle.acc_generator.specs.Document.{document_text}
-use Rattle.acc_command.specs.Lines.{line, limit_text, ok_text, refusal_text, usage_text}
+use Rattle.acc_command.specs.Lines.{line, document_limit_text, run_limit_text, ok_text, refusal_text, usage_text}
 use Rattle.acc_command.specs.declared.words.Command.{Command}
 use Rattle.acc_command.specs.declared.words.Command.TheVariants.{Run, Check}
 use Rattle.acc_command.specs.declared.status.Status.{Status}
@@ -33,56 +42,116 @@ code_of OutOfMemory = 7
 abbrev pub document_limit : ℕ
 document_limit = 16777216
 
--- the report of a plan: of items, oldest first, that are a run, obey its schedule, and are safe
-pub record Reports (plan : Plan) (text : List ℕ) : Type 0 where
-  pub items : List Item
-  pub safe : IsSafeRun plan (reverse items)
-  pub prints : text ≡ report_text plan.names items
+-- ---- what a run is over
 
--- the report of the plan that is run of a document of the first form
-pub record IsReport (bytes text : List ℕ) : Type 0 where
-  pub plan : Plan
-  pub means : Means bytes plan
-  pub reports : Reports plan text
+-- What else is known of the items of a run, which stand with the newest first, and of those behind which a limit ends one.
+pub record Over : Type 1 where
+  pub Items : Content → List Item → Type 0
+  pub Limits : Content → List Item → Which → ℕ → Type 0
+
+-- a run over these disks: they came back, each keeping its actor in the items, and strict ones fix the items
+abbrev pub OverDisks : {D : Type 0} → (D → ℕ) → (D → List ℕ → Type 0) → Bool → List (ℕ × D) → List (ℕ × D) → Over
+OverDisks faults images strict before after =
+    record {
+      Items =
+          λ plan items. GivesBack faults images plan items before after × (IsTrue strict → ObeysStrictly plan items);
+      Limits = λ plan items which number. IsTrue strict → StrictLimitEnds plan items which number;
+    }
+
+-- where nothing is run
+abbrev pub no_run : Over
+no_run = record { Items = λ plan items. ⊥; Limits = λ plan items which number. ⊥ }
+
+-- ---- the text that is due
+
+-- The report of a plan: of items that are a run of its cluster and obey its schedule, whatever its disks answered, that are within the
+-- limits, and in which agreement, coverage and serial outcomes hold.
+pub record Reports (over : Over) (plan : Content) (text : List ℕ) : Type 0 where
+  pub items : List Item
+  pub answers : Answers
+  pub obeys : Obeys plan answers items
+  pub run : IsRun (cluster_of plan) items
+  pub agreement : Agreement items
+  pub coverage : Coverage (cluster_of plan) items
+  pub serial : SerialOutcomes (cluster_of plan) items
+  pub within : IsWithin items
+  pub also : over.Items plan items
+  pub prints : text ≡ report_text plan.print plan.names [] items
+
+-- the report of the plan that a document says
+pub record IsReport (over : Over) (bytes text : List ℕ) : Type 0 where
+  pub plan : Content
+  pub says : Means bytes plan
+  pub reports : Reports over plan text
+
+-- the line of the limit that ends the run of a plan
+pub record TellsLimit (over : Over) (plan : Content) (text : List ℕ) : Type 0 where
+  pub answers : Answers
+  pub items : List Item
+  pub which : Which
+  pub number : ℕ
+  pub ends : LimitEnds plan answers items which number
+  pub also : over.Limits plan items which number
+  pub prints : text ≡ line (run_limit_text which number)
+
+-- the same of the plan that a document says
+pub record IsLimited (over : Over) (bytes text : List ℕ) : Type 0 where
+  pub plan : Content
+  pub says : Means bytes plan
+  pub tells : TellsLimit over plan text
+
+-- how the run of a plan ends
+abbrev pub PlanEnds : Over → Content → Status → List ℕ → Type 0
+PlanEnds over plan Done text = Reports over plan text
+PlanEnds over plan Limit text = TellsLimit over plan text
+PlanEnds over plan No text = ⊥
+PlanEnds over plan Usage text = ⊥
+PlanEnds over plan ReadFault text = ⊥
+PlanEnds over plan WriteFault text = ⊥
+PlanEnds over plan BadInput text = ⊥
+PlanEnds over plan OutOfMemory text = ⊥
 
 -- the line of the plan that a document says
 pub record IsOk (bytes text : List ℕ) : Type 0 where
-  pub plan : Whole
-  pub says : IsDocument bytes plan
+  pub plan : Content
+  pub says : Means bytes plan
   pub prints : text ≡ line (ok_text plan)
 
--- the line of a refusal with this cause
-pub record IsRefusal (IsCauseOf : PlanError → Type 0) (text : List ℕ) : Type 0 where
+-- the line of the refusal of a document, with its cause
+pub record IsRefusal (bytes text : List ℕ) : Type 0 where
   pub kind : PlanKind
   pub path : List ℕ
   pub detail : ℕ
   pub at : ℕ
-  pub cause : IsCauseOf (Bad kind path detail at)
+  pub cause : IsCause bytes (Bad kind path detail at)
   pub prints : text ≡ line (refusal_text kind path detail at)
 
--- the text of a command on a document that it accepts, why it refuses one, and which it accepts
-abbrev pub IsText : Command → List ℕ → List ℕ → Type 0
-IsText Run bytes text = IsReport bytes text
-IsText Check bytes text = IsOk bytes text
+-- a document that is too long
+abbrev pub IsTooLong : List ℕ → List ℕ → Type 0
+IsTooLong bytes text = (document_limit < length bytes) × (text ≡ line document_limit_text)
 
-abbrev pub IsCause : Command → List ℕ → PlanError → Type 0
-IsCause Run bytes error = IsNotRun bytes error
-IsCause Check bytes error = IsNoDocument bytes error
+-- the text of a command on a document that it accepts, and the limits that a command meets besides that of the document
+abbrev pub IsText : Over → Command → List ℕ → List ℕ → Type 0
+IsText over Run bytes text = IsReport over bytes text
+IsText over Check bytes text = IsOk bytes text
 
-abbrev pub IsAccepted : Command → List ℕ → Type 0
-IsAccepted Run bytes = (plan : Plan) × Means bytes plan
-IsAccepted Check bytes = (plan : Whole) × IsDocument bytes plan
+abbrev pub IsPastLimit : Over → Command → List ℕ → List ℕ → Type 0
+IsPastLimit over Run bytes text = IsLimited over bytes text
+IsPastLimit over Check bytes text = ⊥
+
+abbrev pub IsAccepted : List ℕ → Type 0
+IsAccepted bytes = (plan : Content) × Means bytes plan
 
 -- the status and the text of a command on a document
-abbrev pub IsDue : Command → List ℕ → Status → List ℕ → Type 0
-IsDue command bytes Done text = (length bytes ≤ document_limit) × IsText command bytes text
-IsDue command bytes BadInput text = (length bytes ≤ document_limit) × IsRefusal (IsCause command bytes) text
-IsDue command bytes Limit text = (document_limit < length bytes) × (text ≡ line limit_text)
-IsDue command bytes No text = ⊥
-IsDue command bytes Usage text = ⊥
-IsDue command bytes ReadFault text = ⊥
-IsDue command bytes WriteFault text = ⊥
-IsDue command bytes OutOfMemory text = ⊥
+abbrev pub IsDue : Over → Command → List ℕ → Status → List ℕ → Type 0
+IsDue over command bytes Done text = (length bytes ≤ document_limit) × IsText over command bytes text
+IsDue over command bytes BadInput text = (length bytes ≤ document_limit) × IsRefusal bytes text
+IsDue over command bytes Limit text = IsTooLong bytes text ⊎ ((length bytes ≤ document_limit) × IsPastLimit over command bytes text)
+IsDue over command bytes No text = ⊥
+IsDue over command bytes Usage text = ⊥
+IsDue over command bytes ReadFault text = ⊥
+IsDue over command bytes WriteFault text = ⊥
+IsDue over command bytes OutOfMemory text = ⊥
 
 -- what a sink holds after a text that was due with a status: the whole text, or with a write fault or want of memory a part
 abbrev pub Writes : (Status → List ℕ → Type 0) → Status → Option (List ℕ) → Option (List ℕ) → Type 0
@@ -102,10 +171,10 @@ Ends P Limit old new = Writes P Limit old new
 Ends P OutOfMemory old new = (new ≡ old) ⊎ WritesLess P old new
 
 -- it ends as is due on a document that the source gives: on the bytes that it tells, and on some where it tells none
-pub record EndsOnGiven (command : Command) (left : Option (List ℕ)) (status : Status) (old new : Option (List ℕ)) : Type 0 where
+pub record EndsOnGiven (over : Over) (command : Command) (left : Option (List ℕ)) (status : Status) (old new : Option (List ℕ)) : Type 0 where
   pub bytes : List ℕ
   pub given : IfSome left (λ told. bytes ≡ told)
-  pub ends : Ends (IsDue command bytes) status old new
+  pub ends : Ends (IsDue over command bytes) status old new
 
 -- what is left of the source: nothing of a document that was read whole, or all behind the byte past the limit; with a fault of the
 -- source or want of memory no less than that
@@ -116,7 +185,7 @@ Leaves Usage old new = ⊥
 Leaves ReadFault old new = TakesAtMost (document_limit + 1) old new
 Leaves WriteFault old new = (new ≡ none_left old) ⊎ (new ≡ without_first (document_limit + 1) old)
 Leaves BadInput old new = new ≡ none_left old
-Leaves Limit old new = new ≡ without_first (document_limit + 1) old
+Leaves Limit old new = (new ≡ none_left old) ⊎ (new ≡ without_first (document_limit + 1) old)
 Leaves OutOfMemory old new = TakesAtMost (document_limit + 1) old new
 
 -- a text was written with its status, or the sink failed or had no memory before the end
@@ -147,13 +216,25 @@ IsGenerated seed txns BadInput text = ⊥
 IsGenerated seed txns Limit text = ⊥
 IsGenerated seed txns OutOfMemory text = ⊥
 
--- unless memory ran out
-abbrev pub IsDone : Status → Type 0
-IsDone Done = Unit {0}
-IsDone OutOfMemory = Unit {0}
-IsDone No = ⊥
-IsDone Usage = ⊥
-IsDone ReadFault = ⊥
-IsDone WriteFault = ⊥
-IsDone BadInput = ⊥
-IsDone Limit = ⊥
+-- the command did its work, unless memory ran out, or the run that it makes met a limit
+abbrev pub IsDone : Command → Status → Type 0
+IsDone command Done = Unit {0}
+IsDone command OutOfMemory = Unit {0}
+IsDone Run Limit = Unit {0}
+IsDone Check Limit = ⊥
+IsDone command No = ⊥
+IsDone command Usage = ⊥
+IsDone command ReadFault = ⊥
+IsDone command WriteFault = ⊥
+IsDone command BadInput = ⊥
+
+-- the document is made, unless memory ran out
+abbrev pub IsMade : Status → Type 0
+IsMade Done = Unit {0}
+IsMade OutOfMemory = Unit {0}
+IsMade No = ⊥
+IsMade Usage = ⊥
+IsMade ReadFault = ⊥
+IsMade WriteFault = ⊥
+IsMade BadInput = ⊥
+IsMade Limit = ⊥

@@ -1,5 +1,7 @@
 -- The lines that are written.
 use Rattle.std.specs.Prelude.{◌≡◌, ℕ, List, [], ◌∷◌, ◌++◌, length, codes, decimal}
+use Rattle.acc_message.specs.declared.error.Which.{Which}
+use Rattle.acc_message.specs.declared.error.Which.TheVariants.{Document, Items, Bytes}
 use Rattle.acc_schedule.specs.declared.error.PlanKind.{PlanKind}
 use Rattle.acc_schedule.specs.declared.error.PlanKind.TheVariants.{Json, Shape, Limit, Topology, Text, Name, Step, Unbuilt, Journal, Report}
 use Rattle.acc_schedule.specs.declared.error.PlanError.{PlanError}
@@ -13,8 +15,19 @@ line text = text ++ 10 ∷ []
 abbrev pub usage_text : List ℕ
 usage_text = codes "usage: accord run | check | free --workers W | gen --seed N --txns M"
 
-abbrev pub limit_text : List ℕ
-limit_text = codes "limit document 16777216"
+-- ---- limits
+
+abbrev pub document_limit_text : List ℕ
+document_limit_text = codes "limit document 16777216"
+
+abbrev pub quantity_text : Which → List ℕ
+quantity_text Document = codes "document"
+quantity_text Items = codes "items"
+quantity_text Bytes = codes "bytes"
+
+-- a run would pass this number of the quantity
+abbrev pub run_limit_text : Which → ℕ → List ℕ
+run_limit_text which number = codes "limit " ++ quantity_text which ++ codes " " ++ decimal number
 
 -- ---- a refused document
 

@@ -1,7 +1,7 @@
 //! The command `check`.
 ghost use Rattle.std.specs.Prelude.{◌≡◌, ◌≤◌, length, IfOk};
 ghost use Rattle.acc_command.specs.declared.words.Command.TheVariants.{Check};
-ghost use Rattle.acc_command.specs.Command.{document_limit, IsDue};
+ghost use Rattle.acc_command.specs.Command.{document_limit, no_run, IsDue};
 
 use crate::lines::{ok_line, refusal_line};
 use crate::reply::Reply;
@@ -13,7 +13,7 @@ use std::alloc::Global;
 /// Tells of a document what it has, or why it is refused.
 pub(crate) fn check(alloc: Global, bytes: &[u8]) -> Result<Reply, OutOfMemory>
     requires { length bytes.now ≤ document_limit }
-    ensures { IfOk result (λ reply. IsDue Check bytes.now reply.status reply.text) }
+    ensures { IfOk result (λ reply. IsDue no_run Check bytes.now reply.status reply.text) }
 {
     match read(alloc, bytes) {
         Ok(plan) => Ok(Reply {

@@ -5,6 +5,7 @@
 mod check;
 mod command;
 mod generate;
+pub mod laws;
 mod lines;
 mod reply;
 mod run;

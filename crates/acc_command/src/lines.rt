@@ -1,8 +1,9 @@
 //! The lines of a document that is refused, and of one that is accepted.
 ghost use Rattle.std.specs.Prelude.{◌≡◌, ◌++◌, IfOk, OnOk};
-ghost use Rattle.acc_command.specs.Lines.{detail_text, line, number_of, ok_text, refusal_text, IsRefusalOf};
+ghost use Rattle.acc_command.specs.Lines.{detail_text, line, number_of, ok_text, quantity_text, refusal_text, run_limit_text, IsRefusalOf};
 
 use acc_base::{Bytes, OutOfMemory, Text, push_number};
+use acc_message::Which;
 use acc_schedule::{Plan, PlanError, PlanKind};
 use std::alloc::Global;
 
@@ -21,6 +22,29 @@ pub(crate) fn ok_line(alloc: Global, plan: &Plan) -> Result<Bytes, OutOfMemory>
     push_number(&mut text, plan.steps.len() as u64)?;
     text.push(b'\n')?;
     Ok(Bytes::from_vec(text))
+}
+
+/// The line of a limit that a run would pass.
+pub(crate) fn limit_line(alloc: Global, which: Which, number: u64) -> Result<Bytes, OutOfMemory>
+    ensures { IfOk result (λ text. text ≡ line (run_limit_text which number)) }
+{
+    let mut text = Vec::new(alloc);
+    text.extend_from_slice(b"limit ")?;
+    text.extend_from_slice(quantity(which))?;
+    text.extend_from_slice(b" ")?;
+    push_number(&mut text, number)?;
+    text.push(b'\n')?;
+    Ok(Bytes::from_vec(text))
+}
+
+fn quantity(which: Which) -> &'static [u8]
+    ensures { result.now ≡ quantity_text which }
+{
+    match which {
+        Which::Document => b"document",
+        Which::Items => b"items",
+        Which::Bytes => b"bytes",
+    }
 }
 
 /// The line of a refusal. Want of memory has none.

@@ -1,27 +1,35 @@
 //! The command `run`.
 ghost use Rattle.std.specs.Prelude.{◌≡◌, ◌≤◌, length, IfOk};
-ghost use Rattle.acc_plan.specs.Plan.{IsPlan};
+ghost use Rattle.acc_schedule.specs.Plan.{IsPlan};
 ghost use Rattle.acc_command.specs.declared.words.Command.TheVariants.{Run};
-ghost use Rattle.acc_command.specs.Command.{document_limit, IsDue, Reports};
+ghost use Rattle.acc_command.specs.Command.{document_limit, IsDue, OverDisks, PlanEnds};
 
-use crate::lines::refusal_line;
+use crate::lines::{limit_line, refusal_line};
 use crate::reply::Reply;
 use crate::status::Status;
-use acc_base::{Bytes, OutOfMemory};
-use acc_first::text;
-use acc_plan::Plan;
+use acc_base::{OutOfMemory, Sequence};
+use acc_limits::laws::one_limit_over_strict_disks;
+use acc_message::RunError;
+use acc_plan_laws::laws::plans_run_safely;
+use acc_ports::DiskMaker;
+use acc_report::text;
+use acc_run::run_plan;
+use acc_schedule::{Plan, read};
 use std::alloc::Global;
 
-/// Runs a document of the first form.
-pub(crate) fn run(alloc: Global, bytes: &[u8]) -> Result<Reply, OutOfMemory>
+/// Runs the schedule of a document over disks of this maker, and tells what happened.
+pub(crate) fn run<M: DiskMaker>(
+    alloc: Global,
+    bytes: &[u8],
+    disks: &mut M,
+) -> Result<Reply, OutOfMemory>
+where
+    M::D: Drop,
     requires { length bytes.now ≤ document_limit }
-    ensures { IfOk result (λ reply. IsDue Run bytes.now reply.status reply.text) }
+    ensures { IfOk result (λ reply. IsDue (OverDisks M.D.faults M.D.is_image (M.strict disks.old) (M.given disks.old) (M.given disks.new)) Run bytes.now reply.status reply.text) }
 {
-    match acc_form::read(alloc, bytes) {
-        Ok(plan) => Ok(Reply {
-            status: Status::Done,
-            text: report(alloc, &plan)?,
-        }),
+    match read(alloc, bytes) {
+        Ok(plan) => report(alloc, &plan, disks),
         Err(error) => Ok(Reply {
             status: Status::BadInput,
             text: refusal_line(alloc, &error)?,
@@ -29,11 +37,24 @@ pub(crate) fn run(alloc: Global, bytes: &[u8]) -> Result<Reply, OutOfMemory>
     }
 }
 
-// The report of a plan.
-fn report(alloc: Global, plan: &Plan) -> Result<Bytes, OutOfMemory>
+// The report of a plan, or the line of the limit that ends its run.
+fn report<M: DiskMaker>(alloc: Global, plan: &Plan, disks: &mut M) -> Result<Reply, OutOfMemory>
+where
+    M::D: Drop,
     requires { IsPlan plan.now }
-    ensures { IfOk result (Reports plan.now) }
+    ensures { IfOk result (λ reply. PlanEnds (OverDisks M.D.faults M.D.is_image (M.strict disks.old) (M.given disks.old) (M.given disks.new)) plan.now reply.status reply.text) }
 {
-    let items = acc_first::run(alloc, plan)?;
-    text(alloc, &items, &plan.names)
+    plans_run_safely();
+    one_limit_over_strict_disks();
+    match run_plan(alloc, plan, disks) {
+        Ok(items) => Ok(Reply {
+            status: Status::Done,
+            text: text(&items, &Sequence::new(alloc), &plan.names, plan.print)?,
+        }),
+        Err(RunError::Limit { which, number }) => Ok(Reply {
+            status: Status::Limit,
+            text: limit_line(alloc, which, number)?,
+        }),
+        Err(RunError::OutOfMemory) => Err(OutOfMemory),
+    }
 }

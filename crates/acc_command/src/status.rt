@@ -15,7 +15,7 @@ pub enum Status {
     ReadFault = 3,
     /// The sink failed. A part of the text that was due is written, which may be none of it.
     WriteFault = 4,
-    /// The document breaks a rule, or its form isn't built yet.
+    /// The document breaks a rule.
     BadInput = 5,
     /// A limit was met.
     Limit = 6,

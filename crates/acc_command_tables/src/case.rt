@@ -16,6 +16,8 @@ pub struct Case<'l> {
     pub reads: Sequence<u64>,
     pub takes: u64,
     pub writes: Sequence<u64>,
+    pub disk: u32,
+    pub calls: Sequence<u64>,
     pub status: u64,
     pub written: &'l str,
 }
@@ -31,6 +33,8 @@ impl<'l> Case<'l> {
             reads: numbers(alloc, line, "reads")?,
             takes: number(line, "takes", PIECE),
             writes: numbers(alloc, line, "writes")?,
+            disk: u32::try_from(number(line, "disk", 0)).unwrap_or(0),
+            calls: numbers(alloc, line, "calls")?,
             status: wanted.0,
             written: wanted.1,
         })

@@ -3,7 +3,7 @@ ghost use Rattle.std.specs.Prelude.{◌<◌};
 
 use crate::case::Case;
 use acc_command::accord;
-use acc_ports::{MemSink, MemSource};
+use acc_ports::{MemMaker, MemSink, MemSource};
 use std::alloc::Global;
 
 /// Whether the command ends with the status and the text that the case wants.
@@ -12,7 +12,14 @@ pub fn is_wanted<R: AllocGlobal>(rt: &R, alloc: Global, case: Case<'_>) -> bool 
     let takes = at_least_one(case.takes);
     let mut source = MemSource::new(alloc, case.document, piece, case.reads);
     let mut sink = MemSink::new(alloc, takes, case.writes);
-    let status = accord(rt, case.words.as_slice(), &mut source, &mut sink);
+    let mut disks = MemMaker::listed(alloc, case.disk, case.calls);
+    let status = accord(
+        rt,
+        case.words.as_slice(),
+        &mut source,
+        &mut sink,
+        &mut disks,
+    );
     u64::from(status.code()) == case.status && sink.written() == case.written.as_bytes()
 }
 

@@ -5,9 +5,10 @@
 //! - `document`: the text that the source has, or a number for as many spaces;
 //! - `piece`: how many bytes a read gives at most, and `reads`: the reads that fail, counted from 0;
 //! - `takes`: how many bytes a write takes at most, and `writes`: the writes that fail, counted from 0;
+//! - `disk`: the actor whose disk fails, by its number, and `calls`: the calls of it that fail, counted from 0;
 //! - `status` and `written`: the exit code, and the text that is in the sink at the end.
 //!
-//! `piece` and `takes` are 4096 where they are left out, and no read and no write fails where none is named. A line that is a
+//! `piece` and `takes` are 4096 where they are left out, and no read, no write and no call of a disk fails where none is named. A line that is a
 //! text is a heading. Each ending that differs is printed on a line of its own, and at the end how many are as wanted. The
 //! program fails where one differs, at a line of another form, and where memory runs out.
 #![tactic(auto)]

@@ -1,9 +1,9 @@
-//! The program: the commands over standard input and output.
+//! The program: the commands over standard input and output, and disks in memory.
 #![tactic(auto)]
 
 use acc_base::{OutOfMemory, Sequence, Text};
 use acc_command::{Status, accord};
-use acc_ports::{StdSink, StdSource};
+use acc_ports::{MemMaker, StdSink, StdSource};
 use std::alloc::Global;
 use std::env::Env;
 use std::process::ExitCode;
@@ -34,8 +34,9 @@ fn words<R: Env + AllocGlobal>(rt: &R) -> Result<Sequence<Text>, OutOfMemory> {
 fn main(rt: HostRuntime) -> ExitCode {
     let mut source = StdSource::new(&rt);
     let mut sink = StdSink::new(&rt);
+    let mut disks = MemMaker::new(rt.alloc());
     let status = match words(&rt) {
-        Ok(words) => accord(&rt, words.as_slice(), &mut source, &mut sink),
+        Ok(words) => accord(&rt, words.as_slice(), &mut source, &mut sink, &mut disks),
         Err(OutOfMemory) => Status::OutOfMemory,
     };
     ExitCode::from(status.code())

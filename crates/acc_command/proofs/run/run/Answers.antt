@@ -1,9 +1,12 @@
--- The line of the refusal is due.
-use Rattle.acc_command.specs.declared.words.Command.TheVariants.{Run}
-use Rattle.acc_command.specs.Command.{IsCause}
+-- The line of the refusal is due, or how the run of the plan ends.
+use Rattle.std.proofs.Common.{Ok}
 use Rattle.acc_command.proofs.CommandFacts.{refusal}
+use Rattle.acc_command.proofs.DueFacts.{run_due}
 use Rattle.acc_command.proofs.run.run.Goals as goal
 
+pub returns-in-Ok : goal.returns-in-Ok
+returns-in-Ok g c = run_due _ c.args.bytes.now c.in-Ok.plan c.report.result c.requires c.in-Ok.ensures.accepted c.report.ensures
+
 pub returns-in_ok-refusal_line-in-Err : goal.returns-in_ok-refusal_line-in-Err
-returns-in_ok-refusal_line-in-Err c =
-    (c.requires, refusal (IsCause Run c.args.bytes.now) c.in-Err.error c.in_ok-refusal_line-in-Err.field-0 c.in-Err.ensures.refused c.in_ok-refusal_line-in-Err.ensures)
+returns-in_ok-refusal_line-in-Err g c =
+    (c.requires, refusal c.args.bytes.now c.in-Err.error c.in_ok-refusal_line-in-Err.field-0 c.in-Err.ensures.refused c.in_ok-refusal_line-in-Err.ensures)

@@ -1,0 +1,29 @@
+-- The items obey the plan and are safe, or a limit ends the run.
+use Rattle.std.proofs.Common.{◌∙◌, [], ap}
+use Rattle.std.specs.Prelude.{reverse}
+use Rattle.acc_schedule.specs.Content.{Content}
+use Rattle.acc_report.specs.Report.{report_text}
+use Rattle.acc_command.proofs.DueFacts.{limited, reported, same_limit}
+use Rattle.acc_command.proofs.run.report.Goals as goal
+
+pub returns-in_ok-text-in-Ok : goal.returns-in_ok-text-in-Ok
+returns-in_ok-text-in-Ok g c =
+    reported
+    (record {
+      run = c.plans_run_safely.ensures.run;
+      agreement = c.plans_run_safely.ensures.agreement;
+      coverage = c.plans_run_safely.ensures.coverage;
+      serial = c.plans_run_safely.ensures.serial;
+    })
+    _ c.args.plan.now c.in-Ok.ensures.obeys.0 (reverse c.in-Ok.items) c.in_ok-text-in-Ok.field-0 c.requires c.in-Ok.ensures.obeys.1 c.in-Ok.ensures.within
+    (c.in-Ok.ensures.given, c.in-Ok.ensures.strict)
+    (c.in_ok-text-in-Ok.ensures ∙ ap (λ roll. report_text c.plan.inside.print c.plan.inside.names roll (reverse c.in-Ok.items)) c.new.ensures
+    ∙ ap (λ (plan : Content). report_text plan.print plan.names [] (reverse c.in-Ok.items)) c.plan.view_is)
+
+pub returns-in_ok-limit_line-in-Err-Limit : goal.returns-in_ok-limit_line-in-Err-Limit
+returns-in_ok-limit_line-in-Err-Limit g c =
+    limited g.M.D.Disk.faults g.M.D.Disk.is_image (g.M.DiskMaker.strict c.args.disks.now) _ _ c.args.plan.now c.in-Err-Limit.which c.in-Err-Limit.number
+    c.in_ok-limit_line-in-Err-Limit.field-0 (c.one_limit_over_strict_disks.ensures.answered c.args.plan.now)
+    (c.in-Err-Limit.ensures.limit c.in-Err-Limit.which c.in-Err-Limit.number c.in-Err-Limit.field-0-is)
+    (λ strict. c.in-Err-Limit.ensures.strict_limit strict c.in-Err-Limit.which c.in-Err-Limit.number c.in-Err-Limit.field-0-is)
+    (same_limit _ _ _ _ _ c.in_ok-limit_line-in-Err-Limit.ensures c.in-Err-Limit.which-is c.in-Err-Limit.number-is)

@@ -1,9 +1,0 @@
--- The values behind the first are printed up to this one, each behind a comma.
-use Rattle.std.proofs.Common.{◌≡◌, ◌++◌, take}
-use Rattle.std.specs.Prelude.{codes}
-use Rattle.std.specs.List.{flat_map}
-use Rattle.acc_first.specs.ReportText.{cell_text}
-use Rattle.acc_first.proofs.report.push_values.Given as goal
-
-abbrev pub invariant-loop-cell : goal.invariant-loop-cell
-invariant-loop-cell l = l.text.items ≡ l.initial.text.items ++ flat_map (λ cell. codes "," ++ cell_text cell) (take l.cell-index l.others)

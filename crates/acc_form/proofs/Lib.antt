@@ -1,5 +1,0 @@
-mod PairLemmas
-mod FieldLemmas
-mod FormLemmas
-mod PlanLemmas
-pub mod DocumentLemmas
