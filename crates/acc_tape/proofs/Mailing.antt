@@ -237,12 +237,13 @@ module _ {E : Type 0} (took : E → Option ℕ) (sent_to : E → List ℕ) (is_l
         }
 
   -- what a board keeps, after an item entered it
-  pub keeps_more : (bytes : E → ℕ) (items : List E) (weight reserved reserved_weight : ℕ) (limits : Limits) (capacity : ℕ) (mail : Mail) → IsKept took sent_to is_lost bytes items weight reserved reserved_weight limits capacity mail
+  pub keeps_more : (bytes : E → ℕ) (fits : List E → Type 0) (items : List E) (weight reserved reserved_weight : ℕ) (limits : Limits) (capacity : ℕ) (mail : Mail) → IsKept took sent_to is_lost bytes fits items weight reserved reserved_weight limits capacity mail
       → (item : E) (w size : ℕ) → size ≡ bytes item → size ≤ w → length (sent_to item) ≤ bytes item → 0 < reserved → w ≤ reserved_weight
       → (taking mid last : Mail) → taking ≡ after_taking (took item) mail → mid ≡ record taking { room = taking.room - (w - length (sent_to item)); takings = taking.takings - 0 } → last ≡ after_messages (messages_from (length items) 0 (is_lost item) (sent_to item)) mid
       → (capacity' : ℕ) → capacity' ≡ capacity
-      → IsKept took sent_to is_lost bytes (items ++ item ∷ []) (weight + size) (reserved - 1) (reserved_weight - w) limits capacity' last
-  keeps_more bytes items weight reserved reserved_weight limits capacity mail i item w size is fits short some low taking mid last a b c capacity' same =
+      → (fits items → fits (items ++ item ∷ []))
+      → IsKept took sent_to is_lost bytes fits (items ++ item ∷ []) (weight + size) (reserved - 1) (reserved_weight - w) limits capacity' last
+  keeps_more bytes fits items weight reserved reserved_weight limits capacity mail i item w size is low_size short some low taking mid last a b c capacity' same next =
       let rooms : (x : Option ℕ) → ((after_taking x mail).room ≡ mail.room) × ((after_taking x mail).takings ≡ mail.takings - 1) = after_room mail in
       let r = rooms (took item) in
       let n = length-messages_from (length items) 0 (is_lost item) (sent_to item) in
@@ -255,6 +256,7 @@ module _ {E : Type 0} (took : E → Option ℕ) (sent_to : E → List ℕ) (is_l
         messages = (let q = i.messages in let r0 = r.0 in omega arith);
         takings = (let q = i.takings in let r1 = r.1 in omega arith);
         index = more items item mail i.index (took item) refl _ refl refl;
+        fitting = next i.fitting;
       }
     where
       after_room : (mail : Mail) (x : Option ℕ) → ((after_taking x mail).room ≡ mail.room) × ((after_taking x mail).takings ≡ mail.takings - 1)

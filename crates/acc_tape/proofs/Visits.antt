@@ -27,7 +27,7 @@ module _ {E : Type 0} (held : List ℕ) (before now : Content E) where
   same_held : now.reserved ≡ before.reserved → held_after held before now ≡ held
   same_held same = sym (cond_above before.reserved now.reserved _ _ _ (omega arith) refl) ∙ sym (cond_above now.reserved before.reserved _ _ _ (omega arith) refl)
 
-module _ {E : Type 0} (actor_of bytes : E → ℕ) where
+module _ {E : Type 0} (actor_of bytes : E → ℕ) (fits : List E → Type 0) where
   abbrev M : Type 0
   M = Me (Content E) (View E)
 
@@ -111,7 +111,7 @@ module _ {E : Type 0} (actor_of bytes : E → ℕ) where
   -- ---- what the seat knows after the turn
 
   pub record After (old new : SeatView E) (x now : Content E) : Type 0 where
-    pub turns : Turns actor_of bytes old new
+    pub turns : Turns actor_of bytes fits old new
     pub made : new.made ≡ old.made
     pub held : new.held ≡ held_after old.held x now
     pub seen : new.seen ≡ now.items
@@ -120,7 +120,7 @@ module _ {E : Type 0} (actor_of bytes : E → ℕ) where
     pub had : old.mine ≡ items_of actor_of old.actor x.items
     pub has : new.mine ≡ items_of actor_of old.actor now.items
 
-  turned : (v : View E) (x now : Content E) (table : TableId) → Learns actor_of v x → MayLeave actor_of v.actor v.held x now → IsWithin bytes now → After (seat_view table v) (seat_view table (view_after actor_of v x now)) x now
+  turned : (v : View E) (x now : Content E) (table : TableId) → Learns actor_of v x → MayLeave actor_of v.actor v.held x now → IsWithin bytes fits now → After (seat_view table v) (seat_view table (view_after actor_of v x now)) x now
   turned v x now table learns may within =
       let limits : now.limits ≡ v.limits = may.limits ∙ learns.limits in
       let c = may.counts in
@@ -136,6 +136,7 @@ module _ {E : Type 0} (actor_of bytes : E → ℕ) where
           within_weight = subst (λ (l : Limits). sum_by bytes now.items + now.reserved_weight ≤ l.weight) limits within.weight;
           counted = omega arith;
           weighed = omega arith;
+          fitting = within.fitting;
         };
         made = refl;
         held = refl;
@@ -146,7 +147,7 @@ module _ {E : Type 0} (actor_of bytes : E → ℕ) where
         has = refl;
       }
 
-  pub after : (v : View E) (x now : Content E) (table table' : TableId) (m : M) (old : SeatView E) → Learns actor_of v x → MayLeave actor_of v.actor v.held x now → IsWithin bytes now → seat_view table v ≡ old → table' ≡ table → m ≡ (view_after actor_of v x now, []) → After old (seat_view table' m.0) x now
+  pub after : (v : View E) (x now : Content E) (table table' : TableId) (m : M) (old : SeatView E) → Learns actor_of v x → MayLeave actor_of v.actor v.held x now → IsWithin bytes fits now → seat_view table v ≡ old → table' ≡ table → m ≡ (view_after actor_of v x now, []) → After old (seat_view table' m.0) x now
   after v x now table table' m old learns may within is same left =
       subst (λ (p : SeatView E × SeatView E). After p.0 p.1 x now) (λ i. (is i, seat_view (sym same i) (sym left i).0)) (turned v x now table learns may within)
 
@@ -182,7 +183,7 @@ module _ {E : Type 0} (actor_of bytes : E → ℕ) where
   learns_of m m1 turn x value = (opened m.0 m1 turn x value).2
 
   pub visits : (m : M) (table : TableId) (old : SeatView E) → IsResting m → seat_view table m.0 ≡ old → (m1 : M) → ((ticket : ℕ) × (c : Content E) × (m1 ≡ (turning (waiting m.0 ticket) c, (0, c) ∷ [])) × Learns actor_of m.0 c) → (x : Content E) → m1.1 ≡ (0, x) ∷ rest m1.1
-      → (now : Content E) → MayLeave actor_of m.0.actor m.0.held x now → IsWithin bytes now → (table' : TableId) → table' ≡ table → (m2 : M) → m2 ≡ left actor_of (m1.0, (0, now) ∷ rest m1.1)
+      → (now : Content E) → MayLeave actor_of m.0.actor m.0.held x now → IsWithin bytes fits now → (table' : TableId) → table' ≡ table → (m2 : M) → m2 ≡ left actor_of (m1.0, (0, now) ∷ rest m1.1)
       → (IsResting m2) × After old (seat_view table' m2.0) x now
   visits m table old rests is m1 turn x value now may within table' same m2 left' =
       let o = opened m.0 m1 turn x value in

@@ -25,7 +25,7 @@ module _ {E : Type 0} (took : E → Option ℕ) (sent_to : E → List ℕ) (is_l
     pub sent : mail.sent ≡ closed_from 0 (is_taken took items) (messages_of sent_to is_lost 0 items)
     pub early : (n : ℕ) → length mail.sent ≤ n → list_any (λ m. m == n) mail.early ≡ is_taken took items n
 
-  pub record IsKept (bytes : E → ℕ) (items : List E) (weight reserved reserved_weight : ℕ) (limits : Limits) (capacity : ℕ) (mail : Mail) : Type 0 where
+  pub record IsKept (bytes : E → ℕ) (fits : List E → Type 0) (items : List E) (weight reserved reserved_weight : ℕ) (limits : Limits) (capacity : ℕ) (mail : Mail) : Type 0 where
     pub weighs : weight ≡ sum_by bytes items
     pub within_items : length items + reserved ≤ limits.items
     pub within_weight : weight + reserved_weight ≤ limits.weight
@@ -33,3 +33,4 @@ module _ {E : Type 0} (took : E → Option ℕ) (sent_to : E → List ℕ) (is_l
     pub messages : mail.room ≡ reserved_weight
     pub takings : mail.takings ≡ reserved
     pub index : IsIndexOf items mail
+    pub fitting : fits items

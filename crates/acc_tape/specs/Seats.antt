@@ -21,8 +21,8 @@ pub record SeatView (E : Type 0) : Type 0 where
   pub out_weight : ℕ
   pub made : List ℕ
 
--- What holds of a seat after each call: it has seen the whole list, which begins with what it had seen. The items of its actor in it are those that it entered, in order. The list and all reservations are within the limits, and the seat's own reservations are among them.
-pub record Turns {E : Type 0} (actor_of bytes : E → ℕ) (old new : SeatView E) : Type 0 where
+-- What holds of a seat after each call: it has seen the whole list, which begins with what it had seen and fits the tape's rules. The items of its actor in it are those that it entered, in order. The list and all reservations are within the limits, and the seat's own reservations are among them.
+pub record Turns {E : Type 0} (actor_of bytes : E → ℕ) (fits : List E → Type 0) (old new : SeatView E) : Type 0 where
   pub tape : new.tape ≡ old.tape
   pub actor : new.actor ≡ old.actor
   pub seen : IsPrefix old.seen new.seen
@@ -31,6 +31,19 @@ pub record Turns {E : Type 0} (actor_of bytes : E → ℕ) (old new : SeatView E
   pub within_weight : sum_by bytes new.seen + new.out_weight ≤ new.tape.limits.weight
   pub counted : length new.held ≤ new.out_count
   pub weighed : sum new.held ≤ new.out_weight
+  pub fitting : fits new.seen
+
+-- The item fits behind every list that fits, begins with what the seat has seen and has no other item of its actor than those that the seat entered. So it may be entered whatever others entered meanwhile.
+abbrev pub FitsBehind : {E : Type 0} → (E → ℕ) → (List E → Type 0) → SeatView E → E → Type 0
+FitsBehind {E} actor_of fits seat item = (before : List E) → IsPrefix seat.seen before → items_of actor_of seat.actor before ≡ seat.mine → fits before → fits (before ++ item ∷ [])
+
+-- The item stands last, behind a list that fits, begins with what the seat had seen, and has of the seat's actor just what the seat had entered.
+pub record ComesLast {E : Type 0} (actor_of : E → ℕ) (fits : List E → Type 0) (old : SeatView E) (seen : List E) (item : E) : Type 0 where
+  pub before : List E
+  pub seen_is : seen ≡ before ++ item ∷ []
+  pub begins : IsPrefix old.seen before
+  pub mine : items_of actor_of old.actor before ≡ old.mine
+  pub fitting : fits before
 
 -- the list ends with the item, which stands at this place
 abbrev pub EndsWith : {E : Type 0} → List E → ℕ → E → Type 0

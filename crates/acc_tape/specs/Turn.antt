@@ -77,10 +77,11 @@ module _ {E : Type 0} where
       pub weights : now.reserved_weight + sum held ≡ before.reserved_weight + sum (held_after held before now)
       pub first : actor ≡ 0 → held_after held before now ≡ []
 
--- what stands in the slot is within the limits
-pub record IsWithin {E : Type 0} (bytes : E → ℕ) (c : Content E) : Type 0 where
+-- what stands in the slot is within the limits and fits the rules
+pub record IsWithin {E : Type 0} (bytes : E → ℕ) (fits : List E → Type 0) (c : Content E) : Type 0 where
   pub items : length c.items + c.reserved ≤ c.limits.items
   pub weight : sum_by bytes c.items + c.reserved_weight ≤ c.limits.weight
+  pub fitting : fits c.items
 
 module _ {E : Type 0} (actor_of : E → ℕ) where
   -- a seat that has taken what stood in the slot may leave what stands there now

@@ -11,15 +11,16 @@ ghost use Rattle.acc_tape.specs.Turn.{IsWithin};
 use crate::content::{Content, Limits};
 use crate::error::{PlaceError, TapeError};
 use crate::posted::Posted;
+use crate::rules::Rules;
 use acc_base::OutOfMemory;
 use acc_message::Which;
 use acc_posts::{Post, Posts};
 use std::alloc::Global;
-use std::marker::Model;
+use std::marker::{Model, PhantomData};
 use std::sync::Arc;
 
 #[derive(Drop)]
-pub struct Board<E: Posted> {
+pub struct Board<E: Posted, R: Rules<E>> {
     items: Vec<Arc<E>>,
     weight: u64,
     reserved: u64,
@@ -28,9 +29,10 @@ pub struct Board<E: Posted> {
     // The actor for which the first seat is split next.
     named: u32,
     posts: Posts,
+    rules: PhantomData<R>,
 }
 
-impl<E: Posted> Model for Board<E> {
+impl<E: Posted, R: Rules<E>> Model for Board<E, R> {
     ghost use Rattle.std.specs.Prelude.{◌≡◌, ◌+◌, ◌≤◌, length, map, sum_by};
     ghost use Rattle.std.specs.Arc.{arc_value};
     ghost use Rattle.std.specs.Vec.{vec_len, vec_capacity};
@@ -41,11 +43,12 @@ impl<E: Posted> Model for Board<E> {
 
     ghost view = { λ b. record { items = map arc_value b.items.items; reserved = b.reserved; reserved_weight = b.reserved_weight; limits = b.limits; named = b.named } };
 
-    ghost invariant = { λ b. IsKept E.took E.sent_to E.is_lost E.bytes (map arc_value b.items.items) b.weight b.reserved b.reserved_weight b.limits (vec_capacity b.items) b.posts };
+    ghost invariant = { λ b. IsKept E.took E.sent_to E.is_lost E.bytes R.fits (map arc_value b.items.items) b.weight b.reserved b.reserved_weight b.limits (vec_capacity b.items) b.posts };
 }
 
-impl<E: Posted> Board<E> {
-    pub fn new(alloc: Global, limits: Limits) -> Result<Board<E>, OutOfMemory>
+impl<E: Posted, R: Rules<E>> Board<E, R> {
+    pub fn new(alloc: Global, limits: Limits) -> Result<Board<E, R>, OutOfMemory>
+        requires { R.fits [] }
         ensures { IfOk result (λ board. board ≡ record { items = []; reserved = 0; reserved_weight = 0; limits = limits; named = 0 }) }
     {
         Ok(Board {
@@ -56,6 +59,7 @@ impl<E: Posted> Board<E> {
             limits,
             named: 0,
             posts: Posts::new(alloc)?,
+            rules: PhantomData,
         })
     }
 
@@ -63,7 +67,7 @@ impl<E: Posted> Board<E> {
     pub fn reserve(&mut self, weight: u64) -> Result<(), TapeError>
         ensures ok { OnOk result (self.new ≡ record self.old { reserved = self.old.reserved + 1; reserved_weight = self.old.reserved_weight + weight }) }
         ensures err { OnErr result (self.new ≡ self.old) }
-        ensures within { IsWithin E.bytes self.new }
+        ensures within { IsWithin E.bytes R.fits self.new }
         ensures cause { IfErr result (Refuses self.old.limits (length self.old.items + self.old.reserved) (sum_by E.bytes self.old.items + self.old.reserved_weight) weight) }
     {
         let Limits {
@@ -94,7 +98,7 @@ impl<E: Posted> Board<E> {
     /// Names the actor for which a seat is split next.
     pub fn name(&mut self, actor: u32)
         ensures named { self.new ≡ record self.old { named = actor } }
-        ensures within { IsWithin E.bytes self.new }
+        ensures within { IsWithin E.bytes R.fits self.new }
     {
         self.named = actor;
     }
@@ -103,7 +107,7 @@ impl<E: Posted> Board<E> {
     pub fn release(&mut self, weight: u64)
         requires { (0 < self.old.reserved) × (weight ≤ self.old.reserved_weight) }
         ensures released { self.new ≡ record self.old { reserved = self.old.reserved - 1; reserved_weight = self.old.reserved_weight - weight } }
-        ensures within { IsWithin E.bytes self.new }
+        ensures within { IsWithin E.bytes R.fits self.new }
     {
         self.posts.release(weight, 1);
         self.reserved -= 1;
@@ -114,9 +118,11 @@ impl<E: Posted> Board<E> {
     pub fn enter(&mut self, weight: u64, bytes: u64, item: Arc<E>) -> u64
         requires reserved { (0 < self.old.reserved) × (weight ≤ self.old.reserved_weight) }
         requires bytes { (bytes ≡ E.bytes (arc_value item)) × (bytes ≤ weight) }
+        requires fits { R.fits self.old.items → R.fits (self.old.items ++ arc_value item ∷ []) }
         ensures entered { self.new ≡ record self.old { items = self.old.items ++ arc_value item ∷ []; reserved = self.old.reserved - 1; reserved_weight = self.old.reserved_weight - weight } }
-        ensures within { IsWithin E.bytes self.new }
+        ensures within { IsWithin E.bytes R.fits self.new }
         ensures place { result ≡ length self.old.items }
+        ensures fits { R.fits self.old.items }
     {
         let place = self.items.len() as u64;
         note_taking(&mut self.posts, &*item);
@@ -133,7 +139,7 @@ impl<E: Posted> Board<E> {
     pub fn fetch(&self, place: u64) -> Result<Arc<E>, PlaceError>
         ensures ok { IfOk result (λ item. slice_get self.now.items place ≡ Some (arc_value item)) }
         ensures cause { IfErr result (λ error. error ≡ NoPlace → length self.now.items ≤ place) }
-        ensures within { IsWithin E.bytes self.now }
+        ensures within { IsWithin E.bytes R.fits self.now }
     {
         if place >= self.items.len() as u64 {
             return Err(PlaceError::NoPlace);
@@ -144,16 +150,31 @@ impl<E: Posted> Board<E> {
     /// The oldest message that waits for an actor.
     pub fn next_for(&mut self, actor: u32) -> Option<Post>
         ensures same { self.new ≡ self.old }
-        ensures within { IsWithin E.bytes self.new }
+        ensures within { IsWithin E.bytes R.fits self.new }
         ensures next { MatchOption result (HasNone E.took E.sent_to E.is_lost self.old.items actor 0) (IsOldest E.took E.sent_to E.is_lost self.old.items actor 0) }
     {
         self.posts.next_for(actor)
     }
 
+    /// The oldest message that waits for an actor, and the item that sent it.
+    pub fn next_with_item(&mut self, actor: u32) -> Result<Option<(Post, Arc<E>)>, OutOfMemory>
+        ensures same { self.new ≡ self.old }
+        ensures within { IsWithin E.bytes R.fits self.new }
+        ensures next { IfOk result (λ found. MatchOption found (HasNone E.took E.sent_to E.is_lost self.old.items actor 0) (λ pair. IsOldest E.took E.sent_to E.is_lost self.old.items actor 0 pair.0 × (slice_get self.old.items pair.0.place ≡ Some (arc_value pair.1)))) }
+    {
+        let Some(post) = self.posts.next_for(actor) else {
+            return Ok(None);
+        };
+        let Ok(item) = self.fetch(post.place) else {
+            return Err(OutOfMemory);
+        };
+        Ok(Some((post, item)))
+    }
+
     /// The oldest message that waits for an actor and has a greater number.
     pub fn next_after(&mut self, actor: u32, number: u64) -> Option<Post>
         ensures same { self.new ≡ self.old }
-        ensures within { IsWithin E.bytes self.new }
+        ensures within { IsWithin E.bytes R.fits self.new }
         ensures next { MatchOption result (HasNone E.took E.sent_to E.is_lost self.old.items actor (number + 1)) (IsOldest E.took E.sent_to E.is_lost self.old.items actor (number + 1)) }
     {
         self.posts.next_after(actor, number)
@@ -161,7 +182,8 @@ impl<E: Posted> Board<E> {
 
     /// The items, in their own memory.
     pub fn into_items(self) -> Vec<Arc<E>>
-        ensures { map arc_value result.items ≡ self.items }
+        ensures items { map arc_value result.items ≡ self.items }
+        ensures fits { R.fits self.items }
     {
         let Board {
             items,
@@ -171,6 +193,7 @@ impl<E: Posted> Board<E> {
             limits: _,
             named: _,
             posts: _,
+            rules: _,
         } = self;
         items
     }

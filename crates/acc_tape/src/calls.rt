@@ -6,22 +6,30 @@ ghost use Rattle.acc_tape.specs.declared.error.PlaceError.TheVariants.{NoPlace};
 ghost use Rattle.acc_tape.specs.Lists.{without};
 ghost use Rattle.acc_tape.specs.Messages.{HasNone, IsOldest};
 ghost use Rattle.acc_tape.specs.Refusals.{Refuses};
-ghost use Rattle.acc_tape.specs.Seats.{Turns, EndsWith};
+ghost use Rattle.acc_tape.specs.Seats.{Turns, FitsBehind, ComesLast, EndsWith};
 
 use crate::error::{PlaceError, TapeError};
 use crate::posted::Posted;
+use crate::rules::Rules;
 use crate::seat::Seat;
 use crate::tape::Tape;
+use acc_base::OutOfMemory;
 use acc_posts::Post;
+use std::alloc::Global;
 use std::sync::{Arc, Wait};
 
-impl<E: Posted> Tape<E> {
+impl<E: Posted, R: Rules<E>> Tape<E, R> {
     /// Reserves an item and so many bytes for a seat with an actor, so that entering it can't be refused. Full tells which
     /// limit it is, and its number. After a refusal nothing more is reserved.
-    pub fn reserve<R: Wait>(&self, rt: &R, seat: &mut Seat<E>, weight: u64) -> Result<(), TapeError>
+    pub fn reserve<W: Wait>(
+        &self,
+        rt: &W,
+        seat: &mut Seat<E, R>,
+        weight: u64,
+    ) -> Result<(), TapeError>
         requires tape { seat.old.tape ≡ self.now }
         requires actor { seat.old.actor ≢ 0 }
-        ensures turn { Turns E.actor_of E.bytes seat.old seat.new }
+        ensures turn { Turns E.actor_of E.bytes R.fits seat.old seat.new }
         ensures same { (seat.new.mine ≡ seat.old.mine) × (seat.new.made ≡ seat.old.made) }
         ensures ok { OnOk result (seat.new.held ≡ seat.old.held ++ weight ∷ []) }
         ensures err { OnErr result (seat.new.held ≡ seat.old.held) }
@@ -34,10 +42,10 @@ impl<E: Posted> Tape<E> {
     }
 
     /// Gives up a reservation of the seat. It takes no memory and can't be refused.
-    pub fn release<R: Wait>(&self, rt: &R, seat: &mut Seat<E>, weight: u64)
+    pub fn release<W: Wait>(&self, rt: &W, seat: &mut Seat<E, R>, weight: u64)
         requires tape { seat.old.tape ≡ self.now }
         requires held { Contains seat.old.held weight }
-        ensures turn { Turns E.actor_of E.bytes seat.old seat.new }
+        ensures turn { Turns E.actor_of E.bytes R.fits seat.old seat.new }
         ensures same { (seat.new.mine ≡ seat.old.mine) × (seat.new.made ≡ seat.old.made) }
         ensures held { seat.new.held ≡ without weight seat.old.held }
     {
@@ -48,13 +56,15 @@ impl<E: Posted> Tape<E> {
 
     /// Gives up a reservation of the seat, appends an item of its actor that weighs no more, and answers the item's place.
     /// It takes no memory and can't be refused.
-    pub fn enter<R: Wait>(&self, rt: &R, seat: &mut Seat<E>, weight: u64, item: Arc<E>) -> u64
+    pub fn enter<W: Wait>(&self, rt: &W, seat: &mut Seat<E, R>, weight: u64, item: Arc<E>) -> u64
         requires tape { seat.old.tape ≡ self.now }
         requires held { Contains seat.old.held weight }
         requires item { (E.actor_of (arc_value item) ≡ seat.old.actor) × E.weighs (arc_value item) × (E.bytes (arc_value item) ≤ weight) }
-        ensures turn { Turns E.actor_of E.bytes seat.old seat.new }
+        requires fits { FitsBehind E.actor_of R.fits seat.old (arc_value item) }
+        ensures turn { Turns E.actor_of E.bytes R.fits seat.old seat.new }
         ensures entered { seat.new.mine ≡ seat.old.mine ++ arc_value item ∷ [] }
         ensures last { EndsWith seat.new.seen result (arc_value item) }
+        ensures behind { ComesLast E.actor_of R.fits seat.old seat.new.seen (arc_value item) }
         ensures held { seat.new.held ≡ without weight seat.old.held }
         ensures same { seat.new.made ≡ seat.old.made }
     {
@@ -68,15 +78,43 @@ impl<E: Posted> Tape<E> {
         place
     }
 
-    /// The item at a place of the list.
-    pub fn fetch<R: Wait>(
+    /// Enters an item as `enter` does, in memory of its own. Where that is refused the reservation is given up.
+    pub fn put<W: Wait>(
         &self,
-        rt: &R,
-        seat: &mut Seat<E>,
+        rt: &W,
+        alloc: Global,
+        seat: &mut Seat<E, R>,
+        weight: u64,
+        item: E,
+    ) -> Result<(), OutOfMemory>
+        requires tape { seat.old.tape ≡ self.now }
+        requires held { Contains seat.old.held weight }
+        requires item { (E.actor_of item ≡ seat.old.actor) × E.weighs item × (E.bytes item ≤ weight) }
+        requires fits { FitsBehind E.actor_of R.fits seat.old item }
+        ensures turn { Turns E.actor_of E.bytes R.fits seat.old seat.new }
+        ensures held { seat.new.held ≡ without weight seat.old.held }
+        ensures same { seat.new.made ≡ seat.old.made }
+        ensures ok { OnOk result (seat.new.mine ≡ seat.old.mine ++ item ∷ []) }
+        ensures behind { OnOk result (ComesLast E.actor_of R.fits seat.old seat.new.seen item) }
+        ensures err { OnErr result (seat.new.mine ≡ seat.old.mine) }
+    {
+        let Ok(item) = Arc::new(alloc, item) else {
+            self.release(rt, seat, weight);
+            return Err(OutOfMemory);
+        };
+        self.enter(rt, seat, weight, item);
+        Ok(())
+    }
+
+    /// The item at a place of the list.
+    pub fn fetch<W: Wait>(
+        &self,
+        rt: &W,
+        seat: &mut Seat<E, R>,
         place: u64,
     ) -> Result<Arc<E>, PlaceError>
         requires tape { seat.old.tape ≡ self.now }
-        ensures turn { Turns E.actor_of E.bytes seat.old seat.new }
+        ensures turn { Turns E.actor_of E.bytes R.fits seat.old seat.new }
         ensures same { (seat.new.mine ≡ seat.old.mine) × (seat.new.held ≡ seat.old.held) × (seat.new.made ≡ seat.old.made) }
         ensures ok { IfOk result (λ item. slice_get seat.new.seen place ≡ Some (arc_value item)) }
         ensures cause { IfErr result (λ error. error ≡ NoPlace → length seat.new.seen ≤ place) }
@@ -88,9 +126,9 @@ impl<E: Posted> Tape<E> {
     }
 
     /// The oldest message to an actor that isn't lost and that no item took. It takes no memory.
-    pub fn next_for<R: Wait>(&self, rt: &R, seat: &mut Seat<E>, actor: u32) -> Option<Post>
+    pub fn next_for<W: Wait>(&self, rt: &W, seat: &mut Seat<E, R>, actor: u32) -> Option<Post>
         requires tape { seat.old.tape ≡ self.now }
-        ensures turn { Turns E.actor_of E.bytes seat.old seat.new }
+        ensures turn { Turns E.actor_of E.bytes R.fits seat.old seat.new }
         ensures same { (seat.new.mine ≡ seat.old.mine) × (seat.new.held ≡ seat.old.held) × (seat.new.made ≡ seat.old.made) }
         ensures next { MatchOption result (HasNone E.took E.sent_to E.is_lost seat.new.seen actor 0) (IsOldest E.took E.sent_to E.is_lost seat.new.seen actor 0) }
     {
@@ -100,16 +138,37 @@ impl<E: Posted> Tape<E> {
         next
     }
 
-    /// The oldest message to an actor that has a greater number, isn't lost, and that no item took. It takes no memory.
-    pub fn next_after<R: Wait>(
+    /// The oldest message to an actor that isn't lost and that no item took, and the item that sent it, in one turn.
+    pub fn next_with_item<W: Wait>(
         &self,
-        rt: &R,
-        seat: &mut Seat<E>,
+        rt: &W,
+        seat: &mut Seat<E, R>,
+        actor: u32,
+    ) -> Result<Option<(Post, Arc<E>)>, OutOfMemory>
+        requires tape { seat.old.tape ≡ self.now }
+        ensures turn { Turns E.actor_of E.bytes R.fits seat.old seat.new }
+        ensures same { (seat.new.mine ≡ seat.old.mine) × (seat.new.held ≡ seat.old.held) × (seat.new.made ≡ seat.old.made) }
+        ensures next { IfOk result (λ found. MatchOption found (HasNone E.took E.sent_to E.is_lost seat.new.seen actor 0) (λ pair. IsOldest E.took E.sent_to E.is_lost seat.new.seen actor 0 pair.0 × (slice_get seat.new.seen pair.0.place ≡ Some (arc_value pair.1)))) }
+    {
+        self.begin(rt, &mut seat.token);
+        let next = seat
+            .token
+            .slot_mut(&self.table.shared, 0)
+            .next_with_item(actor);
+        self.leave(&mut seat.token);
+        next
+    }
+
+    /// The oldest message to an actor that has a greater number, isn't lost, and that no item took. It takes no memory.
+    pub fn next_after<W: Wait>(
+        &self,
+        rt: &W,
+        seat: &mut Seat<E, R>,
         actor: u32,
         number: u64,
     ) -> Option<Post>
         requires tape { seat.old.tape ≡ self.now }
-        ensures turn { Turns E.actor_of E.bytes seat.old seat.new }
+        ensures turn { Turns E.actor_of E.bytes R.fits seat.old seat.new }
         ensures same { (seat.new.mine ≡ seat.old.mine) × (seat.new.held ≡ seat.old.held) × (seat.new.made ≡ seat.old.made) }
         ensures next { MatchOption result (HasNone E.took E.sent_to E.is_lost seat.new.seen actor (number + 1)) (IsOldest E.took E.sent_to E.is_lost seat.new.seen actor (number + 1)) }
     {

@@ -6,6 +6,7 @@ ghost use Rattle.acc_tape.specs.Turn.{draws, looks, left};
 use crate::board::Board;
 use crate::content::Limits;
 use crate::posted::Posted;
+use crate::rules::Rules;
 use crate::view::View;
 use atomic_table::{Join, Play, Split, TableRule};
 use std::marker::PhantomData;
@@ -14,7 +15,7 @@ pub struct Law<E> {
     of: PhantomData<E>,
 }
 
-impl<E: Posted> TableRule<Board<E>, View<E>, Limits> for Law<E> {
+impl<E: Posted, R: Rules<E>> TableRule<Board<E, R>, View<E>, Limits> for Law<E> {
     ghost holds = { λ limits. Holds E.actor_of limits };
 
     ghost first = { λ limits. first_view limits };
@@ -23,21 +24,21 @@ impl<E: Posted> TableRule<Board<E>, View<E>, Limits> for Law<E> {
 /// Draws a ticket.
 pub struct Draw;
 
-impl<E: Posted> Play<Board<E>, View<E>> for Draw {
+impl<E: Posted, R: Rules<E>> Play<Board<E, R>, View<E>> for Draw {
     ghost then = { draws };
 }
 
 /// Loads the serving number, and takes what stands in the slot where the turn has come.
 pub struct Look;
 
-impl<E: Posted> Play<Board<E>, View<E>> for Look {
+impl<E: Posted, R: Rules<E>> Play<Board<E, R>, View<E>> for Look {
     ghost then = { looks E.actor_of };
 }
 
 /// Puts back what is in the slot, and advances the serving number.
 pub struct Leave;
 
-impl<E: Posted> Play<Board<E>, View<E>> for Leave {
+impl<E: Posted, R: Rules<E>> Play<Board<E, R>, View<E>> for Leave {
     ghost then = { λ step before found after. after ≡ left E.actor_of before };
 }
 

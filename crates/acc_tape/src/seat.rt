@@ -1,22 +1,23 @@
 //! Seats: each actor enters its items through a seat of its own.
 use crate::board::Board;
 use crate::posted::Posted;
+use crate::rules::Rules;
 use crate::view::View;
 use acc_base::Sequence;
 use std::marker::Model;
 
 /// A seat as the tape's table has it.
-pub(crate) type Token<E> = atomic_table::Seat<Board<E>, View<E>>;
+pub(crate) type Token<E, R> = atomic_table::Seat<Board<E, R>, View<E>>;
 
 /// A seat of a tape. Contracts see its tape, its actor, the list that it has seen, the items that it entered, its reserved
 /// weights, and the number and the sum of all weights that the seats held reserved at its last call. The first seat has
 /// actor 0, and is also seen as the actors for which it was split.
 #[derive(Drop)]
-pub struct Seat<E: Posted> {
-    pub(crate) token: Token<E>,
+pub struct Seat<E: Posted, R: Rules<E>> {
+    pub(crate) token: Token<E, R>,
 }
 
-impl<E: Posted> Model for Seat<E> {
+impl<E: Posted, R: Rules<E>> Model for Seat<E, R> {
     ghost use Rattle.acc_tape.specs.Seats.{SeatView};
     ghost use Rattle.acc_tape.specs.Turn.{seat_view, IsResting};
 
@@ -28,4 +29,4 @@ impl<E: Posted> Model for Seat<E> {
 }
 
 /// A list of seats.
-pub type Seats<E> = Sequence<Seat<E>>;
+pub type Seats<E, R> = Sequence<Seat<E, R>>;

@@ -9,23 +9,24 @@ ghost use Rattle.acc_tape.specs.Turn.{IsResting, with_joined, gone_seat};
 use crate::entered::Entered;
 use crate::law::{Gather, Part};
 use crate::posted::Posted;
+use crate::rules::Rules;
 use crate::seat::{Seat, Seats, Token};
 use crate::tape::Tape;
 use acc_base::OutOfMemory;
 use std::sync::Wait;
 
-impl<E: Posted> Tape<E> {
+impl<E: Posted, R: Rules<E>> Tape<E, R> {
     /// A seat for an actor, which has seen what the first one has. It takes no memory.
-    pub fn split<R: Wait>(
+    pub fn split<W: Wait>(
         &self,
-        rt: &R,
-        first: &mut Seat<E>,
+        rt: &W,
+        first: &mut Seat<E, R>,
         actor: u32,
-    ) -> Result<Seat<E>, OutOfMemory>
+    ) -> Result<Seat<E, R>, OutOfMemory>
         requires tape { first.old.tape ≡ self.now }
         requires first { first.old.actor ≡ 0 }
         requires actor { (actor ≢ 0) × (¬ Contains first.old.made actor) }
-        ensures turn { Turns E.actor_of E.bytes first.old first.new }
+        ensures turn { Turns E.actor_of E.bytes R.fits first.old first.new }
         ensures same { (first.new.mine ≡ first.old.mine) × (first.new.held ≡ first.old.held) }
         ensures made { first.new.made ≡ first.old.made ++ actor ∷ [] }
         ensures seat { IfOk result (λ seat. seat ≡ record first.new { actor = actor; mine = []; held = []; made = [] }) }
@@ -42,15 +43,16 @@ impl<E: Posted> Tape<E> {
     /// that entered it. It takes no memory.
     pub fn close(
         self,
-        first: Seat<E>,
-        others: Seats<E>,
-    ) -> Result<Entered<E>, (Tape<E>, Seat<E>, Seats<E>)>
+        first: Seat<E, R>,
+        others: Seats<E, R>,
+    ) -> Result<Entered<E>, (Tape<E, R>, Seat<E, R>, Seats<E, R>)>
         requires first { (first.tape ≡ self) × (first.actor ≡ 0) }
         requires others { All (λ seat. (seat.tape ≡ self) × (seat.held ≡ [])) others }
         requires all { length others ≡ length first.made }
         ensures first { IfOk result (λ items. IsPrefix first.seen items) }
         ensures seats { IfOk result (λ items. All (λ seat. IsPrefix seat.seen items × (items_of E.actor_of seat.actor items ≡ seat.mine) × Contains first.made seat.actor) others) }
         ensures owned { IfOk result (All (λ item. Any (λ seat. seat.actor ≡ E.actor_of item) others)) }
+        ensures fits { IfOk result (λ items. R.fits items) }
         ensures ok { IsOk result }
     {
         let Seat { mut token } = first;
@@ -63,7 +65,7 @@ impl<E: Posted> Tape<E> {
     }
 
     // Joins seats to the first one.
-    fn gather(&self, first: &mut Token<E>, others: Seats<E>)
+    fn gather(&self, first: &mut Token<E, R>, others: Seats<E, R>)
         requires tape { first.old.table_id ≡ self.now.table }
         requires first { IsResting first.old.me × (first.old.me.0.actor ≡ 0) }
         requires others { All (λ seat. (seat.tape ≡ self.now) × (seat.held ≡ [])) others }

@@ -7,6 +7,7 @@ use crate::board::Board;
 use crate::content::Limits;
 use crate::law::{Draw, Law, Leave, Look};
 use crate::posted::Posted;
+use crate::rules::Rules;
 use crate::seat::{Seat, Token};
 use crate::view::View;
 use acc_base::OutOfMemory;
@@ -30,11 +31,11 @@ const MOST_TICKETS: u64 = 1 << 62;
 
 /// One list of items, which grows at its end. Threads take turns with it.
 #[derive(Drop)]
-pub struct Tape<E: Posted> {
-    pub(crate) table: Table<Board<E>, View<E>, Limits, Law<E>, Global>,
+pub struct Tape<E: Posted, R: Rules<E>> {
+    pub(crate) table: Table<Board<E, R>, View<E>, Limits, Law<E>, Global>,
 }
 
-impl<E: Posted> Model for Tape<E> {
+impl<E: Posted, R: Rules<E>> Model for Tape<E, R> {
     ghost use Rattle.std.specs.Prelude.{◌≡◌};
     ghost use Rattle.acc_tape.specs.Seats.{TapeName};
 
@@ -45,9 +46,14 @@ impl<E: Posted> Model for Tape<E> {
     ghost invariant = { λ t. (t.table.shared.table_id.words ≡ 2) × (t.table.shared.table_id.slots ≡ 1) };
 }
 
-impl<E: Posted> Tape<E> {
-    /// An empty tape that may hold so many items and bytes, and its first seat.
-    pub fn new(alloc: Global, items: u64, weight: u64) -> Result<(Tape<E>, Seat<E>), OutOfMemory>
+impl<E: Posted, R: Rules<E>> Tape<E, R> {
+    /// An empty tape that may hold so many items and bytes, and its first seat. The empty list has to fit the rules.
+    pub fn new(
+        alloc: Global,
+        items: u64,
+        weight: u64,
+    ) -> Result<(Tape<E, R>, Seat<E, R>), OutOfMemory>
+        requires { R.fits [] }
         ensures limits { IfOk result (λ made. made.0.limits ≡ record { items = items; weight = weight }) }
         ensures seat { IfOk result (λ made. made.1 ≡ record { tape = made.0; actor = 0; seen = []; mine = []; held = []; out_count = 0; out_weight = 0; made = [] }) }
     {
@@ -62,7 +68,7 @@ impl<E: Posted> Tape<E> {
     }
 
     // Draws a ticket.
-    fn draw<R: Wait>(&self, rt: &R, token: &mut Token<E>) -> u64
+    fn draw<W: Wait>(&self, rt: &W, token: &mut Token<E, R>) -> u64
         requires tape { (token.old.table_id ≡ self.now.table) × (token.old.me.0.limits ≡ self.now.limits) }
         requires rests { IsResting token.old.me }
         ensures tape { token.new.table_id ≡ token.old.table_id }
@@ -86,7 +92,7 @@ impl<E: Posted> Tape<E> {
     }
 
     // Waits until the ticket is served, and takes what stands in the slot.
-    fn wait<R: Wait>(&self, rt: &R, token: &mut Token<E>, ticket: u64)
+    fn wait<W: Wait>(&self, rt: &W, token: &mut Token<E, R>, ticket: u64)
         requires tape { (token.old.table_id ≡ self.now.table) × (token.old.me.0.limits ≡ self.now.limits) }
         requires ticket { (token.old.me.0.is_live ≡ true) × (token.old.me.0.ticket ≡ Some ticket) × (token.old.me.0.taken ≡ None) × (token.old.me.1 ≡ []) }
         ensures tape { token.new.table_id ≡ token.old.table_id }
@@ -101,7 +107,7 @@ impl<E: Posted> Tape<E> {
     }
 
     // Waits for the turn.
-    pub(crate) fn begin<R: Wait>(&self, rt: &R, token: &mut Token<E>)
+    pub(crate) fn begin<W: Wait>(&self, rt: &W, token: &mut Token<E, R>)
         requires tape { (token.old.table_id ≡ self.now.table) × (token.old.me.0.limits ≡ self.now.limits) }
         requires rests { IsResting token.old.me }
         ensures tape { token.new.table_id ≡ token.old.table_id }
@@ -112,7 +118,7 @@ impl<E: Posted> Tape<E> {
     }
 
     // Ends the turn.
-    pub(crate) fn leave(&self, token: &mut Token<E>)
+    pub(crate) fn leave(&self, token: &mut Token<E, R>)
         requires tape { token.old.table_id ≡ self.now.table }
         requires turn { CanLeave E.actor_of token.old.me }
         ensures tape { token.new.table_id ≡ token.old.table_id }

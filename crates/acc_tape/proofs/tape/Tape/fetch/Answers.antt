@@ -7,5 +7,5 @@ leave-requires-clause-turn g c =
     let p = g.E.Posted in
     let m = c.seat.inside.token.me in
     let x = c.slot_mut.result.now in
-    let learns = learns_of p.actor_of p.bytes m c.begin.new.token.me c.begin.ensures.turn x c.slot_mut.ensures.value in
-    may_leave p.actor_of p.bytes m c.seat.invariant c.begin.new.token.me c.begin.ensures.turn x c.slot_mut.ensures.value x (still_may p.actor_of p.bytes m.0 x x (bare p.actor_of p.bytes m c.seat.invariant) refl)
+    let learns = learns_of p.actor_of p.bytes g.R.Rules.fits m c.begin.new.token.me c.begin.ensures.turn x c.slot_mut.ensures.value in
+    may_leave p.actor_of p.bytes g.R.Rules.fits m c.seat.invariant c.begin.new.token.me c.begin.ensures.turn x c.slot_mut.ensures.value x (still_may p.actor_of p.bytes g.R.Rules.fits m.0 x x (bare p.actor_of p.bytes g.R.Rules.fits m c.seat.invariant) refl)

@@ -15,6 +15,6 @@ join_seat-requires g c =
       ap (λ s. s.tape.table) c.other.view_is ∙ ap (λ t. t.table) free.0 ∙ tape,
       c.other.invariant.no_slot,
       omega arith,
-      joins_ok p.actor_of _ _ _ c.loop-other.first.me.0 c.other.inside.token.me.0 (joined_rests p.actor_of p.bytes c.args.first.now.me (map gone_seat c.loop-other.yielded) c.loop-other.first.me l.me c.requires.first.0)
-          (ap (λ m. m.0.actor) l.me ∙ c.requires.first.1) (bare p.actor_of p.bytes c.other.inside.token.me c.other.invariant) (ap (λ s. s.held) c.other.view_is ∙ free.1),
+      joins_ok p.actor_of _ _ _ c.loop-other.first.me.0 c.other.inside.token.me.0 (joined_rests p.actor_of p.bytes g.R.Rules.fits c.args.first.now.me (map gone_seat c.loop-other.yielded) c.loop-other.first.me l.me c.requires.first.0)
+          (ap (λ m. m.0.actor) l.me ∙ c.requires.first.1) (bare p.actor_of p.bytes g.R.Rules.fits c.other.inside.token.me c.other.invariant) (ap (λ s. s.held) c.other.view_is ∙ free.1),
     )

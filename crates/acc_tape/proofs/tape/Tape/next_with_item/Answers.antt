@@ -1,0 +1,20 @@
+use Rattle.std.proofs.Common.{ap, ◌∙◌}
+use Rattle.acc_tape.proofs.Visits.{bare, still_may, learns_of, may_leave, visits}
+use Rattle.acc_tape.proofs.tape.Tape.next_with_item.Goals as goal
+
+pub leave-requires-clause-turn : goal.leave-requires-clause-turn
+leave-requires-clause-turn g c =
+    let p = g.E.Posted in
+    let m = c.seat.inside.token.me in
+    let x = c.slot_mut.result.now in
+    let learns = learns_of p.actor_of p.bytes g.R.Rules.fits m c.begin.new.token.me c.begin.ensures.turn x c.slot_mut.ensures.value in
+    may_leave p.actor_of p.bytes g.R.Rules.fits m c.seat.invariant c.begin.new.token.me c.begin.ensures.turn x c.slot_mut.ensures.value c.next_with_item-next.new.self (still_may p.actor_of p.bytes g.R.Rules.fits m.0 x c.next_with_item-next.new.self (bare p.actor_of p.bytes g.R.Rules.fits m c.seat.invariant) c.next_with_item-next.ensures.same)
+
+pub returns-clause-next : goal.returns-clause-next
+returns-clause-next g c =
+    let p = g.E.Posted in
+    let m = c.seat.inside.token.me in
+    let x = c.slot_mut.result.now in
+    let learns = learns_of p.actor_of p.bytes g.R.Rules.fits m c.begin.new.token.me c.begin.ensures.turn x c.slot_mut.ensures.value in
+    let after = (visits p.actor_of p.bytes g.R.Rules.fits m _ _ c.seat.invariant c.seat.view_is c.begin.new.token.me c.begin.ensures.turn x c.slot_mut.ensures.value c.next_with_item-next.new.self (still_may p.actor_of p.bytes g.R.Rules.fits m.0 x c.next_with_item-next.new.self (bare p.actor_of p.bytes g.R.Rules.fits m c.seat.invariant) c.next_with_item-next.ensures.same) c.next_with_item-next.ensures.within _ (c.leave.ensures.tape ∙ c.begin.ensures.tape) c.leave.new.token.me c.leave.ensures.left).1 in
+    rw (after.seen ∙ ap (λ k. k.items) c.next_with_item-next.ensures.same) c.next_with_item-next.ensures.next
