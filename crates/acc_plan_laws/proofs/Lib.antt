@@ -1,5 +1,5 @@
 mod StartsOnce
 mod PlansValid
-mod AllReplied
+pub mod AllReplied
 mod Safely
 mod OverStrictDisks

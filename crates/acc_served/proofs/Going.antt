@@ -1,0 +1,205 @@
+-- How the commands of an actor go by, with each move of an actor.
+use Rattle.std.proofs.Common.{◌≡◌, ℕ, Bool, true, false, List, [], ◌∷◌, ◌++◌, reverse, Option, None, Some, refl, sym, ◌∙◌, ap, subst}
+use Rattle.std.proofs.lemmas.Bool.{true≢false}
+use Rattle.std.proofs.lemmas.List.{reverse-append, append_assoc}
+use Rattle.acc_stamp.specs.declared.actors.Actor.{Actor}
+use Rattle.acc_message.specs.declared.entry.Entry.{Entry}
+use Rattle.acc_message.specs.declared.entry.Event.{Event}
+use Rattle.acc_message.specs.declared.entry.Event.TheVariants.{Restart as RestartEvent}
+use Rattle.acc_message.specs.declared.item.Item.{Item}
+use Rattle.acc_message.specs.declared.item.Item.TheVariants.{Down}
+use Rattle.acc_message.specs.Items.{same_actor}
+use Rattle.acc_message.specs.Run.{Cluster, act_of}
+use Rattle.acc_safety.proofs.Bridge.{same_itself}
+use Rattle.acc_safe_runs.specs.Asks.{emits_if}
+use Rattle.acc_schedule.specs.Content.{Content}
+use Rattle.acc_schedule.specs.declared.plan.Step.{Step}
+use Rattle.acc_schedule.specs.declared.plan.Step.TheVariants.{Begin, Deliver, Drop, Recover, Slow, Restart, Fail, Drain}
+use Rattle.acc_follow.specs.Situations.{Stopped, Situation, whole, stopped_at}
+use Rattle.acc_follow.specs.Moves.{with_item, event_in, entry_of, entered, tried_if, kept_if, reopened}
+use Rattle.acc_follow.specs.Schedules.{cluster_of}
+use Rattle.acc_entering.proofs.Situations.{whole_alone, without_other, without_own, stopped_own, stopped_other}
+use Rattle.acc_served.specs.Commands.{commands_of, is_restart, is_event_of, is_message, IsPassed}
+use Rattle.acc_served.specs.Turns.{Went, begins, aside, delivered, took, came_up, stopped, stayed, went_down, kept, kept_message, passed}
+use Rattle.acc_served.specs.FreeRun.{alone}
+use Rattle.acc_served.specs.Serving.{IsStopOf, HasGone}
+
+-- the entry that a situation gives
+abbrev made : Cluster → Situation → Actor → Event → Bool → Entry
+made cluster s a event lost =
+    record { actor = a; event = event; emitted = emits_if cluster (whole s) a (act_of cluster (whole s) (event_in s event)); lost = lost }
+
+-- one command more went by
+one_gone : (all gone : List Step) (command : Step) (left : List Step) → all ≡ reverse gone ++ command ∷ left
+    → all ≡ reverse (command ∷ gone) ++ left
+one_gone all gone command left is =
+    is
+    ∙ sym (append_assoc (reverse gone) (command ∷ []) left)
+    ∙ sym (ap (λ front. front ++ left) (reverse-append (command ∷ []) gone))
+
+pub gone_begins : (plan : Content) (a : Actor) → HasGone plan (alone [] []) a (commands_of plan a)
+gone_begins plan a = record { gone = []; stop = None; split = refl; went = begins; stops = tt }
+
+pub gone_each : (plan : Content) (items : List Item) (stops other : List Stopped) (a : Actor) (left : List Step)
+    → stopped_at a other ≡ stopped_at a stops → HasGone plan (alone items stops) a left → HasGone plan (alone items other) a left
+gone_each plan items stops other a left is h =
+    record { gone = h.gone; stop = h.stop; split = h.split; went = h.went; stops = subst (IsStopOf h.stop) (sym is) h.stops }
+
+module _ (plan : Content) (s : Situation) (a : Actor) where
+  abbrev cluster : Cluster
+  cluster = cluster_of plan
+
+  -- ---- the turn of a command, or of a message
+
+  pub command_went : (event : Event) (fails : Bool) (command : Step) (left : List Step) → is_event_of command event ≡ true
+      → is_restart command ≡ false → HasGone plan s a (command ∷ left) → HasGone plan (tried_if fails cluster s a event) a left
+  command_went event true command left is other h =
+      record {
+        gone = command ∷ h.gone;
+        stop = Some command;
+        split = one_gone (commands_of plan a) h.gone command left h.split;
+        went = stopped a command s.own h.gone h.stop (same_itself a) other h.went;
+        stops = subst (IsStopOf (Some command)) (sym (stopped_own a event s)) is;
+      }
+  command_went event false command left is other h =
+      record {
+        gone = command ∷ h.gone;
+        stop = h.stop;
+        split = one_gone (commands_of plan a) h.gone command left h.split;
+        went = took (made cluster s a event false) command s.own h.gone h.stop (same_itself a, is, refl) other h.went;
+        stops = h.stops;
+      }
+
+  pub message_went : (event : Event) (fails : Bool) (left : List Step) → is_message event ≡ true → HasGone plan s a left
+      → HasGone plan (tried_if fails cluster s a event) a left
+  message_went event true left is h =
+      record {
+        gone = h.gone;
+        stop = None;
+        split = h.split;
+        went = went_down a s.own h.gone h.stop (same_itself a) h.went;
+        stops = subst (IsStopOf None) (sym (stopped_own a event s)) is;
+      }
+  message_went event false left is h =
+      record {
+        gone = h.gone;
+        stop = h.stop;
+        split = h.split;
+        went = delivered (made cluster s a event false) s.own h.gone h.stop (same_itself a, is, refl) h.went;
+        stops = h.stops;
+      }
+
+  -- of another actor
+  pub others_went : (b : Actor) (event : Event) (fails : Bool) (left : List Step) → same_actor a b ≡ false → HasGone plan s b left
+      → HasGone plan (tried_if fails cluster s a event) b left
+  others_went b event true left apart h =
+      record {
+        gone = h.gone;
+        stop = h.stop;
+        split = h.split;
+        went = aside (Down a) s.own h.gone h.stop apart h.went;
+        stops = subst (IsStopOf h.stop) (sym (stopped_other a b event s apart)) h.stops;
+      }
+  others_went b event false left apart h =
+      record {
+        gone = h.gone;
+        stop = h.stop;
+        split = h.split;
+        went = aside (entry_of cluster s a event false) s.own h.gone h.stop apart h.went;
+        stops = h.stops;
+      }
+
+  -- ---- restarts whose disk fails
+
+  pub stayed_down : (command : Step) (left : List Step) → is_restart command ≡ true → HasGone plan s a (command ∷ left)
+      → HasGone plan (with_item (Down a) s) a left
+  stayed_down command left is h =
+      record {
+        gone = command ∷ h.gone;
+        stop = h.stop;
+        split = one_gone (commands_of plan a) h.gone command left h.split;
+        went = stayed a command s.own h.gone h.stop (same_itself a) is h.went;
+        stops = h.stops;
+      }
+
+  pub others_stayed : (b : Actor) (left : List Step) → same_actor a b ≡ false → HasGone plan s b left → HasGone plan (with_item (Down a) s) b left
+  others_stayed b left apart h =
+      record { gone = h.gone; stop = h.stop; split = h.split; went = aside (Down a) s.own h.gone h.stop apart h.went; stops = h.stops }
+
+  -- ---- other restarts
+
+  -- the step that was kept is entered first
+  kept_went : (event : Event) (gone : List Step) (stop : Option Step) → IsStopOf stop (Some event) → Went a s.own gone stop
+      → Went a (entry_of cluster s a event true ∷ s.own) gone None
+  kept_went event gone None is went = kept_message (made cluster s a event true) s.own gone (same_itself a, is, refl) went
+  kept_went event gone (Some command) is went = kept (made cluster s a event true) command s.own gone (same_itself a, is, refl) went
+
+  comes_up : (command : Step) (count : ℕ) → is_restart command ≡ true → is_event_of command (RestartEvent count) ≡ true
+  comes_up (Begin txn) count is = absurd (true≢false (sym is))
+  comes_up (Deliver number) count is = absurd (true≢false (sym is))
+  comes_up (Drop number) count is = absurd (true≢false (sym is))
+  comes_up (Recover txn node) count is = absurd (true≢false (sym is))
+  comes_up (Slow txn) count is = absurd (true≢false (sym is))
+  comes_up (Restart actor choice) count is = refl
+  comes_up (Fail actor calls) count is = absurd (true≢false (sym is))
+  comes_up Drain count is = absurd (true≢false (sym is))
+
+  reopened_with : (command : Step) (left : List Step) → is_restart command ≡ true → (h : HasGone plan s a (command ∷ left)) (o : Option Event)
+      → IsStopOf h.stop o → HasGone plan (reopened cluster s a o) a left
+  reopened_with command left is h None fits =
+      record {
+        gone = command ∷ h.gone;
+        stop = None;
+        split = one_gone (commands_of plan a) h.gone command left h.split;
+        went = came_up (made cluster s a (RestartEvent 0) false) command s.own h.gone h.stop (same_itself a, comes_up command 0 is, refl) is h.went;
+        stops = subst (IsStopOf None) (sym (without_own a s.stopped)) tt;
+      }
+  reopened_with command left is h (Some event) fits =
+      record {
+        gone = command ∷ h.gone;
+        stop = None;
+        split = one_gone (commands_of plan a) h.gone command left h.split;
+        went =
+            came_up (made cluster (entered cluster s a event true) a (RestartEvent 1) false) command (entry_of cluster s a event true ∷ s.own) h.gone None (same_itself a, comes_up command 1 is, refl) is
+            (kept_went event h.gone h.stop fits h.went);
+        stops = subst (IsStopOf None) (sym (without_own a s.stopped)) tt;
+      }
+
+  pub reopened_went : (keeps : Bool) (command : Step) (left : List Step) → is_restart command ≡ true → HasGone plan s a (command ∷ left)
+      → HasGone plan (reopened cluster s a (kept_if keeps a s)) a left
+  reopened_went true command left is h = reopened_with command left is h (stopped_at a s.stopped) h.stops
+  reopened_went false command left is h = reopened_with command left is h None tt
+
+  pub others_reopened : (b : Actor) (o : Option Event) (left : List Step) → same_actor a b ≡ false → HasGone plan s b left
+      → HasGone plan (reopened cluster s a o) b left
+  others_reopened b None left apart h =
+      record {
+        gone = h.gone;
+        stop = h.stop;
+        split = h.split;
+        went = aside (entry_of cluster s a (RestartEvent 0) false) s.own h.gone h.stop apart h.went;
+        stops = subst (IsStopOf h.stop) (sym (without_other b a apart s.stopped)) h.stops;
+      }
+  others_reopened b (Some event) left apart h =
+      record {
+        gone = h.gone;
+        stop = h.stop;
+        split = h.split;
+        went =
+            aside (entry_of cluster (entered cluster s a event true) a (RestartEvent 1) false) (entry_of cluster s a event true ∷ s.own) h.gone h.stop apart
+            (aside (entry_of cluster s a event true) s.own h.gone h.stop apart h.went);
+        stops = subst (IsStopOf h.stop) (sym (without_other b a apart s.stopped)) h.stops;
+      }
+
+  -- ---- a command that is passed over
+
+  pub passed_over : (command : Step) (left : List Step) → s.earlier ≡ [] → IsPassed a (whole s) command → HasGone plan s a (command ∷ left)
+      → HasGone plan s a left
+  passed_over command left first is h =
+      record {
+        gone = command ∷ h.gone;
+        stop = h.stop;
+        split = one_gone (commands_of plan a) h.gone command left h.split;
+        went = passed command s.own h.gone h.stop (subst (λ items. IsPassed a items command) (whole_alone s first) is) h.went;
+        stops = h.stops;
+      }

@@ -1,0 +1,14 @@
+pub mod Others
+pub mod Between
+pub mod Fitting
+pub mod Alone
+pub mod Serving
+pub mod Over
+pub mod Going
+pub mod Turns
+pub mod Commands
+pub mod Steps
+pub mod Quiet
+pub mod Begun
+pub mod KeptOne
+pub mod Answered

@@ -1,0 +1,106 @@
+-- What holds of the items that an actor has seen holds with others' items, and what holds of each actor's stopped step holds of all.
+use Rattle.std.proofs.Common.{◌≡◌, true, false, List, [], ◌∷◌, ◌++◌, Option, Some, Contains, refl, sym, ◌∙◌, subst}
+use Rattle.acc_stamp.specs.declared.actors.Actor.{Actor}
+use Rattle.acc_message.specs.declared.entry.Event.{Event}
+use Rattle.acc_message.specs.declared.item.Item.{Item}
+use Rattle.acc_message.specs.NodeRules.{Act}
+use Rattle.acc_message.specs.Run.{Cluster, EachStands, kept_of, is_down, IsRun}
+use Rattle.acc_safety.specs.Valid.{IsValidCluster}
+use Rattle.acc_safety.proofs.Bridge.{same}
+use Rattle.acc_schedule.specs.Actors.{actors}
+use Rattle.acc_schedule.specs.Content.{Content}
+use Rattle.acc_schedule.specs.declared.plan.Step.{Step}
+use Rattle.acc_follow.specs.Situations.{Stopped, stopped_at}
+use Rattle.acc_follow.specs.Moves.{event_in}
+use Rattle.acc_follow.specs.Schedules.{cluster_of}
+use Rattle.acc_entering.specs.Entries.{entering, MayTake}
+use Rattle.acc_entering.specs.Pasts.{IsUntouched}
+use Rattle.acc_entering.specs.Stopped.{CanGoOn}
+use Rattle.acc_entering.proofs.Stops.{still}
+use Rattle.acc_served.specs.Turns.{Went, aside}
+use Rattle.acc_served.specs.FreeRun.{is_plain_event, IsUntaken, AreOthers, IsFreeRun, alone}
+use Rattle.acc_served.specs.Serving.{IsServing, HasGone, AreStopsOf}
+use Rattle.acc_served.proofs.Alone.{alone_whole, alone_event}
+use Rattle.acc_served.proofs.Fitting.{entry_fits}
+use Rattle.acc_served.proofs.Others.{NoEntries, untouched_by, may_over, no_entries, untaken_over, entering_over}
+use Rattle.acc_served.proofs.Serving.{can}
+
+-- ---- what an actor makes by what it has seen
+
+pub turn_fits : (plan : Content) (seen others : List Item) (a : Actor) (event : Event) (act : Act) → Contains (actors plan.topology) a
+    → AreOthers a others → MayTake (cluster_of plan) seen a event act → is_plain_event event ≡ true → kept_of event ≡ 0 → is_down a seen ≡ false
+    → IsUntaken seen event → IsFreeRun plan (others ++ seen) → IsFreeRun plan (entering (cluster_of plan) seen a event false ∷ others ++ seen)
+turn_fits plan seen others a event act there apart may plain none up untaken free =
+    let cluster : Cluster = cluster_of plan in
+    let past : IsUntouched cluster seen (others ++ seen) a = untouched_by cluster seen a others apart in
+    subst (λ item. IsFreeRun plan (item ∷ others ++ seen))
+    (entering_over cluster seen others a event act (no_entries a others apart) may.act_is false)
+    (entry_fits plan (others ++ seen) a there free event act (may_over cluster seen a event act others apart free.run.stands plain may) plain none
+    (past.down ∙ up) (untaken_over cluster seen a event act others apart free.run.stands may untaken))
+
+-- ---- turns
+
+pub went_over : (a : Actor) (seen others : List Item) (gone : List Step) (stop : Option Step) → AreOthers a others → Went a seen gone stop
+    → Went a (others ++ seen) gone stop
+went_over a seen [] gone stop apart went = went
+went_over a seen (item ∷ others) gone stop apart went =
+    aside item (others ++ seen) gone stop apart.0 (went_over a seen others gone stop apart.1 went)
+
+pub gone_over : (plan : Content) (seen others : List Item) (a : Actor) (stopped : List Stopped) (left : List Step) → AreOthers a others
+    → HasGone plan (alone seen stopped) a left → HasGone plan (alone (others ++ seen) stopped) a left
+gone_over plan seen others a stopped left apart h =
+    record { gone = h.gone; stop = h.stop; split = h.split; went = went_over a seen others h.gone h.stop apart h.went; stops = h.stops }
+
+-- ---- stopped steps
+
+still_over : (cluster : Cluster) (seen others : List Item) (a : Actor) (event : Event) → NoEntries a others → EachStands cluster (others ++ seen)
+    → CanGoOn cluster seen a event → CanGoOn cluster (others ++ seen) a event
+still_over cluster seen [] a event none stands can_go = can_go
+still_over cluster seen (item ∷ others) a event none stands can_go =
+    still cluster (others ++ seen) item a event stands.0 none.0 (still_over cluster seen others a event none.1 stands.1 can_go)
+
+-- the steps that were stopped can still be entered, each behind these items
+module _ (plan : Content) (items : List Item) (stopped : List Stopped) (valid : IsValidCluster (cluster_of plan)) (free : IsFreeRun plan items) where
+  pub serving_of : ((a : Actor) (event : Event) → stopped_at a stopped ≡ Some event → CanGoOn (cluster_of plan) items a event × IsUntaken items event)
+      → IsServing plan (alone items stopped)
+  serving_of each =
+      let cluster : Cluster = cluster_of plan in
+      let whole_is = sym (alone_whole items stopped) in
+      record {
+        earlier = refl;
+        dropped = refl;
+        sound = record {
+          valid = valid;
+          run = subst (IsRun cluster) whole_is free.run;
+          stopped = λ a event found.
+              subst (λ own. CanGoOn cluster own a (event_in (alone items stopped) event)) whole_is
+              (subst (CanGoOn cluster items a) (sym (alone_event items stopped event)) (each a event found).0);
+        };
+        free = free;
+        untaken = λ a event found. (each a event found).1;
+      }
+
+  pub serving_together : ((a : Actor) (event : Event) → stopped_at a stopped ≡ Some event
+      → (one : List Stopped) × (stopped_at a one ≡ Some event) × IsServing plan (alone items one)) → IsServing plan (alone items stopped)
+  serving_together each =
+      serving_of
+      (λ a event found.
+      let one = each a event found in
+      (can plan (alone items one.0) one.2 a event one.1, one.2.untaken a event one.1))
+
+pub serving_over : (plan : Content) (seen others : List Item) (a : Actor) (stopped : List Stopped) → AreOthers a others → AreStopsOf a stopped
+    → IsFreeRun plan (others ++ seen) → IsServing plan (alone seen stopped) → IsServing plan (alone (others ++ seen) stopped)
+serving_over plan seen others a stopped apart stops free h =
+    serving_of plan (others ++ seen) stopped h.sound.valid free
+    (λ b event found. subst (λ c. CanGoOn cluster (others ++ seen) c event × IsUntaken (others ++ seen) event) (same a b (stops b event found))
+    (over event (subst (λ c. stopped_at c stopped ≡ Some event) (sym (same a b (stops b event found))) found)))
+  where
+    cluster : Cluster
+    cluster = cluster_of plan
+
+    over : (event : Event) → stopped_at a stopped ≡ Some event → CanGoOn cluster (others ++ seen) a event × IsUntaken (others ++ seen) event
+    over event found =
+        let able : CanGoOn cluster seen a event = can plan (alone seen stopped) h a event found in (
+          still_over cluster seen others a event (no_entries a others apart) free.run.stands able,
+          untaken_over cluster seen a event able.act others apart free.run.stands able.may (h.untaken a event found),
+        )

@@ -1,0 +1,11 @@
+use Rattle.acc_served.proofs.Between.{down_between, stop_between, entry_between}
+use Rattle.acc_served.proofs.laws.others_come_between.Goals as goal
+
+pub returns-clause-entry : goal.returns-clause-entry
+returns-clause-entry c = λ cluster seen others a event act lost apart may. entry_between cluster seen others a apart event act may lost
+
+pub returns-clause-down : goal.returns-clause-down
+returns-clause-down c = down_between
+
+pub returns-clause-stop : goal.returns-clause-stop
+returns-clause-stop c = λ cluster seen others a event act apart may. stop_between cluster seen others a apart event act may
