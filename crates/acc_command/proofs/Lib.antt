@@ -4,3 +4,4 @@ pub mod LeavesFacts
 pub mod DueFacts
 pub mod StrictReports
 pub mod CalmReports
+mod GeneratedReports

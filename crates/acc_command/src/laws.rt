@@ -4,12 +4,16 @@ ghost use Rattle.acc_schedule.specs.Content.{Content};
 ghost use Rattle.acc_schedule.specs.Document.{Means};
 ghost use Rattle.acc_schedule.specs.Plan.{IsPlan};
 ghost use Rattle.acc_follow.specs.Laws.{EndsWithDrain};
+ghost use Rattle.acc_generated_runs.specs.Counts.{answered_text};
 ghost use Rattle.acc_report_line.specs.declared.line.Line.{Line};
 ghost use Rattle.acc_report_line.specs.Texts.{lines_text};
 ghost use Rattle.acc_command.specs.declared.words.Command.TheVariants.{Run};
 ghost use Rattle.acc_command.specs.declared.status.Status.{Status};
-ghost use Rattle.acc_command.specs.Command.{IsDue, IsReport, OverDisks};
+ghost use Rattle.acc_command.specs.Command.{IsDue, IsGenerated, IsReport, OverDisks};
+ghost use Rattle.acc_command.specs.Words.{IsGenerateLine};
 
+use acc_generated_runs::laws::generated_documents_are_answered;
+use acc_generator::laws::generated_documents_are_accepted;
 use acc_limits::laws::{a_limit_or_the_whole_over_strict_disks, one_limit_over_strict_disks};
 use acc_plan_laws::laws::plans_run_safely_over_strict_disks;
 use acc_ports::DiskMaker;
@@ -35,4 +39,15 @@ pub fn calm_reports_leave_none_open<M: DiskMaker>()
         (begun : ℕ) × (replied : ℕ) × (front : List ℕ) × (text ≡ front ++ lines_text (Line.End begun replied 0 ∷ [])) }
 {
     plans_run_safely_over_strict_disks();
+}
+
+/// What `gen --seed N --txns M` writes, given to `run` over strict disks: where the status is 0, the report ends with the line
+/// `end txns=M replied=M open=0`.
+pub fn generated_reports_leave_none_open<M: DiskMaker>()
+    ensures { (before after : List (ℕ × M.D)) (words : List (List ℕ)) (seed txns : ℕ) (bytes text : List ℕ) → IsGenerateLine words seed txns →
+        IsGenerated seed txns Status.Done bytes → IsDue (OverDisks M.D.faults M.D.is_image true before after) Run bytes Status.Done text →
+        (front : List ℕ) × (text ≡ front ++ answered_text txns) }
+{
+    generated_documents_are_accepted();
+    generated_documents_are_answered();
 }

@@ -1,5 +1,5 @@
 -- The texts of generated transactions are read as their bodies.
-use Rattle.std.proofs.Common.{◌≡◌, ◌⊎◌, ℕ, ◌+◌, ◌/◌, ◌%◌, ◌^◌, ◌<◌, ◌≤◌, Bool, true, false, ◌&&◌, List, [], ◌∷◌, ◌++◌, length, flat_map, nat_le, Ok, codes, decimal, inl, inr, refl, sym, ap, ap₂, ◌∙◌, arith, append_assoc, append-nil, lt-ltb, le-ltb, ne_eqb}
+use Rattle.std.proofs.Common.{◌≡◌, ◌⊎◌, ℕ, ◌+◌, ◌/◌, ◌%◌, ◌^◌, ◌<◌, ◌≤◌, Bool, true, false, ◌&&◌, cond, List, [], ◌∷◌, ◌++◌, length, flat_map, nat_le, nat_lt, Ok, codes, decimal, inl, inr, refl, sym, ap, ap₂, ◌∙◌, arith, append_assoc, append-nil, lt-ltb, le-ltb, ne_eqb}
 use Rattle.std.specs.declared.cmp.Ordering.TheVariants.{Less, Equal, Greater}
 use Rattle.std.specs.FinMap.Entries.{by_order}
 use Rattle.std.specs.Str.{is_utf8}
@@ -14,6 +14,7 @@ use Rattle.acc_txn.specs.Rules.{is_many, IsBody}
 use Rattle.acc_txn.specs.Words.{is_key}
 use Rattle.acc_print.specs.Canonical.{canonical_text, get_text, let_text, quoted_byte, set_text, where_text}
 use Rattle.acc_lang.specs.Reading.{reading}
+use Rattle.acc_lang.specs.Texts.{has_text_value}
 use Rattle.acc_lang.proofs.Obeys.{fits_from_rules}
 use Rattle.acc_lang.proofs.OnlyBody.{reading_only}
 use Rattle.acc_roundtrip.specs.Numbers.{IsSaid}
@@ -58,6 +59,26 @@ first_rules n lt = rw (key_kept n lt) refl
 
 later_rules : (read written added : ℕ) → read < 100 → written < 100 → IsBody (later_body read written added)
 later_rules read written added lt lt' = rw (few_uses (key_of read) (key_of written) _ _, key_kept read lt, key_kept written lt') refl
+
+-- each body keeps its rules
+pub rules_kept : (state number : ℕ) → IsBody (body_from state number)
+unfolding body_from
+rules_kept state number = cases (cases_lt number 64)
+  where
+    cases : (number < 64) ⊎ (64 ≤ number) → IsBody (body_from state number)
+    cases (inl lt) = rw (lt-ltb number 64 lt) (first_rules number (omega arith))
+    cases (inr le) =
+        rw (le-ltb number 64 le)
+        (later_rules (draw_after state 0 % 64) (draw_after state 1 % 64) (draw_after state 2 % 100) (small (draw_after state 0)) (small (draw_after state 1)))
+
+-- and has no text value
+pub numbers_alone : (state number : ℕ) → has_text_value (body_from state number) ≡ false
+unfolding body_from
+numbers_alone state number =
+    elim (nat_lt number 64) as (λ b. has_text_value (cond b (first_body number) (later_body (draw_after state 0 % 64) (draw_after state 1 % 64) (draw_after state 2 % 100))) ≡ false) [
+      | true ↦ refl
+      | false ↦ refl
+    ]
 
 first_said : (n : ℕ) → n < 100 → IsSaid false (first_body n)
 first_said n lt = rw (lt-ltb n (2 ^ 63) (omega arith)) refl

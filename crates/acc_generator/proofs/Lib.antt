@@ -5,6 +5,7 @@ pub mod Feed
 mod NameFacts
 mod PieceFacts
 mod PlanFacts
+mod PlanRules
 mod RuleFacts
 mod TextFacts
 pub mod Written

@@ -77,7 +77,7 @@ name_kept path before number few are =
     must_kept (is_name (name_of number) && is_new before (name_of number)) _
     (ap₂ (λ a b. a && b) (name_formed number few) (ap (λ (names : List (List ℕ)). is_new names (name_of number)) are ∙ name_new number few))
 
-one_of_three : (n : ℕ) → n < 3 → is_among all_nodes (1 + n) ≡ true
+pub one_of_three : (n : ℕ) → n < 3 → is_among all_nodes (1 + n) ≡ true
 one_of_three zero lt = refl
 one_of_three (suc zero) lt = refl
 one_of_three (suc (suc zero)) lt = refl

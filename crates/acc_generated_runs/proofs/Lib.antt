@@ -1,0 +1,4 @@
+mod FewReplies
+mod Begun
+mod Counted
+mod Generated
