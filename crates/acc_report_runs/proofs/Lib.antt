@@ -1,0 +1,9 @@
+mod Actors
+mod Known
+mod Reacting
+mod Noted
+mod FewNotes
+mod Replies
+mod Placed
+mod Sent
+mod Told
