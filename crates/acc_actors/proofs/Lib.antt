@@ -7,3 +7,4 @@ pub mod Nodes
 pub mod StoreRestarts
 pub mod StoreSteps
 pub mod Stores
+pub mod Weighed

@@ -1,3 +1,4 @@
 pub mod Stops
 pub mod Node
 pub mod Store
+pub mod Weighing

@@ -8,6 +8,7 @@ mod name;
 mod node;
 mod stops;
 mod store;
+mod weighing;
 
 pub use node::NodeActor;
 pub use stops::{Restarted, Unsent};

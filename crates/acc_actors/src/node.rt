@@ -30,7 +30,7 @@ use std::alloc::Global;
 pub struct NodeActor<D: Rig> {
     alloc: Global,
     name: NodeName,
-    state: NodeState<D>,
+    pub(crate) state: NodeState<D>,
     /// The step that was stopped, where the node is down by one.
     stopped: Option<Unsent>,
     /// How many draws the journal has besides, where the node is down.
@@ -39,7 +39,7 @@ pub struct NodeActor<D: Rig> {
 
 /// The node is down where it is broken or shut.
 #[derive(Debug, Drop)]
-enum NodeState<D: Rig> {
+pub(crate) enum NodeState<D: Rig> {
     Open(DurableNode<D>),
     Shut(D),
 }

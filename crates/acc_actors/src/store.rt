@@ -27,7 +27,7 @@ pub struct StoreActor<D: Rig> {
     alloc: Global,
     actor: Actor,
     version: u8,
-    state: StoreState<D>,
+    pub(crate) state: StoreState<D>,
     /// The message that was stopped, where the store is down by one.
     stopped: Option<Unsent>,
     /// How many messages the journal has besides, where the store is down.
@@ -36,7 +36,7 @@ pub struct StoreActor<D: Rig> {
 
 /// The store is down where it is broken or shut.
 #[derive(Debug, Drop)]
-enum StoreState<D: Rig> {
+pub(crate) enum StoreState<D: Rig> {
     Open(DurableStore<D>),
     Shut(D),
 }

@@ -38,11 +38,11 @@ use Rattle.acc_cluster.specs.Opened.{HasDone, HasTaken, AreActorsOf, IsEarlier, 
 -- ---- lists
 
 module _ {X : Type 0} (P : X → Type 0) where
-  all_push : (xs : List X) (x : X) → AllByRecursion P xs → P x → AllByRecursion P (xs ++ x ∷ [])
+  pub all_push : (xs : List X) (x : X) → AllByRecursion P xs → P x → AllByRecursion P (xs ++ x ∷ [])
   all_push [] x h one = (one, tt)
   all_push (first ∷ xs) x h one = (h.0, all_push xs x h.1 one)
 
-  all_before : (xs : List X) (x : X) → AllByRecursion P (xs ++ x ∷ []) → AllByRecursion P xs × P x
+  pub all_before : (xs : List X) (x : X) → AllByRecursion P (xs ++ x ∷ []) → AllByRecursion P xs × P x
   all_before [] x h = (tt, h.0)
   all_before (first ∷ xs) x h = let rest = all_before xs x h.1 in ((h.0, rest.0), rest.1)
 
@@ -50,7 +50,7 @@ module _ {X : Type 0} (P : X → Type 0) where
   all_seam [] x after h = h.0
   all_seam (first ∷ before) x after h = all_seam before x after h.1
 
-all_turn : {X : Type 0} (P Q : X → Type 0) → ((x : X) → P x → Q x) → (xs : List X) → AllByRecursion P xs → AllByRecursion Q xs
+pub all_turn : {X : Type 0} (P Q : X → Type 0) → ((x : X) → P x → Q x) → (xs : List X) → AllByRecursion P xs → AllByRecursion Q xs
 all_turn P Q turn [] h = tt
 all_turn P Q turn (x ∷ xs) h = (turn x h.0, all_turn P Q turn xs h.1)
 
@@ -60,7 +60,7 @@ all_turn P Q turn (x ∷ xs) h = (turn x h.0, all_turn P Q turn xs h.1)
 module _ {D : Type 0} (before after : List (Slot D)) (own : Actor) (slot : Slot D)
     (put : (k : ℕ) → slice_index_or after k Empty ≡ cond (k == own.0) slot (slice_index_or before k Empty)) where
   -- what holds of that slot and of the others
-  at_each : (P : Actor → Slot D → Type 0) → (IsTaken slot → P own slot) → ((a : Actor) → IsTaken (slot_at before a) → P a (slot_at before a))
+  pub at_each : (P : Actor → Slot D → Type 0) → (IsTaken slot → P own slot) → ((a : Actor) → IsTaken (slot_at before a) → P a (slot_at before a))
       → (a : Actor) → IsTaken (slot_at after a) → P a (slot_at after a)
   at_each P here there a = subst (λ x. IsTaken x → P a x) (sym (put a.0)) (by (a.0 == own.0) refl)
     where
@@ -73,14 +73,14 @@ module _ {D : Type 0} (before after : List (Slot D)) (own : Actor) (slot : Slot 
           number_to n = record { 0 = n }
       by false is taken = there a taken
 
-  still_taken : IsTaken slot → (a : Actor) → IsTaken (slot_at before a) → IsTaken (slot_at after a)
+  pub still_taken : IsTaken slot → (a : Actor) → IsTaken (slot_at before a) → IsTaken (slot_at after a)
   still_taken new a taken = subst IsTaken (sym (put a.0)) (by (a.0 == own.0))
     where
       by : (b : Bool) → IsTaken (cond b slot (slot_at before a))
       by true = new
       by false = taken
 
-  now_taken : IsTaken slot → IsTaken (slot_at after own)
+  pub now_taken : IsTaken slot → IsTaken (slot_at after own)
   now_taken new = subst IsTaken (sym (put own.0)) (subst (λ b. IsTaken (cond b slot (slot_at before own))) (sym (eq-eqb own.0 own.0 refl)) new)
 
 -- ---- actors as they were opened

@@ -1,7 +1,7 @@
 -- The homes of a plan's transactions.
-use Rattle.std.proofs.Common.{◌≡◌, ℕ, zero, suc, ◌+◌, ◌*◌, ◌<◌, ◌≤◌, IsTrue, List, [], ◌∷◌, length, unwrap_or, sym, ◌∙◌, ap, subst, arith}
+use Rattle.std.proofs.Common.{◌≡◌, ℕ, zero, suc, ◌+◌, ◌*◌, ◌<◌, ◌≤◌, true, IsTrue, List, [], ◌∷◌, Some, length, unwrap_or, sym, ◌∙◌, ap, subst, arith}
 use Rattle.std.specs.List.{slice_get, slice_index_or, AllByRecursion}
-use Rattle.std.proofs.lemmas.Option.{unwrap_or-slice_get}
+use Rattle.std.proofs.lemmas.Option.{unwrap_or-slice_get, slice_get-get_or}
 use Rattle.acc_stamp.specs.declared.actors.Actor.{Actor}
 use Rattle.acc_stamp.specs.Actor.{actor_of}
 use Rattle.acc_topology.specs.Sets.{is_among}
@@ -11,7 +11,7 @@ use Rattle.acc_schedule.specs.Content.{Content}
 use Rattle.acc_schedule.specs.Plan.{IsPlan}
 use Rattle.acc_follow.specs.Schedules.{cluster_of}
 
-each_read : {T : Type 0} (P : T → Type 0) (xs : List T) (i : ℕ) (d : T) → AllByRecursion P xs → i < length xs → P (slice_index_or xs i d)
+pub each_read : {T : Type 0} (P : T → Type 0) (xs : List T) (i : ℕ) (d : T) → AllByRecursion P xs → i < length xs → P (slice_index_or xs i d)
 each_read P [] i d all less = absurd (none less)
   where
     none : i < 0 → ⊥
@@ -29,10 +29,10 @@ pub at_is : (n : ℕ) → at n ≡ actor_of n 0
 at_is n = let e : n * 64 ≡ n * 64 + 0 = omega arith in ap (λ k. record { 0 = k }) e
 
 module _ (plan inside : Content) (homes : List ℕ) (txn : ℕ) (view : inside ≡ plan) (same : homes ≡ inside.homes) (valid : IsPlan inside) (less : txn < length plan.names) where
-  homes_are : homes ≡ plan.homes
+  pub homes_are : homes ≡ plan.homes
   homes_are = same ∙ ap (λ (p : Content). p.homes) view
 
-  within : txn < length plan.homes
+  pub within : txn < length plan.homes
   within =
       let inside_plan : IsPlan plan = subst IsPlan view valid in
       subst (λ n. txn < n) (sym inside_plan.homes_as_many) less
@@ -48,3 +48,12 @@ module _ (plan inside : Content) (homes : List ℕ) (txn : ℕ) (view : inside �
       ap (λ (l : List ℕ). at (slice_index_or l txn 0)) homes_are
       ∙ ap at (sym (unwrap_or-slice_get plan.homes txn 0))
       ∙ at_is (unwrap_or (slice_get plan.homes txn) 0)
+
+  pub home_at : slice_get plan.homes txn ≡ Some (slice_index_or homes txn 0)
+  home_at = slice_get-get_or plan.homes txn 0 within ∙ ap (λ (l : List ℕ). Some (slice_index_or l txn 0)) (sym homes_are)
+
+  pub home_known : is_among plan.topology.nodes (slice_index_or homes txn 0) ≡ true
+  home_known =
+      let inside_plan : IsPlan plan = subst IsPlan view valid in
+      subst (λ (l : List ℕ). IsTrue (is_among plan.topology.nodes (slice_index_or l txn 0))) (sym homes_are)
+      (each_read (λ home. IsTrue (is_among plan.topology.nodes home)) plan.homes txn 0 inside_plan.homes_known within)

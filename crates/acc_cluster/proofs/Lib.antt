@@ -10,6 +10,7 @@ pub mod Going
 pub mod Heavy
 pub mod Hits
 pub mod Homes
+pub mod HomesTell
 pub mod LeftDisks
 pub mod Next
 pub mod NodeSlots
@@ -23,6 +24,7 @@ pub mod Rounds
 pub mod Slots
 pub mod Stepped
 pub mod StoreSlots
+pub mod Stores
 pub mod Taken
 pub mod Takes
 pub mod Turns
@@ -34,3 +36,5 @@ pub mod Filled
 pub mod Placed
 pub mod NodeRange
 pub mod Unarmed
+pub mod Weighed
+pub mod OverSlots

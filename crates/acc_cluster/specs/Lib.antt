@@ -8,3 +8,5 @@ pub mod Tried
 pub mod Ends
 pub mod Opened
 pub mod Restarting
+pub mod Over
+pub mod Stores

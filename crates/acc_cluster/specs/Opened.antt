@@ -1,10 +1,12 @@
 -- What a cluster begins with.
-use Rattle.std.specs.Prelude.{◌≡◌, ℕ, Bool, false, List, [], ◌++◌, map, Option, None, Contains, IsTrue}
+use Rattle.std.specs.Prelude.{◌≡◌, ℕ, Bool, false, List, [], ◌++◌, map, Option, None, Some, Contains, IsTrue}
 use Rattle.std.specs.List.{AllByRecursion}
 use Rattle.acc_stamp.specs.declared.actors.Actor.{Actor}
+use Rattle.acc_stamp.specs.declared.stamps.TxnId.{TxnId}
 use Rattle.acc_stamp.specs.Actor.{actor_of}
 use Rattle.acc_journal.specs.Layout.{Reads}
 use Rattle.acc_message.specs.declared.item.Item.{Item}
+use Rattle.acc_message.specs.Items.{is_begun, id_of_txn}
 use Rattle.acc_message.specs.Run.{clock_start, deeds_of, taken_of, is_node, is_down}
 use Rattle.acc_actor_laws.specs.TakenAlone.{messages_taken}
 use Rattle.acc_safety.specs.RunLaws.{acts_done}
@@ -18,6 +20,7 @@ use Rattle.acc_durable.specs.Store as store
 use Rattle.acc_entering.specs.Stopped.{IsSound}
 use Rattle.acc_follow.specs.Situations.{opened}
 use Rattle.acc_follow.specs.Schedules.{cluster_of}
+use Rattle.acc_history.specs.Begun.{begun_as, known_as}
 use Rattle.acc_strict.specs.Disks.{fresh_disks}
 use Rattle.acc_ports.specs.Strict.{Ranges}
 use Rattle.acc_cluster.specs.Entering.{HasRoom}
@@ -67,6 +70,12 @@ pub record IsEarlier {D : Type 0} (plan : Content) (nodes : List (DurableNode D)
   pub up : (a : Actor) → is_down a earlier ≡ false
   pub nodes_did : AllByRecursion (HasDone plan earlier) nodes
   pub stores_did : AllByRecursion (HasTaken plan earlier) stores
+
+-- whatever run these nodes did their parts in, this is what it drew for the transaction with this number, if it has begun it
+abbrev pub TellsOf : {D : Type 0} → Content → List (DurableNode D) → ℕ → Option TxnId → Type 0
+TellsOf plan nodes txn id =
+    (earlier : List Item) → IsSound (cluster_of plan) (opened earlier) → AllByRecursion (HasDone plan earlier) nodes
+    → known_as (Some id) ≡ begun_as (is_begun earlier txn) (id_of_txn earlier txn)
 
 -- all disks are strict, and nothing is armed there
 abbrev pub IsUnarmed : {D : Type 0} → (D → Bool) → (D → Option ℕ) → D → Type 0

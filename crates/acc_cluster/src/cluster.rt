@@ -1,8 +1,9 @@
 //! The steps of a schedule.
-ghost use Rattle.std.specs.Prelude.{◌≡◌, reverse, map, length, IfErr, OnOk};
+ghost use Rattle.std.specs.Prelude.{◌≡◌, reverse, map, length, IfErr, OnOk, IfSome, None};
 ghost use Rattle.std.specs.Arc.{arc_value};
 ghost use Rattle.acc_stamp.specs.declared.actors.Actor.{Actor as AnActor};
 ghost use Rattle.acc_message.specs.declared.error.Which.{Which as AWhich};
+ghost use Rattle.acc_message.specs.Items.{is_begun};
 ghost use Rattle.acc_message.specs.Run.{is_down};
 ghost use Rattle.acc_schedule.specs.Content.{Content};
 ghost use Rattle.acc_schedule.specs.Plan.{IsStep};
@@ -16,6 +17,7 @@ use acc_message::{Item, RunError};
 use acc_ports::Rig;
 use acc_schedule::{Plan, Step};
 use acc_stamp::Actor;
+use acc_store::Store;
 use std::alloc::Global;
 use std::sync::Arc;
 
@@ -30,6 +32,7 @@ pub struct Cluster<D: Rig> {
 
 impl<D: Rig + Drop> Cluster<D> {
     ghost use Rattle.acc_cluster.specs.Stands.{StandsFor, StandsStrictly};
+    ghost use Rattle.acc_cluster.specs.Stores.{IsStoreUp, IsStoreOf};
     ghost use Rattle.acc_cluster.specs.Steps.{StepsTo, StepsStrictly, IfLimit, EndsIn, EndsStrictlyIn};
 
     /// Takes the step of the schedule that has this number. After an error no step may follow. Where the step enters an item, one more has
@@ -73,5 +76,25 @@ impl<D: Rig + Drop> Cluster<D> {
         ensures { (plan : Content) (s : Situation) → StandsFor D.is_image D.faults plan self.now s → result ≡ is_down actor (whole s) }
     {
         self.history.is_down(actor)
+    }
+
+    /// Whether the transaction with this number was begun.
+    pub fn is_begun(&self, txn: u32) -> bool
+        ensures { (plan : Content) (s : Situation) → StandsFor D.is_image D.faults plan self.now s → result ≡ is_begun (whole s) txn }
+    {
+        self.history.is_begun(txn)
+    }
+
+    /// The store with this number, where it is up. `None` comes exactly where the actor is no store of the plan or is down.
+    pub fn store(&self, actor: Actor) -> Option<&Store>
+        ensures some { IfSome result (λ store. (plan : Content) (s : Situation) → StandsFor D.is_image D.faults plan self.now s
+            → IsStoreUp plan s actor × IsStoreOf plan s actor store.now) }
+        ensures none { result ≡ None → (plan : Content) (s : Situation) → StandsFor D.is_image D.faults plan self.now s → IsStoreUp plan s actor → ⊥ }
+    {
+        let place = actor.0 as usize;
+        if place >= self.slots.len() {
+            return None;
+        }
+        self.slots[place].store()
     }
 }

@@ -4,14 +4,20 @@
 //! disks gave; over strict disks the plan alone fixes it.
 #![tactic(auto)]
 
+mod begun;
 mod cluster;
 mod draining;
 mod ending;
 mod entering;
+mod fresh;
 mod opening;
+mod over;
 mod restarting;
 mod slot;
 mod stepping;
+mod weighing;
 
 pub use cluster::Cluster;
 pub use ending::{Disks, Ended};
+pub use over::Slots;
+pub use slot::Slot;

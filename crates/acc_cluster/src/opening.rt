@@ -11,6 +11,7 @@ ghost use Rattle.acc_durable.specs.declared.store.DurableStore.{DurableStore as 
 ghost use Rattle.acc_cluster.specs.Opened.{IsNodeOf, IsStoreOf, IsStoreNumber, AreActorsOf, IsEarlier, AreUnarmed, AreFilled, AreFilledStrictly};
 ghost use Rattle.acc_cluster.specs.declared.slot.Slot.TheVariants.{Empty};
 
+use crate::begun::begun_before;
 use crate::cluster::Cluster;
 use crate::slot::Slot;
 use acc_actors::{NodeActor, StoreActor};
@@ -27,8 +28,8 @@ use std::alloc::Global;
 impl<D: Rig + Drop> Cluster<D> {
     ghost use Rattle.acc_cluster.specs.Stands.{StandsFor, StandsStrictly};
 
-    /// The cluster of the actors of a plan, behind any run that stood before and for which these actors stand. From fresh actors that is none.
-    /// The nodes stand in rising order, and the stores in any order.
+    /// The cluster of the actors of a plan, behind any run that stood before, in which nobody is down and for which these actors stand. Of fresh
+    /// actors that run has no items. The nodes stand in rising order, and the stores in any order.
     pub fn of(
         alloc: Global,
         plan: &Plan,
@@ -38,13 +39,14 @@ impl<D: Rig + Drop> Cluster<D> {
         requires nodes { AllByRecursion (IsNodeOf D.is_image plan.now) nodes.items }
         requires stores { AllByRecursion (IsStoreOf D.is_image plan.now) stores.items }
         requires actors { AreActorsOf plan.now nodes.items stores.items }
-        ensures ok { IfOk result (λ cluster. (earlier : List AnItem) → IsEarlier plan.now nodes.items stores.items earlier → earlier ≡ []
+        ensures ok { IfOk result (λ cluster. (earlier : List AnItem) → IsEarlier plan.now nodes.items stores.items earlier
             → StandsFor D.is_image D.faults plan.now cluster (opened earlier)) }
-        ensures strict { IfOk result (λ cluster. (earlier : List AnItem) → IsEarlier plan.now nodes.items stores.items earlier → earlier ≡ []
+        ensures strict { IfOk result (λ cluster. (earlier : List AnItem) → IsEarlier plan.now nodes.items stores.items earlier
             → AreUnarmed D.strict D.armed nodes.items stores.items
             → StandsStrictly D.is_image D.faults D.strict D.armed D.content D.synced D.written plan.now cluster (opened_strictly earlier)) }
     {
-        let history = History::new(alloc)?;
+        let begun = begun_before(alloc, plan, nodes.as_slice())?;
+        let history = History::behind(alloc, begun.as_slice())?;
         let placed = node_slots(alloc, plan, nodes)?;
         let slots = with_stores(alloc, plan, placed, stores)?;
         Ok(Cluster {
@@ -143,8 +145,8 @@ fn put_store<D: Rig + Drop>(
     put(slots, own.0, Slot::Store(opened))
 }
 
-// Puts an actor into the slot with this number.
-fn put<D: Rig + Drop>(
+/// Puts an actor into the slot with this number.
+pub(crate) fn put<D: Rig + Drop>(
     slots: &mut Vec<Slot<D>>,
     number: u32,
     slot: Slot<D>,
@@ -168,8 +170,8 @@ fn make_room<D: Rig + Drop>(slots: &mut Vec<Slot<D>>, place: usize) -> Result<()
     Ok(())
 }
 
-// The numbers of a set, rising.
-fn numbers_of(alloc: Global, set: NodeSet) -> Result<Vec<u32>, OutOfMemory>
+/// The numbers of a set, rising.
+pub(crate) fn numbers_of(alloc: Global, set: NodeSet) -> Result<Vec<u32>, OutOfMemory>
     ensures { IfOk result (λ numbers. numbers.items ≡ members set) }
 {
     let mut numbers = Vec::new(alloc);
@@ -189,8 +191,8 @@ fn put_member(numbers: &mut Vec<u32>, set: NodeSet, number: u32) -> Result<(), O
     Ok(())
 }
 
-// Where the clock of a node starts.
-fn start_of(starts: &[NodeSpec], node: u32) -> u64
+/// Where the clock of a node starts.
+pub(crate) fn start_of(starts: &[NodeSpec], node: u32) -> u64
     ensures { result ≡ clock_start starts.now node }
 {
     for spec in starts {

@@ -1,5 +1,5 @@
 //! Where actors are kept, and what they are asked for there.
-ghost use Rattle.std.specs.Prelude.{◌≡◌, ◌≢◌, ℕ, ◌≤◌, ◌^◌, ◌<◌, Bool, true, false, not, Contains, IfOk, IfErr, OnErr, is_none, Option as Maybe, Ok, Err, None, Some};
+ghost use Rattle.std.specs.Prelude.{◌≡◌, ◌≢◌, ℕ, ◌≤◌, ◌^◌, ◌<◌, Bool, true, false, not, Contains, IfOk, IfErr, OnErr, IfSome, is_none, Option as Maybe, Ok, Err, None, Some};
 ghost use Rattle.acc_stamp.specs.declared.actors.Actor.{Actor as AnActor};
 ghost use Rattle.acc_ports.specs.Faults.{Rose};
 ghost use Rattle.acc_message.specs.declared.message.Message.{Message as AMessage};
@@ -7,10 +7,11 @@ ghost use Rattle.acc_message.specs.declared.entry.Event.{Event as AnEvent};
 ghost use Rattle.acc_message.specs.declared.item.Skip.{Skip as ASkip};
 ghost use Rattle.acc_message.specs.Items.{message_at, id_of_txn};
 ghost use Rattle.acc_message.specs.NodeRules.{Act, Begins, Recovers, Slows, Takes};
-ghost use Rattle.acc_message.specs.Run.{is_down};
+ghost use Rattle.acc_message.specs.Run.{is_node, is_down};
 ghost use Rattle.acc_node.specs.declared.error.NodeError.{NodeError as Refused};
 ghost use Rattle.acc_safe_runs.specs.Asks.{slow_skip, home_of_txn};
 ghost use Rattle.acc_schedule.specs.Actors.{actors};
+ghost use Rattle.acc_schedule.specs.Content.{Content};
 ghost use Rattle.acc_entering.specs.Stopped.{IsSound};
 ghost use Rattle.acc_follow.specs.Situations.{Situation, whole};
 ghost use Rattle.acc_follow.specs.Moves.{entered};
@@ -25,12 +26,13 @@ use acc_numbers_alone::laws::messages_have_numbers_alone;
 use acc_ports::Rig;
 use acc_schedule::Plan;
 use acc_stamp::{Actor, TxnId};
+use acc_store::Store;
 use acc_txn::Body;
 
-/// What stands at the number of an actor.
+/// An actor of a plan over its disk, in the slot that is kept for it.
 #[derive(Debug, Drop)]
-pub(crate) enum Slot<D: Rig> {
-    /// No actor of the plan has this number, or it is being restarted.
+pub enum Slot<D: Rig> {
+    /// No actor stands here, or it is being restarted.
     Empty,
     /// A node.
     Node(NodeActor<D>),
@@ -39,11 +41,12 @@ pub(crate) enum Slot<D: Rig> {
 }
 
 impl<D: Rig> Slot<D> {
-    ghost use Rattle.acc_cluster.specs.Slots.{SlotStands, IsStrictSlot, faults_in};
+    ghost use Rattle.acc_cluster.specs.Slots.{SlotStands, IsStrictSlot, IsTaken, faults_in};
+    ghost use Rattle.acc_cluster.specs.Stores.{IsStoreOf};
     ghost use Rattle.acc_cluster.specs.Asked.{IsFew, IsAsked, MayAsk, IsHomeUp, IsSlowRefused, skips_slow, HasTried, HasTriedStrictly, HasRestartedAt, HasRestartedStrictlyAt};
 
     /// The node begins a transaction. `None` where its disk failed, which takes it down.
-    pub(crate) fn begin(
+    pub fn begin(
         &mut self,
         plan: &Plan,
         actor: Actor,
@@ -66,7 +69,7 @@ impl<D: Rig> Slot<D> {
     }
 
     /// The node recovers a transaction. `None` where its disk failed, which takes it down.
-    pub(crate) fn recover(
+    pub fn recover(
         &mut self,
         plan: &Plan,
         actor: Actor,
@@ -111,7 +114,7 @@ impl<D: Rig> Slot<D> {
     }
 
     /// The actor takes the message with this number. `None` where its disk failed, which takes it down.
-    pub(crate) fn take(
+    pub fn take(
         &mut self,
         plan: &Plan,
         actor: Actor,
@@ -135,6 +138,31 @@ impl<D: Rig> Slot<D> {
         }
     }
 
+    /// Whether the actor is down.
+    pub fn is_down(&self) -> bool
+        ensures { (plan : Content) (s : Situation) (a : AnActor) → SlotStands D.is_image D.faults plan s a self.now → result ≡ is_down a (whole s) }
+    {
+        match self {
+            Slot::Empty => true,
+            Slot::Node(node) => node.is_down(),
+            Slot::Store(store) => store.is_down(),
+        }
+    }
+
+    /// The store, where one is up.
+    pub(crate) fn store(&self) -> Option<&Store>
+        ensures taken { IfSome result (λ store. IsTaken self.now) }
+        ensures some { IfSome result (λ store. (plan : Content) (s : Situation) (a : AnActor) → IsSound (cluster_of plan) s → SlotStands D.is_image D.faults plan s a self.now
+            → (is_node a ≡ false) × (is_down a (whole s) ≡ false) × IsStoreOf plan s a store.now) }
+        ensures none { result ≡ None → (plan : Content) (s : Situation) (a : AnActor) → SlotStands D.is_image D.faults plan s a self.now
+            → is_node a ≡ false → is_down a (whole s) ≡ false → ⊥ }
+    {
+        match self {
+            Slot::Store(store) => store.store(),
+            Slot::Empty | Slot::Node(_) => None,
+        }
+    }
+
     /// Arms a call of the actor's disk.
     pub(crate) fn arm(&mut self, plan: &Plan, actor: Actor, calls: u64)
         ensures stands { (s : Situation) → SlotStands D.is_image D.faults plan.now s actor self.old → SlotStands D.is_image D.faults plan.now s actor self.new }
@@ -151,7 +179,7 @@ impl<D: Rig> Slot<D> {
     }
 
     /// Crashes the actor's disk, in the way of the choice, and opens the actor again.
-    pub(crate) fn restart(
+    pub fn restart(
         self,
         plan: &Plan,
         actor: Actor,

@@ -188,14 +188,23 @@ impl History {
         ensures still_stands { OnErr result ((s : Situation) → StandsFor self.old s → StandsFor self.new s) }
         ensures still_weighed { OnErr result ((s : Situation) → IsWeighed self.old s → IsWeighed self.new s) }
     {
-        let alloc = *self.items.allocator();
+        let shared = Arc::new(*self.items.allocator(), item)?;
+        self.add_shared(shared, weight)
+    }
+
+    /// The same of an item that is shared.
+    pub fn add_shared(&mut self, item: Arc<Item>, weight: u64) -> Result<(), OutOfMemory>
+        ensures stands { OnOk result ((s : Situation) → StandsFor self.old s → TakesSent s (arc_value item) → StandsFor self.new (with_item (arc_value item) s)) }
+        ensures weighed { OnOk result ((s : Situation) → IsWeighed self.old s → weight ≡ weight_of (arc_value item) → IsWeighed self.new (with_item (arc_value item) s)) }
+        ensures still_stands { OnErr result ((s : Situation) → StandsFor self.old s → StandsFor self.new s) }
+        ensures still_weighed { OnErr result ((s : Situation) → IsWeighed self.old s → IsWeighed self.new s) }
+    {
         let weight = self.weight.checked_add(weight).ok_or(OutOfMemory)?;
-        let shared = Arc::new(alloc, item)?;
         self.items.reserve(1)?;
-        prepare(&mut self.waiting, &mut self.begun, &*shared)?;
-        enter(&mut self.waiting, &*shared, self.items.len() as u64);
+        prepare(&mut self.waiting, &mut self.begun, &*item)?;
+        enter(&mut self.waiting, &*item, self.items.len() as u64);
         self.weight = weight;
-        self.items.push_reserved(shared);
+        self.items.push_reserved(item);
         Ok(())
     }
 }

@@ -172,14 +172,14 @@ module _ {D : Type 0} (images : D → List ℕ → Type 0) (plan : Content) wher
 
   module _ {E : Type 0} (faults : D → ℕ) (nodes : List (DurableNode D)) (stores : List (DurableStore D)) (none : IsEarlier plan nodes stores []) where
     pub opened_stands : (r : Result (Cluster D) E)
-        → IfOk r (λ cluster. (earlier : List Item) → IsEarlier plan nodes stores earlier → earlier ≡ [] → StandsFor images faults plan cluster (opened earlier))
+        → IfOk r (λ cluster. (earlier : List Item) → IsEarlier plan nodes stores earlier → StandsFor images faults plan cluster (opened earlier))
         → IfOk r (λ cluster. StandsFor images faults plan cluster (opened []))
-    opened_stands (Ok cluster) stands = stands [] none refl
+    opened_stands (Ok cluster) stands = stands [] none
     opened_stands (Err e) stands = tt
 
     pub opened_stands_strictly : (strict : D → Bool) (armed : D → Option ℕ) (content synced : D → List ℕ) (written : D → Ranges) → AreUnarmed strict armed nodes stores → (r : Result (Cluster D) E)
-        → IfOk r (λ cluster. (earlier : List Item) → IsEarlier plan nodes stores earlier → earlier ≡ [] → AreUnarmed strict armed nodes stores
+        → IfOk r (λ cluster. (earlier : List Item) → IsEarlier plan nodes stores earlier → AreUnarmed strict armed nodes stores
         → StandsStrictly images faults strict armed content synced written plan cluster (opened_strictly earlier))
         → IfOk r (λ cluster. StandsStrictly images faults strict armed content synced written plan cluster (opened_strictly []))
-    opened_stands_strictly strict armed content synced written unarmed (Ok cluster) stands = stands [] none refl unarmed
+    opened_stands_strictly strict armed content synced written unarmed (Ok cluster) stands = stands [] none unarmed
     opened_stands_strictly strict armed content synced written unarmed (Err e) stands = tt

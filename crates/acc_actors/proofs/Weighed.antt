@@ -1,0 +1,96 @@
+-- What an actor that is up would send is what its durable node or store would send.
+use Rattle.std.proofs.Common.{◌≡◌, ◌≤◌, ◌<◌, ◌^◌, ℕ, false, List, Result, Ok, Err, sym, ◌∙◌, subst}
+use Rattle.std.specs.Prelude.{IfOk, All}
+use Rattle.acc_stamp.specs.declared.actors.Actor.{Actor}
+use Rattle.acc_topology.specs.Layout.{Layout}
+use Rattle.acc_message.specs.declared.message.Message.{Message}
+use Rattle.acc_message.specs.NodeRules.{Act, Takes, node_emits, node_replay}
+use Rattle.acc_message.specs.StoreRules.{store_answer, replay}
+use Rattle.acc_message_code.specs.Short.{IsShortMessage}
+use Rattle.acc_message_code.specs.Weight.{weight_of_all}
+use Rattle.acc_node.specs.Weighing.{SendsShort, node_sends}
+use Rattle.acc_node.proofs.Clocks.{number_is}
+use Rattle.acc_store.specs.Weighing as store_weighing
+use Rattle.acc_durable.specs.declared.node.DurableNode.{DurableNode}
+use Rattle.acc_durable.specs.declared.store.DurableStore.{DurableStore}
+use Rattle.acc_durable.specs.Node as durable
+use Rattle.acc_durable.specs.Store as durable_store
+use Rattle.acc_actors.specs.declared.node.NodeState.TheVariants.{Open}
+use Rattle.acc_actors.specs.declared.node.NodeActor.{NodeActor}
+use Rattle.acc_actors.specs.declared.store.StoreState.TheVariants.{Open as OpenStore}
+use Rattle.acc_actors.specs.declared.store.StoreActor.{StoreActor}
+use Rattle.acc_actors.specs.Stops.{Past}
+use Rattle.acc_actors.specs.Node as node
+use Rattle.acc_actors.specs.Store as store_actor
+use Rattle.acc_actors.specs.Weighing.{NodeMayWeigh, StoreMayWeigh}
+use Rattle.acc_actors.proofs.Nodes as nodes
+use Rattle.acc_actors.proofs.Stores as stores
+
+-- ---- a node
+
+module _ {D : Type 0} (images : D → List ℕ → Type 0) (layout : Layout) (actor : NodeActor D) (n : DurableNode D) (is : actor.state ≡ Open n) (sound : node.is_down actor ≡ false) where
+  up_here : (number start version : ℕ) (past : Past Act) → node.StandsFor images layout number start version past actor → node.IsUp layout number start version past n
+  up_here number start version past stands = nodes.up_in layout number start version past actor.state n is (stands.up sound)
+
+  -- its clock draws for the node
+  pub few_nodes : (number start version : ℕ) (past : Past Act) → actor.name.number ≤ 15 → node.StandsFor images layout number start version past actor → n.node.clock.node ≤ 15
+  few_nodes number start version past few stands =
+      let up : node.IsUp layout number start version past n = up_here number start version past stands in
+      subst (λ (k : ℕ). k ≤ 15) (stands.number_is ∙ sym up.number_is ∙ sym (number_is layout n.number n.start n.node past.acts up.stands.stands)) few
+
+  pub sends_short : (m : Message) → NodeMayWeigh images layout actor m → SendsShort layout n.node (Takes m)
+  sends_short m may =
+      let up : node.IsUp layout may.number may.start may.version may.past n = up_here may.number may.start may.version may.past may.stands in
+      record {
+        number = n.number;
+        start = n.start;
+        acts = may.past.acts;
+        stands = up.stands.stands;
+        short =
+            nodes.by_own (λ a b c. All IsShortMessage (node_sends layout a b may.past.acts (Takes m))) may.number may.start may.version n.number n.start n.version
+            (sym up.number_is) (sym up.start_is) (sym up.version_is) may.short;
+        fits =
+            nodes.by_own (λ a b c. weight_of_all (node_sends layout a b may.past.acts (Takes m)) < 2 ^ 64) may.number may.start may.version n.number n.start n.version
+            (sym up.number_is) (sym up.start_is) (sym up.version_is) may.fits;
+      }
+
+  pub weighs : {E : Type 0} (act : Act) (r : Result ℕ E)
+      → IfOk r (λ weight. (acts : List Act) → durable.StandsFor layout n acts → weight ≡ weight_of_all (node_emits layout n.number n.start (node_replay layout n.number n.start acts) act).out)
+      → IfOk r (λ weight. (number start version : ℕ) (past : Past Act) → node.StandsFor images layout number start version past actor
+      → weight ≡ weight_of_all (node.emits_next layout number start past act).out)
+  weighs act (Ok weight) is_weight = λ number start version past stands.
+      let up : node.IsUp layout number start version past n = up_here number start version past stands in
+      nodes.by_own (λ a b c. weight ≡ weight_of_all (node_emits layout a b (node_replay layout a b past.acts) act).out) n.number n.start n.version number start version
+      up.number_is up.start_is up.version_is (is_weight past.acts up.stands)
+  weighs act (Err e) is_weight = tt
+
+-- ---- a store
+
+module _ {D : Type 0} (images : D → List ℕ → Type 0) (layout : Layout) (actor : StoreActor D) (s : DurableStore D) (is : actor.state ≡ OpenStore s) (sound : store_actor.is_down actor ≡ false) where
+  store_here : (own : Actor) (version : ℕ) (past : Past Message) → store_actor.StandsFor images layout own version past actor → store_actor.IsUp layout own version past s
+  store_here own version past stands = stores.up_in layout own version past actor.state s is (stands.up sound)
+
+  pub store_can : (m : Message) → StoreMayWeigh images layout actor m → stores.CanTake s m
+  store_can m may = stores.can_take images layout actor s m is sound may.may
+
+  pub store_sends_short : (m : Message) → StoreMayWeigh images layout actor m → store_weighing.SendsShort layout s.store m
+  store_sends_short m may =
+      let up : store_actor.IsUp layout may.own may.version may.past s = store_here may.own may.version may.past may.stands in
+      record {
+        messages = may.past.acts;
+        stands = up.stands.stands;
+        short =
+            subst (λ (own : Actor). All IsShortMessage (store_answer layout own (replay layout own may.past.acts) m)) (sym up.own_is) may.short;
+        fits =
+            subst (λ (own : Actor). weight_of_all (store_answer layout own (replay layout own may.past.acts) m) < 2 ^ 64) (sym up.own_is) may.fits;
+      }
+
+  pub store_weighs : {E : Type 0} (m : Message) (r : Result ℕ E)
+      → IfOk r (λ weight. (messages : List Message) → durable_store.StandsFor layout s messages
+      → weight ≡ weight_of_all (store_answer layout (durable_store.actor_in s) (replay layout (durable_store.actor_in s) messages) m))
+      → IfOk r (λ weight. (own : Actor) (version : ℕ) (past : Past Message) → store_actor.StandsFor images layout own version past actor
+      → weight ≡ weight_of_all (store_actor.emits_next layout own past m).out)
+  store_weighs m (Ok weight) is_weight = λ own version past stands.
+      let up : store_actor.IsUp layout own version past s = store_here own version past stands in
+      subst (λ (a : Actor). weight ≡ weight_of_all (store_answer layout a (replay layout a past.acts) m)) up.own_is (is_weight past.acts up.stands)
+  store_weighs m (Err e) is_weight = tt

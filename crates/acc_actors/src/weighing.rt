@@ -1,0 +1,88 @@
+//! How much an actor that is up would send. Nothing here makes a call of a disk.
+ghost use Rattle.std.specs.Prelude.{◌≡◌, false, ℕ, IfOk};
+ghost use Rattle.acc_stamp.specs.declared.actors.Actor.{Actor as Name};
+ghost use Rattle.acc_message.specs.declared.message.Message.{Message as Told};
+ghost use Rattle.acc_message.specs.NodeRules.{Act, Begins, Recovers, Takes};
+ghost use Rattle.acc_message_code.specs.Weight.{weight_of_all};
+ghost use Rattle.acc_actors.specs.Stops.{Past};
+
+use crate::node::{NodeActor, NodeState};
+use crate::store::{StoreActor, StoreState};
+use acc_base::OutOfMemory;
+use acc_message::Message;
+use acc_ports::Rig;
+use acc_stamp::TxnId;
+use acc_topology::Topology;
+use acc_txn::Body;
+
+impl<D: Rig> NodeActor<D> {
+    ghost use Rattle.acc_actors.specs.Node.{StandsFor, MayBegin, MayRecover, emits_next, is_down};
+    ghost use Rattle.acc_actors.specs.Weighing.{NodeMayWeigh};
+
+    /// How many bytes of encoded messages a begin would send now, of a transaction that the node hasn't begun.
+    pub fn weigh_begin(
+        &self,
+        topology: &Topology,
+        txn: u32,
+        body: &Body,
+    ) -> Result<u64, OutOfMemory>
+        requires up { is_down self.now ≡ false }
+        requires may { MayBegin D.is_image topology.now self.now txn }
+        ensures { IfOk result (λ weight. (number start version : ℕ) (past : Past Act) → StandsFor D.is_image topology.now number start version past self.now
+            → weight ≡ weight_of_all (emits_next topology.now number start past (Begins txn body.now)).out) }
+    {
+        let NodeState::Open(node) = &self.state else {
+            unreachable!()
+        };
+        node.weigh_begin(topology, txn, body)
+    }
+
+    /// The same of a recover.
+    pub fn weigh_recover(
+        &self,
+        topology: &Topology,
+        id: TxnId,
+        body: &Body,
+    ) -> Result<u64, OutOfMemory>
+        requires up { is_down self.now ≡ false }
+        requires may { MayRecover D.is_image topology.now self.now }
+        ensures { IfOk result (λ weight. (number start version : ℕ) (past : Past Act) → StandsFor D.is_image topology.now number start version past self.now
+            → weight ≡ weight_of_all (emits_next topology.now number start past (Recovers id body.now)).out) }
+    {
+        let NodeState::Open(node) = &self.state else {
+            unreachable!()
+        };
+        node.weigh_recover(topology, id, body)
+    }
+
+    /// The same of a message.
+    pub fn weigh_take(&self, topology: &Topology, m: &Message) -> Result<u64, OutOfMemory>
+        requires up { is_down self.now ≡ false }
+        requires may { NodeMayWeigh D.is_image topology.now self.now m.now }
+        ensures { IfOk result (λ weight. (number start version : ℕ) (past : Past Act) → StandsFor D.is_image topology.now number start version past self.now
+            → weight ≡ weight_of_all (emits_next topology.now number start past (Takes m.now)).out) }
+    {
+        let NodeState::Open(node) = &self.state else {
+            unreachable!()
+        };
+        node.weigh_step(topology, m)
+    }
+}
+
+impl<D: Rig> StoreActor<D> {
+    ghost use Rattle.acc_actors.specs.Store.{StandsFor, emits_next, is_down};
+    ghost use Rattle.acc_actors.specs.Weighing.{StoreMayWeigh};
+
+    /// How many bytes of encoded messages the store would send now for a message that it may take.
+    pub fn weigh(&self, topology: &Topology, m: &Message) -> Result<u64, OutOfMemory>
+        requires up { is_down self.now ≡ false }
+        requires may { StoreMayWeigh D.is_image topology.now self.now m.now }
+        ensures { IfOk result (λ weight. (own : Name) (version : ℕ) (past : Past Told) → StandsFor D.is_image topology.now own version past self.now
+            → weight ≡ weight_of_all (emits_next topology.now own past m.now).out) }
+    {
+        let StoreState::Open(store) = &self.state else {
+            unreachable!()
+        };
+        store.weigh(topology, m)
+    }
+}

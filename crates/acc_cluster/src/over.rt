@@ -1,0 +1,93 @@
+//! A cluster over actors that stand already.
+ghost use Rattle.std.specs.Prelude.{◌≡◌, List, reverse, IfOk};
+ghost use Rattle.acc_message.specs.Items.{sent_in};
+ghost use Rattle.acc_message_code.specs.Weight.{weight_of};
+ghost use Rattle.acc_bounds.specs.Sends.{AreFew, AreSendable};
+ghost use Rattle.acc_safety.specs.Valid.{IsStanding};
+ghost use Rattle.acc_follow.specs.Situations.{Stopped};
+ghost use Rattle.acc_follow.specs.Schedules.{cluster_of};
+ghost use Rattle.acc_strict.specs.Disks.{Disks};
+ghost use Rattle.acc_cluster.specs.Over.{behind_items, ArePlaced, IsHistoryOver};
+
+use crate::cluster::Cluster;
+use crate::opening::put;
+use crate::slot::Slot;
+use acc_base::OutOfMemory;
+use acc_history::History;
+use acc_history::laws::stopped_steps_are_apart;
+use acc_message::{Item, Items};
+use acc_message_code::messages_length;
+use acc_ports::Rig;
+use acc_schedule::Plan;
+use acc_stamp::Actor;
+use std::alloc::Global;
+
+/// Slots with their actors.
+pub type Slots<D> = Vec<(Actor, Slot<D>)>;
+
+impl<D: Rig + Drop> Cluster<D> {
+    ghost use Rattle.acc_cluster.specs.Stands.{StandsFor, StandsStrictly};
+    ghost use Rattle.acc_cluster.specs.Over.{AreSlotsOf, IsOver, AreStrictSlots};
+
+    /// The cluster of the actors of a plan that took part in these items, which stand in the order in which they were entered. No run
+    /// stood before them, and no message was dropped.
+    pub fn over(
+        alloc: Global,
+        plan: &Plan,
+        slots: Slots<D>,
+        items: Items,
+    ) -> Result<Cluster<D>, OutOfMemory>
+        requires standing { (stopped : List Stopped) × IsOver D.is_image D.faults plan.now slots.items items stopped }
+        requires actors { AreSlotsOf plan.now slots.items }
+        ensures ok { IfOk result (λ cluster. (stopped : List Stopped) → IsOver D.is_image D.faults plan.now slots.items items stopped
+            → StandsFor D.is_image D.faults plan.now cluster (behind_items items stopped)) }
+        ensures strict { IfOk result (λ cluster. (stopped : List Stopped) (disks : Disks) → IsOver D.is_image D.faults plan.now slots.items items stopped
+            → AreStrictSlots D.strict D.armed D.content D.synced D.written plan.now (behind_items items stopped) disks slots.items
+            → StandsStrictly D.is_image D.faults D.strict D.armed D.content D.synced D.written plan.now cluster (record { found = behind_items items stopped; disks = disks })) }
+    {
+        let history = history_over(alloc, plan, items)?;
+        let slots = placed(alloc, slots)?;
+        Ok(Cluster {
+            alloc,
+            history,
+            slots,
+        })
+    }
+}
+
+// The slots at the numbers of their actors.
+fn placed<D: Rig + Drop>(alloc: Global, slots: Slots<D>) -> Result<Vec<Slot<D>>, OutOfMemory>
+    ensures { IfOk result (λ placed. ArePlaced slots.items placed.items) }
+{
+    let mut placed = Vec::new(alloc);
+    for (actor, slot) in slots {
+        put(&mut placed, actor.0, slot)?;
+    }
+    Ok(placed)
+}
+
+// The past of these items.
+fn history_over(alloc: Global, plan: &Plan, items: Items) -> Result<History, OutOfMemory>
+    requires { IsStanding (cluster_of plan.now) (reverse items) × AreFew (reverse items) }
+    ensures { IfOk result (λ history. (stopped : List Stopped) → IsHistoryOver items stopped history) }
+{
+    stopped_steps_are_apart();
+    let _plan = plan;
+    let mut history = History::new(alloc)?;
+    for item in items.into_vec() {
+        let weight = weight_of_item(&*item);
+        history.add_shared(item, weight)?;
+    }
+    Ok(history)
+}
+
+// The bytes of an item's messages.
+fn weight_of_item(item: &Item) -> u64
+    requires { AreSendable (sent_in item.now) }
+    ensures { result ≡ weight_of item.now }
+{
+    match item {
+        Item::Step(entry) => messages_length(entry.emitted.out.as_slice()),
+        Item::Skipped { .. } | Item::Down { .. } => 0,
+    }
+}

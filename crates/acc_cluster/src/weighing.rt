@@ -1,0 +1,83 @@
+//! How much an actor in its slot would send. Nothing here makes a call of a disk.
+ghost use Rattle.std.specs.Prelude.{◌≡◌, false, IfOk};
+ghost use Rattle.acc_message.specs.declared.entry.Event.{Event as AnEvent};
+ghost use Rattle.acc_message.specs.NodeRules.{Begins, Recovers, Takes};
+ghost use Rattle.acc_message_code.specs.Weight.{weight_of};
+ghost use Rattle.acc_follow.specs.Situations.{Situation};
+ghost use Rattle.acc_follow.specs.Moves.{entry_of};
+ghost use Rattle.acc_follow.specs.Schedules.{cluster_of};
+
+use crate::slot::Slot;
+use acc_base::OutOfMemory;
+use acc_message::Message;
+use acc_numbers_alone::laws::messages_have_numbers_alone;
+use acc_ports::Rig;
+use acc_schedule::Plan;
+use acc_stamp::{Actor, TxnId};
+use acc_txn::Body;
+
+impl<D: Rig> Slot<D> {
+    ghost use Rattle.acc_cluster.specs.Asked.{IsAsked, MayAsk};
+
+    /// How many bytes of encoded messages the node would send now if it began a transaction.
+    pub fn weigh_begin(
+        &self,
+        plan: &Plan,
+        actor: Actor,
+        txn: u32,
+        body: &Body,
+    ) -> Result<u64, OutOfMemory>
+        requires { MayAsk D.is_image D.faults plan.now actor (AnEvent.Begin txn) (Begins txn body.now) self.now }
+        ensures { IfOk result (λ weight. (s : Situation) → IsAsked D.is_image D.faults plan.now s actor (AnEvent.Begin txn) (Begins txn body.now) self.now
+            → weight ≡ weight_of (entry_of (cluster_of plan.now) s actor (AnEvent.Begin txn) false)) }
+    {
+        let _actor = actor;
+        match self {
+            Slot::Node(node) => node.weigh_begin(&plan.topology, txn, body),
+            Slot::Empty | Slot::Store(_) => Err(OutOfMemory),
+        }
+    }
+
+    /// The same of a recover.
+    pub fn weigh_recover(
+        &self,
+        plan: &Plan,
+        actor: Actor,
+        txn: u32,
+        id: TxnId,
+        body: &Body,
+    ) -> Result<u64, OutOfMemory>
+        requires { MayAsk D.is_image D.faults plan.now actor (AnEvent.Recover txn) (Recovers id body.now) self.now }
+        ensures { IfOk result (λ weight. (s : Situation) → IsAsked D.is_image D.faults plan.now s actor (AnEvent.Recover txn) (Recovers id body.now) self.now
+            → weight ≡ weight_of (entry_of (cluster_of plan.now) s actor (AnEvent.Recover txn) false)) }
+    {
+        let _actor = actor;
+        let _txn = txn;
+        match self {
+            Slot::Node(node) => node.weigh_recover(&plan.topology, id, body),
+            Slot::Empty | Slot::Store(_) => Err(OutOfMemory),
+        }
+    }
+
+    /// The same of the message with this number.
+    pub fn weigh_take(
+        &self,
+        plan: &Plan,
+        actor: Actor,
+        number: u64,
+        m: &Message,
+    ) -> Result<u64, OutOfMemory>
+        requires { MayAsk D.is_image D.faults plan.now actor (AnEvent.Message number) (Takes m.now) self.now }
+        ensures { IfOk result (λ weight. (s : Situation) → IsAsked D.is_image D.faults plan.now s actor (AnEvent.Message number) (Takes m.now) self.now
+            → weight ≡ weight_of (entry_of (cluster_of plan.now) s actor (AnEvent.Message number) false)) }
+    {
+        messages_have_numbers_alone();
+        let _actor = actor;
+        let _number = number;
+        match self {
+            Slot::Empty => Err(OutOfMemory),
+            Slot::Node(node) => node.weigh_take(&plan.topology, m),
+            Slot::Store(store) => store.weigh(&plan.topology, m),
+        }
+    }
+}
