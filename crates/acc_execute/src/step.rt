@@ -272,8 +272,11 @@ fn sent_of(prepared: Prepared) -> Messages
 fn join(first: Messages, rest: Messages) -> Result<Messages, OutOfMemory>
     ensures { IfOk result (λ all. all ≡ first ++ rest) }
 {
-    let mut all = first.into_vec();
+    let mut first = first.into_vec();
     let mut rest = rest.into_vec();
+    let room = first.len().saturating_add(rest.len());
+    let mut all = Vec::with_capacity(*first.allocator(), room)?;
+    all.append(&mut first)?;
     all.append(&mut rest)?;
     Ok(Messages::from_vec(all))
 }
