@@ -12,5 +12,6 @@ pub(crate) fn rising(found: Vec<TxnId>) -> Ids
     let mut ids = found;
     ids.sort_unstable();
     ids.dedup();
+    ids.shrink_to_fit();
     Ids::from_vec(ids)
 }
