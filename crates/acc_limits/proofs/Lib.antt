@@ -1,5 +1,5 @@
-mod Beginnings
-mod Reached
+pub mod Beginnings
+pub mod Reached
 mod InLine
 mod Ended
 mod Made

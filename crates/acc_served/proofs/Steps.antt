@@ -140,7 +140,7 @@ module _ (plan : Content) (valid : IsPlan plan) (answers : Answers) where
         (or_parts (list_any (item_takes message) s.own) (is_among s.dropped message || is_sent_lost s.own message)
         (not-true (is_through s message) later.0)).0
 
-    message_goes : GoesToActors → (message : ℕ) → waits s message ≡ true
+    pub message_goes : GoesToActors → (message : ℕ) → waits s message ≡ true
         → IsServing plan (tried cluster answers s (receiver_in s message) (MessageEvent message))
         × KeepsAll plan s (tried cluster answers s (receiver_in s message) (MessageEvent message))
     message_goes goes_to message waiting = by (is_journalled a (MessageEvent message) && fails_in answers s) refl

@@ -17,8 +17,8 @@ ghost use Rattle.acc_schedule.specs.Actors.{actors};
 ghost use Rattle.acc_schedule.specs.Content.{Content};
 ghost use Rattle.acc_schedule.specs.Plan.{IsPlan};
 ghost use Rattle.acc_schedule.specs.declared.plan.Step.{Step};
-ghost use Rattle.acc_follow.specs.Situations.{Stopped, Situation, whole, stopped_at, without, NothingWaits};
-ghost use Rattle.acc_follow.specs.Moves.{Answers, with_item, event_in, entered, is_journalled, stopped_by, tried_if, kept_if, reopened, Drains, IsNext};
+ghost use Rattle.acc_follow.specs.Situations.{Stopped, Situation, whole, stopped_at, without, receiver_in, waits, NothingWaits};
+ghost use Rattle.acc_follow.specs.Moves.{Answers, with_item, event_in, entered, is_journalled, stopped_by, tried_if, tried, kept_if, reopened, Drains, IsNext};
 ghost use Rattle.acc_follow.specs.Schedules.{cluster_of};
 ghost use Rattle.acc_follow.specs.Laws.{NobodyIsDown};
 ghost use Rattle.acc_entering.specs.Entries.{entering, MayTake};
@@ -193,8 +193,8 @@ pub fn restarts_serve()
         HasGone plan s b left → HasGone plan (with_item (Item.Down a) s) b left }
 {}
 
-/// The steps of a schedule, as a cluster takes them, serve: the next command of an actor that isn't passed over, and a drain. A command
-/// that is passed over enters nothing.
+/// The steps of a schedule, as a cluster takes them, serve: the next command of an actor that isn't passed over, and a drain, each of whose
+/// deliveries does so by itself. A command that is passed over enters nothing.
 pub fn schedule_steps_serve()
     ensures passed { (plan : Content) (s : Situation) (a : Actor) (command : Step) (left : List Step) → IsServing plan s →
         IsPassed a (whole s) command → HasGone plan s a (command ∷ left) → HasGone plan s a left }
@@ -206,6 +206,10 @@ pub fn schedule_steps_serve()
     ensures drain { (plan : Content) (answers : Answers) (s next : Situation) → IsPlan plan → Drains (cluster_of plan) answers next s →
         IsServing plan s →
         IsServing plan next × NothingWaits next × ((a : Actor) (left : List Step) → HasGone plan s a left → HasGone plan next a left) }
+    ensures delivery { (plan : Content) (answers : Answers) (s : Situation) (message : ℕ) → IsPlan plan → waits s message ≡ true →
+        IsServing plan s → IsServing plan (tried (cluster_of plan) answers s (receiver_in s message) (Event.Message message))
+        × ((a : Actor) (left : List Step) → HasGone plan s a left →
+        HasGone plan (tried (cluster_of plan) answers s (receiver_in s message) (Event.Message message)) a left) }
 {
     messages_go_to_actors();
 }

@@ -1,5 +1,5 @@
 use Rattle.acc_served.proofs.Going.{passed_over}
-use Rattle.acc_served.proofs.Steps.{next_goes, drains_go}
+use Rattle.acc_served.proofs.Steps.{next_goes, message_goes, drains_go}
 use Rattle.acc_served.proofs.laws.schedule_steps_serve.Goals as goal
 
 pub returns : goal.returns
@@ -8,4 +8,5 @@ returns c = record {
   command = λ plan answers number s next a command left valid there ready is h gone.
       next_goes plan valid answers s h a there number next left command ready is gone;
   drain = λ plan answers s next valid drains h. drains_go plan valid answers c.messages_go_to_actors.ensures.to next s drains h;
+  delivery = λ plan answers s message valid waiting h. message_goes plan valid answers s h c.messages_go_to_actors.ensures.to message waiting;
 }
