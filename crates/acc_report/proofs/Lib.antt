@@ -1,3 +1,4 @@
 pub mod Joined
+mod KnownFacts
 pub mod NameFacts
 pub mod Steps

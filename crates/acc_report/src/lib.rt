@@ -4,6 +4,7 @@
 mod item_lines;
 mod names;
 mod notes;
+mod numbers;
 mod parts;
 mod report;
 mod skips;

@@ -6,18 +6,16 @@ ghost use Rattle.acc_stamp.specs.declared.stamps.TxnId.{TxnId};
 ghost use Rattle.acc_stamp.specs.Stamp.{id_eq};
 ghost use Rattle.acc_message.specs.Items.{begins, txn_in};
 ghost use Rattle.acc_message.specs.declared.item.Item.{Item};
-ghost use Rattle.acc_report.specs.Numbers.{number_at, name_in, IsOf};
+ghost use Rattle.acc_report.specs.Known.{number_at};
+ghost use Rattle.acc_report.specs.Numbers.{name_in, IsOf};
 ghost use Rattle.acc_report.specs.Report.{name_at, number_in, number_of};
 
+use crate::numbers::Numbers;
 use acc_base::OutOfMemory;
 use acc_message::{Event, Item, Items, Note, Roll};
 use acc_report_line::Names;
 use acc_stamp::TxnId;
 use std::alloc::Global;
-use std::collections::BTreeMap;
-
-/// The numbers of transactions, by their ids.
-pub(crate) type Numbers = BTreeMap<TxnId, u32>;
 
 /// The names of transactions by their numbers, and their numbers by their ids: what is looked up for each name of a report.
 /// It is made once, and grows with the items.
@@ -63,8 +61,8 @@ impl<'a> Directory<'a> {
     pub fn name_of(&self, id: TxnId) -> &[u8]
         ensures { result.now ≡ name_in self.now id }
     {
-        match self.numbers.get(&id) {
-            Some(txn) => name_of_number(self.names, *txn),
+        match self.numbers.get(id) {
+            Some(txn) => name_of_number(self.names, txn),
             None => b"",
         }
     }
@@ -88,16 +86,16 @@ fn numbers_of(alloc: Global, roll: &Roll, items: &Items) -> Result<Numbers, OutO
     for item in items.as_slice() {
         enter_item(&mut numbers, item)?;
     }
-    Ok(numbers)
+    numbers.with_table(alloc)
 }
 
 /// The numbers of the transactions of a roll.
 fn numbers_in(alloc: Global, roll: &Roll) -> Result<Numbers, OutOfMemory>
     ensures { IfOk result (λ numbers. (x : TxnId) → number_at numbers x ≡ number_in roll.now x) }
 {
-    let mut numbers = BTreeMap::new(alloc);
+    let mut numbers = Numbers::new(alloc);
     for entry in roll.as_slice() {
-        enter_id(&mut numbers, entry.1, entry.0)?;
+        numbers.enter(entry.1, entry.0)?;
     }
     Ok(numbers)
 }
@@ -121,19 +119,8 @@ fn enter_notes(numbers: &mut Numbers, txn: u32, notes: &[Note]) -> Result<(), Ou
 {
     for note in notes {
         if let Note::Begin { id } = note {
-            enter_id(numbers, txn, *id)?;
+            numbers.enter(txn, *id)?;
         }
-    }
-    Ok(())
-}
-
-/// Enters a transaction under an id, where none is known by it.
-fn enter_id(numbers: &mut Numbers, txn: u32, id: TxnId) -> Result<(), OutOfMemory>
-    ensures { OnOk result ((x : TxnId) →
-        number_at numbers.new x ≡ or_else (number_at numbers.old x) (if id_eq id x then Some txn else None)) }
-{
-    if !numbers.contains_key(&id) {
-        numbers.insert(id, txn)?;
     }
     Ok(())
 }

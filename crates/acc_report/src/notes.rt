@@ -52,7 +52,7 @@ fn push_head(
 {
     text.extend_from_slice(word)?;
     text.extend_from_slice(directory.name_of(id))?;
-    text.extend_from_slice(b" ")?;
+    text.push(b' ')?;
     Ok(())
 }
 
@@ -69,7 +69,7 @@ fn push_stamped(
 {
     push_head(text, word, directory, id)?;
     push_stamp(text, stamp)?;
-    text.extend_from_slice(b"\n")?;
+    text.push(b'\n')?;
     Ok(())
 }
 
@@ -86,7 +86,7 @@ fn push_replied(
 {
     push_head(text, word, directory, id)?;
     push_reply(text, reply)?;
-    text.extend_from_slice(b"\n")?;
+    text.push(b'\n')?;
     Ok(())
 }
 
@@ -103,7 +103,7 @@ fn push_blocked(
     push_stamp(text, ballot.0)?;
     text.extend_from_slice(b" by ")?;
     push_names(text, directory, by.as_slice())?;
-    text.extend_from_slice(b"\n")?;
+    text.push(b'\n')?;
     Ok(())
 }
 
@@ -120,7 +120,7 @@ fn push_ended(
     push_stamp(text, ballot.0)?;
     text.extend_from_slice(b" by ")?;
     push_stamp(text, by.0)?;
-    text.extend_from_slice(b"\n")?;
+    text.push(b'\n')?;
     Ok(())
 }
 
@@ -136,11 +136,11 @@ fn push_decide(
 {
     push_head(text, b"decide ", directory, id)?;
     push_stamp(text, t)?;
-    text.extend_from_slice(b" ")?;
+    text.push(b' ')?;
     text.extend_from_slice(path_word(path))?;
     text.extend_from_slice(b" deps ")?;
     push_deps(text, directory, deps)?;
-    text.extend_from_slice(b"\n")?;
+    text.push(b'\n')?;
     Ok(())
 }
 

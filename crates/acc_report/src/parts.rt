@@ -1,21 +1,38 @@
 //! The parts of a line, as they are printed.
-ghost use Rattle.std.specs.Prelude.{◌≡◌, ◌++◌, codes, flat_map, map, OnOk};
+ghost use Rattle.std.specs.Prelude.{◌≡◌, ◌++◌, codes, decimal, flat_map, map, OnOk};
+ghost use Rattle.std.specs.Fmt.{signed_decimal};
 ghost use Rattle.acc_report.specs.Numbers.{name_in};
 ghost use Rattle.acc_report_line.specs.Texts.{stamp_text, actor_text, names_text, path_text, verdict_text, quoted_byte, quoted, cell_text, values_text, reply_text};
 
 use crate::names::Directory;
-use acc_base::{OutOfMemory, push_number, push_signed_number};
+use acc_base::OutOfMemory;
 use acc_message::Path;
 use acc_stamp::{Actor, Stamp, TxnId};
 use acc_txn::{Reply, Verdict};
 use acc_value::{Cells, Value};
+use itoa::Buffer;
+
+/// Appends a number in decimal. It takes no memory but the text's.
+pub(crate) fn push_number(text: &mut Vec<u8>, number: u64) -> Result<(), OutOfMemory>
+    ensures { OnOk result (text.new.items ≡ text.old.items ++ decimal number) }
+{
+    text.extend_from_slice(Buffer::new().format(number).as_bytes())?;
+    Ok(())
+}
+
+fn push_signed_number(text: &mut Vec<u8>, number: i64) -> Result<(), OutOfMemory>
+    ensures { OnOk result (text.new.items ≡ text.old.items ++ signed_decimal number) }
+{
+    text.extend_from_slice(Buffer::new().format(number).as_bytes())?;
+    Ok(())
+}
 
 /// Appends a timestamp.
 pub(crate) fn push_stamp(text: &mut Vec<u8>, stamp: Stamp) -> Result<(), OutOfMemory>
     ensures { OnOk result (text.new.items ≡ text.old.items ++ stamp_text stamp) }
 {
     push_number(text, stamp.h)?;
-    text.extend_from_slice(b".")?;
+    text.push(b'.')?;
     push_number(text, u64::from(stamp.origin))?;
     Ok(())
 }
@@ -26,7 +43,7 @@ pub(crate) fn push_actor(text: &mut Vec<u8>, actor: Actor) -> Result<(), OutOfMe
 {
     push_number(text, u64::from(actor.node()))?;
     if actor.shard() != 0 {
-        text.extend_from_slice(b".")?;
+        text.push(b'.')?;
         push_number(text, u64::from(actor.shard()))?;
     }
     Ok(())
@@ -69,7 +86,7 @@ fn push_more_names(
         ≡ text.old.items ++ flat_map (λ name. codes "," ++ name) (map (name_in directory.now) ids.now)) }
 {
     for id in ids {
-        text.extend_from_slice(b",")?;
+        text.push(b',')?;
         text.extend_from_slice(directory.name_of(*id))?;
     }
     Ok(())
@@ -99,7 +116,7 @@ fn push_values(text: &mut Vec<u8>, values: &Cells) -> Result<(), OutOfMemory>
     let Some((first, others)) = values.as_slice().split_first() else {
         return Ok(());
     };
-    text.extend_from_slice(b" ")?;
+    text.push(b' ')?;
     push_cell(text, first)?;
     push_more_cells(text, others)
 }
@@ -108,7 +125,7 @@ fn push_more_cells(text: &mut Vec<u8>, cells: &[Option<Value>]) -> Result<(), Ou
     ensures { OnOk result (text.new.items ≡ text.old.items ++ flat_map (λ cell. codes "," ++ cell_text cell) cells.now) }
 {
     for cell in cells {
-        text.extend_from_slice(b",")?;
+        text.push(b',')?;
         push_cell(text, cell)?;
     }
     Ok(())
@@ -127,9 +144,9 @@ fn push_cell(text: &mut Vec<u8>, cell: &Option<Value>) -> Result<(), OutOfMemory
 fn push_quoted(text: &mut Vec<u8>, value: &[u8]) -> Result<(), OutOfMemory>
     ensures { OnOk result (text.new.items ≡ text.old.items ++ quoted value.now) }
 {
-    text.extend_from_slice(b"'")?;
+    text.push(b'\'')?;
     push_content(text, value)?;
-    text.extend_from_slice(b"'")?;
+    text.push(b'\'')?;
     Ok(())
 }
 

@@ -5,8 +5,8 @@ ghost use Rattle.acc_report_line.specs.declared.line.Line.TheVariants.{Down as D
 ghost use Rattle.acc_report_line.specs.Texts.{full_text, lines_text};
 
 use crate::names::name_of_number;
-use crate::parts::push_actor;
-use acc_base::{OutOfMemory, push_number};
+use crate::parts::{push_actor, push_number};
+use acc_base::OutOfMemory;
 use acc_message::{Event, Skip};
 use acc_report_line::Names;
 use acc_stamp::Actor;
@@ -20,7 +20,7 @@ pub(crate) fn push_event(text: &mut Vec<u8>, actor: Actor, event: Event) -> Resu
         push_actor(text, actor)?;
         text.extend_from_slice(b" kept ")?;
         push_number(text, u64::from(kept))?;
-        text.extend_from_slice(b"\n")?;
+        text.push(b'\n')?;
     }
     Ok(())
 }
@@ -31,7 +31,7 @@ pub(crate) fn push_down(text: &mut Vec<u8>, actor: Actor) -> Result<(), OutOfMem
 {
     text.extend_from_slice(b"down ")?;
     push_actor(text, actor)?;
-    text.extend_from_slice(b"\n")?;
+    text.push(b'\n')?;
     Ok(())
 }
 
@@ -60,9 +60,9 @@ fn push_no_message(text: &mut Vec<u8>, step: u32, number: u64, sent: u64) -> Res
     push_number(text, u64::from(step))?;
     text.extend_from_slice(b" nomessage ")?;
     push_number(text, number)?;
-    text.extend_from_slice(b" ")?;
+    text.push(b' ')?;
     push_number(text, sent)?;
-    text.extend_from_slice(b"\n")?;
+    text.push(b'\n')?;
     Ok(())
 }
 
@@ -73,7 +73,7 @@ fn push_skip_down(text: &mut Vec<u8>, step: u32, actor: Actor) -> Result<(), Out
     push_number(text, u64::from(step))?;
     text.extend_from_slice(b" down ")?;
     push_actor(text, actor)?;
-    text.extend_from_slice(b"\n")?;
+    text.push(b'\n')?;
     Ok(())
 }
 
@@ -92,6 +92,6 @@ fn push_skip_named(
     push_number(text, u64::from(step))?;
     text.extend_from_slice(word)?;
     text.extend_from_slice(name_of_number(names, txn))?;
-    text.extend_from_slice(b"\n")?;
+    text.push(b'\n')?;
     Ok(())
 }

@@ -5,7 +5,8 @@ ghost use Rattle.acc_report.specs.Counts.{is_counted as counts};
 ghost use Rattle.acc_report.specs.Report.{same_path as paths_agree, last_line, decided_line, decides_by};
 ghost use Rattle.acc_report_line.specs.Texts.{full_text};
 
-use acc_base::{OutOfMemory, push_number};
+use crate::parts::push_number;
+use acc_base::OutOfMemory;
 use acc_message::{Item, Items, Note, Path};
 
 /// What is counted.
@@ -31,7 +32,7 @@ pub(crate) fn push_last(text: &mut Vec<u8>, items: &Items) -> Result<(), OutOfMe
     push_number(text, replies)?;
     text.extend_from_slice(b" open=")?;
     push_number(text, begins.saturating_sub(replies))?;
-    text.extend_from_slice(b"\n")?;
+    text.push(b'\n')?;
     Ok(())
 }
 
@@ -43,7 +44,7 @@ pub(crate) fn push_decided(text: &mut Vec<u8>, items: &Items) -> Result<(), OutO
     push_decisions(text, b" slow=", items, Path::Slow)?;
     push_decisions(text, b" recovered=", items, Path::Recovered)?;
     push_decisions(text, b" adopted=", items, Path::Adopted)?;
-    text.extend_from_slice(b"\n")?;
+    text.push(b'\n')?;
     Ok(())
 }
 

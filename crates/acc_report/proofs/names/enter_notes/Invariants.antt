@@ -4,7 +4,7 @@ use Rattle.std.specs.List.{list_any}
 use Rattle.acc_base.specs.Faults.{or_else}
 use Rattle.acc_stamp.specs.declared.stamps.TxnId.{TxnId}
 use Rattle.acc_message.specs.Items.{begins}
-use Rattle.acc_report.specs.Numbers.{number_at}
+use Rattle.acc_report.specs.Known.{number_at}
 use Rattle.acc_report.proofs.names.enter_notes.Given as goal
 
 abbrev pub invariant-loop-note : goal.invariant-loop-note

@@ -6,7 +6,7 @@ use Rattle.acc_report.proofs.names.numbers_in.Goals as goal
 
 pub loop-entry-preserved : goal.loop-entry-preserved
 loop-entry-preserved c = λ x.
-    number_in_more c.as_slice-entry-items.result.now c.loop-entry.entry-index _ _ _ x c.loop-entry-test.true (c.in_ok-enter_id.ensures x) (c.loop-entry.invariant x)
+    number_in_more c.as_slice-entry-items.result.now c.loop-entry.entry-index _ _ _ x c.loop-entry-test.true (c.in_ok-enter.ensures x) (c.loop-entry.invariant x)
 
 pub returns : goal.returns
 returns c = λ x.

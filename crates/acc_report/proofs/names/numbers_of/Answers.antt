@@ -1,7 +1,9 @@
 use Rattle.std.proofs.Common.{map, reverse, take, sym, ap, ◌∙◌}
 use Rattle.std.proofs.lemmas.List.{take_all}
+use Rattle.std.proofs.lemmas.Result.{IfOk-weaker}
 use Rattle.std.specs.Arc.{arc_value}
 use Rattle.acc_message.specs.Items.{txn_in, txn_of}
+use Rattle.acc_report.specs.Known.{number_at}
 use Rattle.acc_report.specs.Report.{number_in, number_of}
 use Rattle.acc_report.proofs.Steps.{or_else-none, or_else-assoc, reverse_more}
 use Rattle.acc_report.proofs.names.numbers_of.Goals as goal
@@ -21,8 +23,10 @@ loop-item-preserved c = λ x.
     cc
 
 pub returns : goal.returns
-returns c = λ x.
-    c.loop-item.invariant x
+returns c =
+    IfOk-weaker c.with_table.result _ _ (λ numbers same x.
+    ap (λ known. number_at known x) same
+    ∙ c.loop-item.invariant x
     ∙ ap (λ items. number_of c.args.roll.now (reverse (map arc_value items)) x)
     (take_all c.loop-item.item-index c.as_slice-item-items.result.now c.loop-item-test.false)
-    ∙ ap (λ items. number_of c.args.roll.now (reverse items) x) c.as_slice-item-items.ensures
+    ∙ ap (λ items. number_of c.args.roll.now (reverse items) x) c.as_slice-item-items.ensures) c.with_table.ensures

@@ -2,7 +2,7 @@
 use Rattle.std.proofs.Common.{◌≡◌, take, map, reverse}
 use Rattle.std.specs.Arc.{arc_value}
 use Rattle.acc_stamp.specs.declared.stamps.TxnId.{TxnId}
-use Rattle.acc_report.specs.Numbers.{number_at}
+use Rattle.acc_report.specs.Known.{number_at}
 use Rattle.acc_report.specs.Report.{number_of}
 use Rattle.acc_report.proofs.names.numbers_of.Given as goal
 

@@ -14,4 +14,4 @@ returns c =
     joined_counts c.args.text.now.items _ _ _ _ _
     (codes "decided fast=") (count Fast) (codes " slow=") (count Slow) (codes " recovered=") (count Recovered) (codes " adopted=") (count Adopted) (codes "\n")
     c.in_ok-push_decisions.ensures c.in_ok-push_decisions-2.ensures c.in_ok-push_decisions-3.ensures c.in_ok-push_decisions-4.ensures
-    c.in_ok-extend_from_slice.ensures.items
+    c.in_ok-push.ensures.items
