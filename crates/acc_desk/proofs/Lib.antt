@@ -1,0 +1,10 @@
+pub mod Moving
+pub mod Stepping
+pub mod Seating
+pub mod Posts
+pub mod Unbegun
+pub mod Restarts
+pub mod Next
+pub mod Asking
+pub mod Begun
+pub mod Opening

@@ -1,0 +1,158 @@
+-- A desk after a call on the tape, and after its actor stepped.
+use Rattle.std.proofs.Common.{◌≡◌, ◌≢◌, ℕ, ◌≤◌, Bool, false, List, [], ◌∷◌, ◌++◌, length, drop, reverse, Option, None, Some, refl, sym, ◌∙◌, ap, subst, arith, length-append, cond, eq-eqb}
+use Rattle.std.specs.Prelude.{All, sum_by}
+use Rattle.std.proofs.lemmas.List.{reverse-append, length-reverse}
+use mathlib.Core.List.{IsPrefix}
+use Rattle.acc_stamp.specs.declared.actors.Actor.{Actor}
+use Rattle.acc_message.specs.declared.entry.Event.{Event}
+use Rattle.acc_message.specs.declared.entry.Emitted.{Emitted}
+use Rattle.acc_message.specs.declared.item.Item.{Item}
+use Rattle.acc_message.specs.Items.{sent_in}
+use Rattle.acc_message.specs.NodeRules.{Act}
+use Rattle.acc_message_code.specs.Short.{IsShortMessage}
+use Rattle.acc_message_code.specs.Weight.{weight_of}
+use Rattle.acc_schedule.specs.Content.{Content}
+use Rattle.acc_schedule.specs.declared.plan.Step.{Step}
+use Rattle.acc_follow.specs.Situations.{Situation}
+use Rattle.acc_follow.specs.Moves.{entry_of}
+use Rattle.acc_follow.specs.Schedules.{cluster_of}
+use Rattle.acc_limits.specs.Limits.{most_items}
+use Rattle.acc_cluster.specs.declared.slot.Slot.{Slot}
+use Rattle.acc_cluster.specs.Asked.{IsAsked, MayAsk, IsEmitted, HasTried}
+use Rattle.acc_served.specs.FreeRun.{AreOthers, IsFreeRun, alone}
+use Rattle.acc_tape.specs.Lists.{without, items_of}
+use Rattle.acc_tape.specs.ItemViews.{actor_of_item}
+use Rattle.acc_tape.specs.Seats.{TapeName, SeatView, Turns, FitsBehind, ComesLast}
+use Rattle.acc_desk.specs.Desks.{newest, IsSeated, IsAt, IsDesk, MayStep, item_of}
+use Rattle.acc_desk.specs.Fits.{fits_plan}
+use Rattle.acc_desk.proofs.Moving.{Between, between, at_on}
+use Rattle.acc_desk.proofs.Stepping.{here, asked, step_on, item_short, item_weighs, item_behind, stepped}
+
+-- the only weight is given up
+pub without_own : (w : ℕ) → without w (w ∷ []) ≡ []
+without_own w = ap (λ b. cond b [] (w ∷ [])) (eq-eqb w w refl)
+
+pub reverse_last : (before : List Item) (item : Item) → reverse (before ++ item ∷ []) ≡ item ∷ reverse before
+reverse_last before item = reverse-append before (item ∷ [])
+
+at_actor : (a : Actor) (n : ℕ) (items mine : List Item) → n ≡ a.0 → items_of actor_of_item n items ≡ mine → items_of actor_of_item a.0 items ≡ mine
+at_actor a n items mine is h = sym (ap (λ k. items_of actor_of_item k items) is) ∙ h
+
+pub own_item : (a : Actor) (event : Event) (given : Option Emitted) → actor_of_item (item_of a event given) ≡ a.0
+own_item a event None = refl
+own_item a event (Some emitted) = refl
+
+module _ (plan : Content) (tape : TapeName) (limits : tape.limits.items ≤ most_items) (a : Actor) where
+  abbrev TurnsOf : SeatView Item → SeatView Item → Type 0
+  TurnsOf old new = Turns actor_of_item weight_of (fits_plan plan) old new
+
+  pub seen_few : (old new : SeatView Item) → TurnsOf old new → new.tape ≡ tape → length new.seen ≤ most_items
+  seen_few old new turns is = let w = turns.within_items in let e = ap (λ (t : TapeName). t.limits.items) is in omega arith
+
+  pub seen_light : (old new : SeatView Item) → TurnsOf old new → new.tape ≡ tape → sum_by weight_of new.seen ≤ tape.limits.weight
+  seen_light old new turns is = let w = turns.within_weight in let e = ap (λ (t : TapeName). t.limits.weight) is in omega arith
+
+  pub seated_on : (held later : List ℕ) (old new : SeatView Item) → IsSeated tape a held old → TurnsOf old new → new.held ≡ later → IsSeated tape a later new
+  seated_on held later old new seated turns is =
+      record {
+        tape_is = turns.tape ∙ seated.tape_is;
+        actor_is = turns.actor ∙ seated.actor_is;
+        some = λ z. seated.some (sym turns.actor ∙ z);
+        held_is = is;
+        mine_is = turns.mine;
+        few = seen_few old new turns (turns.tape ∙ seated.tape_is);
+        light = seen_light old new turns (turns.tape ∙ seated.tape_is);
+      }
+
+  -- others' items that came
+  came : (held : List ℕ) (old new : SeatView Item) → IsSeated tape a held old → TurnsOf old new → new.mine ≡ old.mine → Between a old.seen new.seen
+  came held old new seated turns same =
+      between a old.seen new.seen old.mine (at_actor a old.actor old.seen old.mine seated.actor_is seated.mine_is) turns.seen
+      (at_actor a new.actor new.seen old.mine (turns.actor ∙ seated.actor_is) (turns.mine ∙ same))
+
+  pub others_since : (held : List ℕ) (seat : SeatView Item) → IsSeated tape a held seat → (before : List Item) → IsPrefix seat.seen before → items_of actor_of_item seat.actor before ≡ seat.mine → Between a seat.seen before
+  others_since held seat seated before begins mine =
+      between a seat.seen before seat.mine (at_actor a seat.actor seat.seen seat.mine seated.actor_is seated.mine_is) begins
+      (at_actor a seat.actor before seat.mine seated.actor_is mine)
+
+  newest_few : (held : List ℕ) (seat : SeatView Item) → IsSeated tape a held seat → length (newest seat) ≤ most_items
+  newest_few held seat seated = let n = length-reverse seat.seen in let f = seated.few in omega arith
+
+  module _ {D : Type 0} (images : D → List ℕ → Type 0) (faults : D → ℕ) (strict : D → Bool) (armed : D → Option ℕ) (content synced : D → List ℕ) (written : D → Ranges) (strict_run : Bool) (commands : List Step) (gone : ℕ) (slot : Slot D) where
+    abbrev Desk : List ℕ → SeatView Item → Type 0
+    Desk held seat = IsDesk images faults strict armed content synced written strict_run plan tape held a seat slot commands gone
+
+    pub desk_on : (held later : List ℕ) (old new : SeatView Item) → Desk held old → TurnsOf old new → new.mine ≡ old.mine → new.held ≡ later → Desk later new
+    desk_on held later old new desk turns same is =
+        let b = came held old new desk.seated turns same in
+        record {
+          known = desk.known;
+          all = desk.all;
+          seated = seated_on held later old new desk.seated turns is;
+          at = subst (λ items. IsAt images faults strict armed content synced written strict_run plan a items slot (drop gone commands)) (sym b.items_are)
+              (at_on images faults strict armed content synced written strict_run plan a (newest old) b.others slot (drop gone commands) b.apart (subst (IsFreeRun plan) b.items_are turns.fitting) desk.at);
+        }
+
+    module _ (event : Event) (act : Act) (later : ℕ) where
+      abbrev May : SeatView Item → Type 0
+      May seat = MayStep plan (newest seat) a event act (drop gone commands) (drop later commands)
+
+      pub may_on : (held : List ℕ) (old new : SeatView Item) → Desk held old → TurnsOf old new → new.mine ≡ old.mine → May old → May new
+      may_on held old new desk turns same may =
+          let b = came held old new desk.seated turns same in
+          subst (λ items. MayStep plan items a event act (drop gone commands) (drop later commands)) (sym b.items_are)
+          (step_on plan a (newest old) b.others event act (drop gone commands) (drop later commands) b.apart (subst (IsFreeRun plan) b.items_are turns.fitting) may)
+
+      module _ (held : List ℕ) (seat : SeatView Item) (desk : Desk held seat) (may : May seat) where
+        few_now : length (newest seat) ≤ most_items
+        few_now = newest_few held seat desk.seated
+
+        -- what the seat has seen, as a situation
+        abbrev seen_now : Situation
+        seen_now = alone (newest seat) desk.at.stopped
+
+        asked_now : IsAsked images faults plan seen_now a event act slot
+        asked_now = asked images faults strict armed content synced written strict_run plan a (newest seat) slot (drop gone commands) (drop later commands) event act desk.known few_now desk.at may
+
+        pub asks : MayAsk images faults plan a event act slot
+        asks = (seen_now, asked_now)
+
+        module _ (given : Option Emitted) (new_slot : Slot D) (tried : (s : Situation) → IsAsked images faults plan s a event act slot → HasTried images faults plan s a event new_slot given) where
+          now_tried : HasTried images faults plan seen_now a event new_slot given
+          now_tried = tried seen_now asked_now
+
+          pub own : actor_of_item (item_of a event given) ≡ seat.actor
+          own = own_item a event given ∙ sym desk.seated.actor_is
+
+          pub short : All IsShortMessage (sent_in (item_of a event given))
+          short = item_short images faults strict armed content synced written strict_run plan a (newest seat) slot (drop gone commands) (drop later commands) event act desk.known few_now desk.at may given now_tried.emitted
+
+          pub weighs : (weight : ℕ) → ((s : Situation) → IsAsked images faults plan s a event act slot → weight ≡ weight_of (entry_of (cluster_of plan) s a event false)) → weight_of (item_of a event given) ≤ weight
+          weighs weight is = item_weighs images faults strict armed content synced written strict_run plan a (newest seat) slot (drop gone commands) (drop later commands) event act desk.known few_now desk.at may given now_tried.emitted weight (is seen_now asked_now)
+
+          pub fits : FitsBehind actor_of_item (fits_plan plan) seat (item_of a event given)
+          fits before begins mine free =
+              let b = others_since held seat desk.seated before begins mine in
+              let item = item_of a event given in
+              subst (IsFreeRun plan) (sym (reverse_last before item ∙ ap (λ items. item ∷ items) b.items_are))
+              (item_behind images faults strict armed content synced written strict_run plan a (newest seat) slot (drop gone commands) (drop later commands) event act desk.known few_now desk.at may given now_tried.emitted b.others b.apart (subst (IsFreeRun plan) b.items_are free))
+
+          pub taken : (new : SeatView Item) → TurnsOf seat new → new.held ≡ [] → ComesLast actor_of_item (fits_plan plan) seat new.seen (item_of a event given) → IsDesk images faults strict armed content synced written strict_run plan tape [] a new new_slot commands later
+          taken new turns free last =
+              let item = item_of a event given in
+              let b = others_since held seat desk.seated last.before last.begins last.mine in
+              let run : IsFreeRun plan (b.others ++ newest seat) = subst (IsFreeRun plan) b.items_are last.fitting in
+              let items = b.others ++ newest seat in
+              let at' = at_on images faults strict armed content synced written strict_run plan a (newest seat) b.others slot (drop gone commands) b.apart run desk.at in
+              let may' = step_on plan a (newest seat) b.others event act (drop gone commands) (drop later commands) b.apart run may in
+              let few' : length items ≤ most_items =
+              (let n = ap length b.items_are in let r = length-reverse last.before in let l = ap length last.seen_is in let m = length-append last.before (item ∷ []) in let f = seen_few seat new turns (turns.tape ∙ desk.seated.tape_is) in omega arith) in
+              let here' = here images faults strict armed content synced written strict_run plan a items slot (drop gone commands) (drop later commands) event act desk.known few' at' may' in
+              let asked' = asked images faults strict armed content synced written strict_run plan a items slot (drop gone commands) (drop later commands) event act desk.known few' at' may' in
+              record {
+                known = desk.known;
+                all = desk.all;
+                seated = seated_on held [] seat new desk.seated turns free;
+                at = subst (λ all. IsAt images faults strict armed content synced written strict_run plan a all new_slot (drop later commands)) (sym (ap reverse last.seen_is ∙ reverse_last last.before item ∙ ap (λ all. item ∷ all) b.items_are))
+                    (stepped images faults strict armed content synced written strict_run plan a items slot (drop gone commands) (drop later commands) event act desk.known few' at' may' given new_slot (tried here' asked'));
+              }

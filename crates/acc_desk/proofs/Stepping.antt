@@ -1,0 +1,155 @@
+-- A step of the actor of a desk.
+use Rattle.std.proofs.Common.{◌≡◌, ◌⊎◌, ℕ, ◌≤◌, ◌<◌, ◌^◌, Bool, true, false, List, [], ◌∷◌, ◌++◌, length, Option, None, Some, Contains, refl, sym, ◌∙◌, ap, subst, arith, ⊎_elim, inl, inr}
+use Rattle.std.specs.Prelude.{All, is_none}
+use Rattle.acc_stamp.specs.declared.actors.Actor.{Actor}
+use Rattle.acc_message.specs.declared.entry.Event.{Event}
+use Rattle.acc_message.specs.declared.entry.Emitted.{Emitted}
+use Rattle.acc_message.specs.declared.item.Item.{Item}
+use Rattle.acc_message.specs.declared.item.Item.TheVariants.{Step as StepItem, Down}
+use Rattle.acc_message.specs.Items.{same_actor, sent_in}
+use Rattle.acc_message.specs.NodeRules.{Act}
+use Rattle.acc_message.specs.Run.{Cluster, kept_of, is_down}
+use Rattle.acc_message_code.specs.Short.{IsShortMessage}
+use Rattle.acc_message_code.specs.Weight.{weight_of}
+use Rattle.acc_bounds.specs.Next.{MayDo}
+use Rattle.acc_bounds.specs.Sends.{AreSendable}
+use Rattle.acc_bounds.proofs.Sendable.{next_sendable}
+use Rattle.acc_safe_runs.specs.Asks.{emits_if}
+use Rattle.acc_safety.proofs.Bridge.{same_itself}
+use Rattle.acc_schedule.specs.Actors.{actors}
+use Rattle.acc_schedule.specs.Content.{Content}
+use Rattle.acc_schedule.specs.declared.plan.Step.{Step}
+use Rattle.acc_entering.specs.Entries.{entering, MayTake}
+use Rattle.acc_entering.proofs.Sound.{sound_standing}
+use Rattle.acc_entering.proofs.Situations.{without_other, stopped_other}
+use Rattle.acc_follow.specs.Situations.{Stopped, Situation, whole, stopped_at, without}
+use Rattle.acc_follow.specs.Moves.{event_in, entry_of, tried_if, stopped_by, is_journalled}
+use Rattle.acc_follow.specs.Schedules.{cluster_of}
+use Rattle.acc_limits.specs.Limits.{most_items}
+use Rattle.acc_cluster.specs.declared.slot.Slot.{Slot}
+use Rattle.acc_cluster.specs.Slots.{SlotStands}
+use Rattle.acc_cluster.specs.Asked.{IsFew, IsAsked, IsEmitted, HasTried}
+use Rattle.acc_cluster.proofs.Few.{few_whole}
+use Rattle.acc_served.specs.FreeRun.{AreOthers, IsFreeRun, alone}
+use Rattle.acc_served.specs.Serving.{IsServing, HasGone, AreStopsOf}
+use Rattle.acc_served.proofs.Alone.{alone_whole, alone_event, entry_is}
+use Rattle.acc_served.proofs.Fitting.{down_fits}
+use Rattle.acc_served.proofs.Over.{turn_fits}
+use Rattle.acc_served.proofs.Others.{untouched_by, may_over, untaken_over}
+use Rattle.acc_served.proofs.Serving.{serving_tried}
+use Rattle.acc_served.proofs.Going.{command_went, message_went}
+use Rattle.acc_desk.specs.Desks.{IsAt, IsTurn, MayStep, item_of}
+
+-- ---- what may be taken, behind others' items
+
+pub step_on : (plan : Content) (a : Actor) (seen others : List Item) (event : Event) (act : Act) (left later : List Step) → AreOthers a others → IsFreeRun plan (others ++ seen)
+    → MayStep plan seen a event act left later → MayStep plan (others ++ seen) a event act left later
+step_on plan a seen others event act left later apart free may =
+    record {
+      up = (untouched_by (cluster_of plan) seen a others apart).down ∙ may.up;
+      may = may_over (cluster_of plan) seen a event act others apart free.run.stands may.plain may.may;
+      plain = may.plain;
+      kept = may.kept;
+      untaken = untaken_over (cluster_of plan) seen a event act others apart free.run.stands may.may may.untaken;
+      turn = may.turn;
+    }
+
+-- ---- what is asked
+
+pub few_alone : (items : List Item) (stopped : List Stopped) → length items ≤ most_items → IsFew (alone items stopped)
+few_alone items stopped few = (omega arith, few)
+
+-- a stopped step of another isn't there
+stops_tried : (a : Actor) (event : Event) (s : Situation) → AreStopsOf a s.stopped → AreStopsOf a (record { actor = a; event = event } ∷ without a s.stopped)
+stops_tried a event s stops b other found = by (same_actor a b) refl
+  where
+    by : (t : Bool) → same_actor a b ≡ t → same_actor a b ≡ true
+    by true e = e
+    by false e = stops b other (sym (stopped_other a b event s e) ∙ found)
+
+pub stops_without : (a : Actor) (stopped : List Stopped) → AreStopsOf a stopped → AreStopsOf a (without a stopped)
+stops_without a stopped stops b other found = by (same_actor a b) refl
+  where
+    by : (t : Bool) → same_actor a b ≡ t → same_actor a b ≡ true
+    by true e = e
+    by false e = stops b other (sym (without_other b a e stopped) ∙ found)
+
+module _ {D : Type 0} (images : D → List ℕ → Type 0) (faults : D → ℕ) (strict : D → Bool) (armed : D → Option ℕ) (content synced : D → List ℕ) (written : D → Ranges) (strict_run : Bool) (plan : Content) (a : Actor) (items : List Item) (slot : Slot D) (left later : List Step) (event : Event) (act : Act)
+    (known : Contains (actors plan.topology) a) (few : length items ≤ most_items) (at : IsAt images faults strict armed content synced written strict_run plan a items slot left) (may : MayStep plan items a event act left later) where
+  abbrev pub here : Situation
+  here = alone items at.stopped
+
+  may_here : MayTake (cluster_of plan) (whole here) a (event_in here event) act
+  may_here =
+      subst (λ e. MayTake (cluster_of plan) (whole here) a e act) (sym (alone_event items at.stopped event))
+      (subst (λ own. MayTake (cluster_of plan) own a event act) (sym (alone_whole items at.stopped)) may.may)
+
+  up_here : is_down a (whole here) ≡ false
+  up_here = ap (is_down a) (alone_whole items at.stopped) ∙ may.up
+
+  pub asked : IsAsked images faults plan here a event act slot
+  asked = record { sound = at.serving.sound; few = few_alone items at.stopped few; stands = at.stands; up = up_here; may = may_here }
+
+  -- what it emits is what its entry has
+  emitted_is : (emitted : Emitted) → IsEmitted (cluster_of plan) here a event (Some emitted) → item_of a event (Some emitted) ≡ entry_of (cluster_of plan) here a event false
+  emitted_is emitted is = ap (λ (e : Emitted). StepItem (record { actor = a; event = event; emitted = e; lost = false })) is
+
+  entering_is : (emitted : Emitted) → IsEmitted (cluster_of plan) here a event (Some emitted) → item_of a event (Some emitted) ≡ entering (cluster_of plan) items a event false
+  entering_is emitted is = emitted_is emitted is ∙ entry_is (cluster_of plan) here refl a event false
+
+  -- behind others' items too
+  pub item_behind : (given : Option Emitted) → IsEmitted (cluster_of plan) here a event given → (others : List Item) → AreOthers a others → IsFreeRun plan (others ++ items) → IsFreeRun plan (item_of a event given ∷ others ++ items)
+  item_behind None is others apart free = down_fits plan (others ++ items) a known free
+  item_behind (Some emitted) is others apart free =
+      subst (λ item. IsFreeRun plan (item ∷ others ++ items)) (sym (entering_is emitted is))
+      (turn_fits plan items others a event act known apart may.may may.plain may.kept may.up may.untaken free)
+
+  -- its messages are short, and are weighed
+  sendable : (emitted : Emitted) → IsEmitted (cluster_of plan) here a event (Some emitted) → AreSendable emitted.out
+  sendable emitted is =
+      subst (λ (e : Emitted). AreSendable e.out) (sym (is ∙ ap (emits_if (cluster_of plan) (whole here) a) may_here.act_is))
+      (next_sendable (cluster_of plan) (whole here) a act (sound_standing (cluster_of plan) here at.serving.sound)
+      (record { event = event_in here event; act_is = may_here.act_is; place = may_here.place }) (few_whole here (few_alone items at.stopped few)))
+
+  pub item_short : (given : Option Emitted) → IsEmitted (cluster_of plan) here a event given → All IsShortMessage (sent_in (item_of a event given))
+  item_short None is = λ k d low. absurd (omega arith)
+  item_short (Some emitted) is = (sendable emitted is).short
+
+  pub item_weighs : (given : Option Emitted) → IsEmitted (cluster_of plan) here a event given → (weight : ℕ) → weight ≡ weight_of (entry_of (cluster_of plan) here a event false) → weight_of (item_of a event given) ≤ weight
+  item_weighs None is weight weighs = omega arith
+  item_weighs (Some emitted) is weight weighs = let e = ap weight_of (emitted_is emitted is) in omega arith
+
+  -- the command's turn, or a message's
+  went : (fails : Bool) → IsTurn event left later → HasGone plan here a left → HasGone plan (tried_if fails (cluster_of plan) here a event) a later
+  went fails (inl message) gone = subst (HasGone plan (tried_if fails (cluster_of plan) here a event) a) (sym message.1) (message_went plan here a event fails left message.0 gone)
+  went fails (inr command) gone = command_went plan here a event fails command.0 later command.2 command.3 (subst (HasGone plan here a) command.1 gone)
+
+  module _ (given : Option Emitted) (new_slot : Slot D) (tried : HasTried images faults plan here a event new_slot given) where
+    journalled : is_none given ≡ true → is_journalled a event ≡ true
+    journalled = by given tried.emitted
+      where
+        by : (given : Option Emitted) → IsEmitted (cluster_of plan) here a event given → is_none given ≡ true → is_journalled a event ≡ true
+        by None is none = is
+        by (Some emitted) is none = absurd (cc)
+
+    serving : IsServing plan (tried_if (is_none given) (cluster_of plan) here a event)
+    serving = serving_tried plan here at.serving a known event act (is_none given) may_here may.plain may.kept up_here may.untaken journalled
+
+    stepped_by : (given : Option Emitted) → IsEmitted (cluster_of plan) here a event given → SlotStands images faults plan (tried_if (is_none given) (cluster_of plan) here a event) a new_slot
+        → IsServing plan (tried_if (is_none given) (cluster_of plan) here a event) → HasGone plan (tried_if (is_none given) (cluster_of plan) here a event) a later
+        → IsAt images faults strict armed content synced written strict_run plan a (item_of a event given ∷ items) new_slot later
+    stepped_by None is stands serves gone =
+        record { stopped = record { actor = a; event = event } ∷ without a at.stopped; stands = stands; serving = serves; stops = stops_tried a event here at.stops; gone = gone }
+    stepped_by (Some emitted) is stands serves gone =
+        let e : alone (item_of a event (Some emitted) ∷ items) at.stopped ≡ tried_if false (cluster_of plan) here a event = ap (λ (item : Item). alone (item ∷ items) at.stopped) (emitted_is emitted is) in
+        record {
+          stopped = at.stopped;
+          stands = subst (λ (s : Situation). SlotStands images faults plan s a new_slot) (sym e) stands;
+          serving = subst (IsServing plan) (sym e) serves;
+          stops = at.stops;
+          gone = subst (λ (s : Situation). HasGone plan s a later) (sym e) gone;
+        }
+
+    -- the actor stands behind its item
+    pub stepped : IsAt images faults strict armed content synced written strict_run plan a (item_of a event given ∷ items) new_slot later
+    stepped = stepped_by given tried.emitted tried.stands serving (went (is_none given) may.turn at.gone)

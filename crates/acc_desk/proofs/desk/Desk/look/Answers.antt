@@ -1,0 +1,35 @@
+use Rattle.std.proofs.Common.{◌≡◌, [], Some, sym, ◌∙◌, ap, subst}
+use Rattle.acc_message_code.specs.Weight.{weight_of}
+use Rattle.acc_follow.specs.Schedules.{cluster_of}
+use Rattle.acc_tape.specs.ItemViews.{actor_of_item}
+use Rattle.acc_tape.specs.Seats.{Turns}
+use Rattle.acc_desk.specs.Fits.{fits_plan}
+use Rattle.acc_desk.proofs.Seating.{desk_on}
+use Rattle.acc_desk.proofs.Begun.{id_at}
+use Rattle.acc_desk.proofs.desk.Desk.look.Goals as goal
+
+pub returns-in-Err-NoPlace-clause-ok : goal.returns-in-Err-NoPlace-clause-ok
+returns-in-Err-NoPlace-clause-ok g c =
+    let self = c.loop-place.self in
+    let turns = subst (λ p. Turns actor_of_item weight_of (fits_plan p) self.seat c.fetch.new.seat) (sym c.requires.plan) c.fetch.ensures.turn in
+    desk_on c.args.plan.now c.args.tape.now c.requires.limits self.actor g.D.Disk.is_image g.D.Disk.faults g.D.Disk.strict g.D.Disk.armed g.D.Disk.content g.D.Disk.synced g.D.Disk.written g.J.Planned.strict self.commands self.gone self.slot [] [] self.seat c.fetch.new.seat c.loop-place.invariant.desk turns c.fetch.ensures.same.0 (c.fetch.ensures.same.1 ∙ c.loop-place.invariant.desk.seated.held_is)
+
+pub returns-in-Some-clause-ok : goal.returns-in-Some-clause-ok
+returns-in-Some-clause-ok g c =
+    let self = c.loop-place.self in
+    let turns = subst (λ p. Turns actor_of_item weight_of (fits_plan p) self.seat c.fetch.new.seat) (sym c.requires.plan) c.fetch.ensures.turn in
+    desk_on c.args.plan.now c.args.tape.now c.requires.limits self.actor g.D.Disk.is_image g.D.Disk.faults g.D.Disk.strict g.D.Disk.armed g.D.Disk.content g.D.Disk.synced g.D.Disk.written g.J.Planned.strict self.commands self.gone self.slot [] [] self.seat c.fetch.new.seat c.loop-place.invariant.desk turns c.fetch.ensures.same.0 (c.fetch.ensures.same.1 ∙ c.loop-place.invariant.desk.seated.held_is)
+
+pub returns-in-Some-clause-found : goal.returns-in-Some-clause-found
+returns-in-Some-clause-found g c =
+    let turns = subst (λ p. Turns actor_of_item weight_of (fits_plan p) c.loop-place.self.seat c.fetch.new.seat) (sym c.requires.plan) c.fetch.ensures.turn in
+    id_at (cluster_of c.args.plan.now) c.fetch.new.seat.seen c.loop-place.place c.deref.result.now c.args.txn c.in-Some.id turns.fitting.run.stands (c.in-Ok.ensures.ok ∙ ap Some (sym c.deref.ensures)) c.in-Some.ensures
+
+pub loop-place-preserved : goal.loop-place-preserved
+loop-place-preserved g c =
+    let self = c.loop-place.self in
+    let turns = subst (λ p. Turns actor_of_item weight_of (fits_plan p) self.seat c.fetch.new.seat) (sym c.requires.plan) c.fetch.ensures.turn in
+    record {
+      same = c.loop-place.invariant.same;
+      desk = desk_on c.args.plan.now c.args.tape.now c.requires.limits self.actor g.D.Disk.is_image g.D.Disk.faults g.D.Disk.strict g.D.Disk.armed g.D.Disk.content g.D.Disk.synced g.D.Disk.written g.J.Planned.strict self.commands self.gone self.slot [] [] self.seat c.fetch.new.seat c.loop-place.invariant.desk turns c.fetch.ensures.same.0 (c.fetch.ensures.same.1 ∙ c.loop-place.invariant.desk.seated.held_is);
+    }

@@ -1,0 +1,134 @@
+-- When a desk is sound, and what it may take.
+use Rattle.std.specs.Prelude.{◌≡◌, ◌≢◌, ◌⊎◌, ℕ, ◌≤◌, ◌==◌, Bool, true, false, List, [], ◌∷◌, length, reverse, sum_by, drop, All, Option, None, Some, Contains}
+use Rattle.acc_stamp.specs.declared.stamps.TxnId.{TxnId}
+use Rattle.acc_stamp.specs.declared.actors.Actor.{Actor}
+use Rattle.acc_ports.specs.Strict.{Ranges}
+use Rattle.acc_message.specs.declared.item.Item.{Item}
+use Rattle.acc_message.specs.declared.item.Item.TheVariants.{Step as StepItem, Down}
+use Rattle.acc_message.specs.declared.entry.Event.{Event}
+use Rattle.acc_message.specs.declared.entry.Emitted.{Emitted}
+use Rattle.acc_message.specs.Items.{begins_txn, id_begun}
+use Rattle.acc_message.specs.Coordinator.{silence}
+use Rattle.acc_message.specs.NodeRules.{Act}
+use Rattle.acc_message.specs.Run.{kept_of, is_down}
+use Rattle.acc_message_code.specs.Weight.{weight_of}
+use Rattle.acc_payloads.specs.Items.{downs_in}
+use Rattle.acc_schedule.specs.Actors.{actors}
+use Rattle.acc_schedule.specs.Content.{Content}
+use Rattle.acc_schedule.specs.declared.plan.Step.{Step}
+use Rattle.acc_schedule.specs.declared.plan.Step.TheVariants.{Begin}
+use Rattle.acc_entering.specs.Entries.{MayTake}
+use Rattle.acc_follow.specs.Situations.{Stopped, Situation}
+use Rattle.acc_follow.specs.Moves.{with_item, reopened}
+use Rattle.acc_follow.specs.Schedules.{cluster_of}
+use Rattle.acc_strict.specs.Disks.{Disks, fresh_disks, after_restart}
+use Rattle.acc_limits.specs.Limits.{most_items}
+use Rattle.acc_cluster.specs.declared.slot.Slot.{Slot}
+use Rattle.acc_cluster.specs.Slots.{SlotStands, IsStrictSlot}
+use Rattle.acc_served.specs.Commands.{commands_of, is_restart, is_event_of, is_message}
+use Rattle.acc_served.specs.FreeRun.{is_plain_event, IsUntaken, alone}
+use Rattle.acc_served.specs.Serving.{IsServing, HasGone, AreStopsOf}
+use Rattle.acc_desk.specs.declared.desk.Desk.{Desk}
+use Rattle.acc_tape.specs.Seats.{TapeName, SeatView}
+use Rattle.acc_tape.specs.Lists.{items_of}
+use Rattle.acc_tape.specs.ItemViews.{actor_of_item}
+
+-- ---- the seat
+
+-- what the seat has seen, newest first
+abbrev pub newest : SeatView Item → List Item
+newest seat = reverse seat.seen
+
+-- It is a seat of the tape for the actor, holds these reservations, and has entered the items of its actor that it has seen. These are
+-- within the limits.
+pub record IsSeated (tape : TapeName) (a : Actor) (held : List ℕ) (seat : SeatView Item) : Type 0 where
+  pub tape_is : seat.tape ≡ tape
+  pub actor_is : seat.actor ≡ a.0
+  pub some : seat.actor ≢ 0
+  pub held_is : seat.held ≡ held
+  pub mine_is : items_of actor_of_item seat.actor seat.seen ≡ seat.mine
+  pub few : length seat.seen ≤ most_items
+  pub light : sum_by weight_of seat.seen ≤ tape.limits.weight
+
+-- ---- the actor
+
+-- Its disk is strict and nothing is armed on it; so the actor never went down, and no step of it was stopped.
+pub record HasStayed {D : Type 0} (strict : D → Bool) (armed : D → Option ℕ) (content synced : D → List ℕ) (written : D → Ranges) (plan : Content) (s : Situation) (a : Actor) (slot : Slot D) : Type 0 where
+  pub unarmed : IsStrictSlot strict armed content synced written plan s fresh_disks a slot
+  pub none : s.stopped ≡ []
+  pub up : downs_in a s.own ≡ 0
+
+-- The actor stands in its slot for what the items have of it, which are a free run. Of its commands these are left, and of the steps that
+-- its disk stopped at most one of its own. Where all disks of the run are strict, it stayed up.
+pub record IsAt {D : Type 0} (images : D → List ℕ → Type 0) (faults : D → ℕ) (strict : D → Bool) (armed : D → Option ℕ) (content synced : D → List ℕ) (written : D → Ranges) (strict_run : Bool) (plan : Content) (a : Actor) (items : List Item) (slot : Slot D) (left : List Step) : Type 0 where
+  pub stopped : List Stopped
+  pub stands : SlotStands images faults plan (alone items stopped) a slot
+  pub serving : IsServing plan (alone items stopped)
+  pub stops : AreStopsOf a stopped
+  pub gone : HasGone plan (alone items stopped) a left
+  pub stayed : strict_run ≡ true → HasStayed strict armed content synced written plan (alone items stopped) a slot
+
+-- The desk of an actor of the plan with these reservations: so many of its commands went by.
+pub record IsDesk {D : Type 0} (images : D → List ℕ → Type 0) (faults : D → ℕ) (strict : D → Bool) (armed : D → Option ℕ) (content synced : D → List ℕ) (written : D → Ranges) (strict_run : Bool) (plan : Content) (tape : TapeName) (held : List ℕ) (a : Actor) (seat : SeatView Item) (slot : Slot D) (commands : List Step) (gone : ℕ) : Type 0 where
+  pub known : Contains (actors plan.topology) a
+  pub all : commands ≡ commands_of plan a
+  pub seated : IsSeated tape a held seat
+  pub at : IsAt images faults strict armed content synced written strict_run plan a (newest seat) slot (drop gone commands)
+
+-- The seat belongs to the tape, and holds nothing that is reserved; and its actor stands for what it has seen.
+abbrev pub IsSound : {D : Type 0} → (D → List ℕ → Type 0) → (D → ℕ) → (D → Bool) → (D → Option ℕ) → (D → List ℕ) → (D → List ℕ) → (D → Ranges) → Bool → Content → TapeName → Actor → SeatView Item → Slot D → List Step → ℕ → Type 0
+IsSound images faults strict armed content synced written strict_run plan tape a seat slot commands gone = IsDesk images faults strict armed content synced written strict_run plan tape [] a seat slot commands gone
+
+-- ---- what may be taken
+
+-- the event is that of a message, or of the next command
+abbrev pub IsTurn : Event → List Step → List Step → Type 0
+IsTurn event left later =
+    ((is_message event ≡ true) × (later ≡ left))
+    ⊎ ((command : Step) × (left ≡ command ∷ later) × (is_event_of command event ≡ true) × (is_restart command ≡ false))
+
+-- behind the items the actor, which is up, may take the event, and these commands are left later
+pub record MayStep (plan : Content) (items : List Item) (a : Actor) (event : Event) (act : Act) (left later : List Step) : Type 0 where
+  pub up : is_down a items ≡ false
+  pub may : MayTake (cluster_of plan) items a event act
+  pub plain : is_plain_event event ≡ true
+  pub kept : kept_of event ≡ 0
+  pub untaken : IsUntaken items event
+  pub turn : IsTurn event left later
+
+-- the command begins the transaction
+abbrev pub begins_it : ℕ → Step → Bool
+begins_it txn (Begin number) = number == txn
+begins_it txn _ = false
+
+-- the item begins the transaction, and drew this id
+abbrev pub BeginsAs : ℕ → TxnId → Item → Type 0
+BeginsAs txn id item = (begins_txn txn item ≡ true) × (id_begun txn item ≡ Some id)
+
+-- It opened its disk again and kept nothing, or its disk failed.
+abbrev pub HasReopened : {D : Type 0} → (D → List ℕ → Type 0) → (D → ℕ) → Content → Situation → Actor → Option Emitted → Slot D → Type 0
+HasReopened images faults plan s a None slot = SlotStands images faults plan (with_item (Down a) s) a slot
+HasReopened images faults plan s a (Some emitted) slot = (emitted ≡ silence) × SlotStands images faults plan (reopened (cluster_of plan) s a None) a slot
+
+-- Over a strict disk, where no step was stopped, it opened.
+abbrev pub HasReopenedStrictly : {D : Type 0} → (D → Bool) → (D → Option ℕ) → (D → List ℕ) → (D → List ℕ) → (D → Ranges) → Content → Situation → Disks → Actor → Option Emitted → Slot D → Type 0
+HasReopenedStrictly strict armed content synced written plan s disks a None slot = ⊥
+HasReopenedStrictly strict armed content synced written plan s disks a (Some emitted) slot =
+    IsStrictSlot strict armed content synced written plan (reopened (cluster_of plan) s a None) (after_restart a disks) a slot
+
+-- the item that is entered: what the actor did, or that it went down
+abbrev pub item_of : Actor → Event → Option Emitted → Item
+item_of a event None = Down a
+item_of a event (Some emitted) = StepItem (record { actor = a; event = event; emitted = emitted; lost = false })
+
+-- ---- desks together
+
+abbrev pub AreSound : {D J : Type 0} → (D → List ℕ → Type 0) → (D → ℕ) → (D → Bool) → (D → Option ℕ) → (D → List ℕ) → (D → List ℕ) → (D → Ranges) → Bool → Content → TapeName → List (Desk D J) → Type 0
+AreSound {D} {J} images faults strict armed content synced written strict_run plan tape desks = All (λ (desk : Desk D J). IsSound images faults strict armed content synced written strict_run plan tape desk.actor desk.seat desk.slot desk.commands desk.gone) desks
+
+abbrev pub AreSeated : {D J : Type 0} → TapeName → List (Desk D J) → Type 0
+AreSeated {D} {J} tape desks = All (λ (desk : Desk D J). IsSeated tape desk.actor [] desk.seat) desks
+
+-- whose it is, and the commands of its actor
+abbrev pub name_of : {D J : Type 0} → Desk D J → Actor × List Step
+name_of desk = (desk.actor, desk.commands)

@@ -1,0 +1,80 @@
+//! Looking for the begin of a transaction that a desk is to recover.
+ghost use Rattle.std.specs.Prelude.{◌≡◌, ◌≤◌, [], Some, IfSome, IfOk, OnOk, OnErr};
+ghost use Rattle.acc_message.specs.Items.{id_drawn, id_of_txn};
+ghost use Rattle.acc_limits.specs.Limits.{most_items};
+ghost use Rattle.acc_desk.specs.Desks.{newest, IsSeated, IsSound, BeginsAs};
+
+use crate::desk::Desk;
+use crate::rules::{PlanTape, Planned};
+use acc_base::OutOfMemory;
+use acc_message::{Event, Item, Note};
+use acc_ports::Rig;
+use acc_schedule::Plan;
+use acc_stamp::TxnId;
+use acc_tape::PlaceError;
+use std::sync::Wait;
+
+// The most items that a desk looks through.
+const MOST: u64 = 1_000_000;
+
+// The id that a begin drew.
+fn drawn(notes: &[Note]) -> Option<TxnId>
+    ensures { result ≡ id_drawn notes.now }
+{
+    for note in notes {
+        if let Note::Begin { id } = note {
+            return Some(*id);
+        }
+    }
+    None
+}
+
+// The id of the transaction, where the item begins it.
+fn id_begun(item: &Item, txn: u32) -> Option<TxnId>
+    ensures { IfSome result (λ id. BeginsAs txn id item.now) }
+{
+    let Item::Step(entry) = item else {
+        return None;
+    };
+    let Event::Begin { txn: begun } = entry.event else {
+        return None;
+    };
+    if begun != txn {
+        return None;
+    }
+    drawn(entry.emitted.notes.as_slice())
+}
+
+impl<D: Rig + Drop, J: Planned> Desk<D, J> {
+    /// The id of a transaction, where it is begun in what the seat sees. The items are looked through from the place up to which
+    /// that was done.
+    pub(crate) fn look<W: Wait>(
+        &mut self,
+        rt: &W,
+        plan: &Plan,
+        tape: &PlanTape<J>,
+        txn: u32,
+    ) -> Result<Option<TxnId>, OutOfMemory>
+        requires plan { plan.now ≡ J.plan }
+        requires limits { tape.now.limits.items ≤ most_items }
+        requires desk { IsSound D.is_image D.faults D.strict D.armed D.content D.synced D.written J.strict plan.now tape.now self.old.actor self.old.seat self.old.slot self.old.commands self.old.gone }
+        ensures same { (self.new.actor ≡ self.old.actor) × (self.new.commands ≡ self.old.commands) × (self.new.gone ≡ self.old.gone) }
+        ensures ok { OnOk result (IsSound D.is_image D.faults D.strict D.armed D.content D.synced D.written J.strict plan.now tape.now self.new.actor self.new.seat self.new.slot self.new.commands self.new.gone) }
+        ensures err { OnErr result (IsSeated tape.now self.new.actor [] self.new.seat) }
+        ensures found { IfOk result (λ found. IfSome found (λ id. id_of_txn (newest self.new.seat) txn ≡ Some id)) }
+    {
+        let _plan = plan;
+        for place in self.looked..MOST {
+            let item = match tape.fetch(rt, &mut self.seat, place) {
+                Ok(item) => item,
+                Err(PlaceError::NoPlace) => return Ok(None),
+                Err(PlaceError::OutOfMemory) => return Err(OutOfMemory),
+            };
+            if let Some(id) = id_begun(&*item, txn) {
+                return Ok(Some(id));
+            }
+            self.looked = place + 1;
+        }
+        Ok(None)
+    }
+}

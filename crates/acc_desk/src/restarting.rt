@@ -1,0 +1,92 @@
+//! Restarts of the actor of a desk.
+ghost use Rattle.std.specs.Prelude.{◌≡◌, ◌≤◌, ◌+◌, ◌∷◌, [], true, drop, Contains, IfOk, OnOk, OnErr};
+ghost use Rattle.acc_schedule.specs.declared.plan.Step.{Step};
+ghost use Rattle.acc_limits.specs.Limits.{most_items};
+ghost use Rattle.acc_served.specs.Commands.{is_restart};
+ghost use Rattle.acc_schedule.specs.Actors.{actors};
+ghost use Rattle.acc_entering.specs.Stopped.{IsSound as IsEnteringSound};
+ghost use Rattle.acc_follow.specs.Situations.{Situation};
+ghost use Rattle.acc_follow.specs.Schedules.{cluster_of};
+ghost use Rattle.acc_strict.specs.Disks.{Disks};
+ghost use Rattle.acc_cluster.specs.Slots.{SlotStands, IsStrictSlot};
+ghost use Rattle.acc_cluster.specs.Asked.{IsFew};
+ghost use Rattle.acc_desk.specs.Desks.{IsSeated, IsSound, HasReopened, HasReopenedStrictly};
+
+use crate::desk::Desk;
+use crate::rules::{PlanTape, Planned};
+use crate::taking::item_for;
+use crate::turning::Turned;
+use acc_actors::Restarted;
+use acc_base::OutOfMemory;
+use acc_cluster::Slot;
+use acc_message::{Emitted, Event, Messages, Notes};
+use acc_ports::{Gate, Rig};
+use acc_schedule::Plan;
+use acc_stamp::Actor;
+use acc_tape::TapeError;
+use std::alloc::Global;
+use std::mem;
+use std::sync::Wait;
+
+// The actor opens its disk again in its slot. `None` where the disk failed.
+fn reopen<D: Rig + Drop>(
+    alloc: Global,
+    slot: &mut Slot<D>,
+    plan: &Plan,
+    actor: Actor,
+    choice: u8,
+) -> Result<Option<Emitted>, OutOfMemory>
+    requires { (s : Situation) × SlotStands D.is_image D.faults plan.now s actor slot.old × Contains (actors plan.now.topology) actor }
+    ensures ok { IfOk result (λ given. (s : Situation) → IsEnteringSound (cluster_of plan.now) s → IsFew s → SlotStands D.is_image D.faults plan.now s actor slot.old
+        → HasReopened D.is_image D.faults plan.now s actor given slot.new) }
+    ensures strict { IfOk result (λ given. (s : Situation) (disks : Disks) → IsEnteringSound (cluster_of plan.now) s → SlotStands D.is_image D.faults plan.now s actor slot.old
+        → IsStrictSlot D.strict D.armed D.content D.synced D.written plan.now s disks actor slot.old
+        → HasReopenedStrictly D.strict D.armed D.content D.synced D.written plan.now s disks actor given slot.new) }
+{
+    let (reopened, found) = mem::replace(slot, Slot::Empty).restart(plan, actor, choice);
+    *slot = reopened;
+    match found? {
+        Restarted::Down => Ok(None),
+        Restarted::Up { kept: None } => Ok(Some(Emitted {
+            notes: Notes::new(alloc),
+            out: Messages::new(alloc),
+        })),
+        Restarted::Up { kept: Some(_) } => Err(OutOfMemory),
+    }
+}
+
+impl<D: Rig + Drop, J: Planned> Desk<D, J> {
+    /// The disk of the actor crashes in the way of the choice, and the actor opens it again.
+    pub(crate) fn restart<W: Wait, G: Gate>(
+        &mut self,
+        rt: &W,
+        plan: &Plan,
+        tape: &PlanTape<J>,
+        gate: &G,
+        turn: u64,
+        choice: u8,
+    ) -> Result<Turned, OutOfMemory>
+        requires plan { plan.now ≡ J.plan }
+        requires limits { tape.now.limits.items ≤ most_items }
+        requires desk { IsSound D.is_image D.faults D.strict D.armed D.content D.synced D.written J.strict plan.now tape.now self.old.actor self.old.seat self.old.slot self.old.commands self.old.gone }
+        requires next { (command : Step) × (drop self.old.gone self.old.commands ≡ command ∷ drop (self.old.gone + 1) self.old.commands) × (is_restart command ≡ true) }
+        ensures same { (self.new.actor ≡ self.old.actor) × (self.new.commands ≡ self.old.commands) }
+        ensures ok { OnOk result (IsSound D.is_image D.faults D.strict D.armed D.content D.synced D.written J.strict plan.now tape.now self.new.actor self.new.seat self.new.slot self.new.commands self.new.gone) }
+        ensures err { OnErr result (IsSeated tape.now self.new.actor [] self.new.seat) }
+    {
+        gate.enter(self.actor.0, turn);
+        match tape.reserve(rt, &mut self.seat, 0) {
+            Ok(()) => {}
+            Err(TapeError::Full { .. }) => return Ok(Turned::Full),
+            Err(TapeError::OutOfMemory) => return Err(OutOfMemory),
+        }
+        let Ok(given) = reopen(self.alloc, &mut self.slot, plan, self.actor, choice) else {
+            tape.release(rt, &mut self.seat, 0);
+            return Err(OutOfMemory);
+        };
+        let item = item_for(self.actor, Event::Restart { kept: 0 }, given);
+        tape.put(rt, self.alloc, &mut self.seat, 0, item)?;
+        self.gone += 1;
+        Ok(Turned::Taken)
+    }
+}

@@ -1,0 +1,70 @@
+//! Steps of the actor of a desk.
+ghost use Rattle.std.specs.Prelude.{◌≡◌, ◌≤◌, [], drop, OnOk, OnErr};
+ghost use Rattle.acc_limits.specs.Limits.{most_items};
+ghost use Rattle.acc_desk.specs.Asks.{event_of, act_of_ask};
+ghost use Rattle.acc_desk.specs.Desks.{newest, item_of, IsSeated, IsSound, MayStep};
+
+use crate::ask::{Ask, step, weigh};
+use crate::desk::Desk;
+use crate::rules::{PlanTape, Planned};
+use crate::turning::Turned;
+use acc_base::OutOfMemory;
+use acc_message::{Emitted, Entry, Event, Item};
+use acc_ports::{Gate, Rig};
+use acc_schedule::Plan;
+use acc_stamp::Actor;
+use acc_tape::TapeError;
+use std::sync::Wait;
+
+/// What the actor entered, or that it went down.
+pub(crate) fn item_for(actor: Actor, event: Event, given: Option<Emitted>) -> Item
+    ensures { result ≡ item_of actor event given }
+{
+    match given {
+        Some(emitted) => Item::Step(Entry {
+            actor,
+            event,
+            emitted,
+            lost: false,
+        }),
+        None => Item::Down { actor },
+    }
+}
+
+impl<D: Rig + Drop, J: Planned> Desk<D, J> {
+    /// The actor takes what it is asked for, where the tape has room for it. Then so many commands have gone by.
+    pub(crate) fn take<W: Wait, G: Gate>(
+        &mut self,
+        rt: &W,
+        plan: &Plan,
+        tape: &PlanTape<J>,
+        gate: &G,
+        turn: u64,
+        ask: Ask,
+        gone: usize,
+    ) -> Result<Turned, OutOfMemory>
+        requires plan { plan.now ≡ J.plan }
+        requires limits { tape.now.limits.items ≤ most_items }
+        requires desk { IsSound D.is_image D.faults D.strict D.armed D.content D.synced D.written J.strict plan.now tape.now self.old.actor self.old.seat self.old.slot self.old.commands self.old.gone }
+        requires may { MayStep plan.now (newest self.old.seat) self.old.actor (event_of ask) (act_of_ask ask) (drop self.old.gone self.old.commands) (drop gone self.old.commands) }
+        ensures same { (self.new.actor ≡ self.old.actor) × (self.new.commands ≡ self.old.commands) }
+        ensures ok { OnOk result (IsSound D.is_image D.faults D.strict D.armed D.content D.synced D.written J.strict plan.now tape.now self.new.actor self.new.seat self.new.slot self.new.commands self.new.gone) }
+        ensures err { OnErr result (IsSeated tape.now self.new.actor [] self.new.seat) }
+    {
+        gate.enter(self.actor.0, turn);
+        let weight = weigh(&self.slot, plan, self.actor, ask)?;
+        match tape.reserve(rt, &mut self.seat, weight) {
+            Ok(()) => {}
+            Err(TapeError::Full { .. }) => return Ok(Turned::Full),
+            Err(TapeError::OutOfMemory) => return Err(OutOfMemory),
+        }
+        let Ok(given) = step(&mut self.slot, plan, self.actor, ask) else {
+            tape.release(rt, &mut self.seat, weight);
+            return Err(OutOfMemory);
+        };
+        let item = item_for(self.actor, ask.event(), given);
+        tape.put(rt, self.alloc, &mut self.seat, weight, item)?;
+        self.gone = gone;
+        Ok(Turned::Taken)
+    }
+}

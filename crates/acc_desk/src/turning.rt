@@ -1,0 +1,259 @@
+//! Turns.
+ghost use Rattle.std.specs.Prelude.{◌≡◌, ◌≤◌, ℕ, [], OnOk, OnErr, Some, false};
+ghost use Rattle.std.specs.Option.{option_copied};
+ghost use Rattle.std.specs.List.{slice_get, list_any};
+ghost use Rattle.acc_message.specs.Items.{sent_in};
+ghost use Rattle.acc_message.specs.Run.{is_down};
+ghost use Rattle.acc_schedule.specs.Content.{Content};
+ghost use Rattle.acc_schedule.specs.declared.plan.Step.{Step as AStep};
+ghost use Rattle.acc_limits.specs.Limits.{most_items};
+ghost use Rattle.acc_tape.specs.Seats.{TapeName};
+ghost use Rattle.acc_desk.specs.Desks.{newest, IsSeated, IsSound, begins_it};
+
+use crate::ask::Ask;
+use crate::desk::Desk;
+use crate::rules::{PlanTape, Planned};
+use acc_base::OutOfMemory;
+use acc_message::{Item, Message};
+use acc_ports::{Gate, Rig};
+use acc_schedule::{Plan, Step};
+use acc_topology::sets::contains;
+use acc_txn::Body;
+use std::sync::Wait;
+
+/// What a turn came to.
+#[derive(Clone, Copy, Debug, PartialEq, Eq)]
+pub enum Turned {
+    /// The desk took something.
+    Taken,
+    /// There was nothing to take.
+    Idle,
+    /// The tape has no room for what the desk would enter.
+    Full,
+}
+
+// The messages that an item sent.
+fn messages_of(item: &Item) -> &[Message]
+    ensures { result.now ≡ sent_in item.now }
+{
+    match item {
+        Item::Step(entry) => entry.emitted.out.as_slice(),
+        Item::Skipped { .. } | Item::Down { .. } => &[],
+    }
+}
+
+// The message with this place among those that an item sent.
+fn message_in(item: &Item, index: u64) -> Option<&Message>
+    ensures { option_copied result ≡ slice_get (sent_in item.now) index }
+{
+    messages_of(item).get(index as usize)
+}
+
+// The command at a place.
+fn command_at(commands: &[Step], place: usize) -> Option<Step>
+    ensures { result ≡ slice_get commands.now place }
+{
+    commands.get(place).copied()
+}
+
+// Whether some of the commands begins the transaction.
+fn has_begun(commands: &[Step], txn: u32) -> bool
+    ensures { result ≡ list_any (begins_it txn) commands.now }
+{
+    for command in commands {
+        if begins_txn(*command, txn) {
+            return true;
+        }
+    }
+    false
+}
+
+// Whether the command begins the transaction.
+fn begins_txn(command: Step, txn: u32) -> bool
+    ensures { result ≡ begins_it txn command }
+{
+    match command {
+        Step::Begin { txn: begun } => begun == txn,
+        _ => false,
+    }
+}
+
+// The node of a transaction.
+fn home_of(plan: &Plan, txn: u32) -> Option<u32>
+    ensures { result ≡ slice_get plan.now.homes txn }
+{
+    plan.homes.as_slice().get(txn as usize).copied()
+}
+
+// The body of a transaction.
+fn body_of(plan: &Plan, txn: u32) -> Option<&Body>
+    ensures { option_copied result ≡ slice_get plan.now.bodies txn }
+{
+    plan.bodies.as_slice().get(txn as usize)
+}
+
+impl<D: Rig + Drop, J: Planned> Desk<D, J> {
+    /// One turn.
+    pub fn turn<W: Wait, G: Gate>(
+        &mut self,
+        rt: &W,
+        plan: &Plan,
+        tape: &PlanTape<J>,
+        gate: &G,
+        turn: u64,
+    ) -> Result<Turned, OutOfMemory>
+        requires plan { plan.now ≡ J.plan }
+        requires limits { tape.now.limits.items ≤ most_items }
+        requires desk { IsSound D.is_image D.faults D.strict D.armed D.content D.synced D.written J.strict plan.now tape.now self.old.actor self.old.seat self.old.slot self.old.commands self.old.gone }
+        ensures same { (self.new.actor ≡ self.old.actor) × (self.new.commands ≡ self.old.commands) }
+        ensures ok { OnOk result (IsSound D.is_image D.faults D.strict D.armed D.content D.synced D.written J.strict plan.now tape.now self.new.actor self.new.seat self.new.slot self.new.commands self.new.gone) }
+        ensures err { OnErr result (IsSeated tape.now self.new.actor [] self.new.seat) }
+    {
+        match self.command(rt, plan, tape, gate, turn)? {
+            Turned::Idle => self.message(rt, plan, tape, gate, turn),
+            Turned::Taken => Ok(Turned::Taken),
+            Turned::Full => Ok(Turned::Full),
+        }
+    }
+
+    // Whether the actor is down.
+    fn is_down(&self) -> bool
+        ensures { (plan : Content) (tape : TapeName) → IsSound D.is_image D.faults D.strict D.armed D.content D.synced D.written J.strict plan tape self.now.actor self.now.seat self.now.slot self.now.commands self.now.gone
+            → result ≡ is_down self.now.actor (newest self.now.seat) }
+    {
+        self.slot.is_down()
+    }
+
+    // The next command, if it can be taken.
+    fn command<W: Wait, G: Gate>(
+        &mut self,
+        rt: &W,
+        plan: &Plan,
+        tape: &PlanTape<J>,
+        gate: &G,
+        turn: u64,
+    ) -> Result<Turned, OutOfMemory>
+        requires plan { plan.now ≡ J.plan }
+        requires limits { tape.now.limits.items ≤ most_items }
+        requires desk { IsSound D.is_image D.faults D.strict D.armed D.content D.synced D.written J.strict plan.now tape.now self.old.actor self.old.seat self.old.slot self.old.commands self.old.gone }
+        ensures same { (self.new.actor ≡ self.old.actor) × (self.new.commands ≡ self.old.commands) }
+        ensures ok { OnOk result (IsSound D.is_image D.faults D.strict D.armed D.content D.synced D.written J.strict plan.now tape.now self.new.actor self.new.seat self.new.slot self.new.commands self.new.gone) }
+        ensures err { OnErr result (IsSeated tape.now self.new.actor [] self.new.seat) }
+    {
+        if self.is_down() {
+            return Ok(Turned::Idle);
+        }
+        match command_at(self.commands.as_slice(), self.gone) {
+            Some(Step::Begin { txn }) => self.begin(rt, plan, tape, gate, turn, txn),
+            Some(Step::Recover { txn, node }) => {
+                self.recover(rt, plan, tape, gate, turn, txn, node)
+            }
+            Some(Step::Restart { actor: _, choice }) => {
+                self.restart(rt, plan, tape, gate, turn, choice)
+            }
+            _ => Ok(Turned::Idle),
+        }
+    }
+
+    // Begins a transaction.
+    fn begin<W: Wait, G: Gate>(
+        &mut self,
+        rt: &W,
+        plan: &Plan,
+        tape: &PlanTape<J>,
+        gate: &G,
+        turn: u64,
+        txn: u32,
+    ) -> Result<Turned, OutOfMemory>
+        requires plan { plan.now ≡ J.plan }
+        requires limits { tape.now.limits.items ≤ most_items }
+        requires desk { IsSound D.is_image D.faults D.strict D.armed D.content D.synced D.written J.strict plan.now tape.now self.old.actor self.old.seat self.old.slot self.old.commands self.old.gone }
+        requires up { is_down self.old.actor (newest self.old.seat) ≡ false }
+        requires next { slice_get self.old.commands self.old.gone ≡ Some (AStep.Begin txn) }
+        ensures same { (self.new.actor ≡ self.old.actor) × (self.new.commands ≡ self.old.commands) }
+        ensures ok { OnOk result (IsSound D.is_image D.faults D.strict D.armed D.content D.synced D.written J.strict plan.now tape.now self.new.actor self.new.seat self.new.slot self.new.commands self.new.gone) }
+        ensures err { OnErr result (IsSeated tape.now self.new.actor [] self.new.seat) }
+    {
+        let Some(home) = home_of(plan, txn) else {
+            return Ok(Turned::Idle);
+        };
+        let Some(body) = body_of(plan, txn) else {
+            return Ok(Turned::Idle);
+        };
+        if has_begun(&self.commands.as_slice()[..self.gone], txn) {
+            return Ok(Turned::Idle);
+        }
+        let _home = home;
+        let ask = Ask::Begin { txn, body };
+        self.take(rt, plan, tape, gate, turn, ask, self.gone + 1)
+    }
+
+    // Takes a transaction over, once it is begun.
+    fn recover<W: Wait, G: Gate>(
+        &mut self,
+        rt: &W,
+        plan: &Plan,
+        tape: &PlanTape<J>,
+        gate: &G,
+        turn: u64,
+        txn: u32,
+        node: u32,
+    ) -> Result<Turned, OutOfMemory>
+        requires plan { plan.now ≡ J.plan }
+        requires limits { tape.now.limits.items ≤ most_items }
+        requires desk { IsSound D.is_image D.faults D.strict D.armed D.content D.synced D.written J.strict plan.now tape.now self.old.actor self.old.seat self.old.slot self.old.commands self.old.gone }
+        requires next { slice_get self.old.commands self.old.gone ≡ Some (AStep.Recover txn node) }
+        ensures same { (self.new.actor ≡ self.old.actor) × (self.new.commands ≡ self.old.commands) }
+        ensures ok { OnOk result (IsSound D.is_image D.faults D.strict D.armed D.content D.synced D.written J.strict plan.now tape.now self.new.actor self.new.seat self.new.slot self.new.commands self.new.gone) }
+        ensures err { OnErr result (IsSeated tape.now self.new.actor [] self.new.seat) }
+    {
+        let Some(body) = body_of(plan, txn) else {
+            return Ok(Turned::Idle);
+        };
+        if !contains(plan.topology.nodes(), node) {
+            return Ok(Turned::Idle);
+        }
+        let Some(id) = self.look(rt, plan, tape, txn)? else {
+            return Ok(Turned::Idle);
+        };
+        if self.is_down() {
+            return Ok(Turned::Idle);
+        }
+        let ask = Ask::Recover { txn, id, body };
+        let turned = self.take(rt, plan, tape, gate, turn, ask, self.gone + 1)?;
+        if turned == Turned::Taken {
+            self.looked = 0;
+        }
+        Ok(turned)
+    }
+
+    // Takes the oldest message to the actor.
+    fn message<W: Wait, G: Gate>(
+        &mut self,
+        rt: &W,
+        plan: &Plan,
+        tape: &PlanTape<J>,
+        gate: &G,
+        turn: u64,
+    ) -> Result<Turned, OutOfMemory>
+        requires plan { plan.now ≡ J.plan }
+        requires limits { tape.now.limits.items ≤ most_items }
+        requires desk { IsSound D.is_image D.faults D.strict D.armed D.content D.synced D.written J.strict plan.now tape.now self.old.actor self.old.seat self.old.slot self.old.commands self.old.gone }
+        ensures same { (self.new.actor ≡ self.old.actor) × (self.new.commands ≡ self.old.commands) }
+        ensures ok { OnOk result (IsSound D.is_image D.faults D.strict D.armed D.content D.synced D.written J.strict plan.now tape.now self.new.actor self.new.seat self.new.slot self.new.commands self.new.gone) }
+        ensures err { OnErr result (IsSeated tape.now self.new.actor [] self.new.seat) }
+    {
+        let Some((post, sender)) = tape.next_with_item(rt, &mut self.seat, self.actor.0)? else {
+            return Ok(Turned::Idle);
+        };
+        let Some(message) = message_in(&*sender, post.index) else {
+            return Err(OutOfMemory);
+        };
+        if self.is_down() {
+            return Ok(Turned::Idle);
+        }
+        let number = post.number;
+        let ask = Ask::Message { number, message };
+        self.take(rt, plan, tape, gate, turn, ask, self.gone)
+    }
+}
