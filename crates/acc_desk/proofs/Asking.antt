@@ -11,6 +11,7 @@ use Rattle.acc_topology.specs.Sets.{is_among}
 use Rattle.acc_txn.specs.declared.parts.BodyParts.{BodyParts}
 use Rattle.acc_message.specs.declared.message.Message.{Message}
 use Rattle.acc_message.specs.declared.entry.Event.TheVariants.{Begin as BeginEvent, Recover as RecoverEvent, Message as MessageEvent}
+use Rattle.acc_ports.specs.Strict.{Ranges}
 use Rattle.acc_message.specs.declared.item.Item.{Item}
 use Rattle.acc_message.specs.Fields.{to_of}
 use Rattle.acc_message.specs.Items.{sent_in, sent_of, message_at, same_actor, id_of_txn}

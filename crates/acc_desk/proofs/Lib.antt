@@ -1,3 +1,4 @@
+pub mod Unarmed
 pub mod Moving
 pub mod Stepping
 pub mod Seating
@@ -8,3 +9,4 @@ pub mod Next
 pub mod Asking
 pub mod Begun
 pub mod Opening
+pub mod Closed

@@ -4,6 +4,7 @@ use Rattle.std.proofs.lemmas.List.{reverse-append}
 use Rattle.std.proofs.lemmas.List.Elements.{filter-append}
 use mathlib.Core.List.{IsPrefix}
 use Rattle.acc_stamp.specs.declared.actors.Actor.{Actor}
+use Rattle.acc_ports.specs.Strict.{Ranges}
 use Rattle.acc_message.specs.declared.entry.Event.{Event}
 use Rattle.acc_message.specs.declared.item.Item.{Item}
 use Rattle.acc_message.specs.declared.item.Item.TheVariants.{Step as StepItem, Skipped, Down}
@@ -14,9 +15,10 @@ use Rattle.acc_schedule.specs.Content.{Content}
 use Rattle.acc_schedule.specs.declared.plan.Step.{Step}
 use Rattle.acc_follow.specs.Situations.{Stopped, Situation, whole}
 use Rattle.acc_follow.specs.Schedules.{cluster_of}
+use Rattle.acc_strict.specs.Disks.{fresh_disks}
 use Rattle.acc_cluster.specs.declared.slot.Slot.{Slot}
 use Rattle.acc_cluster.proofs.Apart.{IsApart, GoesOn, apart_itself, apart_on, apart_item, goes_item}
-use Rattle.acc_cluster.proofs.Slots.{slot_apart}
+use Rattle.acc_cluster.proofs.Slots.{slot_apart, strict_apart}
 use Rattle.acc_served.specs.FreeRun.{AreOthers, IsFreeRun, alone}
 use Rattle.acc_served.specs.Serving.{IsServing}
 use Rattle.acc_served.proofs.Alone.{alone_whole}
@@ -105,4 +107,11 @@ module _ {D : Type 0} (images : D → List ℕ → Type 0) (faults : D → ℕ) 
         serving = serving_over plan seen others a st apart at.stops free at.serving;
         stops = at.stops;
         gone = gone_over plan seen others a st left apart at.gone;
+        stayed = λ on.
+            let h = at.stayed on in
+            record {
+              unarmed = strict_apart plan (alone seen st) (alone (others ++ seen) st) a over.apart strict armed content synced written fresh_disks fresh_disks slot refl refl h.unarmed;
+              none = h.none;
+              up = over.apart.downs ∙ h.up;
+            };
       }

@@ -1,15 +1,17 @@
 -- A desk before its actor did anything, and behind the closed list.
-use Rattle.std.proofs.Common.{◌≡◌, ◌≢◌, ℕ, ◌≤◌, List, [], ◌∷◌, ◌++◌, drop, reverse, Some, Contains, refl, sym, ◌∙◌, ap, subst}
+use Rattle.std.proofs.Common.{◌≡◌, ◌≢◌, ℕ, ◌≤◌, Bool, true, Option, List, [], ◌∷◌, ◌++◌, drop, reverse, Some, Contains, refl, sym, ◌∙◌, ap, subst}
 use mathlib.Core.List.{IsPrefix}
 use Rattle.acc_stamp.specs.declared.actors.Actor.{Actor}
+use Rattle.acc_ports.specs.Strict.{Ranges}
 use Rattle.acc_message.specs.declared.item.Item.{Item}
 use Rattle.acc_message_code.specs.Weight.{weight_of}
 use Rattle.acc_schedule.specs.Actors.{actors}
 use Rattle.acc_schedule.specs.Content.{Content}
 use Rattle.acc_schedule.specs.declared.plan.Step.{Step}
+use Rattle.acc_strict.specs.Disks.{fresh_disks}
 use Rattle.acc_limits.specs.Limits.{most_items}
 use Rattle.acc_cluster.specs.declared.slot.Slot.{Slot}
-use Rattle.acc_cluster.specs.Slots.{SlotStands}
+use Rattle.acc_cluster.specs.Slots.{SlotStands, IsStrictSlot}
 use Rattle.acc_served.specs.Commands.{commands_of}
 use Rattle.acc_served.specs.FreeRun.{IsFreeRun, alone}
 use Rattle.acc_served.specs.Serving.{IsServing}
@@ -24,19 +26,22 @@ use Rattle.acc_desk.proofs.Seating.{seen_few, seen_light, others_since}
 
 module _ {D : Type 0} (images : D → List ℕ → Type 0) (faults : D → ℕ) (strict : D → Bool) (armed : D → Option ℕ) (content synced : D → List ℕ) (written : D → Ranges) (strict_run : Bool) (plan : Content) (tape : TapeName) (limits : tape.limits.items ≤ most_items) (a : Actor) (slot : Slot D) where
   -- nothing was entered
-  at_first : IsServing plan (alone [] []) → SlotStands images faults plan (alone [] []) a slot → IsAt images faults strict armed content synced written strict_run plan a [] slot (commands_of plan a)
-  at_first serving stands =
-      record { stopped = []; stands = stands; serving = serving; stops = λ b event found. absurd (cc); gone = gone_begins plan a }
+  abbrev StrictFirst : Type 0
+  StrictFirst = strict_run ≡ true → IsStrictSlot strict armed content synced written plan (alone [] []) fresh_disks a slot
+
+  at_first : IsServing plan (alone [] []) → SlotStands images faults plan (alone [] []) a slot → StrictFirst → IsAt images faults strict armed content synced written strict_run plan a [] slot (commands_of plan a)
+  at_first serving stands strictly =
+      record { stopped = []; stands = stands; serving = serving; stops = λ b event found. absurd (cc); gone = gone_begins plan a; stayed = λ on. record { unarmed = strictly on; none = refl; up = refl } }
 
   -- others entered items while the desk was made
   pub first_desk : IsServing plan (alone [] []) → Contains (actors plan.topology) a → (commands : List Step) → commands ≡ commands_of plan a
       → (old new : SeatView Item) → old.tape ≡ tape → old.actor ≡ a.0 → old.actor ≢ 0 → old.mine ≡ [] → old.held ≡ [] → Turns actor_of_item weight_of (fits_plan plan) old new → new.mine ≡ old.mine → new.held ≡ old.held
-      → SlotStands images faults plan (alone [] []) a slot → IsDesk images faults strict armed content synced written strict_run plan tape [] a new slot commands 0
-  first_desk serving known commands all old new tape_is actor_is some mine_is held_is turns same_mine same_held stands =
+      → SlotStands images faults plan (alone [] []) a slot → StrictFirst → IsDesk images faults strict armed content synced written strict_run plan tape [] a new slot commands 0
+  first_desk serving known commands all old new tape_is actor_is some mine_is held_is turns same_mine same_held stands strictly =
       let owned : items_of actor_of_item a.0 new.seen ≡ [] =
       sym (ap (λ k. items_of actor_of_item k new.seen) (turns.actor ∙ actor_is)) ∙ turns.mine ∙ same_mine ∙ mine_is in
       let b : Between a [] new.seen = between a [] new.seen [] refl (new.seen, refl) owned in
-      let begun = at_on images faults strict armed content synced written strict_run plan a [] b.others slot (commands_of plan a) b.apart (subst (IsFreeRun plan) b.items_are turns.fitting) (at_first serving stands) in
+      let begun = at_on images faults strict armed content synced written strict_run plan a [] b.others slot (commands_of plan a) b.apart (subst (IsFreeRun plan) b.items_are turns.fitting) (at_first serving stands strictly) in
       record {
         known = known;
         all = all;

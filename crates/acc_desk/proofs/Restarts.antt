@@ -3,6 +3,7 @@ use Rattle.std.proofs.Common.{◌≡◌, ◌≢◌, ℕ, ◌+◌, ◌≤◌, Boo
 use Rattle.std.specs.Prelude.{All}
 use Rattle.std.proofs.lemmas.List.{length-reverse}
 use Rattle.acc_stamp.specs.declared.actors.Actor.{Actor}
+use Rattle.acc_ports.specs.Strict.{Ranges}
 use Rattle.acc_message.specs.declared.entry.Event.{Event}
 use Rattle.acc_message.specs.declared.entry.Event.TheVariants.{Restart as RestartEvent}
 use Rattle.acc_message.specs.declared.entry.Emitted.{Emitted}
@@ -19,11 +20,13 @@ use Rattle.acc_schedule.specs.declared.plan.Step.{Step}
 use Rattle.acc_entering.specs.Entries.{entering}
 use Rattle.acc_entering.specs.Stopped.{IsSound}
 use Rattle.acc_follow.specs.Situations.{Situation, without}
+use Rattle.acc_follow.specs.Moves.{reopened}
 use Rattle.acc_follow.specs.Schedules.{cluster_of}
+use Rattle.acc_strict.specs.Disks.{Disks, fresh_disks}
 use Rattle.acc_limits.specs.Limits.{most_items}
 use Rattle.acc_cluster.specs.declared.slot.Slot.{Slot}
 use Rattle.acc_cluster.specs.Asked.{IsFew}
-use Rattle.acc_cluster.specs.Slots.{SlotStands}
+use Rattle.acc_cluster.specs.Slots.{SlotStands, IsStrictSlot}
 use Rattle.acc_served.specs.Commands.{is_restart}
 use Rattle.acc_served.specs.FreeRun.{AreOthers, IsFreeRun, alone}
 use Rattle.acc_served.specs.Serving.{IsServing, HasGone}
@@ -34,9 +37,10 @@ use Rattle.acc_served.proofs.Going.{reopened_went, stayed_down}
 use Rattle.acc_tape.specs.Lists.{items_of}
 use Rattle.acc_tape.specs.ItemViews.{actor_of_item}
 use Rattle.acc_tape.specs.Seats.{TapeName, SeatView, Turns, FitsBehind, ComesLast}
-use Rattle.acc_desk.specs.Desks.{newest, IsAt, IsDesk, item_of, HasReopened}
+use Rattle.acc_desk.specs.Desks.{newest, HasStayed, IsAt, IsDesk, item_of, HasReopened, HasReopenedStrictly}
 use Rattle.acc_desk.specs.Fits.{fits_plan}
 use Rattle.acc_desk.proofs.Moving.{Between, at_on}
+use Rattle.acc_desk.proofs.Unarmed.{reopened_fresh}
 use Rattle.acc_desk.proofs.Stepping.{few_alone, stops_without}
 use Rattle.acc_desk.proofs.Seating.{own_item, reverse_last, seen_few, seated_on, others_since}
 
@@ -77,16 +81,19 @@ module _ {D : Type 0} (images : D → List ℕ → Type 0) (faults : D → ℕ) 
   -- the actor stands behind its restart
   pub restarted : (given : Option Emitted)
       → ((s : Situation) → IsSound (cluster_of plan) s → IsFew s → SlotStands images faults plan s a slot → HasReopened images faults plan s a given new_slot)
+      → ((s : Situation) (disks : Disks) → IsSound (cluster_of plan) s → SlotStands images faults plan s a slot → IsStrictSlot strict armed content synced written plan s disks a slot
+      → HasReopenedStrictly strict armed content synced written plan s disks a given new_slot)
       → IsAt images faults strict armed content synced written strict_run plan a (item_of a (RestartEvent 0) given ∷ items) new_slot left
-  restarted None opened =
+  restarted None opened strictly =
       record {
         stopped = at.stopped;
         stands = opened (alone items at.stopped) at.serving.sound (few_alone items at.stopped few) at.stands;
         serving = serving_down plan (alone items at.stopped) at.serving a known;
         stops = at.stops;
         gone = stayed_down plan (alone items at.stopped) a command left restart at.gone;
+        stayed = λ on. absurd (strictly (alone items at.stopped) fresh_disks at.serving.sound at.stands (at.stayed on).unarmed);
       }
-  restarted (Some emitted) opened =
+  restarted (Some emitted) opened strictly =
       let s = alone items at.stopped in
       let found = opened s at.serving.sound (few_alone items at.stopped few) at.stands in
       let e = ap (λ (item : Item). alone (item ∷ items) (without a at.stopped)) (restart_item plan items a emitted found.0) ∙ sym (alone_reopened (cluster_of plan) items at.stopped a) in
@@ -96,6 +103,14 @@ module _ {D : Type 0} (images : D → List ℕ → Type 0) (faults : D → ℕ) 
         serving = subst (IsServing plan) (sym e) (serving_restarted plan s at.serving a known false);
         stops = stops_without a at.stopped at.stops;
         gone = subst (λ (t : Situation). HasGone plan t a left) (sym e) (reopened_went plan s a false command left restart at.gone);
+        stayed = λ on.
+            let h = at.stayed on in
+            let next = reopened (cluster_of plan) s a None in
+            subst (λ (t : Situation). HasStayed strict armed content synced written plan t a new_slot) (sym e) (record {
+              unarmed = reopened_fresh strict armed content synced written plan next a new_slot (strictly s fresh_disks at.serving.sound at.stands h.unarmed);
+              none = ap (without a) h.none;
+              up = h.up;
+            });
       }
 
 module _ {D : Type 0} (images : D → List ℕ → Type 0) (faults : D → ℕ) (strict : D → Bool) (armed : D → Option ℕ) (content synced : D → List ℕ) (written : D → Ranges) (strict_run : Bool) (plan : Content) (tape : TapeName) (limits : tape.limits.items ≤ most_items) (a : Actor) (commands : List Step) (gone : ℕ) (slot new_slot : Slot D) (held : List ℕ) (seat : SeatView Item) (command : Step)
@@ -106,9 +121,11 @@ module _ {D : Type 0} (images : D → List ℕ → Type 0) (faults : D → ℕ) 
       subst (IsFreeRun plan) (sym (reverse_last before item)) (restart_item_fits plan (reverse before) a desk.known free given silent)
 
   pub restart_taken : ((s : Situation) → IsSound (cluster_of plan) s → IsFew s → SlotStands images faults plan s a slot → HasReopened images faults plan s a given new_slot)
+      → ((s : Situation) (disks : Disks) → IsSound (cluster_of plan) s → SlotStands images faults plan s a slot → IsStrictSlot strict armed content synced written plan s disks a slot
+      → HasReopenedStrictly strict armed content synced written plan s disks a given new_slot)
       → (new : SeatView Item) → Turns actor_of_item weight_of (fits_plan plan) seat new → new.held ≡ [] → ComesLast actor_of_item (fits_plan plan) seat new.seen (item_of a (RestartEvent 0) given)
       → IsDesk images faults strict armed content synced written strict_run plan tape [] a new new_slot commands (gone + 1)
-  restart_taken opened new turns free last =
+  restart_taken opened strictly new turns free last =
       let item = item_of a (RestartEvent 0) given in
       let b = others_since plan tape limits a held seat desk.seated last.before last.begins last.mine in
       let items = b.others ++ newest seat in
@@ -120,7 +137,7 @@ module _ {D : Type 0} (images : D → List ℕ → Type 0) (faults : D → ℕ) 
         all = desk.all;
         seated = seated_on plan tape limits a held [] seat new desk.seated turns free;
         at = subst (λ all. IsAt images faults strict armed content synced written strict_run plan a all new_slot (drop (gone + 1) commands)) (sym (ap reverse last.seen_is ∙ reverse_last last.before item ∙ ap (λ all. item ∷ all) b.items_are))
-            (restarted images faults strict armed content synced written strict_run plan a items slot new_slot (drop (gone + 1) commands) command desk.known few' restart at' given opened);
+            (restarted images faults strict armed content synced written strict_run plan a items slot new_slot (drop (gone + 1) commands) command desk.known few' restart at' given opened strictly);
       }
 
   -- what it entered

@@ -4,6 +4,7 @@ use Rattle.std.specs.Prelude.{All, sum_by}
 use Rattle.std.proofs.lemmas.List.{reverse-append, length-reverse}
 use mathlib.Core.List.{IsPrefix}
 use Rattle.acc_stamp.specs.declared.actors.Actor.{Actor}
+use Rattle.acc_ports.specs.Strict.{Ranges}
 use Rattle.acc_message.specs.declared.entry.Event.{Event}
 use Rattle.acc_message.specs.declared.entry.Emitted.{Emitted}
 use Rattle.acc_message.specs.declared.item.Item.{Item}
@@ -16,9 +17,11 @@ use Rattle.acc_schedule.specs.declared.plan.Step.{Step}
 use Rattle.acc_follow.specs.Situations.{Situation}
 use Rattle.acc_follow.specs.Moves.{entry_of}
 use Rattle.acc_follow.specs.Schedules.{cluster_of}
+use Rattle.acc_strict.specs.Disks.{Disks}
 use Rattle.acc_limits.specs.Limits.{most_items}
 use Rattle.acc_cluster.specs.declared.slot.Slot.{Slot}
-use Rattle.acc_cluster.specs.Asked.{IsAsked, MayAsk, IsEmitted, HasTried}
+use Rattle.acc_cluster.specs.Slots.{IsStrictSlot}
+use Rattle.acc_cluster.specs.Asked.{IsAsked, MayAsk, IsEmitted, HasTried, HasTriedStrictly}
 use Rattle.acc_served.specs.FreeRun.{AreOthers, IsFreeRun, alone}
 use Rattle.acc_tape.specs.Lists.{without, items_of}
 use Rattle.acc_tape.specs.ItemViews.{actor_of_item}
@@ -35,7 +38,7 @@ without_own w = ap (λ b. cond b [] (w ∷ [])) (eq-eqb w w refl)
 pub reverse_last : (before : List Item) (item : Item) → reverse (before ++ item ∷ []) ≡ item ∷ reverse before
 reverse_last before item = reverse-append before (item ∷ [])
 
-at_actor : (a : Actor) (n : ℕ) (items mine : List Item) → n ≡ a.0 → items_of actor_of_item n items ≡ mine → items_of actor_of_item a.0 items ≡ mine
+pub at_actor : (a : Actor) (n : ℕ) (items mine : List Item) → n ≡ a.0 → items_of actor_of_item n items ≡ mine → items_of actor_of_item a.0 items ≡ mine
 at_actor a n items mine is h = sym (ap (λ k. items_of actor_of_item k items) is) ∙ h
 
 pub own_item : (a : Actor) (event : Event) (given : Option Emitted) → actor_of_item (item_of a event given) ≡ a.0
@@ -137,8 +140,13 @@ module _ (plan : Content) (tape : TapeName) (limits : tape.limits.items ≤ most
               subst (IsFreeRun plan) (sym (reverse_last before item ∙ ap (λ items. item ∷ items) b.items_are))
               (item_behind images faults strict armed content synced written strict_run plan a (newest seat) slot (drop gone commands) (drop later commands) event act desk.known few_now desk.at may given now_tried.emitted b.others b.apart (subst (IsFreeRun plan) b.items_are free))
 
-          pub taken : (new : SeatView Item) → TurnsOf seat new → new.held ≡ [] → ComesLast actor_of_item (fits_plan plan) seat new.seen (item_of a event given) → IsDesk images faults strict armed content synced written strict_run plan tape [] a new new_slot commands later
-          taken new turns free last =
+          abbrev Strictly : Type 0
+          Strictly =
+              (s : Situation) (disks : Disks) → IsAsked images faults plan s a event act slot → IsStrictSlot strict armed content synced written plan s disks a slot
+              → HasTriedStrictly strict armed content synced written plan s disks a event new_slot given
+
+          pub taken : Strictly → (new : SeatView Item) → TurnsOf seat new → new.held ≡ [] → ComesLast actor_of_item (fits_plan plan) seat new.seen (item_of a event given) → IsDesk images faults strict armed content synced written strict_run plan tape [] a new new_slot commands later
+          taken strictly new turns free last =
               let item = item_of a event given in
               let b = others_since held seat desk.seated last.before last.begins last.mine in
               let run : IsFreeRun plan (b.others ++ newest seat) = subst (IsFreeRun plan) b.items_are last.fitting in
@@ -154,5 +162,5 @@ module _ (plan : Content) (tape : TapeName) (limits : tape.limits.items ≤ most
                 all = desk.all;
                 seated = seated_on held [] seat new desk.seated turns free;
                 at = subst (λ all. IsAt images faults strict armed content synced written strict_run plan a all new_slot (drop later commands)) (sym (ap reverse last.seen_is ∙ reverse_last last.before item ∙ ap (λ all. item ∷ all) b.items_are))
-                    (stepped images faults strict armed content synced written strict_run plan a items slot (drop gone commands) (drop later commands) event act desk.known few' at' may' given new_slot (tried here' asked'));
+                    (stepped images faults strict armed content synced written strict_run plan a items slot (drop gone commands) (drop later commands) event act desk.known few' at' may' given new_slot (tried here' asked') (λ disks. strictly here' disks asked'));
               }

@@ -1,7 +1,10 @@
 -- A step of the actor of a desk.
 use Rattle.std.proofs.Common.{◌≡◌, ◌⊎◌, ℕ, ◌≤◌, ◌<◌, ◌^◌, Bool, true, false, List, [], ◌∷◌, ◌++◌, length, Option, None, Some, Contains, refl, sym, ◌∙◌, ap, subst, arith, ⊎_elim, inl, inr}
 use Rattle.std.specs.Prelude.{All, is_none}
+use Rattle.std.proofs.Math.Bool.{and-false}
+use Rattle.std.proofs.lemmas.Bool.{true≢false}
 use Rattle.acc_stamp.specs.declared.actors.Actor.{Actor}
+use Rattle.acc_ports.specs.Strict.{Ranges}
 use Rattle.acc_message.specs.declared.entry.Event.{Event}
 use Rattle.acc_message.specs.declared.entry.Emitted.{Emitted}
 use Rattle.acc_message.specs.declared.item.Item.{Item}
@@ -25,10 +28,11 @@ use Rattle.acc_entering.proofs.Situations.{without_other, stopped_other}
 use Rattle.acc_follow.specs.Situations.{Stopped, Situation, whole, stopped_at, without}
 use Rattle.acc_follow.specs.Moves.{event_in, entry_of, tried_if, stopped_by, is_journalled}
 use Rattle.acc_follow.specs.Schedules.{cluster_of}
+use Rattle.acc_strict.specs.Disks.{Disks, fresh_disks, after_step}
 use Rattle.acc_limits.specs.Limits.{most_items}
 use Rattle.acc_cluster.specs.declared.slot.Slot.{Slot}
-use Rattle.acc_cluster.specs.Slots.{SlotStands}
-use Rattle.acc_cluster.specs.Asked.{IsFew, IsAsked, IsEmitted, HasTried}
+use Rattle.acc_cluster.specs.Slots.{SlotStands, IsStrictSlot}
+use Rattle.acc_cluster.specs.Asked.{IsFew, IsAsked, IsEmitted, HasTried, HasTriedStrictly}
 use Rattle.acc_cluster.proofs.Few.{few_whole}
 use Rattle.acc_served.specs.FreeRun.{AreOthers, IsFreeRun, alone}
 use Rattle.acc_served.specs.Serving.{IsServing, HasGone, AreStopsOf}
@@ -38,7 +42,8 @@ use Rattle.acc_served.proofs.Over.{turn_fits}
 use Rattle.acc_served.proofs.Others.{untouched_by, may_over, untaken_over}
 use Rattle.acc_served.proofs.Serving.{serving_tried}
 use Rattle.acc_served.proofs.Going.{command_went, message_went}
-use Rattle.acc_desk.specs.Desks.{IsAt, IsTurn, MayStep, item_of}
+use Rattle.acc_desk.specs.Desks.{HasStayed, IsAt, IsTurn, MayStep, item_of}
+use Rattle.acc_desk.proofs.Unarmed.{stepped_fresh}
 
 -- ---- what may be taken, behind others' items
 
@@ -124,7 +129,8 @@ module _ {D : Type 0} (images : D → List ℕ → Type 0) (faults : D → ℕ) 
   went fails (inl message) gone = subst (HasGone plan (tried_if fails (cluster_of plan) here a event) a) (sym message.1) (message_went plan here a event fails left message.0 gone)
   went fails (inr command) gone = command_went plan here a event fails command.0 later command.2 command.3 (subst (HasGone plan here a) command.1 gone)
 
-  module _ (given : Option Emitted) (new_slot : Slot D) (tried : HasTried images faults plan here a event new_slot given) where
+  module _ (given : Option Emitted) (new_slot : Slot D) (tried : HasTried images faults plan here a event new_slot given)
+      (strictly : (disks : Disks) → IsStrictSlot strict armed content synced written plan here disks a slot → HasTriedStrictly strict armed content synced written plan here disks a event new_slot given) where
     journalled : is_none given ≡ true → is_journalled a event ≡ true
     journalled = by given tried.emitted
       where
@@ -135,12 +141,33 @@ module _ {D : Type 0} (images : D → List ℕ → Type 0) (faults : D → ℕ) 
     serving : IsServing plan (tried_if (is_none given) (cluster_of plan) here a event)
     serving = serving_tried plan here at.serving a known event act (is_none given) may_here may.plain may.kept up_here may.untaken journalled
 
+    abbrev Stays : Situation → Type 0
+    Stays s = HasStayed strict armed content synced written plan s a new_slot
+
+    -- its disk didn't fail
+    stays_by : (given : Option Emitted) → is_none given ≡ false
+        → IsStrictSlot strict armed content synced written plan (tried_if (is_none given) (cluster_of plan) here a event) (after_step (is_journalled a event) a fresh_disks) a new_slot
+        → HasStayed strict armed content synced written plan here a slot → Stays (tried_if (is_none given) (cluster_of plan) here a event)
+    stays_by None went_on there h = absurd (true≢false went_on)
+    stays_by (Some emitted) went_on there h = record {
+      unarmed = stepped_fresh strict armed content synced written plan (tried_if false (cluster_of plan) here a event) a new_slot (is_journalled a event) there;
+      none = h.none;
+      up = h.up;
+    }
+
+    stays : strict_run ≡ true → Stays (tried_if (is_none given) (cluster_of plan) here a event)
+    stays on =
+        let h = at.stayed on in
+        let t = strictly fresh_disks h.unarmed in
+        stays_by given (t.fails ∙ and-false (is_journalled a event)) t.strictly h
+
     stepped_by : (given : Option Emitted) → IsEmitted (cluster_of plan) here a event given → SlotStands images faults plan (tried_if (is_none given) (cluster_of plan) here a event) a new_slot
         → IsServing plan (tried_if (is_none given) (cluster_of plan) here a event) → HasGone plan (tried_if (is_none given) (cluster_of plan) here a event) a later
+        → (strict_run ≡ true → Stays (tried_if (is_none given) (cluster_of plan) here a event))
         → IsAt images faults strict armed content synced written strict_run plan a (item_of a event given ∷ items) new_slot later
-    stepped_by None is stands serves gone =
-        record { stopped = record { actor = a; event = event } ∷ without a at.stopped; stands = stands; serving = serves; stops = stops_tried a event here at.stops; gone = gone }
-    stepped_by (Some emitted) is stands serves gone =
+    stepped_by None is stands serves gone stayed =
+        record { stopped = record { actor = a; event = event } ∷ without a at.stopped; stands = stands; serving = serves; stops = stops_tried a event here at.stops; gone = gone; stayed = stayed }
+    stepped_by (Some emitted) is stands serves gone stayed =
         let e : alone (item_of a event (Some emitted) ∷ items) at.stopped ≡ tried_if false (cluster_of plan) here a event = ap (λ (item : Item). alone (item ∷ items) at.stopped) (emitted_is emitted is) in
         record {
           stopped = at.stopped;
@@ -148,8 +175,9 @@ module _ {D : Type 0} (images : D → List ℕ → Type 0) (faults : D → ℕ) 
           serving = subst (IsServing plan) (sym e) serves;
           stops = at.stops;
           gone = subst (λ (s : Situation). HasGone plan s a later) (sym e) gone;
+          stayed = λ on. subst (λ (s : Situation). Stays s) (sym e) (stayed on);
         }
 
     -- the actor stands behind its item
     pub stepped : IsAt images faults strict armed content synced written strict_run plan a (item_of a event given ∷ items) new_slot later
-    stepped = stepped_by given tried.emitted tried.stands serving (went (is_none given) may.turn at.gone)
+    stepped = stepped_by given tried.emitted tried.stands serving (went (is_none given) may.turn at.gone) stays

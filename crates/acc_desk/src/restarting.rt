@@ -74,6 +74,9 @@ impl<D: Rig + Drop, J: Planned> Desk<D, J> {
         ensures ok { OnOk result (IsSound D.is_image D.faults D.strict D.armed D.content D.synced D.written J.strict plan.now tape.now self.new.actor self.new.seat self.new.slot self.new.commands self.new.gone) }
         ensures err { OnErr result (IsSeated tape.now self.new.actor [] self.new.seat) }
     {
+        if self.gone >= self.commands.len() {
+            return Ok(Turned::Idle);
+        }
         gate.enter(self.actor.0, turn);
         match tape.reserve(rt, &mut self.seat, 0) {
             Ok(()) => {}

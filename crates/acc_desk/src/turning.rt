@@ -219,6 +219,9 @@ impl<D: Rig + Drop, J: Planned> Desk<D, J> {
         if self.is_down() {
             return Ok(Turned::Idle);
         }
+        if self.gone >= self.commands.len() {
+            return Ok(Turned::Idle);
+        }
         let ask = Ask::Recover { txn, id, body };
         let turned = self.take(rt, plan, tape, gate, turn, ask, self.gone + 1)?;
         if turned == Turned::Taken {

@@ -31,9 +31,9 @@ put-requires-clause-item g c =
     let held = c.in-Ok.ensures.ok ∙ ap (λ h. h ++ 0 ∷ []) c.requires.desk.seated.held_is in
     let desk = desk_on c.args.plan.now c.args.tape.now c.requires.limits a g.D.Disk.is_image g.D.Disk.faults g.D.Disk.strict g.D.Disk.armed g.D.Disk.content g.D.Disk.synced g.D.Disk.written g.J.Planned.strict c.args.self.now.commands c.args.self.now.gone c.args.self.now.slot [] (0 ∷ []) c.args.self.now.seat c.reserve.new.seat c.requires.desk turns c.reserve.ensures.same.0 held in
     let item_is = c.item_for-item.ensures in
-    let silent = restart_silent g.D.Disk.is_image g.D.Disk.faults g.D.Disk.strict g.D.Disk.armed g.D.Disk.content g.D.Disk.synced g.D.Disk.written g.J.Planned.strict c.args.plan.now c.args.tape.now c.requires.limits a c.args.self.now.commands c.args.self.now.gone c.args.self.now.slot c.reopen.new.slot (0 ∷ []) c.reserve.new.seat c.requires.next.0 desk c.requires.next.1 c.requires.next.2 c.in-Ok-reopen.given c.in-Ok-reopen.ensures in
+    let silent = restart_silent g.D.Disk.is_image g.D.Disk.faults g.D.Disk.strict g.D.Disk.armed g.D.Disk.content g.D.Disk.synced g.D.Disk.written g.J.Planned.strict c.args.plan.now c.args.tape.now c.requires.limits a c.args.self.now.commands c.args.self.now.gone c.args.self.now.slot c.reopen.new.slot (0 ∷ []) c.reserve.new.seat c.requires.next.0 desk c.requires.next.1 c.requires.next.2 c.in-Ok-reopen.given c.in-Ok-reopen.ensures.ok in
     rw item_is (
-      restart_owned g.D.Disk.is_image g.D.Disk.faults g.D.Disk.strict g.D.Disk.armed g.D.Disk.content g.D.Disk.synced g.D.Disk.written g.J.Planned.strict c.args.plan.now c.args.tape.now c.requires.limits a c.args.self.now.commands c.args.self.now.gone c.args.self.now.slot c.reopen.new.slot (0 ∷ []) c.reserve.new.seat c.requires.next.0 desk c.requires.next.1 c.requires.next.2 c.in-Ok-reopen.given c.in-Ok-reopen.ensures,
+      restart_owned g.D.Disk.is_image g.D.Disk.faults g.D.Disk.strict g.D.Disk.armed g.D.Disk.content g.D.Disk.synced g.D.Disk.written g.J.Planned.strict c.args.plan.now c.args.tape.now c.requires.limits a c.args.self.now.commands c.args.self.now.gone c.args.self.now.slot c.reopen.new.slot (0 ∷ []) c.reserve.new.seat c.requires.next.0 desk c.requires.next.1 c.requires.next.2 c.in-Ok-reopen.given c.in-Ok-reopen.ensures.ok,
       restart_short a c.in-Ok-reopen.given silent,
       restart_weighs a c.in-Ok-reopen.given silent,
     )
@@ -45,7 +45,7 @@ put-requires-clause-fits g c =
     let held = c.in-Ok.ensures.ok ∙ ap (λ h. h ++ 0 ∷ []) c.requires.desk.seated.held_is in
     let desk = desk_on c.args.plan.now c.args.tape.now c.requires.limits a g.D.Disk.is_image g.D.Disk.faults g.D.Disk.strict g.D.Disk.armed g.D.Disk.content g.D.Disk.synced g.D.Disk.written g.J.Planned.strict c.args.self.now.commands c.args.self.now.gone c.args.self.now.slot [] (0 ∷ []) c.args.self.now.seat c.reserve.new.seat c.requires.desk turns c.reserve.ensures.same.0 held in
     let item_is = c.item_for-item.ensures in
-    let silent = restart_silent g.D.Disk.is_image g.D.Disk.faults g.D.Disk.strict g.D.Disk.armed g.D.Disk.content g.D.Disk.synced g.D.Disk.written g.J.Planned.strict c.args.plan.now c.args.tape.now c.requires.limits a c.args.self.now.commands c.args.self.now.gone c.args.self.now.slot c.reopen.new.slot (0 ∷ []) c.reserve.new.seat c.requires.next.0 desk c.requires.next.1 c.requires.next.2 c.in-Ok-reopen.given c.in-Ok-reopen.ensures in
+    let silent = restart_silent g.D.Disk.is_image g.D.Disk.faults g.D.Disk.strict g.D.Disk.armed g.D.Disk.content g.D.Disk.synced g.D.Disk.written g.J.Planned.strict c.args.plan.now c.args.tape.now c.requires.limits a c.args.self.now.commands c.args.self.now.gone c.args.self.now.slot c.reopen.new.slot (0 ∷ []) c.reserve.new.seat c.requires.next.0 desk c.requires.next.1 c.requires.next.2 c.in-Ok-reopen.given c.in-Ok-reopen.ensures.ok in
     subst (λ p. FitsBehind actor_of_item (fits_plan p) c.reserve.new.seat c.item_for-item.result) c.requires.plan
     (subst (λ item. FitsBehind actor_of_item (fits_plan c.args.plan.now) c.reserve.new.seat item) (sym item_is) (restart_fits_behind g.D.Disk.is_image g.D.Disk.faults g.D.Disk.strict g.D.Disk.armed g.D.Disk.content g.D.Disk.synced g.D.Disk.written g.J.Planned.strict c.args.plan.now c.args.tape.now c.requires.limits a c.args.self.now.commands c.args.self.now.gone c.args.self.now.slot c.reopen.new.slot (0 ∷ []) c.reserve.new.seat c.requires.next.0 desk c.requires.next.1 c.requires.next.2 c.in-Ok-reopen.given silent))
 
@@ -59,4 +59,4 @@ returns-clause-ok g c =
     let turns' = subst (λ p. Turns actor_of_item weight_of (fits_plan p) c.reserve.new.seat c.put.new.seat) (sym c.requires.plan) c.put.ensures.turn in
     let last = subst (λ p. ComesLast actor_of_item (fits_plan p) c.reserve.new.seat c.put.new.seat.seen c.item_for-item.result) (sym c.requires.plan) c.in_ok-put.ensures.behind in
     let free = c.put.ensures.held ∙ ap (without 0) held ∙ without_own 0 in
-    restart_taken g.D.Disk.is_image g.D.Disk.faults g.D.Disk.strict g.D.Disk.armed g.D.Disk.content g.D.Disk.synced g.D.Disk.written g.J.Planned.strict c.args.plan.now c.args.tape.now c.requires.limits a c.args.self.now.commands c.args.self.now.gone c.args.self.now.slot c.reopen.new.slot (0 ∷ []) c.reserve.new.seat c.requires.next.0 desk c.requires.next.1 c.requires.next.2 c.in-Ok-reopen.given c.in-Ok-reopen.ensures c.put.new.seat turns' free (subst (λ item. ComesLast actor_of_item (fits_plan c.args.plan.now) c.reserve.new.seat c.put.new.seat.seen item) item_is last)
+    restart_taken g.D.Disk.is_image g.D.Disk.faults g.D.Disk.strict g.D.Disk.armed g.D.Disk.content g.D.Disk.synced g.D.Disk.written g.J.Planned.strict c.args.plan.now c.args.tape.now c.requires.limits a c.args.self.now.commands c.args.self.now.gone c.args.self.now.slot c.reopen.new.slot (0 ∷ []) c.reserve.new.seat c.requires.next.0 desk c.requires.next.1 c.requires.next.2 c.in-Ok-reopen.given c.in-Ok-reopen.ensures.ok c.in-Ok-reopen.ensures.strict c.put.new.seat turns' free (subst (λ item. ComesLast actor_of_item (fits_plan c.args.plan.now) c.reserve.new.seat c.put.new.seat.seen item) item_is last)

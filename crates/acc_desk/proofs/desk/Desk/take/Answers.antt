@@ -48,9 +48,9 @@ put-requires-clause-item g c =
     let may = may_on c.args.plan.now c.args.tape.now c.requires.limits a g.D.Disk.is_image g.D.Disk.faults g.D.Disk.strict g.D.Disk.armed g.D.Disk.content g.D.Disk.synced g.D.Disk.written g.J.Planned.strict c.args.self.now.commands c.args.self.now.gone c.args.self.now.slot event act c.args.gone [] c.args.self.now.seat c.reserve.new.seat c.requires.desk turns c.reserve.ensures.same.0 c.requires.may in
     let item_is = c.item_for-item.ensures ∙ ap (λ e. item_of a e c.in-Ok-step.given) c.event.ensures in
     rw item_is (
-      own c.args.plan.now c.args.tape.now c.requires.limits a g.D.Disk.is_image g.D.Disk.faults g.D.Disk.strict g.D.Disk.armed g.D.Disk.content g.D.Disk.synced g.D.Disk.written g.J.Planned.strict c.args.self.now.commands c.args.self.now.gone c.args.self.now.slot event act c.args.gone (w ∷ []) c.reserve.new.seat desk may c.in-Ok-step.given c.step.new.slot c.in-Ok-step.ensures,
-      short c.args.plan.now c.args.tape.now c.requires.limits a g.D.Disk.is_image g.D.Disk.faults g.D.Disk.strict g.D.Disk.armed g.D.Disk.content g.D.Disk.synced g.D.Disk.written g.J.Planned.strict c.args.self.now.commands c.args.self.now.gone c.args.self.now.slot event act c.args.gone (w ∷ []) c.reserve.new.seat desk may c.in-Ok-step.given c.step.new.slot c.in-Ok-step.ensures,
-      weighs c.args.plan.now c.args.tape.now c.requires.limits a g.D.Disk.is_image g.D.Disk.faults g.D.Disk.strict g.D.Disk.armed g.D.Disk.content g.D.Disk.synced g.D.Disk.written g.J.Planned.strict c.args.self.now.commands c.args.self.now.gone c.args.self.now.slot event act c.args.gone (w ∷ []) c.reserve.new.seat desk may c.in-Ok-step.given c.step.new.slot c.in-Ok-step.ensures w c.in_ok-weight.ensures,
+      own c.args.plan.now c.args.tape.now c.requires.limits a g.D.Disk.is_image g.D.Disk.faults g.D.Disk.strict g.D.Disk.armed g.D.Disk.content g.D.Disk.synced g.D.Disk.written g.J.Planned.strict c.args.self.now.commands c.args.self.now.gone c.args.self.now.slot event act c.args.gone (w ∷ []) c.reserve.new.seat desk may c.in-Ok-step.given c.step.new.slot c.in-Ok-step.ensures.ok,
+      short c.args.plan.now c.args.tape.now c.requires.limits a g.D.Disk.is_image g.D.Disk.faults g.D.Disk.strict g.D.Disk.armed g.D.Disk.content g.D.Disk.synced g.D.Disk.written g.J.Planned.strict c.args.self.now.commands c.args.self.now.gone c.args.self.now.slot event act c.args.gone (w ∷ []) c.reserve.new.seat desk may c.in-Ok-step.given c.step.new.slot c.in-Ok-step.ensures.ok,
+      weighs c.args.plan.now c.args.tape.now c.requires.limits a g.D.Disk.is_image g.D.Disk.faults g.D.Disk.strict g.D.Disk.armed g.D.Disk.content g.D.Disk.synced g.D.Disk.written g.J.Planned.strict c.args.self.now.commands c.args.self.now.gone c.args.self.now.slot event act c.args.gone (w ∷ []) c.reserve.new.seat desk may c.in-Ok-step.given c.step.new.slot c.in-Ok-step.ensures.ok w c.in_ok-weight.ensures,
     )
 
 pub put-requires-clause-fits : goal.put-requires-clause-fits
@@ -65,7 +65,7 @@ put-requires-clause-fits g c =
     let may = may_on c.args.plan.now c.args.tape.now c.requires.limits a g.D.Disk.is_image g.D.Disk.faults g.D.Disk.strict g.D.Disk.armed g.D.Disk.content g.D.Disk.synced g.D.Disk.written g.J.Planned.strict c.args.self.now.commands c.args.self.now.gone c.args.self.now.slot event act c.args.gone [] c.args.self.now.seat c.reserve.new.seat c.requires.desk turns c.reserve.ensures.same.0 c.requires.may in
     let item_is = c.item_for-item.ensures ∙ ap (λ e. item_of a e c.in-Ok-step.given) c.event.ensures in
     subst (λ p. FitsBehind actor_of_item (fits_plan p) c.reserve.new.seat c.item_for-item.result) c.requires.plan
-    (subst (λ item. FitsBehind actor_of_item (fits_plan c.args.plan.now) c.reserve.new.seat item) (sym item_is) (fits c.args.plan.now c.args.tape.now c.requires.limits a g.D.Disk.is_image g.D.Disk.faults g.D.Disk.strict g.D.Disk.armed g.D.Disk.content g.D.Disk.synced g.D.Disk.written g.J.Planned.strict c.args.self.now.commands c.args.self.now.gone c.args.self.now.slot event act c.args.gone (w ∷ []) c.reserve.new.seat desk may c.in-Ok-step.given c.step.new.slot c.in-Ok-step.ensures))
+    (subst (λ item. FitsBehind actor_of_item (fits_plan c.args.plan.now) c.reserve.new.seat item) (sym item_is) (fits c.args.plan.now c.args.tape.now c.requires.limits a g.D.Disk.is_image g.D.Disk.faults g.D.Disk.strict g.D.Disk.armed g.D.Disk.content g.D.Disk.synced g.D.Disk.written g.J.Planned.strict c.args.self.now.commands c.args.self.now.gone c.args.self.now.slot event act c.args.gone (w ∷ []) c.reserve.new.seat desk may c.in-Ok-step.given c.step.new.slot c.in-Ok-step.ensures.ok))
 
 pub returns-clause-ok : goal.returns-clause-ok
 returns-clause-ok g c =
@@ -81,4 +81,4 @@ returns-clause-ok g c =
     let turns' = subst (λ p. Turns actor_of_item weight_of (fits_plan p) c.reserve.new.seat c.put.new.seat) (sym c.requires.plan) c.put.ensures.turn in
     let last = subst (λ p. ComesLast actor_of_item (fits_plan p) c.reserve.new.seat c.put.new.seat.seen c.item_for-item.result) (sym c.requires.plan) c.in_ok-put.ensures.behind in
     let free = c.put.ensures.held ∙ ap (without w) held ∙ without_own w in
-    taken c.args.plan.now c.args.tape.now c.requires.limits a g.D.Disk.is_image g.D.Disk.faults g.D.Disk.strict g.D.Disk.armed g.D.Disk.content g.D.Disk.synced g.D.Disk.written g.J.Planned.strict c.args.self.now.commands c.args.self.now.gone c.args.self.now.slot event act c.args.gone (w ∷ []) c.reserve.new.seat desk may c.in-Ok-step.given c.step.new.slot c.in-Ok-step.ensures c.put.new.seat turns' free (subst (λ item. ComesLast actor_of_item (fits_plan c.args.plan.now) c.reserve.new.seat c.put.new.seat.seen item) item_is last)
+    taken c.args.plan.now c.args.tape.now c.requires.limits a g.D.Disk.is_image g.D.Disk.faults g.D.Disk.strict g.D.Disk.armed g.D.Disk.content g.D.Disk.synced g.D.Disk.written g.J.Planned.strict c.args.self.now.commands c.args.self.now.gone c.args.self.now.slot event act c.args.gone (w ∷ []) c.reserve.new.seat desk may c.in-Ok-step.given c.step.new.slot c.in-Ok-step.ensures.ok c.in-Ok-step.ensures.strict c.put.new.seat turns' free (subst (λ item. ComesLast actor_of_item (fits_plan c.args.plan.now) c.reserve.new.seat c.put.new.seat.seen item) item_is last)
