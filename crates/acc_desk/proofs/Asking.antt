@@ -1,5 +1,5 @@
 -- What the actor of a desk may take next.
-use Rattle.std.proofs.Common.{◌≡◌, ◌⊎◌, ℕ, ◌+◌, ◌==◌, Bool, true, false, List, [], ◌∷◌, ◌++◌, length, map, reverse, take, drop, Option, None, Some, unwrap_or, refl, sym, ◌∙◌, ap, subst, eq-eqb, inl, inr}
+use Rattle.std.proofs.Common.{◌≡◌, ℕ, ◌+◌, Bool, true, false, List, length, map, reverse, take, drop, Option, Some, unwrap_or, refl, sym, ◌∙◌, ap, subst, eq-eqb, inl, inr}
 use Rattle.std.specs.Prelude.{sum_by}
 use Rattle.std.specs.List.{slice_get, list_any}
 use Rattle.std.specs.Option.{option_map}
@@ -14,11 +14,10 @@ use Rattle.acc_message.specs.declared.entry.Event.TheVariants.{Begin as BeginEve
 use Rattle.acc_ports.specs.Strict.{Ranges}
 use Rattle.acc_message.specs.declared.item.Item.{Item}
 use Rattle.acc_message.specs.Fields.{to_of}
-use Rattle.acc_message.specs.Items.{sent_in, sent_of, message_at, same_actor, id_of_txn}
+use Rattle.acc_message.specs.Items.{sent_in, message_at, id_of_txn}
 use Rattle.acc_message.specs.NodeRules.{Begins, Recovers, Takes}
 use Rattle.acc_message.specs.Run.{is_down}
 use Rattle.acc_posts.specs.declared.posting.Post.{Post}
-use Rattle.acc_safety.specs.Calm.{item_takes}
 use Rattle.acc_safety.proofs.Bridge.{same}
 use Rattle.acc_safe_runs.specs.Asks.{home_of_txn}
 use Rattle.acc_schedule.specs.Content.{Content}
@@ -30,7 +29,7 @@ use Rattle.acc_follow.specs.Schedules.{cluster_of}
 use Rattle.acc_cluster.specs.declared.slot.Slot.{Slot}
 use Rattle.acc_served.specs.Commands.{commands_of}
 use Rattle.acc_tape.specs.ItemViews.{addressee, taken_by_item, is_lost_item}
-use Rattle.acc_tape.specs.Messages.{is_taken, IsOldest}
+use Rattle.acc_tape.specs.Messages.{IsOldest}
 use Rattle.acc_desk.specs.Desks.{IsAt, MayStep, begins_it}
 use Rattle.acc_desk.proofs.Next.{drop_next, own_command, none_gone}
 use Rattle.acc_desk.proofs.Posts.{sent_through, sent_reversed, message_through, untaken_reversed}

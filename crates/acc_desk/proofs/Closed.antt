@@ -1,5 +1,5 @@
 -- The items of a closed tape: they are within the limits, and nobody is down where no actor of the plan went down.
-use Rattle.std.proofs.Common.{◌≡◌, ◌≢◌, ℕ, ◌+◌, ◌≤◌, Bool, true, false, cond, List, [], ◌∷◌, ◌++◌, length, reverse, Contains, refl, sym, ◌∙◌, ap, subst, arith, eq-eqb}
+use Rattle.std.proofs.Common.{◌≡◌, ℕ, ◌+◌, ◌≤◌, Bool, true, false, cond, List, [], ◌∷◌, ◌++◌, reverse, Contains, refl, sym, ◌∙◌, ap, subst, arith, eq-eqb}
 use Rattle.std.specs.Prelude.{All, Any}
 use Rattle.std.proofs.lemmas.Bool.{true≢false, and_from}
 use Rattle.std.proofs.lemmas.List.{length-reverse}
@@ -10,19 +10,18 @@ use Rattle.acc_stamp.specs.declared.actors.Actor.{Actor}
 use Rattle.acc_topology.specs.Layout.{Layout}
 use Rattle.acc_message.specs.declared.item.Item.{Item}
 use Rattle.acc_message.specs.declared.item.Item.TheVariants.{Step as StepItem, Skipped, Down}
-use Rattle.acc_message.specs.Items.{same_actor}
 use Rattle.acc_message_code.specs.Weight.{weight_of}
 use Rattle.acc_payloads.specs.Items.{is_item_of, is_down_of, downs_in}
 use Rattle.acc_safety.proofs.Bridge.{same_itself}
 use Rattle.acc_schedule.specs.Actors.{actors}
 use Rattle.acc_follow.specs.Laws.{NobodyIsDown}
-use Rattle.acc_limits.specs.Limits.{most_items, most_bytes, IsWithin}
+use Rattle.acc_limits.specs.Limits.{most_bytes, IsWithin}
 use Rattle.acc_served.specs.FreeRun.{AreKnown, AreOthers}
 use Rattle.acc_tape.specs.Lists.{items_of}
 use Rattle.acc_tape.specs.ItemViews.{actor_of_item}
 use Rattle.acc_tape.specs.Seats.{TapeName, SeatView}
 use Rattle.acc_desk.specs.Desks.{IsSeated}
-use Rattle.acc_desk.proofs.Moving.{Between, between}
+use Rattle.acc_desk.proofs.Moving.{between}
 use Rattle.acc_desk.proofs.Seating.{at_actor}
 
 -- ---- nobody is down

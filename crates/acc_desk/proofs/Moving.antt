@@ -1,26 +1,23 @@
 -- What others enter changes nothing for a desk.
-use Rattle.std.proofs.Common.{◌≡◌, ℕ, ◌+◌, ◌==◌, Bool, true, false, cond, List, [], ◌∷◌, ◌++◌, length, reverse, Option, None, Some, refl, sym, ◌∙◌, ap, subst, arith, length-append}
+use Rattle.std.proofs.Common.{◌≡◌, ℕ, ◌==◌, Bool, true, false, cond, List, [], ◌∷◌, ◌++◌, length, reverse, Option, refl, sym, ◌∙◌, ap, subst, arith, length-append}
 use Rattle.std.proofs.lemmas.List.{reverse-append}
 use Rattle.std.proofs.lemmas.List.Elements.{filter-append}
 use mathlib.Core.List.{IsPrefix}
 use Rattle.acc_stamp.specs.declared.actors.Actor.{Actor}
 use Rattle.acc_ports.specs.Strict.{Ranges}
-use Rattle.acc_message.specs.declared.entry.Event.{Event}
 use Rattle.acc_message.specs.declared.item.Item.{Item}
 use Rattle.acc_message.specs.declared.item.Item.TheVariants.{Step as StepItem, Skipped, Down}
-use Rattle.acc_message.specs.Run.{Cluster, EachStands, is_down}
+use Rattle.acc_message.specs.Run.{Cluster, EachStands}
 use Rattle.acc_payloads.specs.Items.{is_item_of}
-use Rattle.acc_entering.specs.Pasts.{IsUntouched}
 use Rattle.acc_schedule.specs.Content.{Content}
 use Rattle.acc_schedule.specs.declared.plan.Step.{Step}
-use Rattle.acc_follow.specs.Situations.{Stopped, Situation, whole}
+use Rattle.acc_follow.specs.Situations.{Stopped, whole}
 use Rattle.acc_follow.specs.Schedules.{cluster_of}
 use Rattle.acc_strict.specs.Disks.{fresh_disks}
 use Rattle.acc_cluster.specs.declared.slot.Slot.{Slot}
 use Rattle.acc_cluster.proofs.Apart.{IsApart, GoesOn, apart_itself, apart_on, apart_item, goes_item}
 use Rattle.acc_cluster.proofs.Slots.{slot_apart, strict_apart}
 use Rattle.acc_served.specs.FreeRun.{AreOthers, IsFreeRun, alone}
-use Rattle.acc_served.specs.Serving.{IsServing}
 use Rattle.acc_served.proofs.Alone.{alone_whole}
 use Rattle.acc_served.proofs.Over.{gone_over, serving_over}
 use Rattle.acc_tape.specs.Lists.{items_of}

@@ -1,5 +1,5 @@
 -- A desk before its actor did anything, and behind the closed list.
-use Rattle.std.proofs.Common.{◌≡◌, ◌≢◌, ℕ, ◌≤◌, Bool, true, Option, List, [], ◌∷◌, ◌++◌, drop, reverse, Some, Contains, refl, sym, ◌∙◌, ap, subst}
+use Rattle.std.proofs.Common.{◌≡◌, ◌≢◌, ℕ, ◌≤◌, Bool, true, Option, List, [], ◌++◌, drop, reverse, Contains, refl, sym, ◌∙◌, ap, subst}
 use mathlib.Core.List.{IsPrefix}
 use Rattle.acc_stamp.specs.declared.actors.Actor.{Actor}
 use Rattle.acc_ports.specs.Strict.{Ranges}
@@ -19,7 +19,7 @@ use Rattle.acc_served.proofs.Going.{gone_begins}
 use Rattle.acc_tape.specs.Lists.{items_of}
 use Rattle.acc_tape.specs.ItemViews.{actor_of_item}
 use Rattle.acc_tape.specs.Seats.{TapeName, SeatView, Turns}
-use Rattle.acc_desk.specs.Desks.{newest, IsSeated, IsAt, IsDesk}
+use Rattle.acc_desk.specs.Desks.{newest, IsAt, IsDesk}
 use Rattle.acc_desk.specs.Fits.{fits_plan}
 use Rattle.acc_desk.proofs.Moving.{Between, between, at_on}
 use Rattle.acc_desk.proofs.Seating.{seen_few, seen_light, others_since}

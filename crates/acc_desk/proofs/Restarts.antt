@@ -1,17 +1,16 @@
 -- A restart of the actor of a desk.
-use Rattle.std.proofs.Common.{◌≡◌, ◌≢◌, ℕ, ◌+◌, ◌≤◌, Bool, true, false, List, [], ◌∷◌, ◌++◌, length, drop, reverse, Option, None, Some, Contains, refl, sym, ◌∙◌, ap, subst, arith, length-append}
+use Rattle.std.proofs.Common.{◌≡◌, ℕ, ◌+◌, ◌≤◌, Bool, true, false, List, [], ◌∷◌, ◌++◌, length, drop, reverse, Option, None, Some, Contains, refl, sym, ◌∙◌, ap, subst, arith, length-append}
 use Rattle.std.specs.Prelude.{All}
 use Rattle.std.proofs.lemmas.List.{length-reverse}
 use Rattle.acc_stamp.specs.declared.actors.Actor.{Actor}
 use Rattle.acc_ports.specs.Strict.{Ranges}
-use Rattle.acc_message.specs.declared.entry.Event.{Event}
 use Rattle.acc_message.specs.declared.entry.Event.TheVariants.{Restart as RestartEvent}
 use Rattle.acc_message.specs.declared.entry.Emitted.{Emitted}
 use Rattle.acc_message.specs.declared.item.Item.{Item}
-use Rattle.acc_message.specs.declared.item.Item.TheVariants.{Step as StepItem, Down}
+use Rattle.acc_message.specs.declared.item.Item.TheVariants.{Step as StepItem}
 use Rattle.acc_message.specs.Items.{sent_in}
 use Rattle.acc_message.specs.Coordinator.{silence}
-use Rattle.acc_message.specs.Run.{is_down, emits_by, is_node}
+use Rattle.acc_message.specs.Run.{is_node}
 use Rattle.acc_message_code.specs.Short.{IsShortMessage}
 use Rattle.acc_message_code.specs.Weight.{weight_of}
 use Rattle.acc_schedule.specs.Actors.{actors}
@@ -28,18 +27,17 @@ use Rattle.acc_cluster.specs.declared.slot.Slot.{Slot}
 use Rattle.acc_cluster.specs.Asked.{IsFew}
 use Rattle.acc_cluster.specs.Slots.{SlotStands, IsStrictSlot}
 use Rattle.acc_served.specs.Commands.{is_restart}
-use Rattle.acc_served.specs.FreeRun.{AreOthers, IsFreeRun, alone}
+use Rattle.acc_served.specs.FreeRun.{IsFreeRun, alone}
 use Rattle.acc_served.specs.Serving.{IsServing, HasGone}
 use Rattle.acc_served.proofs.Alone.{alone_reopened}
 use Rattle.acc_served.proofs.Fitting.{down_fits, restart_fits}
 use Rattle.acc_served.proofs.Serving.{serving_restarted, serving_down}
 use Rattle.acc_served.proofs.Going.{reopened_went, stayed_down}
-use Rattle.acc_tape.specs.Lists.{items_of}
 use Rattle.acc_tape.specs.ItemViews.{actor_of_item}
 use Rattle.acc_tape.specs.Seats.{TapeName, SeatView, Turns, FitsBehind, ComesLast}
 use Rattle.acc_desk.specs.Desks.{newest, HasStayed, IsAt, IsDesk, item_of, HasReopened, HasReopenedStrictly}
 use Rattle.acc_desk.specs.Fits.{fits_plan}
-use Rattle.acc_desk.proofs.Moving.{Between, at_on}
+use Rattle.acc_desk.proofs.Moving.{at_on}
 use Rattle.acc_desk.proofs.Unarmed.{reopened_fresh}
 use Rattle.acc_desk.proofs.Stepping.{few_alone, stops_without}
 use Rattle.acc_desk.proofs.Seating.{own_item, reverse_last, seen_few, seated_on, others_since}

@@ -1,5 +1,5 @@
 -- A desk after a call on the tape, and after its actor stepped.
-use Rattle.std.proofs.Common.{◌≡◌, ◌≢◌, ℕ, ◌≤◌, Bool, false, List, [], ◌∷◌, ◌++◌, length, drop, reverse, Option, None, Some, refl, sym, ◌∙◌, ap, subst, arith, length-append, cond, eq-eqb}
+use Rattle.std.proofs.Common.{◌≡◌, ℕ, ◌≤◌, Bool, false, List, [], ◌∷◌, ◌++◌, length, drop, reverse, Option, None, Some, refl, sym, ◌∙◌, ap, subst, arith, length-append, cond, eq-eqb}
 use Rattle.std.specs.Prelude.{All, sum_by}
 use Rattle.std.proofs.lemmas.List.{reverse-append, length-reverse}
 use mathlib.Core.List.{IsPrefix}
@@ -21,8 +21,8 @@ use Rattle.acc_strict.specs.Disks.{Disks}
 use Rattle.acc_limits.specs.Limits.{most_items}
 use Rattle.acc_cluster.specs.declared.slot.Slot.{Slot}
 use Rattle.acc_cluster.specs.Slots.{IsStrictSlot}
-use Rattle.acc_cluster.specs.Asked.{IsAsked, MayAsk, IsEmitted, HasTried, HasTriedStrictly}
-use Rattle.acc_served.specs.FreeRun.{AreOthers, IsFreeRun, alone}
+use Rattle.acc_cluster.specs.Asked.{IsAsked, MayAsk, HasTried, HasTriedStrictly}
+use Rattle.acc_served.specs.FreeRun.{IsFreeRun, alone}
 use Rattle.acc_tape.specs.Lists.{without, items_of}
 use Rattle.acc_tape.specs.ItemViews.{actor_of_item}
 use Rattle.acc_tape.specs.Seats.{TapeName, SeatView, Turns, FitsBehind, ComesLast}

@@ -1,5 +1,5 @@
 -- A step of the actor of a desk.
-use Rattle.std.proofs.Common.{◌≡◌, ◌⊎◌, ℕ, ◌≤◌, ◌<◌, ◌^◌, Bool, true, false, List, [], ◌∷◌, ◌++◌, length, Option, None, Some, Contains, refl, sym, ◌∙◌, ap, subst, arith, ⊎_elim, inl, inr}
+use Rattle.std.proofs.Common.{◌≡◌, ℕ, ◌≤◌, Bool, true, false, List, ◌∷◌, ◌++◌, length, Option, None, Some, Contains, refl, sym, ◌∙◌, ap, subst, arith, inl, inr}
 use Rattle.std.specs.Prelude.{All, is_none}
 use Rattle.std.proofs.Math.Bool.{and-false}
 use Rattle.std.proofs.lemmas.Bool.{true≢false}
@@ -8,25 +8,23 @@ use Rattle.acc_ports.specs.Strict.{Ranges}
 use Rattle.acc_message.specs.declared.entry.Event.{Event}
 use Rattle.acc_message.specs.declared.entry.Emitted.{Emitted}
 use Rattle.acc_message.specs.declared.item.Item.{Item}
-use Rattle.acc_message.specs.declared.item.Item.TheVariants.{Step as StepItem, Down}
+use Rattle.acc_message.specs.declared.item.Item.TheVariants.{Step as StepItem}
 use Rattle.acc_message.specs.Items.{same_actor, sent_in}
 use Rattle.acc_message.specs.NodeRules.{Act}
-use Rattle.acc_message.specs.Run.{Cluster, kept_of, is_down}
+use Rattle.acc_message.specs.Run.{is_down}
 use Rattle.acc_message_code.specs.Short.{IsShortMessage}
 use Rattle.acc_message_code.specs.Weight.{weight_of}
-use Rattle.acc_bounds.specs.Next.{MayDo}
 use Rattle.acc_bounds.specs.Sends.{AreSendable}
 use Rattle.acc_bounds.proofs.Sendable.{next_sendable}
 use Rattle.acc_safe_runs.specs.Asks.{emits_if}
-use Rattle.acc_safety.proofs.Bridge.{same_itself}
 use Rattle.acc_schedule.specs.Actors.{actors}
 use Rattle.acc_schedule.specs.Content.{Content}
 use Rattle.acc_schedule.specs.declared.plan.Step.{Step}
 use Rattle.acc_entering.specs.Entries.{entering, MayTake}
 use Rattle.acc_entering.proofs.Sound.{sound_standing}
 use Rattle.acc_entering.proofs.Situations.{without_other, stopped_other}
-use Rattle.acc_follow.specs.Situations.{Stopped, Situation, whole, stopped_at, without}
-use Rattle.acc_follow.specs.Moves.{event_in, entry_of, tried_if, stopped_by, is_journalled}
+use Rattle.acc_follow.specs.Situations.{Stopped, Situation, whole, without}
+use Rattle.acc_follow.specs.Moves.{event_in, entry_of, tried_if, is_journalled}
 use Rattle.acc_follow.specs.Schedules.{cluster_of}
 use Rattle.acc_strict.specs.Disks.{Disks, fresh_disks, after_step}
 use Rattle.acc_limits.specs.Limits.{most_items}

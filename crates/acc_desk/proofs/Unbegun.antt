@@ -1,21 +1,20 @@
 -- A transaction that no command that went by begins isn't begun.
-use Rattle.std.proofs.Common.{◌≡◌, ℕ, ◌==◌, Bool, true, false, ◌||◌, List, [], ◌∷◌, Option, None, Some, refl, sym, ◌∙◌, ap, subst, eqb-true}
+use Rattle.std.proofs.Common.{◌≡◌, ℕ, ◌==◌, Bool, true, false, ◌||◌, List, Option, None, Some, refl, sym, ◌∙◌, ap, subst, eqb-true}
 use Rattle.std.specs.List.{slice_get, list_any}
 use Rattle.std.proofs.lemmas.Bool.{true≢false}
 use Rattle.acc_stamp.specs.declared.actors.Actor.{Actor}
 use Rattle.acc_stamp.specs.Actor.{actor_of}
-use Rattle.acc_message.specs.declared.entry.Entry.{Entry}
 use Rattle.acc_message.specs.declared.entry.Event.{Event}
 use Rattle.acc_message.specs.declared.entry.Event.TheVariants.{Begin as BeginEvent, Recover as RecoverEvent, Slow as SlowEvent, Message as MessageEvent, Restart as RestartEvent}
 use Rattle.acc_message.specs.declared.item.Item.{Item}
 use Rattle.acc_message.specs.declared.item.Item.TheVariants.{Step as StepItem, Skipped, Down}
 use Rattle.acc_message.specs.Items.{same_actor, event_begins, begins_txn, is_begun}
-use Rattle.acc_message.specs.Run.{Cluster, MayStand, StandsOn, Stands, EachStands}
+use Rattle.acc_message.specs.Run.{Cluster, MayStand, Stands, EachStands}
 use Rattle.acc_payloads.specs.Items.{is_item_of}
 use Rattle.acc_safety.proofs.Bridge.{same_itself}
 use Rattle.acc_schedule.specs.declared.plan.Step.{Step}
 use Rattle.acc_schedule.specs.declared.plan.Step.TheVariants.{Begin, Deliver, Drop, Recover, Slow, Restart, Fail, Drain}
-use Rattle.acc_served.specs.Commands.{is_restart, is_event_of, is_message}
+use Rattle.acc_served.specs.Commands.{is_event_of, is_message}
 use Rattle.acc_served.specs.Turns.{Went, begins, aside, delivered, took, came_up, stopped, stayed, went_down, kept, kept_message, passed}
 use Rattle.acc_desk.specs.Desks.{begins_it}
 

@@ -1,4 +1,4 @@
-use Rattle.std.proofs.Common.{◌≡◌, map, length}
+use Rattle.std.proofs.Common.{◌≡◌, map}
 use Rattle.std.specs.Vec.{vec_len}
 use Rattle.acc_desk.specs.Desks.{AreSound, name_of}
 use Rattle.acc_desk.proofs.serving.round.Given as goal

@@ -1,4 +1,4 @@
-use Rattle.std.proofs.Common.{◌≡◌, Vec, Global, sym, subst}
+use Rattle.std.proofs.Common.{Vec, Global, sym, subst}
 use Rattle.acc_desk.specs.Desks.{AreSound}
 use Rattle.acc_desk.specs.declared.desk.Desk.{Desk}
 use Rattle.acc_desk.proofs.serving.rounds.Goals.{in-None, in-Some+in_ok-round+in-Full, in-Some+in_ok-round+in-Idle}

@@ -1,9 +1,7 @@
-use Rattle.std.proofs.Common.{◌≡◌, Bool, false, List, Result, Ok, Err, refl, sym, ◌∙◌}
-use Rattle.std.specs.Prelude.{OnOk, OnErr, All}
+use Rattle.std.proofs.Common.{◌≡◌, false, Result, Ok, Err, sym, ◌∙◌}
+use Rattle.std.specs.Prelude.{OnOk, OnErr}
 use Rattle.std.specs.Result.{is_err}
 use Rattle.std.proofs.lemmas.Bool.{true≢false}
-use Rattle.acc_desk.specs.Desks.{AreSound, AreSeated}
-use Rattle.acc_desk.specs.declared.desk.Desk.{Desk}
 use Rattle.acc_desk.proofs.serving.serve.Goals as goal
 
 -- what holds where no error came

@@ -1,4 +1,4 @@
-use Rattle.std.proofs.Common.{◌≡◌, List, take, refl, sym, ◌∙◌, ap}
+use Rattle.std.proofs.Common.{List, take, sym, ◌∙◌, ap}
 use Rattle.std.specs.List.{list_any}
 use Rattle.acc_schedule.specs.declared.plan.Step.{Step}
 use Rattle.std.specs.Option.{option_copied}

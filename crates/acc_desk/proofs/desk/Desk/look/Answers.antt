@@ -1,4 +1,4 @@
-use Rattle.std.proofs.Common.{◌≡◌, [], Some, sym, ◌∙◌, ap, subst}
+use Rattle.std.proofs.Common.{[], Some, sym, ◌∙◌, ap, subst}
 use Rattle.acc_message_code.specs.Weight.{weight_of}
 use Rattle.acc_follow.specs.Schedules.{cluster_of}
 use Rattle.acc_tape.specs.ItemViews.{actor_of_item}

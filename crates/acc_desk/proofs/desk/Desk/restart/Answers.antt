@@ -1,11 +1,10 @@
-use Rattle.std.proofs.Common.{◌≡◌, [], ◌∷◌, ◌++◌, Contains, refl, sym, ap, ◌∙◌, subst, arith}
-use Rattle.acc_message.specs.declared.entry.Event.TheVariants.{Restart as RestartEvent}
+use Rattle.std.proofs.Common.{[], ◌∷◌, ◌++◌, Contains, refl, sym, ap, ◌∙◌, subst, arith}
 use Rattle.acc_message_code.specs.Weight.{weight_of}
 use Rattle.acc_served.specs.FreeRun.{alone}
 use Rattle.acc_tape.specs.Lists.{without}
 use Rattle.acc_tape.specs.ItemViews.{actor_of_item}
 use Rattle.acc_tape.specs.Seats.{Turns, FitsBehind, ComesLast}
-use Rattle.acc_desk.specs.Desks.{newest, item_of}
+use Rattle.acc_desk.specs.Desks.{newest}
 use Rattle.acc_desk.specs.Fits.{fits_plan}
 use Rattle.acc_desk.proofs.Seating.{desk_on, without_own}
 use Rattle.acc_desk.proofs.Restarts.{restart_short, restart_weighs, restart_silent, restart_owned, restart_fits_behind, restart_taken}

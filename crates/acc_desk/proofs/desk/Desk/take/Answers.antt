@@ -1,5 +1,4 @@
-use Rattle.std.proofs.Common.{◌≡◌, [], ◌∷◌, ◌++◌, Contains, refl, sym, ap, ◌∙◌, subst, arith}
-use Rattle.acc_message.specs.Items.{sent_in}
+use Rattle.std.proofs.Common.{[], ◌∷◌, ◌++◌, Contains, refl, sym, ap, ◌∙◌, subst, arith}
 use Rattle.acc_message_code.specs.Weight.{weight_of}
 use Rattle.acc_tape.specs.Lists.{without}
 use Rattle.acc_tape.specs.ItemViews.{actor_of_item}
