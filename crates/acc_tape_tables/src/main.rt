@@ -1,0 +1,60 @@
+//! Tapes against a table of wanted answers. The table comes from standard input. A line of it is a JSON array:
+//!
+//! - `["part", HEADING]`: the heading of the lines below it;
+//! - `["tape", ITEMS, BYTES, STEP, ..]`: a tape that may hold so many items and bytes, and what its seats do, one after the other;
+//! - `["threads", ITEMS, BYTES, ACTORS, EACH, WEIGHT, GIVEN, ANSWER]`: a tape on which so many actors, each on a thread of its own,
+//!   try so often to reserve an item of this weight and enter it. With GIVEN above 0 each gives every reservation whose number is a multiple of
+//!   it up before it reserves anew. An item sends a message to the next actor, and takes the oldest that waits for its own.
+//!
+//! A step is an array that ends with its answer:
+//!
+//! - `["seat", ACTOR, "ok"]`: a seat for an actor;
+//! - `["reserve", ACTOR, BYTES, ANSWER]`: `ok`, `full items` or `full bytes` with the limit;
+//! - `["release", ACTOR, BYTES, ANSWER]`: `ok`, or `not held`;
+//! - `["enter", ACTOR, RESERVED, BYTES, TAKEN, [TO, ..], LOST, ANSWER]`: an item of so many bytes, of which each message has one, in place of
+//!   a reservation; TAKEN is the number of a message or null, LOST whether the messages are lost. The item's place, or `not held`;
+//! - `["fetch", ACTOR, PLACE, ANSWER]`: the item at a place, as its actor, a dot and how many that entered before; or `none`;
+//! - `["next", ACTOR, TO, ANSWER]`, `["after", ACTOR, TO, NUMBER, ANSWER]`: the oldest message that waits for an actor, also behind a number: its
+//!   number, the place of its item and its index there; or `none`;
+//! - `["item", ACTOR, TO, ANSWER]`: the same with the item that sent it;
+//! - `["close", ANSWER]`: all items. No seat holds a reservation, and the case ends.
+//!
+//! Threads tell how many items were entered and how many reservations refused, where the items of each actor stand in the order in
+//! which it entered them and the messages that they took rise in number.
+//!
+//! Each case whose answers differ is printed on a line of its own, and at the end how many are as wanted. The program fails
+//! where one differs, at a line of another form, and where memory runs out.
+#![tactic(auto)]
+
+mod act;
+mod case;
+mod chair;
+mod hall;
+mod sample;
+mod threads;
+
+use anyhow::{Context, Result, ensure};
+use serde_json::Value;
+use std::io::{BufRead, BufReader};
+
+fn main(rt: HostRuntime) -> Result<()> {
+    let alloc = rt.alloc();
+    let mut agree: u64 = 0;
+    let mut all: u64 = 0;
+    for (place, line) in BufReader::new(alloc, rt.reader())?.lines(alloc).enumerate() {
+        let number = place.saturating_add(1);
+        let line = Value::from_str(alloc, line?.as_str())?;
+        let agrees = case::agrees(&rt, alloc, &line);
+        if let Some(agrees) = agrees.context(format_args!("line {number}"))? {
+            all = all.saturating_add(1);
+            if agrees {
+                agree = agree.saturating_add(1);
+            } else {
+                println!(rt; "line {number}: other answers")?;
+            }
+        }
+    }
+    println!(rt; "as wanted: {agree} of {all}")?;
+    ensure!(agree == all, "some answers differ");
+    Ok(())
+}
