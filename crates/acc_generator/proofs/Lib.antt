@@ -8,4 +8,5 @@ mod PlanFacts
 mod PlanRules
 mod RuleFacts
 mod TextFacts
+mod TokenFacts
 pub mod Written

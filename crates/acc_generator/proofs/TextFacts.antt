@@ -8,8 +8,8 @@ use Rattle.acc_generator.specs.Draws.{draw_after}
 use Rattle.acc_generator.specs.Texts.{end_text, first_text, later_text, text_from, two_digits}
 use Rattle.acc_generator.proofs.DrawFacts.{first_text_from, later_text_from}
 
-pub joined : (a r s b c d e t u v : List ℕ) → t ≡ a ++ (r ++ (s ++ b)) → u ≡ t ++ (c ++ d) → v ≡ u ++ e → v ≡ (((a ++ (r ++ s)) ++ (b ++ c)) ++ d) ++ e
-joined a r s b c d e t u v p q h = h ∙ ap (λ (l : List ℕ). l ++ e) (q ∙ ap (λ (l : List ℕ). l ++ (c ++ d)) p) ∙ simp append_assoc
+pub joined : (o a r s b c d e t u v : List ℕ) → t ≡ o ++ (a ++ (r ++ (s ++ b))) → u ≡ t ++ (c ++ d) → v ≡ u ++ e → v ≡ o ++ ((((a ++ (r ++ s)) ++ (b ++ c)) ++ d) ++ e)
+joined o a r s b c d e t u v p q h = h ∙ ap (λ (l : List ℕ). l ++ e) (q ∙ ap (λ (l : List ℕ). l ++ (c ++ d)) p) ∙ simp append_assoc
 
 pub small : (n : ℕ) → n % 64 < 100
 small n = omega arith

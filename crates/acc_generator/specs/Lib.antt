@@ -3,3 +3,4 @@ pub mod Document
 pub mod Draws
 pub mod Plan
 pub mod Texts
+pub mod Tokens

@@ -1,13 +1,14 @@
 //! The names of transactions.
-ghost use Rattle.std.specs.Prelude.{◌≡◌, string_bytes, IfOk};
+ghost use Rattle.std.specs.Prelude.{◌≡◌, string_bytes, OnOk};
 ghost use Rattle.acc_generator.specs.Document.{name_of};
 
-use std::alloc::{AllocError, Global};
+use std::alloc::AllocError;
 
-/// The name of the transaction of this number.
+/// Makes a text the name of the transaction of this number.
 #[tactic(auto, unfolding(crate::specs::Document::name_of))]
-pub(crate) fn name(alloc: Global, number: u32) -> Result<String, AllocError>
-    ensures { IfOk result (λ name. string_bytes name ≡ name_of number) }
+pub(crate) fn set_name(name: &mut String, number: u32) -> Result<(), AllocError>
+    ensures { OnOk result (string_bytes name.new ≡ name_of number) }
 {
-    format!(in alloc; "t{number}")
+    name.clear();
+    write!(name, "t{number}")
 }

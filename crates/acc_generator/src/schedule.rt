@@ -1,48 +1,53 @@
 //! The schedule of a document.
-ghost use Rattle.std.specs.Prelude.{◌≡◌, ◌∷◌, ◌++◌, [], flat_map, map, IfOk, OnOk};
-ghost use Rattle.serde_json.specs.Data.{array};
-ghost use Rattle.serde_json.specs.View.{items_of, view};
-ghost use Rattle.acc_generator.specs.Document.{begin as begin_data, drain as drain_data, numbers, steps_at};
+ghost use Rattle.std.specs.Prelude.{◌≡◌, OnOk};
+ghost use Rattle.acc_generator.specs.Document.{begin as begin_data, drain as drain_data, list, schedule as schedule_data, steps_at};
+ghost use Rattle.acc_generator.specs.Tokens.{AddsAll, Adds};
 
-use crate::names::name;
-use serde_json::{Value, json};
+use crate::names::set_name;
+use json::Writer;
 use std::alloc::{AllocError, Global};
 
 /// Begins so many transactions, with a drain behind each sixteen of them and one more at the end.
-pub(crate) fn schedule(alloc: Global, count: u32) -> Result<Value, AllocError>
-    ensures { IfOk result (λ list. view list ≡ array (items_of (flat_map steps_at (numbers count) ++ drain_data ∷ []))) }
+pub(crate) fn write_schedule(alloc: Global, out: &mut Writer, count: u32) -> Result<(), AllocError>
+    ensures { OnOk result (Adds out.old (list (schedule_data count)) out.new) }
 {
-    let mut steps = Vec::new(alloc);
+    let mut name = String::new(alloc);
+    out.begin_array()?;
     for number in 0..count {
-        push_steps(alloc, &mut steps, number)?;
+        write_steps(out, &mut name, number)?;
     }
-    steps.push(drain(alloc)?)?;
-    Ok(Value::Array(steps))
+    write_drain(out)?;
+    out.end_array()
 }
 
-// The transaction begins, and each sixteenth is drained.
+// The transaction begins, and each sixteenth is drained. Its name is made in `name`.
 #[tactic(auto, unfolding(crate::specs::Document::steps_at))]
-fn push_steps(alloc: Global, steps: &mut Vec<Value>, number: u32) -> Result<(), AllocError>
-    ensures { OnOk result (map view steps.new.items ≡ map view steps.old.items ++ steps_at number) }
+fn write_steps(out: &mut Writer, name: &mut String, number: u32) -> Result<(), AllocError>
+    ensures { OnOk result (AddsAll out.old (steps_at number) out.new) }
 {
-    steps.push(begin(alloc, number)?)?;
+    write_begin(out, name, number)?;
     if number % 16 == 15 {
-        steps.push(drain(alloc)?)?;
+        write_drain(out)?;
     }
     Ok(())
 }
 
 #[tactic(auto, unfolding(crate::specs::Document::begin))]
-fn begin(alloc: Global, number: u32) -> Result<Value, AllocError>
-    ensures { IfOk result (λ step. view step ≡ begin_data number) }
+fn write_begin(out: &mut Writer, name: &mut String, number: u32) -> Result<(), AllocError>
+    ensures { OnOk result (Adds out.old (begin_data number) out.new) }
 {
-    let name = name(alloc, number)?;
-    json!(in alloc; ["begin", name])
+    set_name(name, number)?;
+    out.begin_array()?;
+    out.string("begin")?;
+    out.string(name.as_str())?;
+    out.end_array()
 }
 
 #[tactic(auto, unfolding(crate::specs::Document::drain))]
-fn drain(alloc: Global) -> Result<Value, AllocError>
-    ensures { IfOk result (λ step. view step ≡ drain_data) }
+fn write_drain(out: &mut Writer) -> Result<(), AllocError>
+    ensures { OnOk result (Adds out.old drain_data out.new) }
 {
-    json!(in alloc; ["drain"])
+    out.begin_array()?;
+    out.string("drain")?;
+    out.end_array()
 }

@@ -1,34 +1,51 @@
 //! The transactions of a document.
-ghost use Rattle.std.specs.Prelude.{◌≡◌, map, IfOk};
-ghost use Rattle.serde_json.specs.Data.{array};
-ghost use Rattle.serde_json.specs.View.{items_of, view};
-ghost use Rattle.acc_generator.specs.Document.{numbers, transaction as transaction_data, transaction_with};
-ghost use Rattle.acc_generator.specs.Texts.{state_behind, text_from};
+ghost use Rattle.std.specs.Prelude.{◌≡◌, map, OnOk};
+ghost use Rattle.acc_generator.specs.Document.{list, numbers, transaction as transaction_data, transaction_with};
+ghost use Rattle.acc_generator.specs.Tokens.{Adds};
 
 use crate::draws::Draws;
-use crate::names::name;
-use crate::texts::text;
-use serde_json::{Value, json};
+use crate::names::set_name;
+use crate::texts::set_text;
+use json::Writer;
 use std::alloc::{AllocError, Global};
 
 /// So many transactions, with the draws of the seed.
-pub(crate) fn transactions(alloc: Global, seed: u64, count: u32) -> Result<Value, AllocError>
-    ensures { IfOk result (λ list. view list ≡ array (items_of (map (transaction_data seed) (numbers count)))) }
+pub(crate) fn write_transactions(
+    alloc: Global,
+    out: &mut Writer,
+    seed: u64,
+    count: u32,
+) -> Result<(), AllocError>
+    ensures { OnOk result (Adds out.old (list (map (transaction_data seed) (numbers count))) out.new) }
 {
     let mut draws = Draws::new(seed);
-    let mut list = Vec::with_capacity(alloc, count as usize)?;
+    let mut name = String::new(alloc);
+    let mut text = String::new(alloc);
+    out.begin_array()?;
     for number in 0..count {
-        list.push(transaction(alloc, number, &mut draws)?)?;
+        set_text(&mut text, number, &mut draws)?;
+        write_transaction(out, &mut name, number, text.as_str())?;
     }
-    Ok(Value::Array(list))
+    out.end_array()
 }
 
+// A transaction with its text. Its name is made in `name`.
 #[tactic(auto, unfolding(crate::specs::Document::transaction_with))]
-fn transaction(alloc: Global, number: u32, draws: &mut Draws) -> Result<Value, AllocError>
-    ensures value { IfOk result (λ value. view value ≡ transaction_with number (text_from draws.old.state number)) }
-    ensures behind { draws.new.state ≡ state_behind draws.old.state number }
+fn write_transaction(
+    out: &mut Writer,
+    name: &mut String,
+    number: u32,
+    text: &str,
+) -> Result<(), AllocError>
+    ensures { OnOk result (Adds out.old (transaction_with number text.now) out.new) }
 {
-    let text = text(alloc, number, draws)?;
-    let name = name(alloc, number)?;
-    json!(in alloc; {"name": name, "node": 1 + number % 3, "text": text})
+    set_name(name, number)?;
+    out.begin_object()?;
+    out.key("name")?;
+    out.string(name.as_str())?;
+    out.key("node")?;
+    out.u64(u64::from(1 + number % 3))?;
+    out.key("text")?;
+    out.string(text)?;
+    out.end_object()
 }
