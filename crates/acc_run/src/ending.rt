@@ -7,7 +7,7 @@ use acc_cluster::Disks;
 use acc_ports::DiskMaker;
 
 /// Gives the disks back, in their order.
-pub(crate) fn give_back<M: DiskMaker>(disks: &mut M, ended: Disks<M::D>) -> Result<(), OutOfMemory>
+pub fn give_back<M: DiskMaker>(disks: &mut M, ended: Disks<M::D>) -> Result<(), OutOfMemory>
 where
     M::D: Drop,
     ensures given { OnOk result (M.given disks.new ≡ M.given disks.old ++ map numbered ended.items) }

@@ -6,4 +6,5 @@ mod opening;
 mod run;
 mod steps;
 
+pub use ending::give_back;
 pub use run::run_plan;

@@ -1,0 +1,241 @@
+-- The next command of an actor, as a cluster takes it.
+use Rattle.std.proofs.Common.{◌≡◌, ℕ, ◌+◌, ◌<◌, ◌≤◌, Bool, true, false, List, [], ◌∷◌, ◌++◌, reverse, length, drop, get_or, Contains, Result, Ok, Err, IfErr, OnOk, refl, sym, ◌∙◌, ap, subst, arith}
+use Rattle.std.specs.Result.{IsErrAnd}
+use Rattle.std.proofs.lemmas.Bool.{true≢false}
+use Rattle.std.proofs.lemmas.Result.{err_from_is_err_and}
+use Rattle.acc_stamp.specs.declared.actors.Actor.{Actor}
+use Rattle.acc_message.specs.declared.item.Item.{Item}
+use Rattle.acc_message.specs.declared.error.Which.{Which}
+use Rattle.acc_message.specs.declared.error.RunError.{RunError}
+use Rattle.acc_message.specs.declared.error.RunError.TheVariants.{Limit, OutOfMemory}
+use Rattle.acc_message.specs.Items.{same_actor}
+use Rattle.acc_safety.specs.Places.{IsIn, First}
+use Rattle.acc_safety.proofs.Bridge.{same}
+use Rattle.acc_safety.proofs.PlaceOrder.{IsIn-append_right, IsIn-filter, each_at}
+use Rattle.acc_schedule.specs.Actors.{actors}
+use Rattle.acc_schedule.specs.Content.{Content}
+use Rattle.acc_schedule.specs.Plan.{IsStep, IsPlan}
+use Rattle.acc_schedule.specs.declared.plan.Step.{Step}
+use Rattle.acc_schedule.specs.declared.plan.Step.TheVariants.{Begin, Deliver, Drop, Recover, Slow, Restart, Fail, Drain}
+use Rattle.acc_entering.proofs.Situations.{whole_alone}
+use Rattle.acc_follow.specs.Situations.{Situation, whole}
+use Rattle.acc_follow.specs.Moves.{Answers, IsNext}
+use Rattle.acc_follow.specs.Schedules.{cluster_of}
+use Rattle.acc_limits.specs.Fronts.{ComesTo, Begins}
+use Rattle.acc_limits.proofs.Beginnings.{begins_itself, begins_chain}
+use Rattle.acc_limits.proofs.Reached.{next_adds}
+use Rattle.acc_cluster.specs.declared.cluster.Cluster.{Cluster}
+use Rattle.acc_cluster.specs.Stands.{StandsFor}
+use Rattle.acc_cluster.specs.Steps.{StepsTo, IfLimit, EndsIn}
+use Rattle.acc_served.specs.Commands.{is_command_of, commands_of, IsPassed, IsReady, IsHeld}
+use Rattle.acc_served.specs.Serving.{IsServing, HasGone}
+use Rattle.acc_free.specs.declared.rest.Queue.{Queue}
+use Rattle.acc_free.specs.Queues.{left_in}
+use Rattle.acc_free.proofs.Lists.{none_left, one_left}
+use Rattle.acc_free.specs.declared.command.Turn.TheVariants.{Takes, Passes, Waits}
+use Rattle.acc_free.specs.Moves.{Serves, IsTurn, HasMoved, EachWent, EndsFreely}
+
+-- an error that is handed on
+pub handed_on : {X : Type 0} (P : RunError → Type 0) (result : Result X RunError) (error : RunError) → IsErrAnd result (λ e. e ≡ error) → P error → IfErr result P
+handed_on P result error is p =
+    let found = err_from_is_err_and result is in
+    subst (λ r. IfErr r P) (sym (found.1 ∙ ap Err found.2)) p
+
+-- what follows in each case
+pub on_ok : {X E : Type 0} (P Q : Type 0) (result : Result X E) → (P → Q) → OnOk result P → OnOk result Q
+on_ok P Q (Ok x) f h = f h
+on_ok P Q (Err e) f h = tt
+
+map_limit : (P Q : Which → ℕ → Type 0) → ((which : Which) (number : ℕ) → P which number → Q which number) → (error : RunError) → IfLimit P error → IfLimit Q error
+map_limit P Q f (Limit which number) h = f which number h
+map_limit P Q f OutOfMemory h = tt
+
+pub on_limit : {X : Type 0} (P Q : Which → ℕ → Type 0) (result : Result X RunError) → ((which : Which) (number : ℕ) → P which number → Q which number)
+    → IfErr result (IfLimit P) → IfErr result (IfLimit Q)
+on_limit P Q (Ok x) f h = tt
+on_limit P Q (Err error) f h = map_limit P Q f error h
+
+pub limit_handed : {X : Type 0} (P Q : Which → ℕ → Type 0) (result : Result X RunError) (error : RunError) → IsErrAnd result (λ e. e ≡ error)
+    → ((which : Which) (number : ℕ) → P which number → Q which number) → IfLimit P error → IfErr result (IfLimit Q)
+limit_handed P Q result error is f p = handed_on (IfLimit Q) result error is (map_limit P Q f error p)
+
+-- any answers
+pub some_answers : Answers
+some_answers = record { fails = λ place. false; keeps = λ place. false }
+
+-- a limit of a later front
+pub ends_later : (plan : Content) (one other : List Item) (which : Which) (number : ℕ) → Begins one other → EndsFreely plan other which number → EndsFreely plan one which number
+ends_later plan one other which number begins e =
+    let f = e.ends.front in
+    record {
+      items = e.items;
+      ends =
+          record {
+            next = e.ends.next;
+            front = record { reached = f.reached; serving = f.serving; went = f.went; behind = begins_chain one other f.reached.own begins f.behind; begins = f.begins };
+            within = e.ends.within;
+            passed = e.ends.passed;
+          };
+    }
+
+-- one actor's commands go by, and all others' stay
+pub each_goes_on : (plan : Content) (a : Actor) (s reached : Situation) (now : List Step) → HasGone plan reached a now
+    → ((b : Actor) (left : List Step) → same_actor a b ≡ false → HasGone plan s b left → HasGone plan reached b left) → EachWent plan s → EachWent plan reached
+each_goes_on plan a s reached now own others each b member = by (same_actor a b) refl (each b member)
+  where
+    by : (test : Bool) → same_actor a b ≡ test → (left : List Step) × HasGone plan s b left → (left : List Step) × HasGone plan reached b left
+    by true is h = (now, subst (λ (c : Actor). HasGone plan reached c now) (same a b is) own)
+    by false is h = (h.0, others b h.0 is h.1)
+
+-- ---- whose command it is
+
+module _ (plan : Content) (valid : IsPlan plan) (s : Situation) (a : Actor) (command : Step) (left : List Step) (gone : HasGone plan s a (command ∷ left)) where
+  own_step : (is_command_of (cluster_of plan) a command ≡ true) × IsStep (length plan.names) plan.topology command
+  own_step =
+      let found = IsIn-filter (is_command_of (cluster_of plan) a) command plan.steps
+      (subst (λ (l : List Step). IsIn command l) (sym gone.split) (IsIn-append_right command (reverse gone.gone) (command ∷ left) (First command left))) in
+      (found.1, each_at (IsStep (length plan.names) plan.topology) command plan.steps valid.steps_known found.0)
+
+  pub is_own : is_command_of (cluster_of plan) a command ≡ true
+  is_own = own_step.0
+
+  pub is_known : IsStep (length plan.names) plan.topology command
+  is_known = own_step.1
+
+-- the next command of a queue
+pub next_in : (queue : Queue) (items : List Step) (other : Step) → items ≡ queue.commands → queue.gone < length items
+    → left_in queue ≡ get_or items queue.gone other ∷ drop (queue.gone + 1) queue.commands
+next_in queue items other same within =
+    subst (λ (l : List Step). drop queue.gone l ≡ get_or items queue.gone other ∷ drop (queue.gone + 1) l) same (one_left items queue.gone other within)
+
+-- the queue is done
+pub none_in : (queue : Queue) (items : List Step) → items ≡ queue.commands → length items ≤ queue.gone → left_in queue ≡ []
+none_in queue items same past = subst (λ (l : List Step). drop queue.gone l ≡ []) same (none_left items queue.gone past)
+
+-- ---- what a command leads to
+
+-- the law of commands that go by
+abbrev pub PassedLaw : Type 0
+PassedLaw =
+    (plan : Content) (s : Situation) (a : Actor) (command : Step) (left : List Step) → IsServing plan s → IsPassed a (whole s) command → HasGone plan s a (command ∷ left)
+    → HasGone plan s a left
+
+-- the law of commands that are taken
+abbrev pub CommandLaw : Type 0
+CommandLaw =
+    (plan : Content) (answers : Answers) (number : ℕ) (s next : Situation) (a : Actor) (command : Step) (left : List Step) → IsPlan plan
+    → Contains (actors plan.topology) a → IsReady a (whole s) command → IsNext (cluster_of plan) answers number command s next → IsServing plan s
+    → HasGone plan s a (command ∷ left)
+    → IsServing plan next × HasGone plan next a left
+    × ((b : Actor) (other : List Step) → same_actor a b ≡ false → HasGone plan s b other → HasGone plan next b other)
+
+one_less : {X : Type 0} (before now : List X) (x : X) → before ≡ x ∷ now → length now < length before
+one_less {X} before now x is = subst (λ (l : List X). length now < length l) (sym is) (omega arith)
+
+less_or : (n m : ℕ) → n < m → n ≤ m
+less_or n m lt = omega (arith, lt)
+
+not_less : (n : ℕ) → n ≤ n
+not_less n = omega arith
+
+module _ {D : Type 0} (images : D → List ℕ → Type 0) (faults : D → ℕ) (plan : Content) (a : Actor) (s : Situation) where
+  -- nothing went by
+  pub stays : (cluster : Cluster D) (before : List Step) → Serves images faults plan cluster s → HasGone plan s a before → IsHeld s.own before
+      → HasMoved images faults plan a before before false cluster s
+  stays cluster before serves gone held = record {
+    next = s;
+    serves = serves;
+    gone = gone;
+    others = λ b left apart went. went;
+    behind = begins_itself s.own;
+    less = not_less (length before);
+    fewer = λ is. absurd (true≢false (sym is));
+    held = λ is. (refl, held);
+  }
+
+  -- none is left
+  pub nothing_left : (cluster : Cluster D) (before : List Step) → Serves images faults plan cluster s → HasGone plan s a before → before ≡ []
+      → HasMoved images faults plan a before before false cluster s
+  nothing_left cluster before serves gone none = stays cluster before serves gone (subst (IsHeld s.own) (sym none) tt)
+
+  module _ (before now : List Step) (command : Step) (is : before ≡ command ∷ now) (gone : HasGone plan s a before) where
+    pub gone_on : HasGone plan s a (command ∷ now)
+    gone_on = subst (HasGone plan s a) is gone
+
+    pub waits_still : (cluster : Cluster D) → Serves images faults plan cluster s → IsTurn Waits a (whole s) command → HasMoved images faults plan a before before false cluster s
+    waits_still cluster serves turn =
+        stays cluster before serves gone
+        (subst (IsHeld s.own) (sym is) (subst (λ (items : List Item). IsHeld items (command ∷ now)) (whole_alone s serves.serving.earlier) (turn now)))
+
+    pub passes_on : PassedLaw → (cluster : Cluster D) → Serves images faults plan cluster s → IsTurn Passes a (whole s) command
+        → HasMoved images faults plan a before now true cluster s
+    passes_on law cluster serves turn =
+        let less : length now < length before = one_less before now command is in
+        record {
+          next = s;
+          serves = serves;
+          gone = law plan s a command now serves.serving turn gone_on;
+          others = λ b left apart went. went;
+          behind = begins_itself s.own;
+          less = less_or (length now) (length before) less;
+          fewer = λ _. less;
+          held = λ is. absurd (true≢false is);
+        }
+
+    pub goes_on : CommandLaw → IsPlan plan → Contains (actors plan.topology) a → (answers : Answers) (old new : Cluster D) → Serves images faults plan old s
+        → IsTurn Takes a (whole s) command → StepsTo images faults plan answers 0 command old new s → HasMoved images faults plan a before now true new s
+    goes_on law valid there answers old new serves turn steps =
+        let less : length now < length before = one_less before now command is in
+        let goes = law plan steps.other 0 s steps.next a command now valid there turn steps.next_is serves.serving gone_on in
+        record {
+          next = steps.next;
+          serves = record { stands = steps.stands; serving = goes.0 };
+          gone = goes.1;
+          others = goes.2;
+          behind = next_adds (cluster_of plan) steps.other 0 command s steps.next steps.next_is;
+          less = less_or (length now) (length before) less;
+          fewer = λ _. less;
+          held = λ is. absurd (true≢false is);
+        }
+
+    -- ---- limits
+
+    -- a command comes to its end
+    comes_next : (answers : Answers) (reached : Situation) → IsReady a (whole s) command → ComesTo (cluster_of plan) answers 0 command s reached
+        → IsNext (cluster_of plan) answers 0 command s reached
+    comes_next = by command
+      where
+        by : (command : Step) (answers : Answers) (reached : Situation) → IsReady a (whole s) command → ComesTo (cluster_of plan) answers 0 command s reached
+            → IsNext (cluster_of plan) answers 0 command s reached
+        by (Begin txn) answers reached ready comes = comes
+        by (Recover txn node) answers reached ready comes = comes
+        by (Restart actor choice) answers reached ready comes = comes
+        by (Deliver message) answers reached ready comes = absurd ready
+        by (Drop message) answers reached ready comes = absurd ready
+        by (Slow txn) answers reached ready comes = absurd ready
+        by (Fail actor calls) answers reached ready comes = absurd ready
+        by Drain answers reached ready comes = absurd ready
+
+    pub limit_in : CommandLaw → IsPlan plan → Contains (actors plan.topology) a → (answers : Answers) (which : Which) (number : ℕ) → IsServing plan s
+        → IsTurn Takes a (whole s) command → EndsIn plan answers 0 command s which number → EachWent plan s → EndsFreely plan s.own which number
+    limit_in law valid there answers which number serving turn e each =
+        let f = e.ends.front in
+        let next : IsNext (cluster_of plan) e.other 0 command s f.0 = comes_next e.other f.0 turn f.1 in
+        let goes = law plan e.other 0 s f.0 a command now valid there turn next serving gone_on in
+        record {
+          items = e.items;
+          ends =
+              record {
+                next = e.ends.next;
+                front =
+                    record {
+                      reached = f.0;
+                      serving = goes.0;
+                      went = each_goes_on plan a s f.0 now goes.1 goes.2 each;
+                      behind = next_adds (cluster_of plan) e.other 0 command s f.0 next;
+                      begins = f.2;
+                    };
+                within = e.ends.within;
+                passed = e.ends.passed;
+              };
+        }

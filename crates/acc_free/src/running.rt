@@ -1,0 +1,128 @@
+//! The actors of a plan side by side.
+ghost use Rattle.std.specs.Prelude.{◌≡◌, ◌≤◌, ℕ, [], true, IsTrue, reverse, map, IfOk, IfErr};
+ghost use Rattle.acc_message.specs.declared.error.Which.{Which};
+ghost use Rattle.acc_message.specs.declared.error.RunError.{RunError as Why};
+ghost use Rattle.acc_schedule.specs.Plan.{IsPlan};
+ghost use Rattle.acc_follow.specs.Laws.{NobodyIsDown};
+ghost use Rattle.acc_limits.specs.Limits.{IsWithin};
+ghost use Rattle.acc_run.specs.Given.{GivesBack};
+ghost use Rattle.acc_served.specs.Served.{IsServed};
+ghost use Rattle.acc_free.specs.Finish.{HaveRested};
+ghost use Rattle.acc_free.specs.Moves.{EndsFreely};
+ghost use Rattle.acc_free.specs.Queues.{rest_actor, AreAllActors};
+
+use crate::closing::closed;
+use crate::dealing::deal;
+use crate::ending::finish;
+use crate::opening::{First, desks};
+use crate::rest::Rests;
+use crate::workers::{Shared, serve_all};
+use acc_base::OutOfMemory;
+use acc_desk::{Floor, PlanTape, Planned};
+use acc_message::{Items, RunError};
+use acc_ports::{DiskMaker, Gate};
+use acc_run::give_back;
+use acc_schedule::Plan;
+use acc_served::laws::free_runs_begin;
+use acc_tape::Tape;
+use std::alloc::Global;
+use std::marker::Brand;
+use std::sync::Wait;
+use std::thread::Threads;
+
+// The most items of a run, and the most bytes of its messages.
+const MOST_ITEMS: u64 = 1_000_000;
+
+const MOST_BYTES: u64 = 268_435_456;
+
+/// Lets so many threads take the turns of a plan's actors over new disks, brings what they leave to its end, and gives the disks back, in
+/// rising order of the actors' numbers. Each turn on a thread comes through the gate. A run past a limit, or without memory, has no items,
+/// and its disks may be gone. It waits for the threads, and they wait for one another where they enter what they did.
+pub fn run_free<R: Threads + Wait + Sync, M: DiskMaker, G: Gate + Sync>(
+    rt: &R,
+    alloc: Global,
+    plan: &Plan,
+    workers: u32,
+    disks: &mut M,
+    gate: &G,
+) -> Result<Items, RunError>
+where
+    M::D: Drop + Send,
+    requires workers { (1 ≤ workers) × (workers ≤ 16) }
+    requires is_plan { IsPlan plan.now }
+
+    // Whatever the disks answered and in whatever order turns came, every actor took its turns, and the items are within the limits.
+    ensures served { IfOk result (λ items. IsServed plan.now (reverse items)) }
+    ensures within { IfOk result (λ items. IsWithin (reverse items)) }
+    ensures limit { IfErr result (λ e. (which : Which) (number : ℕ) → e ≡ Why.Limit which number → EndsFreely plan.now [] which number) }
+    ensures stayed { IsTrue (M.strict disks.old) → IfOk result (λ items. NobodyIsDown (reverse items)) }
+
+    ensures given { IfOk result (λ items. GivesBack M.D.faults M.D.is_image plan.now (reverse items) (M.given disks.old) (M.given disks.new)) }
+    ensures kind { M.strict disks.new ≡ M.strict disks.old }
+{
+    run_on::<R, M, G, Brand>(rt, alloc, plan, workers, disks, gate)
+}
+
+// The same over a tape of the plan.
+fn run_on<R: Threads + Wait + Sync, M: DiskMaker, G: Gate + Sync, J: Planned + Send>(
+    rt: &R,
+    alloc: Global,
+    plan: &Plan,
+    workers: u32,
+    disks: &mut M,
+    gate: &G,
+) -> Result<Items, RunError>
+where
+    M::D: Drop + Send,
+    requires plan { plan.now ≡ J.plan }
+    requires strict { J.strict ≡ M.strict disks.old }
+    requires workers { (1 ≤ workers) × (workers ≤ 16) }
+    requires is_plan { IsPlan plan.now }
+    ensures served { IfOk result (λ items. IsServed plan.now (reverse items)) }
+    ensures within { IfOk result (λ items. IsWithin (reverse items)) }
+    ensures limit { IfErr result (λ e. (which : Which) (number : ℕ) → e ≡ Why.Limit which number → EndsFreely plan.now [] which number) }
+    ensures stayed { J.strict ≡ true → IfOk result (λ items. NobodyIsDown (reverse items)) }
+    ensures given { IfOk result (λ items. GivesBack M.D.faults M.D.is_image plan.now (reverse items) (M.given disks.old) (M.given disks.new)) }
+    ensures kind { M.strict disks.new ≡ M.strict disks.old }
+{
+    let (rests, entered) = entered_by::<R, M, G, J>(rt, alloc, plan, workers, disks, gate)?;
+    let ended = finish(alloc, plan, rests, entered)?;
+    give_back(disks, ended.disks)?;
+    Ok(ended.items)
+}
+
+// Serves a desk of each actor until there is nothing to do: what the actors left undone, and what they entered.
+fn entered_by<R: Threads + Wait + Sync, M: DiskMaker, G: Gate + Sync, J: Planned + Send>(
+    rt: &R,
+    alloc: Global,
+    plan: &Plan,
+    workers: u32,
+    disks: &mut M,
+    gate: &G,
+) -> Result<(Rests<M::D>, Items), OutOfMemory>
+where
+    M::D: Drop + Send,
+    requires plan { plan.now ≡ J.plan }
+    requires strict { J.strict ≡ M.strict disks.old }
+    requires workers { (1 ≤ workers) × (workers ≤ 16) }
+    requires is_plan { IsPlan plan.now }
+    ensures actors { IfOk result (λ parts. AreAllActors plan.now (map rest_actor parts.0.items)) }
+    ensures rested { IfOk result (λ parts. HaveRested M.D.is_image M.D.faults M.D.strict M.D.armed M.D.content M.D.synced M.D.written J.strict plan.now parts.0.items parts.1) }
+    ensures given { M.given disks.new ≡ M.given disks.old }
+    ensures kind { M.strict disks.new ≡ M.strict disks.old }
+{
+    free_runs_begin();
+    let (tape, mut first): (PlanTape<J>, First<J>) = Tape::new(alloc, MOST_ITEMS, MOST_BYTES)?;
+    let all = desks(rt, alloc, plan, disks, &tape, &mut first)?;
+    let hands = deal(alloc, all, workers as usize)?;
+    let floor = Floor::new(alloc, workers as usize)?;
+    let on = Shared {
+        rt,
+        plan,
+        tape: &tape,
+        floor: &floor,
+        gate,
+    };
+    let served = serve_all(alloc, &on, hands)?;
+    closed(alloc, plan, tape, first, served)
+}
