@@ -1,6 +1,5 @@
 -- The last line of the report of a calm schedule.
 use Rattle.std.proofs.Common.{◌≡◌, ℕ, true, List, [], ◌∷◌, ◌++◌, refl, sym, ◌∙◌, ap, subst}
-use Rattle.std.specs.List.{flat_map}
 use Rattle.std.proofs.lemmas.List.{append_assoc}
 use Rattle.std.specs.Prelude.{count_by}
 use Rattle.acc_message.specs.declared.item.Item.{Item}
@@ -10,12 +9,11 @@ use Rattle.acc_schedule.specs.declared.plan.Print.TheVariants.{Lines, Summary}
 use Rattle.acc_schedule.specs.Content.{Content}
 use Rattle.acc_schedule.specs.Document.{Means}
 use Rattle.acc_schedule.proofs.AnswerFacts.{same_plan}
-use Rattle.acc_follow.specs.Laws.{EndsWithDrain}
 use Rattle.acc_strict.specs.Schedules.{ObeysStrictly}
 use Rattle.acc_report_line.specs.declared.line.Line.{Line}
 use Rattle.acc_report_line.specs.declared.line.Line.TheVariants.{End}
 use Rattle.acc_report_line.specs.Texts.{full_text, lines_text}
-use Rattle.acc_report.specs.Report.{is_begin, is_reply, last_line, decided_line, lines_of, report_lines, report_text}
+use Rattle.acc_report.specs.Report.{is_begin, is_reply, last_line, decided_line, lines_of, report_text}
 use Rattle.acc_command.specs.Command.{IsReport, OverDisks}
 
 lines_append : (lines more : List Line) → lines_text (lines ++ more) ≡ lines_text lines ++ lines_text more
@@ -36,7 +34,7 @@ module _ {D : Type 0} (faults : D → ℕ) (images : D → List ℕ → Type 0) 
   none_open calm says report =
       let same : report.plan ≡ plan = same_plan bytes report.plan plan report.says says in
       let items : List Item = report.reports.items in
-      let strictly : ObeysStrictly plan items = subst (λ p. ObeysStrictly p items) same (report.reports.also.1 refl) in
+      let strictly : ObeysStrictly plan items = subst (λ p. ObeysStrictly p items) same (report.reports.also.strictly refl) in
       let last = ends_with_last report.plan.print report.plan.names items in (
         count_by is_begin (notes_of items),
         count_by is_reply (notes_of items),

@@ -7,9 +7,8 @@ use Rattle.acc_message.specs.declared.error.Which.{Which}
 use Rattle.acc_message.specs.declared.item.Item.{Item}
 use Rattle.acc_schedule.specs.Content.{Content}
 use Rattle.acc_schedule.specs.Document.{Means}
-use Rattle.acc_schedule.specs.Plan.{IsPlan}
 use Rattle.acc_follow.specs.Moves.{Answers}
-use Rattle.acc_follow.specs.Schedules.{cluster_of, Obeys}
+use Rattle.acc_follow.specs.Schedules.{cluster_of}
 use Rattle.acc_limits.specs.Limits.{IsWithin}
 use Rattle.acc_limits.specs.Fronts.{LimitEnds}
 use Rattle.acc_limits.specs.StrictFronts.{StrictLimitEnds}
@@ -40,23 +39,21 @@ pub run_due : {E : Type 0} (over : Over) (bytes : List ℕ) (plan : Content) (re
 run_due over bytes plan (Ok reply) short says ends = plan_due over bytes plan reply.status reply.text short says ends
 run_due over bytes plan (Err error) short says ends = tt
 
--- what every plan promises of the items that obey it
-pub record RunsSafely : Type 0 where
-  pub run : (plan : Content) (answers : Answers) (items : List Item) → IsPlan plan → Obeys plan answers items → IsRun (cluster_of plan) items
-  pub agreement : (plan : Content) (answers : Answers) (items : List Item) → IsPlan plan → Obeys plan answers items → Agreement items
-  pub coverage : (plan : Content) (answers : Answers) (items : List Item) → IsPlan plan → Obeys plan answers items → Coverage (cluster_of plan) items
-  pub serial : (plan : Content) (answers : Answers) (items : List Item) → IsPlan plan → Obeys plan answers items → SerialOutcomes (cluster_of plan) items
+-- the items are a run in which the promises hold
+pub record IsSafe (plan : Content) (items : List Item) : Type 0 where
+  pub run : IsRun (cluster_of plan) items
+  pub agreement : Agreement items
+  pub coverage : Coverage (cluster_of plan) items
+  pub serial : SerialOutcomes (cluster_of plan) items
 
-pub reported : RunsSafely → (over : Over) (plan : Content) (answers : Answers) (items : List Item) (text : List ℕ) → IsPlan plan → Obeys plan answers items
-    → IsWithin items → over.Items plan items → text ≡ report_text plan.print plan.names [] items → Reports over plan text
-reported safely over plan answers items text is obeys within also prints = record {
+pub reported : (over : Over) (plan : Content) (items : List Item) (text : List ℕ) → IsSafe plan items → IsWithin items → over.Items plan items
+    → text ≡ report_text plan.print plan.names [] items → Reports over plan text
+reported over plan items text safe within also prints = record {
   items = items;
-  answers = answers;
-  obeys = obeys;
-  run = safely.run plan answers items is obeys;
-  agreement = safely.agreement plan answers items is obeys;
-  coverage = safely.coverage plan answers items is obeys;
-  serial = safely.serial plan answers items is obeys;
+  run = safe.run;
+  agreement = safe.agreement;
+  coverage = safe.coverage;
+  serial = safe.serial;
   within = within;
   also = also;
   prints = prints;
@@ -64,10 +61,9 @@ reported safely over plan answers items text is obeys within also prints = recor
 
 -- ---- limits
 
-pub told : (over : Over) (plan : Content) (answers : Answers) (items : List Item) (which : Which) (number : ℕ) (text : List ℕ) → LimitEnds plan answers items which number
-    → over.Limits plan items which number → text ≡ line (run_limit_text which number) → TellsLimit over plan text
-told over plan answers items which number text ends also prints =
-    record { answers = answers; items = items; which = which; number = number; ends = ends; also = also; prints = prints }
+pub told : (over : Over) (plan : Content) (items : List Item) (which : Which) (number : ℕ) (text : List ℕ) → over.Limits plan items which number
+    → text ≡ line (run_limit_text which number) → TellsLimit over plan text
+told over plan items which number text also prints = record { items = items; which = which; number = number; also = also; prints = prints }
 
 -- over strict disks the front is the one that the plan fixes
 pub limited : {D : Type 0} (faults : D → ℕ) (images : D → List ℕ → Type 0) (strict : Bool) (before after : List (ℕ × D)) (plan : Content) (which : Which) (number : ℕ)
@@ -77,9 +73,10 @@ pub limited : {D : Type 0} (faults : D → ℕ) (images : D → List ℕ → Typ
 limited faults images true before after plan which number text answered general strictly prints =
     let front = strictly refl in
     let some = answered front.0 which number front.1 in
-    told (OverDisks faults images true before after) plan some.0 front.0 which number text some.1 (λ _. front.1) prints
+    told (OverDisks faults images true before after) plan front.0 which number text (record { answers = some.0; ends = some.1; strictly = λ _. front.1 }) prints
 limited faults images false before after plan which number text answered general strictly prints =
-    told (OverDisks faults images false before after) plan general.0 general.1 which number text general.2 (λ is. absurd (true≢false (sym is))) prints
+    told (OverDisks faults images false before after) plan general.1 which number text
+    (record { answers = general.0; ends = general.2; strictly = λ is. absurd (true≢false (sym is)) }) prints
 
 pub same_limit : (which other : Which) (number other_number : ℕ) (text : List ℕ) → text ≡ line (run_limit_text which number) → which ≡ other → number ≡ other_number
     → text ≡ line (run_limit_text other other_number)

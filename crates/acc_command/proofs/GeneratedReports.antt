@@ -16,5 +16,5 @@ module _ {D : Type 0} (faults : D → ℕ) (images : D → List ℕ → Type 0) 
   ends_alike end each says report =
       let same : report.plan ≡ plan = same_plan bytes report.plan plan report.says says in
       let items : List Item = report.reports.items in
-      let found = each items (subst (λ p. ObeysStrictly p items) same (report.reports.also.1 refl)) in
+      let found = each items (subst (λ p. ObeysStrictly p items) same (report.reports.also.strictly refl)) in
       (found.0, report.reports.prints ∙ ap (λ (p : Content). report_text p.print p.names [] items) same ∙ found.1)

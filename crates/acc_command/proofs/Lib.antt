@@ -5,3 +5,4 @@ pub mod DueFacts
 pub mod StrictReports
 pub mod CalmReports
 mod GeneratedReports
+pub mod LineFacts

@@ -1,11 +1,11 @@
 -- Over strict disks a document has one report.
-use Rattle.std.proofs.Common.{◌≡◌, ℕ, ◌<◌, ◌≤◌, ◌+◌, true, List, [], ◌∷◌, ◌++◌, length, inl, inr, refl, sym, ◌∙◌, ap, subst, arith}
+use Rattle.std.proofs.Common.{◌≡◌, ℕ, ◌<◌, ◌≤◌, true, List, [], length, inl, inr, refl, sym, ◌∙◌, ap, subst, arith}
 use Rattle.acc_message.specs.declared.error.Which.{Which}
 use Rattle.acc_message.specs.declared.item.Item.{Item}
 use Rattle.acc_schedule.specs.declared.error.PlanKind.{PlanKind}
 use Rattle.acc_schedule.specs.declared.error.PlanError.TheVariants.{Bad}
 use Rattle.acc_schedule.specs.Content.{Content}
-use Rattle.acc_schedule.specs.Document.{IsCause, Means}
+use Rattle.acc_schedule.specs.Document.{Means}
 use Rattle.acc_schedule.proofs.AnswerFacts.{same_plan, says_no_fault, one_fault}
 use Rattle.acc_strict.specs.Schedules.{ObeysStrictly}
 use Rattle.acc_limits.specs.Limits.{IsWithin}
@@ -40,8 +40,8 @@ module _ {D : Type 0} (faults : D → ℕ) (images : D → List ℕ → Type 0) 
   reports : (text other_text : List ℕ) → IsReport one bytes text → IsReport other bytes other_text → text ≡ other_text
   reports text other_text a b =
       let plan : b.plan ≡ a.plan = same_plan bytes b.plan a.plan b.says a.says in
-      let strictly : ObeysStrictly a.plan b.reports.items = subst (λ p. ObeysStrictly p b.reports.items) plan (b.reports.also.1 refl) in
-      let items : a.reports.items ≡ b.reports.items = fixed.items a.plan a.reports.items b.reports.items (a.reports.also.1 refl) strictly in
+      let strictly : ObeysStrictly a.plan b.reports.items = subst (λ p. ObeysStrictly p b.reports.items) plan (b.reports.also.strictly refl) in
+      let items : a.reports.items ≡ b.reports.items = fixed.items a.plan a.reports.items b.reports.items (a.reports.also.strictly refl) strictly in
       a.reports.prints ∙ ap (λ own. report_text a.plan.print a.plan.names [] own) items
       ∙ ap (λ (p : Content). report_text p.print p.names [] b.reports.items) (sym plan) ∙ sym b.reports.prints
 
@@ -49,8 +49,8 @@ module _ {D : Type 0} (faults : D → ℕ) (images : D → List ℕ → Type 0) 
   limits text other_text a b =
       let plan : b.plan ≡ a.plan = same_plan bytes b.plan a.plan b.says a.says in
       let strictly : StrictLimitEnds a.plan b.tells.items b.tells.which b.tells.number =
-      subst (λ p. StrictLimitEnds p b.tells.items b.tells.which b.tells.number) plan (b.tells.also refl) in
-      let all = fixed.limit a.plan a.tells.items b.tells.items a.tells.which b.tells.which a.tells.number b.tells.number (a.tells.also refl) strictly in
+      subst (λ p. StrictLimitEnds p b.tells.items b.tells.which b.tells.number) plan (b.tells.also.strictly refl) in
+      let all = fixed.limit a.plan a.tells.items b.tells.items a.tells.which b.tells.which a.tells.number b.tells.number (a.tells.also.strictly refl) strictly in
       a.tells.prints ∙ ap (λ which. line (run_limit_text which a.tells.number)) all.1 ∙ ap (λ number. line (run_limit_text b.tells.which number)) all.2
       ∙ sym b.tells.prints
 
@@ -78,11 +78,11 @@ module _ {D : Type 0} (faults : D → ℕ) (images : D → List ℕ → Type 0) 
 
   done_limit : (text other_text : List ℕ) → IsDue one Run bytes Done text → IsDue other Run bytes Limit other_text → ⊥
   done_limit text other_text a (inl long) = not_long a.0 long.0
-  done_limit text other_text a (inr past) = never_both one other text other_text (λ plan items also. also.1 refl) (λ plan items which number also. also refl) a.1 past.1
+  done_limit text other_text a (inr past) = never_both one other text other_text (λ plan items also. also.strictly refl) (λ plan items which number also. also.strictly refl) a.1 past.1
 
   limit_done : (text other_text : List ℕ) → IsDue one Run bytes Limit text → IsDue other Run bytes Done other_text → ⊥
   limit_done text other_text (inl long) b = not_long b.0 long.0
-  limit_done text other_text (inr past) b = never_both other one other_text text (λ plan items also. also.1 refl) (λ plan items which number also. also refl) b.1 past.1
+  limit_done text other_text (inr past) b = never_both other one other_text text (λ plan items also. also.strictly refl) (λ plan items which number also. also.strictly refl) b.1 past.1
 
   bad_limit : (over : Over) (text other_text : List ℕ) → (length bytes ≤ document_limit) × IsRefusal bytes text → IsDue over Run bytes Limit other_text → ⊥
   bad_limit over text other_text a (inl long) = not_long a.0 long.0

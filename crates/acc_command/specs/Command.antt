@@ -9,18 +9,20 @@ use Rattle.acc_safety.specs.Agreement.{Agreement}
 use Rattle.acc_safety.specs.Coverage.{Coverage}
 use Rattle.acc_safety.specs.SerialOutcomes.{SerialOutcomes}
 use Rattle.acc_schedule.specs.declared.error.PlanKind.{PlanKind}
-use Rattle.acc_schedule.specs.declared.error.PlanError.{PlanError}
 use Rattle.acc_schedule.specs.declared.error.PlanError.TheVariants.{Bad}
 use Rattle.acc_schedule.specs.Content.{Content}
 use Rattle.acc_schedule.specs.Document.{IsCause, Means}
+use Rattle.acc_follow.specs.Laws.{NobodyIsDown}
 use Rattle.acc_follow.specs.Moves.{Answers}
 use Rattle.acc_follow.specs.Schedules.{cluster_of, Obeys}
 use Rattle.acc_strict.specs.Schedules.{ObeysStrictly}
-use Rattle.acc_limits.specs.Limits.{IsWithin}
+use Rattle.acc_limits.specs.Limits.{IsWithin, EndsAt}
 use Rattle.acc_limits.specs.Fronts.{LimitEnds}
 use Rattle.acc_limits.specs.StrictFronts.{StrictLimitEnds}
 use Rattle.acc_report.specs.Report.{report_text}
 use Rattle.acc_run.specs.Given.{GivesBack}
+use Rattle.acc_served.specs.Served.{IsServed}
+use Rattle.acc_free.specs.Moves.{IsFreeFront}
 use Rattle.acc_generator.specs.Document.{document_text}
 use Rattle.acc_command.specs.Lines.{line, document_limit_text, run_limit_text, ok_text, refusal_text, usage_text}
 use Rattle.acc_command.specs.declared.words.Command.{Command}
@@ -49,13 +51,37 @@ pub record Over : Type 1 where
   pub Items : Content → List Item → Type 0
   pub Limits : Content → List Item → Which → ℕ → Type 0
 
--- a run over these disks: they came back, each keeping its actor in the items, and strict ones fix the items
+-- The items obey the schedule of the plan, whatever the disks answered; these came back, each keeping its actor in the items, and
+-- strict ones fix the items.
+pub record RunsOver {D : Type 0} (faults : D → ℕ) (images : D → List ℕ → Type 0) (strict : Bool) (before after : List (ℕ × D)) (plan : Content) (items : List Item) : Type 0 where
+  pub answers : Answers
+  pub obeys : Obeys plan answers items
+  pub back : GivesBack faults images plan items before after
+  pub strictly : IsTrue strict → ObeysStrictly plan items
+
+-- the limit ends the run of the schedule behind these items, with some answers of the disks, and over strict ones it alone does
+pub record EndsOver (strict : Bool) (plan : Content) (items : List Item) (which : Which) (number : ℕ) : Type 0 where
+  pub answers : Answers
+  pub ends : LimitEnds plan answers items which number
+  pub strictly : IsTrue strict → StrictLimitEnds plan items which number
+
+-- the schedule, step by step, over these disks
 abbrev pub OverDisks : {D : Type 0} → (D → ℕ) → (D → List ℕ → Type 0) → Bool → List (ℕ × D) → List (ℕ × D) → Over
-OverDisks faults images strict before after =
+OverDisks faults images strict before after = record { Items = RunsOver faults images strict before after; Limits = EndsOver strict }
+
+-- The items are served: actors took their turns side by side. Their disks came back, each keeping its actor in the items, and over strict
+-- ones nobody went down.
+pub record ServesOver {D : Type 0} (faults : D → ℕ) (images : D → List ℕ → Type 0) (strict : Bool) (before after : List (ℕ × D)) (plan : Content) (items : List Item) : Type 0 where
+  pub served : IsServed plan items
+  pub back : GivesBack faults images plan items before after
+  pub stayed : IsTrue strict → NobodyIsDown items
+
+-- all actors side by side, over these disks
+abbrev pub OverThreads : {D : Type 0} → (D → ℕ) → (D → List ℕ → Type 0) → Bool → List (ℕ × D) → List (ℕ × D) → Over
+OverThreads faults images strict before after =
     record {
-      Items =
-          λ plan items. GivesBack faults images plan items before after × (IsTrue strict → ObeysStrictly plan items);
-      Limits = λ plan items which number. IsTrue strict → StrictLimitEnds plan items which number;
+      Items = ServesOver faults images strict before after;
+      Limits = λ plan items which number. EndsAt (IsFreeFront plan []) items which number;
     }
 
 -- where nothing is run
@@ -64,12 +90,10 @@ no_run = record { Items = λ plan items. ⊥; Limits = λ plan items which numbe
 
 -- ---- the text that is due
 
--- The report of a plan: of items that are a run of its cluster and obey its schedule, whatever its disks answered, that are within the
--- limits, and in which agreement, coverage and serial outcomes hold.
+-- The report of a plan: of items that are a run of its cluster, made so, that are within the limits, and in which agreement, coverage and
+-- serial outcomes hold.
 pub record Reports (over : Over) (plan : Content) (text : List ℕ) : Type 0 where
   pub items : List Item
-  pub answers : Answers
-  pub obeys : Obeys plan answers items
   pub run : IsRun (cluster_of plan) items
   pub agreement : Agreement items
   pub coverage : Coverage (cluster_of plan) items
@@ -86,11 +110,9 @@ pub record IsReport (over : Over) (bytes text : List ℕ) : Type 0 where
 
 -- the line of the limit that ends the run of a plan
 pub record TellsLimit (over : Over) (plan : Content) (text : List ℕ) : Type 0 where
-  pub answers : Answers
   pub items : List Item
   pub which : Which
   pub number : ℕ
-  pub ends : LimitEnds plan answers items which number
   pub also : over.Limits plan items which number
   pub prints : text ≡ line (run_limit_text which number)
 
@@ -171,10 +193,13 @@ Ends P Limit old new = Writes P Limit old new
 Ends P OutOfMemory old new = (new ≡ old) ⊎ WritesLess P old new
 
 -- it ends as is due on a document that the source gives: on the bytes that it tells, and on some where it tells none
-pub record EndsOnGiven (over : Over) (command : Command) (left : Option (List ℕ)) (status : Status) (old new : Option (List ℕ)) : Type 0 where
+pub record EndsOnSome (DueOn : List ℕ → Status → List ℕ → Type 0) (left : Option (List ℕ)) (status : Status) (old new : Option (List ℕ)) : Type 0 where
   pub bytes : List ℕ
   pub given : IfSome left (λ told. bytes ≡ told)
-  pub ends : Ends (IsDue over command bytes) status old new
+  pub ends : Ends (DueOn bytes) status old new
+
+abbrev pub EndsOnGiven : Over → Command → Option (List ℕ) → Status → Option (List ℕ) → Option (List ℕ) → Type 0
+EndsOnGiven over command = EndsOnSome (IsDue over command)
 
 -- what is left of the source: nothing of a document that was read whole, or all behind the byte past the limit; with a fault of the
 -- source or want of memory no less than that

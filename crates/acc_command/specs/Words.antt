@@ -31,8 +31,35 @@ pub record IsGenerateLine (words : List (List ℕ)) (seed txns : ℕ) : Type 0 w
 abbrev pub MakesDocument : List (List ℕ) → Type 0
 MakesDocument words = (seed : ℕ) × (txns : ℕ) × IsGenerateLine words seed txns
 
+-- a line that asks for no threads
+abbrev pub IsLineAlone : List (List ℕ) → Type 0
+IsLineAlone words = IsDocumentLine words ⊎ MakesDocument words
+
+-- the words share a document among so many workers
+pub record IsFreeLine (words : List (List ℕ)) (workers : ℕ) : Type 0 where
+  pub workers_word : List ℕ
+  pub words_are : words ≡ codes "free" ∷ codes "--workers" ∷ workers_word ∷ []
+  pub spelled : SpellsIn 1 16 workers_word
+  pub workers_is : workers ≡ value_of workers_word
+
+-- among some workers
+abbrev pub AsksForWorkers : List (List ℕ) → Type 0
+AsksForWorkers words = (workers : ℕ) × IsFreeLine words workers
+
 abbrev pub IsLine : List (List ℕ) → Type 0
-IsLine words = IsDocumentLine words ⊎ MakesDocument words
+IsLine words = IsLineAlone words ⊎ AsksForWorkers words
+
+-- with threads or alone
+abbrev pub ReadsDocument : List (List ℕ) → Type 0
+ReadsDocument words = IsDocumentLine words ⊎ AsksForWorkers words
+
+abbrev pub RunsDocument : List (List ℕ) → Type 0
+RunsDocument words = IsRunLine words ⊎ AsksForWorkers words
+
+-- the workers of the words, where they ask for some
+abbrev pub IsWorkersOf : List (List ℕ) → Option ℕ → Type 0
+IsWorkersOf words (Some workers) = IsFreeLine words workers
+IsWorkersOf words None = ¬ (AsksForWorkers words)
 
 -- the command of the words, where it reads a document
 abbrev pub IsDocumentLineOf : List (List ℕ) → Option Command → Type 0
@@ -50,4 +77,4 @@ abbrev pub IsLineOf : List (List ℕ) → Option Line → Type 0
 IsLineOf words (Some (Document Run)) = IsRunLine words
 IsLineOf words (Some (Document Check)) = IsCheckLine words
 IsLineOf words (Some (Generate numbers)) = IsGenerateLine words numbers.seed numbers.txns
-IsLineOf words None = ¬ (IsLine words)
+IsLineOf words None = ¬ (IsLineAlone words)

@@ -2,8 +2,10 @@
 //! and the status.
 #![tactic(auto)]
 
+mod alone;
 mod check;
 mod command;
+mod free;
 mod generate;
 pub mod laws;
 mod lines;
@@ -12,5 +14,6 @@ mod run;
 mod status;
 mod words;
 
+pub use alone::accord_alone;
 pub use command::accord;
 pub use status::Status;

@@ -9,7 +9,7 @@ pub enum Status {
     Done = 0,
     /// An audit refused its report. No command gives it yet.
     No = 1,
-    /// The words are no line that is defined, or that of a command that isn't built yet.
+    /// The words are no line that is defined.
     Usage = 2,
     /// The source failed. Nothing is written.
     ReadFault = 3,

@@ -1,9 +1,9 @@
 //! The words of a command line.
 ghost use Rattle.std.specs.Prelude.{◌≡◌, ◌↔◌, ◌≤◌, [], ◌∷◌, codes, IsTrue, IfOk};
-ghost use Rattle.acc_command.specs.Words.{IsLineOf, IsDocumentLineOf, IsNumbersOf};
+ghost use Rattle.acc_command.specs.Words.{IsLineOf, IsDocumentLineOf, IsNumbersOf, IsWorkersOf};
 
 use acc_base::{OutOfMemory, Text};
-use acc_options::{seed, txns};
+use acc_options::{seed, txns, workers};
 use std::alloc::Global;
 
 /// A command that reads a document.
@@ -24,7 +24,7 @@ pub struct Numbers {
     pub txns: u32,
 }
 
-/// A line of words that is built.
+/// A line of words that asks for no threads.
 #[derive(Clone, Copy, Debug, PartialEq, Eq)]
 pub enum Line {
     /// A command that reads a document.
@@ -33,7 +33,20 @@ pub enum Line {
     Generate(Numbers),
 }
 
-/// The line that these words are.
+/// How many workers these words ask for, if they are the line that shares a document among threads.
+pub(crate) fn workers_of(alloc: Global, words: &[Text]) -> Result<Option<u8>, OutOfMemory>
+    ensures { IfOk result (IsWorkersOf words.now) }
+{
+    let [command, option, word] = words else {
+        return Ok(None);
+    };
+    if !is(command, b"free") || !is(option, b"--workers") {
+        return Ok(None);
+    }
+    workers(alloc, word.as_slice())
+}
+
+/// The line that these words are, if it asks for no threads.
 pub(crate) fn line_of(alloc: Global, words: &[Text]) -> Result<Option<Line>, OutOfMemory>
     ensures { IfOk result (IsLineOf words.now) }
 {

@@ -7,6 +7,14 @@ use std::alloc::Global;
 /// How many bytes a read gives and a write takes, where a line doesn't say.
 const PIECE: u64 = 4096;
 
+/// The text that is in the sink at the end.
+#[derive(Clone, Copy)]
+pub enum Wanted<'l> {
+    Whole(&'l str),
+    /// What it ends with.
+    End(&'l str),
+}
+
 /// A command line with its source and its sink, and how it has to end.
 #[derive(Drop)]
 pub struct Case<'l> {
@@ -19,13 +27,13 @@ pub struct Case<'l> {
     pub disk: u32,
     pub calls: Sequence<u64>,
     pub status: u64,
-    pub written: &'l str,
+    pub wanted: Wanted<'l>,
 }
 
 impl<'l> Case<'l> {
     /// The case that a line has.
     pub fn read(alloc: Global, line: &'l Value) -> Result<Case<'l>> {
-        let wanted = wanted(line).context("a line that wants no ending")?;
+        let wanted = ending(line).context("a line that wants no ending")?;
         Ok(Case {
             words: words(alloc, line)?,
             document: document(alloc, line)?,
@@ -36,16 +44,17 @@ impl<'l> Case<'l> {
             disk: u32::try_from(number(line, "disk", 0)).unwrap_or(0),
             calls: numbers(alloc, line, "calls")?,
             status: wanted.0,
-            written: wanted.1,
+            wanted: wanted.1,
         })
     }
 }
 
-fn wanted(line: &Value) -> Option<(u64, &str)> {
-    Some((
-        line.get("status")?.as_u64()?,
-        line.get("written")?.as_str()?,
-    ))
+fn ending(line: &Value) -> Option<(u64, Wanted<'_>)> {
+    let text = match line.get("ends") {
+        Some(end) => Wanted::End(end.as_str()?),
+        None => Wanted::Whole(line.get("written")?.as_str()?),
+    };
+    Some((line.get("status")?.as_u64()?, text))
 }
 
 fn number(line: &Value, name: &str, otherwise: u64) -> u64 {
@@ -83,8 +92,15 @@ fn text(alloc: Global, item: &Value) -> Result<Text, OutOfMemory> {
     Sequence::from_slice(alloc, item.as_str().unwrap_or("").as_bytes())
 }
 
-/// The bytes of a text, or as many spaces as a number says.
+/// The bytes of a text, as many spaces as a number says, or the document that a seed gives with so many transactions.
 fn document(alloc: Global, line: &Value) -> Result<Bytes, OutOfMemory> {
+    if let [seed, txns] = items(line, "document") {
+        return generated(
+            alloc,
+            seed.as_u64().unwrap_or(0),
+            txns.as_u64().unwrap_or(1),
+        );
+    }
     let Some(document) = line.get("document") else {
         return Ok(Sequence::new(alloc));
     };
@@ -92,6 +108,10 @@ fn document(alloc: Global, line: &Value) -> Result<Bytes, OutOfMemory> {
         Some(count) => spaces(alloc, count),
         None => text(alloc, document),
     }
+}
+
+fn generated(alloc: Global, seed: u64, txns: u64) -> Result<Bytes, OutOfMemory> {
+    acc_generator::generate(alloc, seed, txns.clamp(1, 2000) as u32)
 }
 
 fn spaces(alloc: Global, count: u64) -> Result<Bytes, OutOfMemory> {

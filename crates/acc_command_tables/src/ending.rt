@@ -1,13 +1,19 @@
 //! How a command ends.
 ghost use Rattle.std.specs.Prelude.{◌<◌};
 
-use crate::case::Case;
+use crate::case::{Case, Wanted};
 use acc_command::accord;
-use acc_ports::{MemMaker, MemSink, MemSource};
+use acc_ports::{MemMaker, MemSink, MemSource, OpenGate};
 use std::alloc::Global;
+use std::sync::Wait;
+use std::thread::Threads;
 
 /// Whether the command ends with the status and the text that the case wants.
-pub fn is_wanted<R: AllocGlobal>(rt: &R, alloc: Global, case: Case<'_>) -> bool {
+pub fn is_wanted<R: AllocGlobal + Threads + Wait + Sync>(
+    rt: &R,
+    alloc: Global,
+    case: Case<'_>,
+) -> bool {
     let piece = at_least_one(case.piece);
     let takes = at_least_one(case.takes);
     let mut source = MemSource::new(alloc, case.document, piece, case.reads);
@@ -19,8 +25,17 @@ pub fn is_wanted<R: AllocGlobal>(rt: &R, alloc: Global, case: Case<'_>) -> bool 
         &mut source,
         &mut sink,
         &mut disks,
+        &OpenGate,
     );
-    u64::from(status.code()) == case.status && sink.written() == case.written.as_bytes()
+    u64::from(status.code()) == case.status && is_text(sink.written(), case.wanted)
+}
+
+/// Whether the text is the wanted one, or ends so.
+fn is_text(written: &[u8], wanted: Wanted<'_>) -> bool {
+    match wanted {
+        Wanted::Whole(text) => written == text.as_bytes(),
+        Wanted::End(text) => written.ends_with(text.as_bytes()),
+    }
 }
 
 fn at_least_one(number: u64) -> usize

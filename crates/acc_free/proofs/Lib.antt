@@ -6,3 +6,7 @@ pub mod Ended
 pub mod Turning
 pub mod Moving
 pub mod Hands
+pub mod Openings
+pub mod Joined
+pub mod Parting
+pub mod Known

@@ -40,7 +40,7 @@ module _ {X : Type 0} where
 
 -- ---- actors that are apart
 
-apart_sym : (a b : Actor) → same_actor a b ≡ false → same_actor b a ≡ false
+pub apart_sym : (a b : Actor) → same_actor a b ≡ false → same_actor b a ≡ false
 apart_sym a b h = by (same_actor b a) refl
   where
     by : (test : Bool) → same_actor b a ≡ test → test ≡ false

@@ -177,7 +177,16 @@ where
     let replicas = plan.topology.replicas(shard);
     for node in 0..16 {
         if contains(replicas, node) {
-            put_store(rt, alloc, plan, disks, tape, first, desks, actor(node, shard))?;
+            put_store(
+                rt,
+                alloc,
+                plan,
+                disks,
+                tape,
+                first,
+                desks,
+                actor(node, shard),
+            )?;
         }
     }
     Ok(())

@@ -105,7 +105,10 @@ fn serve_each<
         tape,
         desks: Snapshot::of(&desks),
     };
-    match scope.spawn_with(keeps, move || serve(rt, plan, desks, worker, floor, tape, gate)) {
+    match scope.spawn_with(
+        keeps,
+        move || serve(rt, plan, desks, worker, floor, tape, gate),
+    ) {
         Ok(child) => {
             let served = serve_each(alloc, scope, on, others);
             joined(served, child.join(rt))

@@ -1,9 +1,9 @@
-//! The program: the commands over standard input and output, and disks in memory.
+//! The program: the commands over standard input and output, disks in memory, and a gate that holds nobody.
 #![tactic(auto)]
 
 use acc_base::{OutOfMemory, Sequence, Text};
 use acc_command::{Status, accord};
-use acc_ports::{MemMaker, StdSink, StdSource};
+use acc_ports::{MemMaker, OpenGate, StdSink, StdSource};
 use std::alloc::Global;
 use std::env::Env;
 use std::process::ExitCode;
@@ -36,7 +36,14 @@ fn main(rt: HostRuntime) -> ExitCode {
     let mut sink = StdSink::new(&rt);
     let mut disks = MemMaker::new(rt.alloc());
     let status = match words(&rt) {
-        Ok(words) => accord(&rt, words.as_slice(), &mut source, &mut sink, &mut disks),
+        Ok(words) => accord(
+            &rt,
+            words.as_slice(),
+            &mut source,
+            &mut sink,
+            &mut disks,
+            &OpenGate,
+        ),
         Err(OutOfMemory) => Status::OutOfMemory,
     };
     ExitCode::from(status.code())

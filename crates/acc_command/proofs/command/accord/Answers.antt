@@ -1,37 +1,30 @@
--- Each line of words, and every other list of words.
-use Rattle.std.proofs.Common.{◌≤◌, length, refl}
+-- A line with threads is that of `free`, and every other one is answered alone.
+use Rattle.std.proofs.Common.{◌≤◌, length, subst}
 use Rattle.acc_schedule.specs.Content.{Content}
 use Rattle.acc_schedule.specs.Document.{Means}
 use Rattle.acc_command.specs.declared.words.Command.TheVariants.{Run, Check}
+use Rattle.acc_command.specs.Words.{IsWorkersOf}
 use Rattle.acc_command.specs.Command.{document_limit, no_run, IsAccepted, IsDone}
 use Rattle.acc_command.proofs.CommandFacts.{mapped, unanswered}
-use Rattle.acc_command.proofs.EndsFacts.{ends_usage, check_ends_on_given}
+use Rattle.acc_command.proofs.LineFacts.{runs_alone}
 use Rattle.acc_command.proofs.command.accord.Goals as goal
 
-pub returns-in-Ok-Some-Document-Run-clause-complete_run : goal.returns-in-Ok-Some-Document-Run-clause-complete_run
-returns-in-Ok-Some-Document-Run-clause-complete_run g c = λ _ no_read no_write.
+pub returns-in-Ok-Some-clause-complete_run : goal.returns-in-Ok-Some-clause-complete_run
+returns-in-Ok-Some-clause-complete_run g c = λ _ no_read no_write.
     mapped (g.S.Source.left c.args.source.now)
-    (λ bytes. IsAccepted bytes → length bytes ≤ document_limit → IsDone Run c.answer.result)
-    (λ bytes. (plan : Content) → Means bytes plan → length bytes ≤ document_limit → IsDone Run c.answer.result)
-    (c.answer.ensures.complete no_read no_write) (λ bytes done plan means short. done (plan, means) short)
+    (λ bytes. IsAccepted bytes → length bytes ≤ document_limit → IsDone Run c.free.result)
+    (λ bytes. (plan : Content) → Means bytes plan → length bytes ≤ document_limit → IsDone Run c.free.result)
+    (c.free.ensures.complete no_read no_write) (λ bytes done plan means short. done (plan, means) short)
 
-pub returns-in-Ok-Some-Document-Check-clause-check : goal.returns-in-Ok-Some-Document-Check-clause-check
-returns-in-Ok-Some-Document-Check-clause-check g c = λ _.
-    check_ends_on_given _ no_run (g.S.Source.left c.args.source.now) c.answer-in-Ok-Some-Document-Check.result (g.K.Sink.written c.args.sink.now) _
-    c.answer-in-Ok-Some-Document-Check.ensures.ends
-
-pub returns-in-Ok-Some-Document-Check-clause-complete_check : goal.returns-in-Ok-Some-Document-Check-clause-complete_check
-returns-in-Ok-Some-Document-Check-clause-complete_check g c = λ _ no_read no_write.
-    mapped (g.S.Source.left c.args.source.now)
-    (λ bytes. IsAccepted bytes → length bytes ≤ document_limit → IsDone Check c.answer-in-Ok-Some-Document-Check.result)
-    (λ bytes. (plan : Content) → Means bytes plan → length bytes ≤ document_limit → IsDone Check c.answer-in-Ok-Some-Document-Check.result)
-    (c.answer-in-Ok-Some-Document-Check.ensures.complete no_read no_write) (λ bytes done plan means short. done (plan, means) short)
-
-pub returns-in-Ok-None-clause-usage : goal.returns-in-Ok-None-clause-usage
-returns-in-Ok-None-clause-usage g c = λ _. ends_usage _ _ _ _ refl c.say.ensures.said
+pub returns-in-Ok-None-clause-complete_run : goal.returns-in-Ok-None-clause-complete_run
+returns-in-Ok-None-clause-complete_run g c = λ line no_read no_write.
+    c.accord_alone.ensures.complete_run (runs_alone c.args.words.now line (subst (IsWorkersOf c.args.words.now) c.in-Ok-None.field-0-is c.in-Ok-None.ensures)) no_read no_write
 
 pub returns-in-Err-clause-run : goal.returns-in-Err-clause-run
 returns-in-Err-clause-run g c = λ _. unanswered _ Run (g.S.Source.left c.args.source.now) (g.K.Sink.written c.args.sink.now)
 
+pub returns-in-Err-clause-free : goal.returns-in-Err-clause-free
+returns-in-Err-clause-free g c = λ _. unanswered _ Run (g.S.Source.left c.args.source.now) (g.K.Sink.written c.args.sink.now)
+
 pub returns-in-Err-clause-check : goal.returns-in-Err-clause-check
-returns-in-Err-clause-check g c = λ _. unanswered _ Check (g.S.Source.left c.args.source.now) (g.K.Sink.written c.args.sink.now)
+returns-in-Err-clause-check g c = λ _. unanswered no_run Check (g.S.Source.left c.args.source.now) (g.K.Sink.written c.args.sink.now)

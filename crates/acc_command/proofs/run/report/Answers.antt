@@ -8,15 +8,15 @@ use Rattle.acc_command.proofs.run.report.Goals as goal
 
 pub returns-in_ok-text-in-Ok : goal.returns-in_ok-text-in-Ok
 returns-in_ok-text-in-Ok g c =
-    reported
+    reported _ c.args.plan.now (reverse c.in-Ok.items) c.in_ok-text-in-Ok.field-0
     (record {
-      run = c.plans_run_safely.ensures.run;
-      agreement = c.plans_run_safely.ensures.agreement;
-      coverage = c.plans_run_safely.ensures.coverage;
-      serial = c.plans_run_safely.ensures.serial;
+      run = c.plans_run_safely.ensures.run c.args.plan.now c.in-Ok.ensures.obeys.0 (reverse c.in-Ok.items) c.requires c.in-Ok.ensures.obeys.1;
+      agreement = c.plans_run_safely.ensures.agreement c.args.plan.now c.in-Ok.ensures.obeys.0 (reverse c.in-Ok.items) c.requires c.in-Ok.ensures.obeys.1;
+      coverage = c.plans_run_safely.ensures.coverage c.args.plan.now c.in-Ok.ensures.obeys.0 (reverse c.in-Ok.items) c.requires c.in-Ok.ensures.obeys.1;
+      serial = c.plans_run_safely.ensures.serial c.args.plan.now c.in-Ok.ensures.obeys.0 (reverse c.in-Ok.items) c.requires c.in-Ok.ensures.obeys.1;
     })
-    _ c.args.plan.now c.in-Ok.ensures.obeys.0 (reverse c.in-Ok.items) c.in_ok-text-in-Ok.field-0 c.requires c.in-Ok.ensures.obeys.1 c.in-Ok.ensures.within
-    (c.in-Ok.ensures.given, c.in-Ok.ensures.strict)
+    c.in-Ok.ensures.within
+    (record { answers = c.in-Ok.ensures.obeys.0; obeys = c.in-Ok.ensures.obeys.1; back = c.in-Ok.ensures.given; strictly = c.in-Ok.ensures.strict })
     (c.in_ok-text-in-Ok.ensures ∙ ap (λ roll. report_text c.plan.inside.print c.plan.inside.names roll (reverse c.in-Ok.items)) c.new.ensures
     ∙ ap (λ (plan : Content). report_text plan.print plan.names [] (reverse c.in-Ok.items)) c.plan.view_is)
 

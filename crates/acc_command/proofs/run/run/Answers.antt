@@ -1,5 +1,4 @@
 -- The line of the refusal is due, or how the run of the plan ends.
-use Rattle.std.proofs.Common.{Ok}
 use Rattle.acc_command.proofs.CommandFacts.{refusal}
 use Rattle.acc_command.proofs.DueFacts.{run_due}
 use Rattle.acc_command.proofs.run.run.Goals as goal
