@@ -10,3 +10,4 @@ pub mod Openings
 pub mod Joined
 pub mod Parting
 pub mod Known
+pub mod Working

@@ -1,6 +1,6 @@
 -- Sound desks in their parts.
 use Rattle.std.proofs.Common.{◌≡◌, ℕ, ◌≤◌, Bool, true, false, List, [], ◌∷◌, length, map, reverse, drop, Contains, Option, refl, sym, ◌∙◌, ap, subst}
-use Rattle.std.specs.Prelude.{All}
+use Rattle.std.specs.Prelude.{All, Any}
 use Rattle.std.specs.List.{AllByRecursion}
 use Rattle.std.specs.List.Sorted.{IsPermutation}
 use Rattle.std.proofs.lemmas.List.{length-map}
@@ -16,7 +16,8 @@ use Rattle.acc_message.specs.Items.{same_actor}
 use Rattle.acc_schedule.specs.Actors.{actors}
 use Rattle.acc_schedule.specs.Content.{Content}
 use Rattle.acc_schedule.specs.declared.plan.Step.{Step}
-use Rattle.acc_limits.specs.Limits.{most_items}
+use Rattle.acc_schedule.specs.Plan.{IsPlan}
+use Rattle.acc_limits.specs.Limits.{most_items, most_bytes, IsWithin}
 use Rattle.acc_cluster.specs.declared.slot.Slot.{Slot}
 use Rattle.acc_tape.specs.ItemViews.{actor_of_item}
 use Rattle.acc_tape.specs.Lists.{items_of}
@@ -25,10 +26,11 @@ use Rattle.acc_desk.specs.declared.desk.Desk.{Desk}
 use Rattle.acc_desk.specs.Desks.{IsAt, IsSeated, IsSound, AreSound, name_of}
 use Rattle.acc_desk.specs.Fits.{fits_plan}
 use Rattle.acc_free.specs.declared.rest.Rest.{Rest}
+use Rattle.acc_free.specs.Finish.{HaveRested}
 use Rattle.acc_free.specs.Opened.{desk_actor, number_of, AreOpened}
 use Rattle.acc_free.specs.Parts.{seat_in, rest_in}
 use Rattle.acc_free.specs.Queues.{rest_actor, AreAllActors}
-use Rattle.acc_free.proofs.Joined.{IsEnd}
+use Rattle.acc_free.proofs.Joined.{IsEnd, TogetherLaw, EachLaw, UpLaw, rested}
 use Rattle.acc_free.proofs.Lists.{apart_sym}
 
 -- ---- the seats and the actors
@@ -57,7 +59,7 @@ module _ {D J : Type 0} (images : D → List ℕ → Type 0) (faults : D → ℕ
       (All-weaker Sound (λ (desk : Desk D J). (a : Actor) × IsSeated tape a [] desk.seat) (λ desk s. (desk.actor, s.seated)) desks all))
 
   -- the law of desks at the end
-  abbrev EndLaw : Type 0
+  abbrev pub EndLaw : Type 0
   EndLaw =
       (strict_run : Bool) (plan : Content) (tape : TapeName) (a : Actor) (seat : SeatView Item) (slot : Slot D) (commands : List Step) (gone : ℕ) → tape.limits.items ≤ most_items
       → IsSound images faults strict armed content synced written strict_run plan tape a seat slot commands gone → (items : List Item) → IsPrefix seat.seen items
@@ -94,7 +96,6 @@ flips a b = by (same_actor b a) refl
     by : (test : Bool) → same_actor b a ≡ test → same_actor a b ≡ test
     by true is = eq-eqb a.0 b.0 (sym (eqb-true b.0 a.0 is))
     by false is = apart_sym b a is
-
 
 module _ {D J : Type 0} (plan : Content) where
   -- the desks that were opened have all actors
@@ -133,3 +134,34 @@ module _ {D J : Type 0} (plan : Content) where
   as_many made names desks dealt served made_is named moved same =
       ap length made_is ∙ length-map names number_of ∙ ap length (sym named) ∙ length-map desks desk_actor ∙ sym (length_permutation desks dealt moved)
       ∙ sym (length-map dealt name_of) ∙ ap length (sym same) ∙ length-map served name_of
+
+-- ---- the closed tape
+
+-- the law of the limits
+abbrev pub WithinLaw : Type 0
+WithinLaw =
+    (tape : TapeName) (made : List ℕ) (seats : List (SeatView Item)) (items : List Item) → tape.limits.items ≤ most_items → tape.limits.weight ≤ most_bytes
+    → All (λ (seat : SeatView Item). (a : Actor) × IsSeated tape a [] seat) seats
+    → All (λ (seat : SeatView Item). IsPrefix seat.seen items × (items_of actor_of_item seat.actor items ≡ seat.mine) × Contains made seat.actor) seats
+    → All (λ (item : Item). Any (λ (seat : SeatView Item). seat.actor ≡ actor_of_item item) seats) items → IsWithin (reverse items)
+
+-- what the closing tells
+pub record IsClosed (plan : Content) (made : List ℕ) (seats : List (SeatView Item)) (items : List Item) : Type 0 where
+  pub come : All (λ (seat : SeatView Item). IsPrefix seat.seen items × (items_of actor_of_item seat.actor items ≡ seat.mine) × Contains made seat.actor) seats
+  pub owned : All (λ (item : Item). Any (λ (seat : SeatView Item). seat.actor ≡ actor_of_item item) seats) items
+  pub fits : fits_plan plan items
+
+module _ {D J : Type 0} (images : D → List ℕ → Type 0) (faults : D → ℕ) (strict : D → Bool) (armed : D → Option ℕ) (content synced : D → List ℕ) (written : D → Ranges) (strict_run : Bool) (plan : Content) (tape : TapeName) where
+  pub closes : IsPlan plan → TogetherLaw → EachLaw → UpLaw → WithinLaw → EndLaw {J = J} images faults strict armed content synced written strict_run plan tape
+      → tape.limits.items ≤ most_items → tape.limits.weight ≤ most_bytes → (desks : List (Desk D J)) → AreAllActors plan (map desk_actor desks)
+      → All (λ (desk : Desk D J). IsSound images faults strict armed content synced written strict_run plan tape desk.actor desk.seat desk.slot desk.commands desk.gone) desks
+      → (made : List ℕ) (seats : List (SeatView Item)) (items entered : List Item) (rests : List (Rest D)) → seats ≡ map seat_in desks → rests ≡ map rest_in desks → entered ≡ items
+      → IsClosed plan made seats items → HaveRested images faults strict armed content synced written strict_run plan rests entered
+  closes valid together each nobody bounds ends few light desks are all made seats items entered rests seats_are rests_are same closed =
+      subst (HaveRested images faults strict armed content synced written strict_run plan rests) (sym same)
+      (subst (λ (l : List (Rest D)). HaveRested images faults strict armed content synced written strict_run plan l items) (sym rests_are)
+      (rested images faults strict armed content synced written strict_run plan valid together each nobody items closed.fits
+      (bounds tape made seats items few light (seats_seated images faults strict armed content synced written strict_run plan tape desks seats seats_are all) closed.come closed.owned)
+      (map rest_in desks) (subst (AreAllActors plan) (sym (actors_of_rests desks)) are)
+      (each_ends images faults strict armed content synced written strict_run plan tape ends few made items closed.fits desks all
+      (subst (All (HasComeTo made items)) seats_are closed.come))))

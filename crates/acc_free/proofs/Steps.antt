@@ -46,7 +46,7 @@ pub on_ok : {X E : Type 0} (P Q : Type 0) (result : Result X E) → (P → Q) �
 on_ok P Q (Ok x) f h = f h
 on_ok P Q (Err e) f h = tt
 
-map_limit : (P Q : Which → ℕ → Type 0) → ((which : Which) (number : ℕ) → P which number → Q which number) → (error : RunError) → IfLimit P error → IfLimit Q error
+pub map_limit : (P Q : Which → ℕ → Type 0) → ((which : Which) (number : ℕ) → P which number → Q which number) → (error : RunError) → IfLimit P error → IfLimit Q error
 map_limit P Q f (Limit which number) h = f which number h
 map_limit P Q f OutOfMemory h = tt
 

@@ -11,7 +11,7 @@ ghost use Rattle.acc_free.specs.Queues.{rest_actor, AreAllActors};
 use crate::opening::First;
 use crate::rest::{Rest, Rests};
 use acc_base::OutOfMemory;
-use acc_desk::laws::{desks_stand_at_the_end, nobody_goes_down};
+use acc_desk::laws::{closed_items_are_within, desks_stand_at_the_end, nobody_goes_down};
 use acc_desk::{Desks, Parts, PlanRules, PlanTape, Planned};
 use acc_message::{Item, Items};
 use acc_ports::Rig;
@@ -40,6 +40,7 @@ pub(crate) fn closed<D: Rig + Drop, J: Planned>(
 {
     desks_stand_at_the_end::<D>();
     nobody_goes_down();
+    closed_items_are_within();
     turns_go_by();
     let _plan = plan;
     let (seats, rests) = apart(alloc, desks)?;

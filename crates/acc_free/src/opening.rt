@@ -19,7 +19,7 @@ use acc_desk::{Desk, Desks, PlanRules, PlanTape, Planned};
 use acc_message::Item;
 use acc_ports::{DiskMaker, Rig};
 use acc_schedule::Plan;
-use acc_served::laws::{free_runs_begin, turns_go_by};
+use acc_served::laws::free_runs_begin;
 use acc_stamp::{Actor, actor};
 use acc_tape::Seat;
 use acc_topology::sets::contains;
@@ -247,7 +247,6 @@ fn put<W: Wait, D: Rig + Drop, J: Planned>(
         (map desk_actor desks.old.items ++ own ∷ []) (rank_of own + 1) first.new desks.new.items) }
 {
     free_runs_begin();
-    turns_go_by();
     let commands = commands_of(alloc, plan, own)?;
     let seat = tape.split(rt, first, own.0)?;
     let desk = Desk::new(rt, alloc, plan, tape, own, seat, slot, commands);

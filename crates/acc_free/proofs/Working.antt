@@ -1,0 +1,54 @@
+-- Desks that come back from one worker more.
+use Rattle.std.proofs.Common.{◌≡◌, Bool, false, List, [], ◌∷◌, ◌++◌, map, Result, Ok, Err, refl, sym, ◌∙◌, ap, subst}
+use Rattle.std.specs.Prelude.{All, IfOk, IsOk, Vec}
+use Rattle.std.specs.List.{AllByRecursion}
+use Rattle.std.proofs.lemmas.Bool.{true≢false}
+use Rattle.std.proofs.lemmas.List.{map-append}
+use Rattle.std.proofs.lemmas.List.Elements.{All-append, All-from_recursion, recursion_from_All}
+use Rattle.acc_stamp.specs.declared.actors.Actor.{Actor}
+use Rattle.acc_schedule.specs.declared.plan.Step.{Step}
+use Rattle.acc_desk.specs.declared.desk.Desk.{Desk}
+use Rattle.acc_desk.specs.Desks.{name_of}
+use Rattle.acc_free.specs.Dealing.{all_in}
+use Rattle.acc_free.proofs.Hands.{all_in_more}
+
+-- ---- both parts of a list
+
+front_part : {X : Type 0} (P : X → Type 0) (xs ys : List X) → AllByRecursion P (xs ++ ys) → AllByRecursion P xs
+front_part P [] ys h = tt
+front_part P (x ∷ xs) ys h = (h.0, front_part P xs ys h.1)
+
+back_part : {X : Type 0} (P : X → Type 0) (xs ys : List X) → AllByRecursion P (xs ++ ys) → AllByRecursion P ys
+back_part P [] ys h = h
+back_part P (x ∷ xs) ys h = back_part P xs ys h.1
+
+module _ {X A : Type 0} (P : X → Type 0) (hands others : List (Vec X A)) (hand : Vec X A) (is : hands ≡ others ++ hand ∷ []) (all : All P (all_in hands)) where
+  each_split : AllByRecursion P (all_in others ++ hand.items)
+  each_split =
+      subst (AllByRecursion P) (all_in_more others hand)
+      (subst (λ (l : List (Vec X A)). AllByRecursion P (all_in l)) is (recursion_from_All P (all_in hands) all))
+
+  -- those of the other hands, and those of the last one
+  pub others_all : All P (all_in others)
+  others_all = All-from_recursion P (all_in others) (front_part P (all_in others) hand.items each_split)
+
+  pub last_all : All P hand.items
+  last_all = All-from_recursion P hand.items (back_part P (all_in others) hand.items each_split)
+
+-- ---- joined again
+
+pub names_joined : {D J A : Type 0} (hands others : List (Vec (Desk D J) A)) (hand : Vec (Desk D J) A) (first more all : List (Desk D J)) → hands ≡ others ++ hand ∷ []
+    → map name_of first ≡ map name_of (all_in others) → map name_of more ≡ map name_of hand.items → all ≡ first ++ more → map name_of all ≡ map name_of (all_in hands)
+names_joined hands others hand first more all is before last joined =
+    ap (map name_of) joined ∙ map-append name_of first more ∙ (λ i. before i ++ last i) ∙ sym (map-append name_of (all_in others) hand.items)
+    ∙ ap (map name_of) (sym (all_in_more others hand)) ∙ ap (λ (l : List (Vec (Desk D J) A)). map name_of (all_in l)) (sym is)
+
+pub all_joined : {X : Type 0} (P : X → Type 0) (first more all : List X) → all ≡ first ++ more → All P first → All P more → All P all
+all_joined P first more all is one two = subst (All P) (sym is) (All-append P first more one two)
+
+-- what follows where both came back
+pub both_ok : {X E : Type 0} (result served : Result X E) (Q : X → X → Type 0) (P R : X → Type 0) → IfOk result (λ all. IfOk served (λ first. Q first all)) → IfOk result (λ all. IsOk served)
+    → IfOk served P → ((first all : X) → Q first all → P first → R all) → IfOk result R
+both_ok (Ok all) (Ok first) Q P R joined ok p f = f first all joined p
+both_ok (Ok all) (Err e) Q P R joined ok p f = absurd (true≢false (sym ok))
+both_ok (Err e) served Q P R joined ok p f = tt

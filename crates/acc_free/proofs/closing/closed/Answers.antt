@@ -1,0 +1,30 @@
+-- The seats are those of the desks, and all actors stand for what the tape held.
+use Rattle.std.proofs.Common.{◌≡◌, List, length, map, sym, ◌∙◌, ap, subst}
+use Rattle.std.proofs.lemmas.List.{length-map}
+use Rattle.acc_stamp.specs.declared.actors.Actor.{Actor}
+use Rattle.acc_free.specs.declared.rest.Rest.{Rest}
+use Rattle.acc_free.specs.Parts.{seat_in}
+use Rattle.acc_free.specs.Queues.{rest_actor, AreAllActors}
+use Rattle.acc_free.proofs.Parting.{seats_ready, actors_of_rests, closes}
+use Rattle.acc_free.proofs.closing.closed.Goals as goal
+
+pub close-requires-clause-others : goal.close-requires-clause-others
+close-requires-clause-others g c =
+    let d = g.D.Disk in
+    seats_ready d.is_image d.faults d.strict d.armed d.content d.synced d.written g.J.Planned.strict c.args.plan.now c.args.tape c.args.desks.items c.in_ok-seats.seats c.in_ok-seats.ensures.seats c.requires.sound
+
+pub close-requires-clause-all : goal.close-requires-clause-all
+close-requires-clause-all g c = ap length c.in_ok-seats.ensures.seats ∙ length-map c.args.desks.items seat_in ∙ sym c.requires.all
+
+pub returns-clause-actors : goal.returns-clause-actors
+returns-clause-actors g c =
+    subst (AreAllActors c.args.plan.now) (sym (ap (λ (l : List (Rest g.row.D.Denot)). map rest_actor l) c.in_ok-seats.ensures.rests ∙ actors_of_rests c.args.desks.items)) c.requires.actors
+
+pub returns-clause-rested : goal.returns-clause-rested
+returns-clause-rested g c =
+    let d = g.D.Disk in
+    closes d.is_image d.faults d.strict d.armed d.content d.synced d.written g.J.Planned.strict c.args.plan.now c.args.tape c.requires.is_plan
+    c.turns_go_by.ensures.together c.turns_go_by.ensures.each c.nobody_goes_down.ensures c.closed_items_are_within.ensures c.desks_stand_at_the_end.ensures
+    c.requires.limits.0 c.requires.limits.1 c.args.desks.items c.requires.actors c.requires.sound
+    _ c.in_ok-seats.seats _ _ c.in_ok-seats.rests c.in_ok-seats.ensures.seats c.in_ok-seats.ensures.rests (c.from_vec.ensures ∙ c.into_vec.ensures)
+    (record { come = c.in-Ok.ensures.seats; owned = c.in-Ok.ensures.owned; fits = c.in-Ok.ensures.fits })

@@ -1,0 +1,41 @@
+-- One desk more.
+use Rattle.std.proofs.Common.{◌≡◌, ℕ, List, sym, ◌∙◌, ap}
+use Rattle.acc_message.specs.declared.item.Item.{Item}
+use Rattle.acc_tape.specs.Seats.{TapeName, SeatView}
+use Rattle.acc_desk.specs.declared.desk.Desk.{Desk}
+use Rattle.acc_free.specs.Opened.{desk_actor}
+use Rattle.acc_free.proofs.Openings.{not_made, one_opened}
+use Rattle.acc_free.proofs.opening.put.Goals as goal
+
+pub split-requires-clause-tape : goal.split-requires-clause-tape
+split-requires-clause-tape g c = c.requires.opened.tape_is
+
+pub split-requires-clause-first : goal.split-requires-clause-first
+split-requires-clause-first g c = c.requires.opened.actor_is
+
+pub split-requires-clause-actor : goal.split-requires-clause-actor
+split-requires-clause-actor g c = (
+  c.requires.some,
+  not_made _ c.args.first.now.made c.args.own c.requires.opened.made c.requires.opened.before,
+)
+
+pub new-requires-clause-seat : goal.new-requires-clause-seat
+new-requires-clause-seat g c =
+    let is = c.in_ok-seat.ensures.seat in
+    let own = ap (λ (s : SeatView Item). s.actor) is in (
+      ap (λ (s : SeatView Item). s.tape) is ∙ (c.split.ensures.turn.tape ∙ c.requires.opened.tape_is),
+      own,
+      (λ none. c.requires.some (sym own ∙ none)),
+      ap (λ (s : SeatView Item). s.mine) is,
+      ap (λ (s : SeatView Item). s.held) is,
+    )
+
+pub new-requires-clause-serving : goal.new-requires-clause-serving
+new-requires-clause-serving g c = c.free_runs_begin.ensures.serving c.args.plan.now c.requires.is_plan
+
+pub returns-clause-ok : goal.returns-clause-ok
+returns-clause-ok g c =
+    let d = g.D.Disk in
+    let turn = c.split.ensures.turn in
+    one_opened d.is_image d.faults d.strict d.armed d.content d.synced d.written g.J.Planned.strict c.args.plan.now c.args.tape.now c.args.own c.args.first.now c.split.new.first
+    c.args.desks.now.items c.push.new.self.items c.new.result c.requires.opened turn.tape turn.actor c.split.ensures.made c.in_ok-push.ensures.items c.new.ensures.same.0 c.new.ensures.sound

@@ -1,0 +1,62 @@
+-- One store more, or none.
+use Rattle.std.proofs.Common.{◌≡◌, ℕ, ◌+◌, ◌*◌, ◌<◌, ◌≤◌, true, Contains, map, refl, sym, ◌∙◌, ap, subst, arith}
+use Rattle.acc_stamp.specs.declared.actors.Actor.{Actor}
+use Rattle.acc_stamp.specs.Actor.{actor_of}
+use Rattle.acc_topology.specs.Layout.{shard_at}
+use Rattle.acc_topology.specs.Sets.{is_among}
+use Rattle.acc_schedule.specs.Actors.{actors}
+use Rattle.acc_schedule.specs.Content.{Content}
+use Rattle.acc_run.proofs.Beginning.{store_kind, kept_twice, kept_still}
+use Rattle.acc_free.specs.Opened.{desk_actor, rank_of}
+use Rattle.acc_free.proofs.Known.{store_known, listed_among, store_on, no_store_on, all_stores, at_most, one_after}
+use Rattle.acc_free.proofs.Openings.{store_rank, opened_as, opened_named, opened_still}
+use Rattle.acc_free.proofs.opening.put_stores_of.Goals as goal
+use Rattle.acc_free.proofs.opening.put_stores_of.Goals.{then-contains+in_ok-put_store, else-contains}
+
+full_rank : (shard n : ℕ) → n ≡ 16 → shard * 16 + n ≤ (shard + 1) * 16
+full_rank shard n is = omega (arith, is)
+
+next_rank : (shard n : ℕ) → shard * 16 + n ≤ shard * 16 + (n + 1)
+next_rank shard n = omega arith
+
+own_rank : (rank shard n : ℕ) → rank ≡ shard * 16 + n → rank + 1 ≤ shard * 16 + (n + 1)
+own_rank rank shard n is = omega (arith, is)
+
+low_node : (n : ℕ) → n < 16 → n ≤ 15
+low_node n h = omega (arith, h)
+
+pub put_store-requires-clause-opened : goal.put_store-requires-clause-opened
+put_store-requires-clause-opened g c =
+    let d = g.M.D.Disk in
+    let rank : rank_of c.actor.result ≡ c.args.shard * 16 + c.loop-node.node =
+    ap rank_of c.actor.ensures.number ∙ store_rank c.loop-node.node c.args.shard c.actor.requires.node_in_range c.actor.requires.shard_in_range in
+    opened_named d.is_image d.faults d.strict d.armed d.content d.synced d.written g.J.Planned.strict c.args.plan.now c.args.tape.now _ (c.args.shard * 16 + c.loop-node.node) (rank_of c.actor.result)
+    c.loop-node.first c.loop-node.desks.items (at_most _ _ (sym rank)) c.loop-node.invariant.opened
+
+pub loop-node-preserved : goal.loop-node-preserved
+loop-node-preserved g c =
+    let l = c.loop-node.invariant in
+    let d = g.M.D.Disk in
+    let set = c.replicas-replicas.result in
+    let n = c.loop-node.node in
+    let shard = c.args.shard in
+    let before = map desk_actor c.args.desks.now.items in
+    elim c.if-contains.branch [
+      | then-contains+in_ok-put_store w ↦
+          let e = w.in_ok-put_store.ensures in
+          record {
+            opened =
+                opened_still d.is_image d.faults d.strict d.armed d.content d.synced d.written g.J.Planned.strict c.args.plan.now c.args.tape.now _ _ _ (shard * 16 + (n + 1)) _ _ _ _
+                (store_on before (map desk_actor c.loop-node.desks.items) shard set n _ l.opened.named w.if-contains.true c.contains.ensures) (own_rank _ shard n ?) w.first-is (ap (λ v. v.items) w.desks-is) e.ok;
+            given = kept_twice g.M.DiskMaker.given _ _ _ _ w.disks-is e.given l.given;
+            kind = kept_twice g.M.DiskMaker.strict _ _ _ _ w.disks-is e.kind l.kind;
+          }
+      | else-contains w ↦
+          record {
+            opened =
+                opened_still d.is_image d.faults d.strict d.armed d.content d.synced d.written g.J.Planned.strict c.args.plan.now c.args.tape.now _ _ (shard * 16 + n) (shard * 16 + (n + 1)) _ _ _ _
+                (no_store_on before shard set n _ w.if-contains.false c.contains.ensures) (next_rank shard n) w.first-is (ap (λ v. v.items) w.desks-is) l.opened;
+            given = kept_still g.M.DiskMaker.given _ _ _ w.disks-is l.given;
+            kind = kept_still g.M.DiskMaker.strict _ _ _ w.disks-is l.kind;
+          }
+    ]

@@ -1,0 +1,38 @@
+-- What is left undone is done, and the disks go back.
+use Rattle.std.proofs.Common.{◌≡◌, ℕ, List, ◌++◌, [], map, reverse, refl, sym, ◌∙◌, ap, append-nil}
+use Rattle.acc_message.specs.declared.item.Item.{Item}
+use Rattle.acc_strict.specs.Disks.{fresh_disks}
+use Rattle.acc_limits.specs.Fronts.{Begins}
+use Rattle.acc_run.specs.Given.{GivesBack, numbered}
+use Rattle.acc_run.proofs.Whole.{limit_told}
+use Rattle.acc_free.specs.Moves.{EndsFreely}
+use Rattle.acc_free.proofs.Steps.{ends_later, map_limit}
+use Rattle.acc_free.proofs.running.run_on.Goals as goal
+
+none_begins : (items : List Item) → Begins [] items
+none_begins items = record { later = items; items_are = sym (append-nil items) }
+
+pub finish-requires-clause-standing : goal.finish-requires-clause-standing
+finish-requires-clause-standing g c = (c.in_ok-rests.ensures.rested.stopped, c.in_ok-rests.ensures.rested.resting)
+
+pub returns-clause-stayed : goal.returns-clause-stayed
+returns-clause-stayed g c = λ is.
+    let r = c.in_ok-rests.ensures.rested in
+    c.in_ok-ended.ensures.strict r.stopped fresh_disks r.resting (r.strictly is) (λ a. refl) (r.up is)
+
+pub returns-clause-given : goal.returns-clause-given
+returns-clause-given g c =
+    let f = c.in_ok-ended.ensures.ok in
+    record {
+      disks = c.in_ok-ended.ended.disks.items;
+      given = c.in_ok-give_back.ensures.given ∙ ap (λ before. before ++ map numbered c.in_ok-ended.ended.disks.items) c.entered_by.ensures.given;
+      disks_are = f.disks_are;
+      kept = f.kept;
+    }
+
+pub returns-in_err-finish-clause-limit : goal.returns-in_err-finish-clause-limit
+returns-in_err-finish-clause-limit g c =
+    let plan = c.args.plan.now in
+    let items = reverse c.in_ok-rests.entered in
+    limit_told (EndsFreely plan []) c.in_err-finish.field-0.0 c.from_residual-in_err-finish.result c.from_residual-in_err-finish.ensures.1
+    (map_limit (EndsFreely plan items) (EndsFreely plan []) (λ which number ends. ends_later plan [] items which number (none_begins items) ends) c.in_err-finish.field-0.0 c.in_err-finish.ensures.limit)
