@@ -77,6 +77,7 @@ module _ {D : Type 0} (images : D → List ℕ → Type 0) (faults : D → ℕ) 
 
   others_none : (b : Actor) (rests : List (Rest D)) (all : AllByRecursion IsEnd rests) → AllByRecursion (λ (a : Actor). same_actor b a ≡ false) (map rest_actor rests)
       → stopped_at b (stops_of rests all) ≡ None
+  unfolding stops_of
   others_none b [] all apart = refl
   others_none b (rest ∷ rests) all apart =
       first_none b all.0.stopped (stops_of rests all.1) (own_none rest.actor b all.0.stopped all.0.stops (apart_sym b rest.actor apart.0))
@@ -84,18 +85,26 @@ module _ {D : Type 0} (images : D → List ℕ → Type 0) (faults : D → ℕ) 
 
   -- where nothing was stopped of each
   none_stopped : (rests : List (Rest D)) (all : AllByRecursion IsEnd rests) → strict_run ≡ true → stops_of rests all ≡ []
+  unfolding stops_of
   none_stopped [] all is = refl
   none_stopped (rest ∷ rests) all is = ap (λ (l : List Stopped). l ++ stops_of rests all.1) (all.0.stayed is).none ∙ none_stopped rests all.1 is
 
   -- whose stopped step it is
-  whose : (rests : List (Rest D)) (all : AllByRecursion IsEnd rests) (a : Actor) (event : Event) → stopped_at a (stops_of rests all) ≡ Some event
-      → (one : List Stopped) × (stopped_at a one ≡ Some event) × IsServing plan (alone items one)
-  whose [] all a event is = absurd (none-some event is)
-  whose (rest ∷ rests) all a event is = by (stopped_at a all.0.stopped) refl
+  abbrev FoundIn : Actor → Event → Type 0
+  FoundIn a event = (one : List Stopped) × (stopped_at a one ≡ Some event) × IsServing plan (alone items one)
+
+  found_by : (own rest : List Stopped) (a : Actor) (event : Event) → IsServing plan (alone items own) → (stopped_at a rest ≡ Some event → FoundIn a event)
+      → stopped_at a (own ++ rest) ≡ Some event → FoundIn a event
+  found_by own rest a event serving later is = by (stopped_at a own) refl
     where
-      by : (found : Option Event) → stopped_at a all.0.stopped ≡ found → (one : List Stopped) × (stopped_at a one ≡ Some event) × IsServing plan (alone items one)
-      by None none = whose rests all.1 a event (sym (first_none a all.0.stopped (stops_of rests all.1) none) ∙ is)
-      by (Some other) here = (all.0.stopped, here ∙ sym (first_some a all.0.stopped (stops_of rests all.1) other here) ∙ is, all.0.serving)
+      by : (found : Option Event) → stopped_at a own ≡ found → FoundIn a event
+      by None none = later (sym (first_none a own rest none) ∙ is)
+      by (Some other) here = (own, here ∙ sym (first_some a own rest other here) ∙ is, serving)
+
+  whose : (rests : List (Rest D)) (all : AllByRecursion IsEnd rests) (a : Actor) (event : Event) → stopped_at a (stops_of rests all) ≡ Some event → FoundIn a event
+  unfolding stops_of
+  whose [] all a event is = absurd (none-some event is)
+  whose (rest ∷ rests) all a event is = found_by all.0.stopped (stops_of rests all.1) a event all.0.serving (whose rests all.1 a event) is
 
   -- ---- by one list of stopped steps
 
@@ -134,7 +143,7 @@ module _ {D : Type 0} (images : D → List ℕ → Type 0) (faults : D → ℕ) 
 
     each_stands : GoneLaw → (rests : List (Rest D)) (all : AllByRecursion IsEnd rests) → IsDistinct same_actor (map rest_actor rests) → Agrees (stops_of rests all) rests
         → AllByRecursion StandsBy rests
-    unfolding IsDistinct
+    unfolding IsDistinct stops_of
     each_stands law [] all apart h = tt
     each_stands law (rest ∷ rests) all apart h = (
       stands_by law rest all.0 (h.0 ∙ second_none rest.actor all.0.stopped (stops_of rests all.1) (others_none rest.actor rests all.1 apart.0)),

@@ -39,6 +39,14 @@ use Rattle.acc_free.proofs.Lists.{apart_sym}
 abbrev pub HasComeTo : List ℕ → List Item → SeatView Item → Type 0
 HasComeTo made items seat = IsPrefix seat.seen items × (items_of actor_of_item seat.actor items ≡ seat.mine) × Contains made seat.actor
 
+-- the law of desks at the end
+abbrev pub EndLaw : {D : Type 0} → (D → List ℕ → Type 0) → (D → ℕ) → (D → Bool) → (D → Option ℕ) → (D → List ℕ) → (D → List ℕ) → (D → Ranges) → Type 0
+EndLaw {D} images faults strict armed content synced written =
+    (strict_run : Bool) (plan : Content) (tape : TapeName) (a : Actor) (seat : SeatView Item) (slot : Slot D) (commands : List Step) (gone : ℕ) → tape.limits.items ≤ most_items
+    → IsSound images faults strict armed content synced written strict_run plan tape a seat slot commands gone → (items : List Item) → IsPrefix seat.seen items
+    → items_of actor_of_item seat.actor items ≡ seat.mine → fits_plan plan items
+    → IsAt images faults strict armed content synced written strict_run plan a (reverse items) slot (drop gone commands)
+
 module _ {D J : Type 0} (images : D → List ℕ → Type 0) (faults : D → ℕ) (strict : D → Bool) (armed : D → Option ℕ) (content synced : D → List ℕ) (written : D → Ranges) (strict_run : Bool) (plan : Content) (tape : TapeName) where
   abbrev Sound : Desk D J → Type 0
   Sound desk = IsSound images faults strict armed content synced written strict_run plan tape desk.actor desk.seat desk.slot desk.commands desk.gone
@@ -58,15 +66,7 @@ module _ {D J : Type 0} (images : D → List ℕ → Type 0) (faults : D → ℕ
       (All-map (λ (seat : SeatView Item). (a : Actor) × IsSeated tape a [] seat) seat_in desks
       (All-weaker Sound (λ (desk : Desk D J). (a : Actor) × IsSeated tape a [] desk.seat) (λ desk s. (desk.actor, s.seated)) desks all))
 
-  -- the law of desks at the end
-  abbrev pub EndLaw : Type 0
-  EndLaw =
-      (strict_run : Bool) (plan : Content) (tape : TapeName) (a : Actor) (seat : SeatView Item) (slot : Slot D) (commands : List Step) (gone : ℕ) → tape.limits.items ≤ most_items
-      → IsSound images faults strict armed content synced written strict_run plan tape a seat slot commands gone → (items : List Item) → IsPrefix seat.seen items
-      → items_of actor_of_item seat.actor items ≡ seat.mine → fits_plan plan items
-      → IsAt images faults strict armed content synced written strict_run plan a (reverse items) slot (drop gone commands)
-
-  pub each_ends : EndLaw → tape.limits.items ≤ most_items → (made : List ℕ) (items : List Item) → fits_plan plan items → (desks : List (Desk D J)) → All Sound desks
+  pub each_ends : EndLaw images faults strict armed content synced written → tape.limits.items ≤ most_items → (made : List ℕ) (items : List Item) → fits_plan plan items → (desks : List (Desk D J)) → All Sound desks
       → All (HasComeTo made items) (map seat_in desks)
       → AllByRecursion (IsEnd images faults strict armed content synced written strict_run plan (reverse items)) (map rest_in desks)
   each_ends law few made items fits [] all come = tt
@@ -76,6 +76,10 @@ module _ {D J : Type 0} (images : D → List ℕ → Type 0) (faults : D → ℕ
         law strict_run plan tape desk.actor desk.seat desk.slot desk.commands desk.gone few own items here.0 here.1 fits,
         each_ends law few made items fits desks (All-tail Sound desk desks all) (All-tail (HasComeTo made items) desk.seat (map seat_in desks) come),
       )
+
+-- the same by its parts
+pub same_rest : {D : Type 0} (one other : Rest D) → one.actor ≡ other.actor → one.slot ≡ other.slot → one.commands ≡ other.commands → one.gone ≡ other.gone → one ≡ other
+same_rest one other actor slot commands gone = λ i. record { actor = actor i; slot = slot i; commands = commands i; gone = gone i }
 
 pub actors_of_rests : {D J : Type 0} (desks : List (Desk D J)) → map rest_actor (map rest_in desks) ≡ map desk_actor desks
 actors_of_rests [] = refl
@@ -128,6 +132,13 @@ module _ {D J : Type 0} (plan : Content) where
       } in
       subst (AreAllActors plan) (sym (same_actors served dealt same)) known
 
+  -- each is sound there too
+  pub sound_dealt : (images : D → List ℕ → Type 0) (faults : D → ℕ) (strict : D → Bool) (armed : D → Option ℕ) (content synced : D → List ℕ) (written : D → Ranges) (strict_run : Bool) (tape : TapeName)
+      (desks dealt : List (Desk D J)) → IsPermutation desks dealt → AreSound images faults strict armed content synced written strict_run plan tape desks
+      → AreSound images faults strict armed content synced written strict_run plan tape dealt
+  sound_dealt images faults strict armed content synced written strict_run tape desks dealt moved all =
+      All-permutation (λ (desk : Desk D J). IsSound images faults strict armed content synced written strict_run plan tape desk.actor desk.seat desk.slot desk.commands desk.gone) desks dealt moved all
+
   -- as many as seats were made
   pub as_many : (made : List ℕ) (names : List Actor) (desks dealt served : List (Desk D J)) → made ≡ map number_of names → map desk_actor desks ≡ names → IsPermutation desks dealt
       → map name_of served ≡ map name_of dealt → length made ≡ length served
@@ -152,7 +163,7 @@ pub record IsClosed (plan : Content) (made : List ℕ) (seats : List (SeatView I
   pub fits : fits_plan plan items
 
 module _ {D J : Type 0} (images : D → List ℕ → Type 0) (faults : D → ℕ) (strict : D → Bool) (armed : D → Option ℕ) (content synced : D → List ℕ) (written : D → Ranges) (strict_run : Bool) (plan : Content) (tape : TapeName) where
-  pub closes : IsPlan plan → TogetherLaw → EachLaw → UpLaw → WithinLaw → EndLaw {J = J} images faults strict armed content synced written strict_run plan tape
+  pub closes : IsPlan plan → TogetherLaw → EachLaw → UpLaw → WithinLaw → EndLaw images faults strict armed content synced written
       → tape.limits.items ≤ most_items → tape.limits.weight ≤ most_bytes → (desks : List (Desk D J)) → AreAllActors plan (map desk_actor desks)
       → All (λ (desk : Desk D J). IsSound images faults strict armed content synced written strict_run plan tape desk.actor desk.seat desk.slot desk.commands desk.gone) desks
       → (made : List ℕ) (seats : List (SeatView Item)) (items entered : List Item) (rests : List (Rest D)) → seats ≡ map seat_in desks → rests ≡ map rest_in desks → entered ≡ items

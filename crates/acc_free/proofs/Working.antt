@@ -1,14 +1,17 @@
 -- Desks that come back from one worker more.
-use Rattle.std.proofs.Common.{◌≡◌, Bool, false, List, [], ◌∷◌, ◌++◌, map, Result, Ok, Err, refl, sym, ◌∙◌, ap, subst}
+use Rattle.std.proofs.Common.{◌≡◌, ℕ, Bool, Option, List, [], ◌∷◌, ◌++◌, map, Result, Ok, Err, refl, sym, ◌∙◌, ap, subst}
 use Rattle.std.specs.Prelude.{All, IfOk, IsOk, Vec}
 use Rattle.std.specs.List.{AllByRecursion}
 use Rattle.std.proofs.lemmas.Bool.{true≢false}
 use Rattle.std.proofs.lemmas.List.{map-append}
 use Rattle.std.proofs.lemmas.List.Elements.{All-append, All-from_recursion, recursion_from_All}
 use Rattle.acc_stamp.specs.declared.actors.Actor.{Actor}
+use Rattle.acc_ports.specs.Strict.{Ranges}
+use Rattle.acc_schedule.specs.Content.{Content}
 use Rattle.acc_schedule.specs.declared.plan.Step.{Step}
+use Rattle.acc_tape.specs.Seats.{TapeName}
 use Rattle.acc_desk.specs.declared.desk.Desk.{Desk}
-use Rattle.acc_desk.specs.Desks.{name_of}
+use Rattle.acc_desk.specs.Desks.{IsSound, AreSound, name_of}
 use Rattle.acc_free.specs.Dealing.{all_in}
 use Rattle.acc_free.proofs.Hands.{all_in_more}
 
@@ -39,7 +42,7 @@ module _ {X A : Type 0} (P : X → Type 0) (hands others : List (Vec X A)) (hand
 
 pub names_joined : {D J A : Type 0} (hands others : List (Vec (Desk D J) A)) (hand : Vec (Desk D J) A) (first more all : List (Desk D J)) → hands ≡ others ++ hand ∷ []
     → map name_of first ≡ map name_of (all_in others) → map name_of more ≡ map name_of hand.items → all ≡ first ++ more → map name_of all ≡ map name_of (all_in hands)
-names_joined hands others hand first more all is before last joined =
+names_joined {D = D} {J = J} {A = A} hands others hand first more all is before last joined =
     ap (map name_of) joined ∙ map-append name_of first more ∙ (λ i. before i ++ last i) ∙ sym (map-append name_of (all_in others) hand.items)
     ∙ ap (map name_of) (sym (all_in_more others hand)) ∙ ap (λ (l : List (Vec (Desk D J) A)). map name_of (all_in l)) (sym is)
 
@@ -52,3 +55,21 @@ pub both_ok : {X E : Type 0} (result served : Result X E) (Q : X → X → Type 
 both_ok (Ok all) (Ok first) Q P R joined ok p f = f first all joined p
 both_ok (Ok all) (Err e) Q P R joined ok p f = absurd (true≢false (sym ok))
 both_ok (Err e) served Q P R joined ok p f = tt
+
+-- ---- sound desks
+
+module _ {D J A : Type 0} (images : D → List ℕ → Type 0) (faults : D → ℕ) (strict : D → Bool) (armed : D → Option ℕ) (content synced : D → List ℕ) (written : D → Ranges) (strict_run : Bool) (plan : Content) (tape : TapeName) where
+  abbrev Sound : Desk D J → Type 0
+  Sound desk = IsSound images faults strict armed content synced written strict_run plan tape desk.actor desk.seat desk.slot desk.commands desk.gone
+
+  module _ (hands others : List (Vec (Desk D J) A)) (hand : Vec (Desk D J) A) (is : hands ≡ others ++ hand ∷ [])
+      (all : AreSound images faults strict armed content synced written strict_run plan tape (all_in hands)) where
+    pub others_sound : AreSound images faults strict armed content synced written strict_run plan tape (all_in others)
+    others_sound = others_all Sound hands others hand is all
+
+    pub last_sound : AreSound images faults strict armed content synced written strict_run plan tape hand.items
+    last_sound = last_all Sound hands others hand is all
+
+  pub sound_joined : (first more all : List (Desk D J)) → all ≡ first ++ more → AreSound images faults strict armed content synced written strict_run plan tape first
+      → AreSound images faults strict armed content synced written strict_run plan tape more → AreSound images faults strict armed content synced written strict_run plan tape all
+  sound_joined first more all is one two = all_joined Sound first more all is one two

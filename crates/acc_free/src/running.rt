@@ -92,13 +92,13 @@ where
 }
 
 // Serves a desk of each actor until there is nothing to do: what the actors left undone, and what they entered.
-fn entered_by<R: Threads + Wait + Sync, M: DiskMaker, G: Gate + Sync, J: Planned + Send>(
-    rt: &R,
+fn entered_by<'x, R: Threads + Wait + Sync, M: DiskMaker, G: Gate + Sync, J: Planned + Send>(
+    rt: &'x R,
     alloc: Global,
-    plan: &Plan,
+    plan: &'x Plan,
     workers: u32,
     disks: &mut M,
-    gate: &G,
+    gate: &'x G,
 ) -> Result<(Rests<M::D>, Items), OutOfMemory>
 where
     M::D: Drop + Send,

@@ -3,6 +3,7 @@ ghost use Rattle.std.specs.Prelude.{◌≡◌, ◌≤◌, ◌++◌, false, map, 
 ghost use Rattle.acc_limits.specs.Limits.{most_items};
 ghost use Rattle.acc_desk.specs.Desks.{AreSound, name_of};
 ghost use Rattle.acc_free.specs.Dealing.{all_in};
+ghost use Rattle.acc_free.specs.Workers.{KeepsSound};
 
 use acc_base::OutOfMemory;
 use acc_desk::{Desks, Floor, PlanTape, Planned, Served, serve};
@@ -27,6 +28,7 @@ pub(crate) struct Shared<'e, R, J: Planned, G> {
 // A worker gives its desks back, each sound, unless memory was refused.
 #[derive(Drop)]
 struct Keeps<'e, D: Rig, J: Planned> {
+    plan: &'e Plan,
     tape: &'e PlanTape<J>,
     desks: Snapshot<Desks<D, J>>,
 }
@@ -34,7 +36,7 @@ struct Keeps<'e, D: Rig, J: Planned> {
 impl<'e, D: Rig, J: Planned> Promise<Served<D, J>> for Keeps<'e, D, J> {
     ghost use Rattle.acc_free.specs.Workers.{KeepsSound};
 
-    ghost kept_by = { λ p served. KeepsSound D.is_image D.faults D.strict D.armed D.content D.synced D.written J.strict J.plan p.tape.now p.desks.value.items served };
+    ghost kept_by = { λ p served. KeepsSound D.is_image D.faults D.strict D.armed D.content D.synced D.written J.strict p.plan.now p.tape.now p.desks.value.items served };
 }
 
 /// Serves the desks of each hand on a thread of its own, and gives them all back. Where a thread can't be started, its desks are served
@@ -52,9 +54,9 @@ pub(crate) fn serve_all<
 ) -> Result<Desks<D, J>, OutOfMemory>
     requires plan { on.now.plan.now ≡ J.plan }
     requires limits { on.now.tape.now.limits.items ≤ most_items }
-    requires sound { AreSound D.is_image D.faults D.strict D.armed D.content D.synced D.written J.strict J.plan on.now.tape.now (all_in hands.items) }
+    requires sound { AreSound D.is_image D.faults D.strict D.armed D.content D.synced D.written J.strict on.now.plan.now on.now.tape.now (all_in hands.items) }
     ensures same { IfOk result (λ desks. map name_of desks.items ≡ map name_of (all_in hands.items)) }
-    ensures sound { IfOk result (λ desks. AreSound D.is_image D.faults D.strict D.armed D.content D.synced D.written J.strict J.plan on.entry.now.tape.now desks.items) }
+    ensures sound { IfOk result (λ desks. AreSound D.is_image D.faults D.strict D.armed D.content D.synced D.written J.strict on.entry.now.plan.now on.entry.now.tape.now desks.items) }
 {
     thread::scope(
         thread::scope_env(),
@@ -62,9 +64,9 @@ pub(crate) fn serve_all<
         |scope| -> Result<Desks<D, J>, OutOfMemory>
             requires plan { on.now.plan.now ≡ J.plan }
             requires limits { on.now.tape.now.limits.items ≤ most_items }
-            requires sound { AreSound D.is_image D.faults D.strict D.armed D.content D.synced D.written J.strict J.plan on.now.tape.now (all_in hands.items) }
-            ensures same { IfOk result (λ desks. map name_of desks.items ≡ map name_of (all_in hands.entry.items)) }
-            ensures sound { IfOk result (λ desks. AreSound D.is_image D.faults D.strict D.armed D.content D.synced D.written J.strict J.plan on.entry.now.tape.now desks.items) }
+            requires sound { AreSound D.is_image D.faults D.strict D.armed D.content D.synced D.written J.strict on.now.plan.now on.now.tape.now (all_in hands.items) }
+            ensures same { IfOk result (λ desks. map name_of desks.items ≡ map name_of (all_in hands.items)) }
+            ensures sound { IfOk result (λ desks. AreSound D.is_image D.faults D.strict D.armed D.content D.synced D.written J.strict on.entry.now.plan.now on.entry.now.tape.now desks.items) }
         { serve_each(alloc, scope, on, hands) },
     )
 }
@@ -85,9 +87,9 @@ fn serve_each<
 ) -> Result<Desks<D, J>, OutOfMemory>
     requires plan { on.now.plan.now ≡ J.plan }
     requires limits { on.now.tape.now.limits.items ≤ most_items }
-    requires sound { AreSound D.is_image D.faults D.strict D.armed D.content D.synced D.written J.strict J.plan on.now.tape.now (all_in hands.items) }
+    requires sound { AreSound D.is_image D.faults D.strict D.armed D.content D.synced D.written J.strict on.now.plan.now on.now.tape.now (all_in hands.items) }
     ensures same { IfOk result (λ desks. map name_of desks.items ≡ map name_of (all_in hands.items)) }
-    ensures sound { IfOk result (λ desks. AreSound D.is_image D.faults D.strict D.armed D.content D.synced D.written J.strict J.plan on.entry.now.tape.now desks.items) }
+    ensures sound { IfOk result (λ desks. AreSound D.is_image D.faults D.strict D.armed D.content D.synced D.written J.strict on.entry.now.plan.now on.entry.now.tape.now desks.items) }
 {
     let mut others = hands;
     let Some(desks) = others.pop() else {
@@ -102,12 +104,18 @@ fn serve_each<
         gate,
     } = *on;
     let keeps = Keeps {
+        plan,
         tape,
         desks: Snapshot::of(&desks),
     };
     match scope.spawn_with(
         keeps,
-        move || serve(rt, plan, desks, worker, floor, tape, gate),
+        move || -> Served<D, J>
+            requires plan { plan.now ≡ J.plan }
+            requires limits { tape.now.limits.items ≤ most_items }
+            requires sound { AreSound D.is_image D.faults D.strict D.armed D.content D.synced D.written J.strict plan.now tape.now desks.items }
+            ensures { KeepsSound D.is_image D.faults D.strict D.armed D.content D.synced D.written J.strict plan.entry.now tape.entry.now desks.items result }
+        { serve(rt, plan, desks, worker, floor, tape, gate) },
     ) {
         Ok(child) => {
             let served = serve_each(alloc, scope, on, others);

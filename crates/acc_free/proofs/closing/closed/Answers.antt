@@ -26,5 +26,5 @@ returns-clause-rested g c =
     closes d.is_image d.faults d.strict d.armed d.content d.synced d.written g.J.Planned.strict c.args.plan.now c.args.tape c.requires.is_plan
     c.turns_go_by.ensures.together c.turns_go_by.ensures.each c.nobody_goes_down.ensures c.closed_items_are_within.ensures c.desks_stand_at_the_end.ensures
     c.requires.limits.0 c.requires.limits.1 c.args.desks.items c.requires.actors c.requires.sound
-    _ c.in_ok-seats.seats _ _ c.in_ok-seats.rests c.in_ok-seats.ensures.seats c.in_ok-seats.ensures.rests (c.from_vec.ensures ∙ c.into_vec.ensures)
+    _ c.in_ok-seats.seats _ _ c.in_ok-seats.rests.items c.in_ok-seats.ensures.seats c.in_ok-seats.ensures.rests (c.from_vec.ensures ∙ c.into_vec.ensures)
     (record { come = c.in-Ok.ensures.seats; owned = c.in-Ok.ensures.owned; fits = c.in-Ok.ensures.fits })

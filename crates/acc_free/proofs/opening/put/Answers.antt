@@ -19,8 +19,8 @@ split-requires-clause-actor g c = (
   not_made _ c.args.first.now.made c.args.own c.requires.opened.made c.requires.opened.before,
 )
 
-pub new-requires-clause-seat : goal.new-requires-clause-seat
-new-requires-clause-seat g c =
+pub new-desk-requires-clause-seat : goal.new-desk-requires-clause-seat
+new-desk-requires-clause-seat g c =
     let is = c.in_ok-seat.ensures.seat in
     let own = ap (λ (s : SeatView Item). s.actor) is in (
       ap (λ (s : SeatView Item). s.tape) is ∙ (c.split.ensures.turn.tape ∙ c.requires.opened.tape_is),
@@ -30,12 +30,16 @@ new-requires-clause-seat g c =
       ap (λ (s : SeatView Item). s.held) is,
     )
 
-pub new-requires-clause-serving : goal.new-requires-clause-serving
-new-requires-clause-serving g c = c.free_runs_begin.ensures.serving c.args.plan.now c.requires.is_plan
+pub new-desk-requires-clause-serving : goal.new-desk-requires-clause-serving
+new-desk-requires-clause-serving g c = c.free_runs_begin.ensures.serving c.args.plan.now c.requires.is_plan
 
-pub returns-clause-ok : goal.returns-clause-ok
-returns-clause-ok g c =
+pub returns : goal.returns
+returns g c =
     let d = g.D.Disk in
     let turn = c.split.ensures.turn in
-    one_opened d.is_image d.faults d.strict d.armed d.content d.synced d.written g.J.Planned.strict c.args.plan.now c.args.tape.now c.args.own c.args.first.now c.split.new.first
-    c.args.desks.now.items c.push.new.self.items c.new.result c.requires.opened turn.tape turn.actor c.split.ensures.made c.in_ok-push.ensures.items c.new.ensures.same.0 c.new.ensures.sound
+    record {
+      ok =
+          one_opened d.is_image d.faults d.strict d.armed d.content d.synced d.written g.J.Planned.strict c.args.plan.now c.args.tape.now c.args.own c.args.first.now c.split.new.first
+          c.args.desks.now.items c.push.new.self.items c.new-desk.result c.requires.opened turn.tape turn.actor c.split.ensures.made c.in_ok-push.ensures.items c.new-desk.ensures.same.0
+          c.new-desk.ensures.sound;
+    }

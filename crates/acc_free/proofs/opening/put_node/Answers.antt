@@ -17,11 +17,11 @@ use Rattle.acc_free.proofs.opening.put_node.Goals as goal
 not_zero : (n : ℕ) → 1 ≤ n → n * 64 + 0 ≢ 0
 not_zero n low is = omega (arith, low, is)
 
-pub actor-requires-clause-node_in_range : goal.actor-requires-clause-node_in_range
-actor-requires-clause-node_in_range g c = (node_range c.args.plan.now.topology c.args.number c.requires.is_plan.layout c.requires.known).1
+pub actor-own-requires-clause-node_in_range : goal.actor-own-requires-clause-node_in_range
+actor-own-requires-clause-node_in_range g c = (node_range c.args.plan.now.topology c.args.number c.requires.is_plan.layout c.requires.known).1
 
-pub fresh_node-requires-clause-rest : goal.fresh_node-requires-clause-rest
-fresh_node-requires-clause-rest g c =
+pub fresh_node-slot-requires-clause-rest : goal.fresh_node-slot-requires-clause-rest
+fresh_node-slot-requires-clause-rest g c =
     let d = g.M.D.Disk in
     let e = c.in_ok-disk.ensures in
     at_rest (d.content c.in_ok-disk.disk) (d.is_image c.in_ok-disk.disk) (d.strict c.in_ok-disk.disk) (d.synced c.in_ok-disk.disk) (d.written c.in_ok-disk.disk) e.content e.only e.synced

@@ -11,7 +11,7 @@ use Rattle.acc_free.proofs.opening.put_nodes.Goals as goal
 use Rattle.acc_free.proofs.opening.put_nodes.Goals.{then-contains+in_ok-put_node, else-contains}
 
 pub put_node-requires-clause-opened : goal.put_node-requires-clause-opened
-put_node-requires-clause-opened g c =
+put_node-requires-clause-opened g c κs within =
     let d = g.M.D.Disk in
     let n = c.loop-number.number in
     opened_named d.is_image d.faults d.strict d.armed d.content d.synced d.written g.J.Planned.strict c.args.plan.now c.args.tape.now _ n n c.loop-number.first c.loop-number.desks.items

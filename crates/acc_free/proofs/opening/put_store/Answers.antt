@@ -9,8 +9,8 @@ use Rattle.acc_free.proofs.opening.put_store.Goals as goal
 not_zero : (a : Actor) → is_node a ≡ false → a.0 ≢ 0
 not_zero a kind is = true≢false (sym (ap (λ (n : ℕ). is_node (record { 0 = n })) is) ∙ kind)
 
-pub fresh_store-requires-clause-rest : goal.fresh_store-requires-clause-rest
-fresh_store-requires-clause-rest g c =
+pub fresh_store-slot-requires-clause-rest : goal.fresh_store-slot-requires-clause-rest
+fresh_store-slot-requires-clause-rest g c =
     let d = g.M.D.Disk in
     let e = c.in_ok-disk.ensures in
     at_rest (d.content c.in_ok-disk.disk) (d.is_image c.in_ok-disk.disk) (d.strict c.in_ok-disk.disk) (d.synced c.in_ok-disk.disk) (d.written c.in_ok-disk.disk) e.content e.only e.synced

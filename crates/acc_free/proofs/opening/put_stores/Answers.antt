@@ -22,10 +22,10 @@ all_shards : (layout : Layout) (front : List Actor) (place : ℕ) → length lay
 all_shards layout front place long = ap (λ (shards : List Shard). front ++ stores_from 1 shards) (take_all place layout.shards long)
 
 pub put_stores_of-requires-clause-strict : goal.put_stores_of-requires-clause-strict
-put_stores_of-requires-clause-strict g c = c.requires.strict ∙ sym c.loop-place.invariant.kind
+put_stores_of-requires-clause-strict g c κs within = c.requires.strict ∙ sym c.loop-place.invariant.kind
 
 pub put_stores_of-requires-clause-opened : goal.put_stores_of-requires-clause-opened
-put_stores_of-requires-clause-opened g c =
+put_stores_of-requires-clause-opened g c κs within =
     let d = g.M.D.Disk in
     let rank = (c.loop-place.place + 1) * 16 in
     opened_named d.is_image d.faults d.strict d.armed d.content d.synced d.written g.J.Planned.strict c.args.plan.now c.args.tape.now _ rank rank c.loop-place.first c.loop-place.desks.items

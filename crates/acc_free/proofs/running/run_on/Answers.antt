@@ -30,9 +30,9 @@ returns-clause-given g c =
       kept = f.kept;
     }
 
-pub returns-in_err-finish-clause-limit : goal.returns-in_err-finish-clause-limit
-returns-in_err-finish-clause-limit g c =
+pub returns-in_err-ended-clause-limit : goal.returns-in_err-ended-clause-limit
+returns-in_err-ended-clause-limit g c =
     let plan = c.args.plan.now in
     let items = reverse c.in_ok-rests.entered in
-    limit_told (EndsFreely plan []) c.in_err-finish.field-0.0 c.from_residual-in_err-finish.result c.from_residual-in_err-finish.ensures.1
-    (map_limit (EndsFreely plan items) (EndsFreely plan []) (λ which number ends. ends_later plan [] items which number (none_begins items) ends) c.in_err-finish.field-0.0 c.in_err-finish.ensures.limit)
+    limit_told (EndsFreely plan []) c.in_err-ended.field-0.0 c.from_residual-in_err-ended.result c.from_residual-in_err-ended.ensures.1
+    (map_limit (EndsFreely plan items) (EndsFreely plan []) (λ which number ends. ends_later plan [] items which number (none_begins items) ends) c.in_err-ended.field-0.0 c.in_err-ended.ensures.limit)
