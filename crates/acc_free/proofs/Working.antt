@@ -1,5 +1,5 @@
 -- Desks that come back from one worker more.
-use Rattle.std.proofs.Common.{◌≡◌, ℕ, Bool, Option, List, [], ◌∷◌, ◌++◌, map, Result, Ok, Err, refl, sym, ◌∙◌, ap, subst}
+use Rattle.std.proofs.Common.{◌≡◌, ℕ, Bool, false, Option, List, [], ◌∷◌, ◌++◌, map, Result, Ok, Err, refl, sym, ◌∙◌, ap, subst}
 use Rattle.std.specs.Prelude.{All, IfOk, IsOk, Vec}
 use Rattle.std.specs.List.{AllByRecursion}
 use Rattle.std.proofs.lemmas.Bool.{true≢false}
@@ -11,8 +11,10 @@ use Rattle.acc_schedule.specs.Content.{Content}
 use Rattle.acc_schedule.specs.declared.plan.Step.{Step}
 use Rattle.acc_tape.specs.Seats.{TapeName}
 use Rattle.acc_desk.specs.declared.desk.Desk.{Desk}
+use Rattle.acc_desk.specs.declared.serving.Served.{Served}
 use Rattle.acc_desk.specs.Desks.{IsSound, AreSound, name_of}
 use Rattle.acc_free.specs.Dealing.{all_in}
+use Rattle.acc_free.specs.Workers.{KeepsSound}
 use Rattle.acc_free.proofs.Hands.{all_in_more}
 
 -- ---- both parts of a list
@@ -58,18 +60,29 @@ both_ok (Err e) served Q P R joined ok p f = tt
 
 -- ---- sound desks
 
-module _ {D J A : Type 0} (images : D → List ℕ → Type 0) (faults : D → ℕ) (strict : D → Bool) (armed : D → Option ℕ) (content synced : D → List ℕ) (written : D → Ranges) (strict_run : Bool) (plan : Content) (tape : TapeName) where
+module _ {D J : Type 0} (images : D → List ℕ → Type 0) (faults : D → ℕ) (strict : D → Bool) (armed : D → Option ℕ) (content synced : D → List ℕ) (written : D → Ranges) (strict_run : Bool) (plan : Content) (tape : TapeName) where
   abbrev Sound : Desk D J → Type 0
   Sound desk = IsSound images faults strict armed content synced written strict_run plan tape desk.actor desk.seat desk.slot desk.commands desk.gone
 
-  module _ (hands others : List (Vec (Desk D J) A)) (hand : Vec (Desk D J) A) (is : hands ≡ others ++ hand ∷ [])
-      (all : AreSound images faults strict armed content synced written strict_run plan tape (all_in hands)) where
-    pub others_sound : AreSound images faults strict armed content synced written strict_run plan tape (all_in others)
-    others_sound = others_all Sound hands others hand is all
+  abbrev AllSound : List (Desk D J) → Type 0
+  AllSound desks = AreSound images faults strict armed content synced written strict_run plan tape desks
 
-    pub last_sound : AreSound images faults strict armed content synced written strict_run plan tape hand.items
-    last_sound = last_all Sound hands others hand is all
+  module _ {A : Type 0} (hands others : List (Vec (Desk D J) A)) (hand : Vec (Desk D J) A) (is : hands ≡ others ++ hand ∷ []) where
+    pub others_sound : AllSound (all_in hands) → AllSound (all_in others)
+    others_sound all = others_all Sound hands others hand is all
 
-  pub sound_joined : (first more all : List (Desk D J)) → all ≡ first ++ more → AreSound images faults strict armed content synced written strict_run plan tape first
-      → AreSound images faults strict armed content synced written strict_run plan tape more → AreSound images faults strict armed content synced written strict_run plan tape all
-  sound_joined first more all is one two = all_joined Sound first more all is one two
+    pub last_sound : AllSound (all_in hands) → AllSound hand.items
+    last_sound all = last_all Sound hands others hand is all
+
+    module _ {E : Type 0} (result served : Result (Vec (Desk D J) A) E) (more : Served D J) (kept : KeepsSound images faults strict armed content synced written strict_run plan tape hand.items more)
+        (joined : IfOk result (λ all. IfOk served (λ first. (more.refused ≡ false) × (all.items ≡ first.items ++ more.desks.items)))) (both : IfOk result (λ all. IsOk served)) where
+      pub same_back : IfOk served (λ first. map name_of first.items ≡ map name_of (all_in others)) → IfOk result (λ all. map name_of all.items ≡ map name_of (all_in hands))
+      same_back before =
+          both_ok result served (λ first all. (more.refused ≡ false) × (all.items ≡ first.items ++ more.desks.items)) (λ first. map name_of first.items ≡ map name_of (all_in others))
+          (λ all. map name_of all.items ≡ map name_of (all_in hands)) joined both before
+          (λ first all came one. names_joined hands others hand first.items more.desks.items all.items is one kept.same came.1)
+
+      pub sound_back : IfOk served (λ first. AllSound first.items) → IfOk result (λ all. AllSound all.items)
+      sound_back before =
+          both_ok result served (λ first all. (more.refused ≡ false) × (all.items ≡ first.items ++ more.desks.items)) (λ first. AllSound first.items) (λ all. AllSound all.items) joined both before
+          (λ first all came one. all_joined Sound first.items more.desks.items all.items came.1 one (kept.sound came.0))

@@ -2,6 +2,8 @@
 use Rattle.std.proofs.Common.{◌≡◌, List, length, map, sym, ◌∙◌, ap, subst}
 use Rattle.std.proofs.lemmas.List.{length-map}
 use Rattle.acc_stamp.specs.declared.actors.Actor.{Actor}
+use Rattle.acc_schedule.specs.Content.{Content}
+use Rattle.acc_desk.specs.Fits.{fits_plan}
 use Rattle.acc_free.specs.declared.rest.Rest.{Rest}
 use Rattle.acc_free.specs.Parts.{seat_in}
 use Rattle.acc_free.specs.Queues.{rest_actor, AreAllActors}
@@ -27,4 +29,4 @@ returns-clause-rested g c =
     c.turns_go_by.ensures.together c.turns_go_by.ensures.each c.nobody_goes_down.ensures c.closed_items_are_within.ensures c.desks_stand_at_the_end.ensures
     c.requires.limits.0 c.requires.limits.1 c.args.desks.items c.requires.actors c.requires.sound
     _ c.in_ok-seats.seats _ _ c.in_ok-seats.rests.items c.in_ok-seats.ensures.seats c.in_ok-seats.ensures.rests (c.from_vec.ensures ∙ c.into_vec.ensures)
-    (record { come = c.in-Ok.ensures.seats; owned = c.in-Ok.ensures.owned; fits = c.in-Ok.ensures.fits })
+    (record { come = c.in-Ok.ensures.seats; owned = c.in-Ok.ensures.owned; fits = subst (λ (plan : Content). fits_plan plan c.in-Ok.entered) (sym c.requires.plan) c.in-Ok.ensures.fits })
