@@ -1,6 +1,6 @@
 -- The end of all rounds: the items are served.
-use Rattle.std.proofs.Common.{◌≡◌, ℕ, Bool, List, [], ◌∷◌, ◌++◌, reverse, map, Contains, Option, None, Some, refl, sym, ◌∙◌, ap, subst}
-use Rattle.std.specs.List.{AllByRecursion, slice_get}
+use Rattle.std.proofs.Common.{◌≡◌, ℕ, Bool, List, [], ◌∷◌, ◌++◌, reverse, map, Contains, Option, refl, sym, ◌∙◌, ap, subst}
+use Rattle.std.specs.List.{AllByRecursion}
 use Rattle.std.proofs.lemmas.List.{reverse-append, reverse-reverse}
 use Rattle.acc_stamp.specs.declared.actors.Actor.{Actor}
 use Rattle.acc_ports.specs.Strict.{Ranges}
@@ -12,7 +12,6 @@ use Rattle.acc_schedule.specs.declared.plan.Step.{Step}
 use Rattle.acc_follow.specs.Situations.{Stopped, Situation, NothingWaits}
 use Rattle.acc_follow.specs.Laws.{NobodyIsDown}
 use Rattle.acc_limits.specs.Limits.{IsWithin}
-use Rattle.acc_limits.specs.Fronts.{Begins}
 use Rattle.acc_cluster.specs.declared.cluster.Cluster.{Cluster}
 use Rattle.acc_cluster.specs.declared.ending.Ended.{Ended}
 use Rattle.acc_cluster.specs.declared.slot.Slot.{Slot}
@@ -24,9 +23,9 @@ use Rattle.acc_served.specs.Served.{IsServed}
 use Rattle.acc_served.specs.Serving.{IsServing, HasGone}
 use Rattle.acc_free.specs.declared.rest.Rest.{Rest}
 use Rattle.acc_free.specs.declared.rest.Queue.{Queue}
-use Rattle.acc_free.specs.Queues.{placed_in, queue_in, left_in, actor_in, rest_actor, AreAllActors, HaveGone, AreHeld}
+use Rattle.acc_free.specs.Queues.{placed_in, queue_in, left_in, actor_in, rest_actor, AreAllActors, HaveGone}
 use Rattle.acc_free.specs.Moves.{HasEnded, IsUpStrictly}
-use Rattle.acc_free.specs.Finish.{AreResting, HasFinished}
+use Rattle.acc_free.specs.Finish.{HasFinished}
 use Rattle.acc_free.proofs.Lists.{each_at_place, from_map}
 use Rattle.acc_free.proofs.Rounds.{queue_of}
 

@@ -1,5 +1,5 @@
 -- From actors that each stand for what all entered, and for the step of their own that a fault stopped, to one situation of them all.
-use Rattle.std.proofs.Common.{◌≡◌, ℕ, Bool, true, false, List, [], ◌∷◌, ◌++◌, map, reverse, Contains, Option, None, Some, refl, sym, ◌∙◌, ap, subst}
+use Rattle.std.proofs.Common.{◌≡◌, ℕ, Bool, true, false, List, [], ◌∷◌, ◌++◌, map, reverse, Contains, Option, None, Some, refl, sym, ◌∙◌, ap}
 use Rattle.std.specs.List.{AllByRecursion, IsDistinct}
 use Rattle.std.proofs.lemmas.Bool.{true≢false}
 use Rattle.std.proofs.lemmas.Option.{none-some}
@@ -9,7 +9,7 @@ use Rattle.acc_message.specs.declared.entry.Event.{Event}
 use Rattle.acc_message.specs.declared.item.Item.{Item}
 use Rattle.acc_message.specs.Items.{same_actor}
 use Rattle.acc_payloads.specs.Items.{downs_in}
-use Rattle.acc_safety.proofs.PlaceOrder.{Contains-IsIn, IsIn-map, each_at}
+use Rattle.acc_safety.proofs.PlaceOrder.{Contains-IsIn, each_at}
 use Rattle.acc_schedule.specs.Actors.{actors}
 use Rattle.acc_schedule.specs.Content.{Content}
 use Rattle.acc_schedule.specs.Plan.{IsPlan}
@@ -19,7 +19,7 @@ use Rattle.acc_follow.specs.Situations.{Stopped, stopped_at, event_if}
 use Rattle.acc_follow.specs.Schedules.{cluster_of}
 use Rattle.acc_strict.specs.Disks.{fresh_disks}
 use Rattle.acc_limits.specs.Limits.{IsWithin}
-use Rattle.acc_cluster.specs.Over.{behind_items, IsOver, AreStrictSlots}
+use Rattle.acc_cluster.specs.Over.{AreStrictSlots}
 use Rattle.acc_cluster.specs.Slots.{SlotStands, IsStrictSlot}
 use Rattle.acc_cluster.proofs.Apart.{IsApart, apart_stopped}
 use Rattle.acc_cluster.proofs.Slots.{slot_apart, strict_apart}
@@ -27,7 +27,7 @@ use Rattle.acc_served.specs.FreeRun.{IsFreeRun, alone}
 use Rattle.acc_served.specs.Serving.{IsServing, HasGone, AreStopsOf}
 use Rattle.acc_desk.specs.Desks.{IsAt}
 use Rattle.acc_free.specs.declared.rest.Rest.{Rest}
-use Rattle.acc_free.specs.Finish.{AreResting, HaveRested}
+use Rattle.acc_free.specs.Finish.{HaveRested}
 use Rattle.acc_free.specs.Queues.{placed_in, queue_in, left_in, rest_actor, AreAllActors}
 use Rattle.acc_free.proofs.Lists.{apart_sym}
 

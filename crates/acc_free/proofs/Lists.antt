@@ -1,10 +1,10 @@
 -- Lists of queues, and the actors that they name.
-use Rattle.std.proofs.Common.{◌≡◌, ◌⊎◌, ℕ, zero, suc, ◌+◌, ◌<◌, ◌≤◌, ◌==◌, Bool, true, false, List, [], ◌∷◌, ◌++◌, length, map, drop, get_or, Contains, Option, None, Some, refl, sym, ◌∙◌, ap, subst, inl, inr, arith, ⊎_elim}
-use Rattle.std.specs.List.{AllByRecursion, IsDistinct, slice_get, slice_set, slice_index_or}
+use Rattle.std.proofs.Common.{◌≡◌, ◌⊎◌, ℕ, zero, suc, ◌+◌, ◌<◌, ◌≤◌, Bool, true, false, List, [], ◌∷◌, length, map, drop, get_or, Contains, Some, refl, sym, ◌∙◌, ap, subst, inl, inr, arith, ⊎_elim}
+use Rattle.std.specs.List.{AllByRecursion, IsDistinct, slice_get, slice_set}
 use Rattle.std.specs.Option.{option_map}
-use Rattle.std.proofs.lemmas.Bool.{true≢false, eq-eqb, eqb-true}
-use Rattle.std.proofs.lemmas.Option.{none-some, same_Some, slice_get-map, slice_get_within, slice_get-get_or, slice_get_read}
-use Rattle.std.proofs.lemmas.List.{drop_more, drop_all, length-drop, length-map}
+use Rattle.std.proofs.lemmas.Bool.{eq-eqb, eqb-true}
+use Rattle.std.proofs.lemmas.Option.{none-some, same_Some, slice_get_read}
+use Rattle.std.proofs.lemmas.List.{drop_more, drop_all}
 use Rattle.acc_stamp.specs.declared.actors.Actor.{Actor}
 use Rattle.acc_message.specs.Items.{same_actor}
 

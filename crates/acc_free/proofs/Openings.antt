@@ -15,7 +15,7 @@ use Rattle.acc_safety.proofs.PlaceOrder.{Contains-IsIn, IsIn-map, each_at}
 use Rattle.acc_schedule.specs.Content.{Content}
 use Rattle.acc_tape.specs.Seats.{TapeName, SeatView}
 use Rattle.acc_desk.specs.declared.desk.Desk.{Desk}
-use Rattle.acc_desk.specs.Desks.{IsSound, AreSound}
+use Rattle.acc_desk.specs.Desks.{IsSound}
 use Rattle.acc_free.specs.Opened.{desk_actor, number_of, rank_of, AreBefore, AreOpened}
 
 -- ---- ranks

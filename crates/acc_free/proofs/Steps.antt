@@ -1,5 +1,5 @@
 -- The next command of an actor, as a cluster takes it.
-use Rattle.std.proofs.Common.{◌≡◌, ℕ, ◌+◌, ◌<◌, ◌≤◌, Bool, true, false, List, [], ◌∷◌, ◌++◌, reverse, length, drop, get_or, Contains, Result, Ok, Err, IfErr, OnOk, refl, sym, ◌∙◌, ap, subst, arith}
+use Rattle.std.proofs.Common.{◌≡◌, ℕ, ◌+◌, ◌<◌, ◌≤◌, Bool, true, false, List, [], ◌∷◌, reverse, length, drop, get_or, Contains, Result, Ok, Err, IfErr, OnOk, refl, sym, ◌∙◌, ap, subst, arith}
 use Rattle.std.specs.Result.{IsErrAnd}
 use Rattle.std.proofs.lemmas.Bool.{true≢false}
 use Rattle.std.proofs.lemmas.Result.{err_from_is_err_and}
@@ -25,9 +25,8 @@ use Rattle.acc_limits.specs.Fronts.{ComesTo, Begins}
 use Rattle.acc_limits.proofs.Beginnings.{begins_itself, begins_chain}
 use Rattle.acc_limits.proofs.Reached.{next_adds}
 use Rattle.acc_cluster.specs.declared.cluster.Cluster.{Cluster}
-use Rattle.acc_cluster.specs.Stands.{StandsFor}
 use Rattle.acc_cluster.specs.Steps.{StepsTo, IfLimit, EndsIn}
-use Rattle.acc_served.specs.Commands.{is_command_of, commands_of, IsPassed, IsReady, IsHeld}
+use Rattle.acc_served.specs.Commands.{is_command_of, IsPassed, IsReady, IsHeld}
 use Rattle.acc_served.specs.Serving.{IsServing, HasGone}
 use Rattle.acc_free.specs.declared.rest.Queue.{Queue}
 use Rattle.acc_free.specs.Queues.{left_in}

@@ -1,8 +1,7 @@
 -- Over strict disks on which nothing is armed nobody goes down.
-use Rattle.std.proofs.Common.{◌≡◌, ℕ, Bool, true, false, cond, ◌&&◌, List, ◌∷◌, Option, None, Some, refl, sym, ◌∙◌, ap, subst}
+use Rattle.std.proofs.Common.{◌≡◌, ℕ, Bool, true, false, cond, ◌&&◌, List, Option, None, Some, refl, sym, ◌∙◌, ap, subst}
 use Rattle.std.proofs.Math.Bool.{and-false}
 use Rattle.std.proofs.lemmas.Bool.{true≢false, and_from}
-use Rattle.std.specs.List.{list_all}
 use Rattle.acc_stamp.specs.declared.actors.Actor.{Actor}
 use Rattle.acc_stamp.specs.Actor.{actor_of}
 use Rattle.acc_ports.specs.Strict.{Ranges}
@@ -10,11 +9,9 @@ use Rattle.acc_journal.specs.Journal.{keeps_group}
 use Rattle.acc_message.specs.declared.entry.Event.{Event}
 use Rattle.acc_message.specs.declared.entry.Event.TheVariants.{Begin as BeginEvent, Recover as RecoverEvent, Message as MessageEvent}
 use Rattle.acc_message.specs.declared.item.Skip.{Skip}
-use Rattle.acc_message.specs.declared.item.Item.{Item}
 use Rattle.acc_message.specs.Items.{same_actor}
 use Rattle.acc_message.specs.Run.{Cluster as RunCluster}
 use Rattle.acc_safe_runs.specs.Asks.{home_of_txn}
-use Rattle.acc_safe_runs.specs.AskLaws.{is_no_down}
 use Rattle.acc_schedule.specs.Content.{Content}
 use Rattle.acc_schedule.specs.declared.plan.Step.{Step}
 use Rattle.acc_schedule.specs.declared.plan.Step.TheVariants.{Begin, Deliver, Drop, Recover, Slow, Restart, Fail, Drain}
@@ -22,8 +19,8 @@ use Rattle.acc_follow.specs.Situations.{Situation, receiver_in}
 use Rattle.acc_follow.specs.Moves.{is_journalled, tried_if, begin_skip, recover_skip, kept_if, reopened}
 use Rattle.acc_follow.specs.Schedules.{cluster_of}
 use Rattle.acc_follow.specs.Laws.{NobodyIsDown}
-use Rattle.acc_strict.specs.Disks.{Disks, fails_append, after_append, after_step, after_restart}
-use Rattle.acc_strict.specs.Moves.{StrictSituation, tried_strictly, stepped_strictly, restarted_strictly, StrictDrains, stops, delivers, IsStrictNext}
+use Rattle.acc_strict.specs.Disks.{Disks, fails_append, after_append, after_step}
+use Rattle.acc_strict.specs.Moves.{StrictSituation, tried_strictly, stepped_strictly, StrictDrains, stops, delivers, IsStrictNext}
 use Rattle.acc_cluster.specs.declared.cluster.Cluster.{Cluster}
 use Rattle.acc_cluster.specs.Stands.{StandsStrictly}
 use Rattle.acc_cluster.specs.Steps.{StepsStrictly}

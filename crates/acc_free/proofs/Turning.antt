@@ -6,7 +6,7 @@ use Rattle.acc_message.specs.declared.item.Item.{Item}
 use Rattle.acc_message.specs.Items.{is_begun}
 use Rattle.acc_message.specs.Run.{Cluster as RunCluster, is_down}
 use Rattle.acc_schedule.specs.declared.plan.Step.{Step}
-use Rattle.acc_schedule.specs.declared.plan.Step.TheVariants.{Begin, Deliver, Drop, Recover, Slow, Restart, Fail, Drain}
+use Rattle.acc_schedule.specs.declared.plan.Step.TheVariants.{Begin, Deliver, Drop, Recover, Slow, Fail, Drain}
 use Rattle.acc_served.specs.Commands.{is_command_of}
 use Rattle.acc_free.specs.declared.command.Turn.{Turn}
 use Rattle.acc_free.specs.declared.command.Turn.TheVariants.{Takes, Passes, Waits}

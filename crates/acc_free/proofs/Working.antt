@@ -1,14 +1,12 @@
 -- Desks that come back from one worker more.
-use Rattle.std.proofs.Common.{◌≡◌, ℕ, Bool, false, Option, List, [], ◌∷◌, ◌++◌, map, Result, Ok, Err, refl, sym, ◌∙◌, ap, subst}
+use Rattle.std.proofs.Common.{◌≡◌, ℕ, Bool, false, Option, List, [], ◌∷◌, ◌++◌, map, Result, Ok, Err, sym, ◌∙◌, ap, subst}
 use Rattle.std.specs.Prelude.{All, IfOk, IsOk, Vec}
 use Rattle.std.specs.List.{AllByRecursion}
 use Rattle.std.proofs.lemmas.Bool.{true≢false}
 use Rattle.std.proofs.lemmas.List.{map-append}
 use Rattle.std.proofs.lemmas.List.Elements.{All-append, All-from_recursion, recursion_from_All}
-use Rattle.acc_stamp.specs.declared.actors.Actor.{Actor}
 use Rattle.acc_ports.specs.Strict.{Ranges}
 use Rattle.acc_schedule.specs.Content.{Content}
-use Rattle.acc_schedule.specs.declared.plan.Step.{Step}
 use Rattle.acc_tape.specs.Seats.{TapeName}
 use Rattle.acc_desk.specs.declared.desk.Desk.{Desk}
 use Rattle.acc_desk.specs.declared.serving.Served.{Served}

@@ -1,5 +1,5 @@
 -- The commands that are left of actors.
-use Rattle.std.specs.Prelude.{◌≡◌, ℕ, Bool, false, List, map, drop, length, sum_by, Some, Contains}
+use Rattle.std.specs.Prelude.{◌≡◌, ℕ, List, drop, length, sum_by, Some, Contains}
 use Rattle.std.specs.List.{AllByRecursion, slice_get, IsDistinct}
 use Rattle.acc_stamp.specs.declared.actors.Actor.{Actor}
 use Rattle.acc_message.specs.declared.item.Item.{Item}

@@ -1,7 +1,6 @@
 -- The seats are those of the desks, and all actors stand for what the tape held.
-use Rattle.std.proofs.Common.{◌≡◌, List, length, map, sym, ◌∙◌, ap, subst}
+use Rattle.std.proofs.Common.{List, length, map, sym, ◌∙◌, ap, subst}
 use Rattle.std.proofs.lemmas.List.{length-map}
-use Rattle.acc_stamp.specs.declared.actors.Actor.{Actor}
 use Rattle.acc_schedule.specs.Content.{Content}
 use Rattle.acc_desk.specs.Fits.{fits_plan}
 use Rattle.acc_free.specs.declared.rest.Rest.{Rest}

@@ -1,5 +1,5 @@
 -- One command more goes by, or the next one is held.
-use Rattle.std.proofs.Common.{◌≡◌, ◌∙◌, refl, sym, subst, Contains}
+use Rattle.std.proofs.Common.{◌∙◌, refl, sym, subst, Contains}
 use Rattle.acc_stamp.specs.declared.actors.Actor.{Actor}
 use Rattle.acc_schedule.specs.Actors.{actors}
 use Rattle.acc_free.specs.Queues.{left_in}

@@ -1,5 +1,5 @@
 -- One thing more is dealt.
-use Rattle.std.proofs.Common.{◌+◌, ◌≡◌, ◌∷◌, [], ◌++◌, List, ◌∙◌, sym, ap, subst, arith}
+use Rattle.std.proofs.Common.{◌++◌, ◌∙◌, subst, arith}
 use Rattle.std.specs.List.Sorted.{IsPermutation}
 use Rattle.acc_free.specs.Dealing.{all_in}
 use Rattle.acc_free.proofs.Hands.{one_dealt}

@@ -1,10 +1,10 @@
 -- What the rounds come to is served.
-use Rattle.std.proofs.Common.{◌≡◌, ◌∙◌, List, map, sym, ap, subst}
+use Rattle.std.proofs.Common.{◌∙◌, List, map, sym, ap, subst}
 use Rattle.acc_stamp.specs.declared.actors.Actor.{Actor}
 use Rattle.acc_cluster.specs.declared.slot.Slot.{Slot}
 use Rattle.acc_cluster.specs.Over.{behind_items, IsOver, AreSlotsOf, AreStrictSlots}
 use Rattle.acc_free.specs.declared.rest.Queue.{Queue}
-use Rattle.acc_free.specs.Queues.{placed_in, queue_in, actor_in, rest_actor, AreAllActors, HaveGone}
+use Rattle.acc_free.specs.Queues.{actor_in, rest_actor, AreAllActors, HaveGone}
 use Rattle.acc_free.specs.Moves.{Serves}
 use Rattle.acc_free.proofs.Steps.{limit_handed}
 use Rattle.acc_free.proofs.Ended.{actors_of_queues, slots_of, rests_gone, has_finished, nobody_down}

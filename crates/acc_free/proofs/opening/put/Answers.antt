@@ -1,9 +1,7 @@
 -- One desk more.
-use Rattle.std.proofs.Common.{◌≡◌, ℕ, List, sym, ◌∙◌, ap}
+use Rattle.std.proofs.Common.{sym, ◌∙◌, ap}
 use Rattle.acc_message.specs.declared.item.Item.{Item}
-use Rattle.acc_tape.specs.Seats.{TapeName, SeatView}
-use Rattle.acc_desk.specs.declared.desk.Desk.{Desk}
-use Rattle.acc_free.specs.Opened.{desk_actor}
+use Rattle.acc_tape.specs.Seats.{SeatView}
 use Rattle.acc_free.proofs.Openings.{not_made, one_opened}
 use Rattle.acc_free.proofs.opening.put.Goals as goal
 

@@ -1,7 +1,5 @@
 -- One node more, or none.
-use Rattle.std.proofs.Common.{◌≡◌, ℕ, ◌+◌, [], map, refl, sym, ◌∙◌, ap, subst, arith}
-use Rattle.acc_stamp.specs.Actor.{actor_of}
-use Rattle.acc_run.proofs.Numbers.{members_below}
+use Rattle.std.proofs.Common.{◌≡◌, ◌+◌, [], map, ap, arith}
 use Rattle.acc_run.proofs.Beginning.{kept_twice, kept_still}
 use Rattle.acc_schedule.specs.Content.{Content}
 use Rattle.acc_free.specs.Opened.{desk_actor}

@@ -1,5 +1,5 @@
 -- A store that has done nothing, over a new disk.
-use Rattle.std.proofs.Common.{◌≡◌, ◌≢◌, ℕ, ◌%◌, false, true, sym, ◌∙◌, ap, subst, arith}
+use Rattle.std.proofs.Common.{◌≡◌, ◌≢◌, ℕ, false, sym, ◌∙◌, ap}
 use Rattle.std.proofs.lemmas.Bool.{true≢false}
 use Rattle.acc_stamp.specs.declared.actors.Actor.{Actor}
 use Rattle.acc_message.specs.Run.{is_node}

@@ -1,14 +1,14 @@
 -- One shard more.
-use Rattle.std.proofs.Common.{◌≡◌, ℕ, ◌+◌, ◌*◌, ◌<◌, ◌≤◌, List, ◌++◌, length, map, refl, sym, ◌∙◌, ap, arith}
+use Rattle.std.proofs.Common.{◌≡◌, ℕ, ◌+◌, ◌*◌, ◌<◌, ◌≤◌, List, ◌++◌, length, map, sym, ◌∙◌, ap, arith}
 use Rattle.std.proofs.lemmas.List.{take_all}
 use Rattle.acc_stamp.specs.declared.actors.Actor.{Actor}
 use Rattle.acc_stamp.specs.Actor.{actor_of}
 use Rattle.acc_topology.specs.Layout.{Layout, Shard, shard_at}
-use Rattle.acc_schedule.specs.Actors.{actors, stores_from}
+use Rattle.acc_schedule.specs.Actors.{stores_from}
 use Rattle.acc_schedule.specs.Content.{Content}
 use Rattle.acc_run.proofs.Numbers.{stores_to}
 use Rattle.acc_free.specs.Opened.{desk_actor}
-use Rattle.acc_free.proofs.Known.{shard_on, no_shard_on, itself_at_most}
+use Rattle.acc_free.proofs.Known.{shard_on, itself_at_most}
 use Rattle.acc_free.proofs.Openings.{opened_as, opened_named}
 use Rattle.acc_free.proofs.opening.put_stores.Goals as goal
 

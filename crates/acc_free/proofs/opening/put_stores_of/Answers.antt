@@ -1,14 +1,13 @@
 -- One store more, or none.
-use Rattle.std.proofs.Common.{◌≡◌, ℕ, ◌+◌, ◌*◌, ◌<◌, ◌≤◌, true, List, [], ◌∷◌, ◌++◌, Contains, map, refl, sym, ◌∙◌, ap, subst, arith}
+use Rattle.std.proofs.Common.{◌≡◌, ℕ, ◌+◌, ◌*◌, ◌<◌, ◌≤◌, true, [], ◌∷◌, ◌++◌, Contains, map, sym, ◌∙◌, ap, subst, arith}
 use Rattle.acc_stamp.specs.declared.actors.Actor.{Actor}
-use Rattle.acc_stamp.specs.Actor.{actor_of}
 use Rattle.acc_topology.specs.Layout.{Layout, IsLayout, HasShard, shard_at}
 use Rattle.acc_topology.specs.Sets.{is_among}
 use Rattle.acc_schedule.specs.Actors.{actors}
 use Rattle.acc_schedule.specs.Content.{Content}
-use Rattle.acc_run.proofs.Beginning.{store_kind, kept_twice, kept_still}
+use Rattle.acc_run.proofs.Beginning.{kept_twice, kept_still}
 use Rattle.acc_free.specs.Opened.{desk_actor, rank_of}
-use Rattle.acc_free.proofs.Known.{store_known, listed_among, store_on, no_store_on, all_stores, at_most, one_after}
+use Rattle.acc_free.proofs.Known.{store_known, listed_among, store_on, no_store_on, all_stores, at_most}
 use Rattle.acc_free.proofs.Openings.{store_rank, opened_as, opened_named, opened_still}
 use Rattle.acc_free.proofs.opening.put_stores_of.Goals as goal
 use Rattle.acc_free.proofs.opening.put_stores_of.Goals.{then-contains+in_ok-put_store, else-contains}

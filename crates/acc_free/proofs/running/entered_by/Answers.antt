@@ -1,5 +1,5 @@
 -- Desks are made, dealt, served and closed.
-use Rattle.std.proofs.Common.{◌≡◌, ℕ, ◌≤◌, List, length, map, sym, ◌∙◌, ap, subst, arith}
+use Rattle.std.proofs.Common.{◌≡◌, ℕ, ◌≤◌, ap, arith}
 use Rattle.acc_tape.specs.declared.content.Limits.{Limits}
 use Rattle.acc_limits.specs.Limits.{most_items, most_bytes}
 use Rattle.acc_free.specs.Dealing.{all_in}

@@ -1,9 +1,9 @@
 -- What is left undone is done, and the disks go back.
-use Rattle.std.proofs.Common.{◌≡◌, ℕ, List, ◌++◌, [], map, reverse, refl, sym, ◌∙◌, ap, append-nil}
+use Rattle.std.proofs.Common.{List, ◌++◌, [], map, reverse, refl, sym, ◌∙◌, ap, append-nil}
 use Rattle.acc_message.specs.declared.item.Item.{Item}
 use Rattle.acc_strict.specs.Disks.{fresh_disks}
 use Rattle.acc_limits.specs.Fronts.{Begins}
-use Rattle.acc_run.specs.Given.{GivesBack, numbered}
+use Rattle.acc_run.specs.Given.{numbered}
 use Rattle.acc_run.proofs.Whole.{limit_told}
 use Rattle.acc_free.specs.Moves.{EndsFreely}
 use Rattle.acc_free.proofs.Steps.{ends_later, map_limit}

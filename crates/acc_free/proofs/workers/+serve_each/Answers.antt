@@ -1,5 +1,5 @@
 -- The last hand is served beside the others.
-use Rattle.std.proofs.Common.{◌≡◌, ◌≤◌, sym, ◌∙◌, ap, subst}
+use Rattle.std.proofs.Common.{◌≤◌, sym, ◌∙◌, ap, subst}
 use Rattle.acc_limits.specs.Limits.{most_items}
 use Rattle.acc_desk.specs.Desks.{AreSound}
 use Rattle.acc_free.specs.Workers.{KeepsSound}
