@@ -1,5 +1,8 @@
 //! The program: the commands over standard input and output, disks in memory, and a gate that holds nobody.
 #![tactic(auto)]
+ghost use Rattle.std.specs.Prelude.{◌≡◌, IfOk, drop, map, string_bytes};
+ghost use Rattle.std.specs.Process.{exit_status};
+ghost use Rattle.acc_command.specs.Command.{code_of};
 
 use acc_base::{OutOfMemory, Sequence, Text};
 use acc_command::{Status, accord};
@@ -10,24 +13,50 @@ use std::process::ExitCode;
 use std::{env, io};
 
 /// A word as a text.
-fn text_of(alloc: Global, word: &str) -> Result<Text, OutOfMemory> {
+fn text_of(alloc: Global, word: &String) -> Result<Text, OutOfMemory>
+    ensures { IfOk result (λ text. text ≡ string_bytes word.now) }
+{
     Sequence::from_slice(alloc, word.as_bytes())
 }
 
-/// The words behind the program's name. A word that isn't UTF-8 is none that is defined, so it gives no words at all,
-/// which are refused as well.
+/// Words as texts, in their order.
+fn texts_of(alloc: Global, words: &[String]) -> Result<Sequence<Text>, OutOfMemory>
+    ensures { IfOk result (λ texts. texts ≡ map string_bytes words.now) }
+{
+    let mut texts = Sequence::new(alloc);
+    for word in words {
+        texts.push(text_of(alloc, word)?)?;
+    }
+    Ok(texts)
+}
+
+/// The words behind the first, which is the program's name.
+fn behind_name(alloc: Global, args: &[String]) -> Result<Sequence<Text>, OutOfMemory>
+    ensures { IfOk result (λ words. words ≡ map string_bytes (drop 1 args.now)) }
+{
+    match args.split_first() {
+        Some((_, rest)) => texts_of(alloc, rest),
+        None => Ok(Sequence::new(alloc)),
+    }
+}
+
+/// The words of the command line. A word that isn't UTF-8 is none that is defined, so it gives no words at all, which are
+/// refused as well.
 fn words<R: Env + AllocGlobal>(rt: &R) -> Result<Sequence<Text>, OutOfMemory> {
     let alloc = rt.alloc();
-    let mut words = Sequence::new(alloc);
-    let args = match env::args(rt) {
-        Ok(args) => args,
+    let args: Vec<String> = match env::args(rt) {
+        Ok(args) => args.collect(alloc)?,
         Err(error) if error.kind() == io::ErrorKind::OutOfMemory => return Err(OutOfMemory),
-        Err(_) => return Ok(words),
+        Err(_) => Vec::new(alloc),
     };
-    for word in args.skip(1) {
-        words.push(text_of(alloc, word.as_str())?)?;
-    }
-    Ok(words)
+    behind_name(alloc, args.as_slice())
+}
+
+/// The exit code that tells a status.
+fn exit_code(status: Status) -> ExitCode
+    ensures { exit_status result ≡ code_of status }
+{
+    ExitCode::from(status.code())
 }
 
 /// Runs the command that the words name.
@@ -46,5 +75,5 @@ fn main(rt: HostRuntime) -> ExitCode {
         ),
         Err(OutOfMemory) => Status::OutOfMemory,
     };
-    ExitCode::from(status.code())
+    exit_code(status)
 }

@@ -1,0 +1,6 @@
+-- The words up to this one are texts.
+use Rattle.std.proofs.Common.{◌≡◌, map, take, string_bytes}
+use Rattle.accord.proofs.texts_of.Given as goal
+
+abbrev pub invariant-loop-word : goal.invariant-loop-word
+invariant-loop-word l = l.texts ≡ map string_bytes (take l.word-index l.words)
