@@ -1,10 +1,11 @@
 //! Answers to a Stable.
-ghost use Rattle.std.specs.Prelude.{◌≡◌, ◌==◌, ◌++◌, OnOk};
+ghost use Rattle.std.specs.Prelude.{◌≡◌, ◌==◌, ◌++◌, OnOk, OnErr};
 ghost use Rattle.acc_code.specs.Reading.{Reads};
 ghost use Rattle.acc_message_code.specs.Short.{IsShortAnswer};
 ghost use Rattle.acc_message_code.specs.Fitting.{FitsAnswer};
 ghost use Rattle.acc_message_code.specs.MessageSpelling.{answer_bytes};
 ghost use Rattle.acc_message_code.specs.MessageReading.{answer_behind, answer_at};
+ghost use Rattle.acc_code.specs.Writing.{Keeps};
 
 use acc_base::{Bytes, OutOfMemory};
 use acc_code::{CodeError, put_cells, put_outcome, take_between, take_cells, take_outcome};
@@ -19,10 +20,11 @@ const VALUES: u8 = 1;
 const KNOWN: u8 = 2;
 
 /// Appends an answer: 1 and cells, or 2 and an outcome.
-#[tactic(auto, unfolding(crate::specs::MessageSpelling::answer_bytes))]
+#[tactic(auto, using(acc_code::proofs::Kept::keeps_all, acc_code::proofs::Kept::keeps_front, acc_code::proofs::Kept::keeps_more), unfolding(crate::specs::MessageSpelling::answer_bytes))]
 pub(crate) fn put_answer(out: &mut Bytes, answer: &ReadAnswer) -> Result<(), OutOfMemory>
     requires { IsShortAnswer answer.now }
     ensures spelled { OnOk result (out.new ≡ out.old ++ answer_bytes answer.now) }
+    ensures kept { OnErr result (Keeps out.old out.new) }
     ensures fits { OnOk result (FitsAnswer answer.now) }
 {
     match answer {

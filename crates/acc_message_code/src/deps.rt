@@ -1,5 +1,5 @@
 //! Dependencies.
-ghost use Rattle.std.specs.Prelude.{◌≡◌, ◌<◌, ◌++◌, [], nat_lt, length, OnOk, IfOk};
+ghost use Rattle.std.specs.Prelude.{◌≡◌, ◌<◌, ◌++◌, [], nat_lt, length, OnOk, OnErr, IfOk};
 ghost use Rattle.std.specs.List.{flat_map, list_all, AllByRecursion};
 ghost use Rattle.acc_stamp.specs.Rising.{IsRising};
 ghost use Rattle.acc_code.specs.Reading.{Reads, between_at, each_at};
@@ -7,6 +7,7 @@ ghost use Rattle.acc_message_code.specs.Spelling.{shard_bytes, deps_bytes};
 ghost use Rattle.acc_message_code.specs.Short.{IsShortShard, AreShortDeps};
 ghost use Rattle.acc_message_code.specs.Fitting.{FitStamps, FitDeps};
 ghost use Rattle.acc_message_code.specs.Reading.{next_shard_at, shard_at, deps_at};
+ghost use Rattle.acc_code.specs.Writing.{Keeps};
 
 use crate::ids::{put_ids, take_ids};
 use acc_base::{Bytes, OutOfMemory};
@@ -18,19 +19,22 @@ use std::alloc::Global;
 /// The greatest number of a shard.
 const LAST_SHARD: u8 = 15;
 
-#[tactic(auto, unfolding(crate::specs::Spelling::shard_bytes))]
+#[tactic(auto, using(acc_code::proofs::Kept::keeps_all, acc_code::proofs::Kept::keeps_front, acc_code::proofs::Kept::keeps_more), unfolding(crate::specs::Spelling::shard_bytes))]
 fn put_shard(out: &mut Bytes, shard: &ShardDeps) -> Result<(), OutOfMemory>
     requires { IsShortShard shard.now }
     ensures spelled { OnOk result (out.new ≡ out.old ++ shard_bytes shard.now) }
+    ensures kept { OnErr result (Keeps out.old out.new) }
     ensures stamps { OnOk result (FitStamps shard.now.ids) }
 {
     put_u8(out, shard.shard as u8)?;
     put_ids(out, shard.ids.as_slice())
 }
 
+#[tactic(auto, using(acc_code::proofs::Kept::keeps_all, acc_code::proofs::Kept::keeps_front, acc_code::proofs::Kept::keeps_more))]
 fn put_each_shard(out: &mut Bytes, shards: &[ShardDeps]) -> Result<(), OutOfMemory>
     requires { AllByRecursion IsShortShard shards.now }
     ensures spelled { OnOk result (out.new ≡ out.old ++ flat_map shard_bytes shards.now) }
+    ensures kept { OnErr result (Keeps out.old out.new) }
     ensures stamps { OnOk result (AllByRecursion (λ d. FitStamps d.ids) shards.now) }
 {
     for shard in shards {
@@ -39,10 +43,11 @@ fn put_each_shard(out: &mut Bytes, shards: &[ShardDeps]) -> Result<(), OutOfMemo
     Ok(())
 }
 
-#[tactic(auto, unfolding(crate::specs::Spelling::deps_bytes, acc_code::specs::Spelling::listed))]
+#[tactic(auto, using(acc_code::proofs::Kept::keeps_all, acc_code::proofs::Kept::keeps_front, acc_code::proofs::Kept::keeps_more), unfolding(crate::specs::Spelling::deps_bytes, acc_code::specs::Spelling::listed))]
 fn put_shards(out: &mut Bytes, shards: &[ShardDeps]) -> Result<(), OutOfMemory>
     requires { AreShortDeps shards.now }
     ensures spelled { OnOk result (out.new ≡ out.old ++ deps_bytes shards.now) }
+    ensures kept { OnErr result (Keeps out.old out.new) }
     ensures stamps { OnOk result (AllByRecursion (λ d. FitStamps d.ids) shards.now) }
 {
     put_u8(out, shards.len() as u8)?;
@@ -50,9 +55,11 @@ fn put_shards(out: &mut Bytes, shards: &[ShardDeps]) -> Result<(), OutOfMemory>
 }
 
 /// Appends dependencies: a count, and each shard with its transactions.
+#[tactic(auto, using(acc_code::proofs::Kept::keeps_all, acc_code::proofs::Kept::keeps_front, acc_code::proofs::Kept::keeps_more))]
 pub(crate) fn put_deps(out: &mut Bytes, deps: &Deps) -> Result<(), OutOfMemory>
     requires { AreShortDeps deps.now }
     ensures spelled { OnOk result (out.new ≡ out.old ++ deps_bytes deps.now) }
+    ensures kept { OnErr result (Keeps out.old out.new) }
     ensures fits { OnOk result (FitDeps deps.now) }
 {
     put_shards(out, deps.by_shard())

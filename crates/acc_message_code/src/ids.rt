@@ -1,5 +1,5 @@
 //! Rising lists of transactions.
-ghost use Rattle.std.specs.Prelude.{◌≡◌, ◌≤◌, ◌++◌, ◌∷◌, [], length, OnOk, IfOk, IsTrue};
+ghost use Rattle.std.specs.Prelude.{◌≡◌, ◌≤◌, ◌++◌, ◌∷◌, [], length, OnOk, OnErr, IfOk, IsTrue};
 ghost use Rattle.std.specs.List.{flat_map, list_all};
 ghost use Rattle.acc_stamp.specs.Stamp.{id_lt};
 ghost use Rattle.acc_stamp.specs.Rising.{IsRising};
@@ -8,6 +8,7 @@ ghost use Rattle.acc_message_code.specs.Spelling.{id_bytes, ids_bytes};
 ghost use Rattle.acc_message_code.specs.Short.{AreShortIds};
 ghost use Rattle.acc_message_code.specs.Fitting.{FitStamps};
 ghost use Rattle.acc_message_code.specs.Reading.{next_id_at, ids_at};
+ghost use Rattle.acc_code.specs.Writing.{Keeps};
 
 use crate::stamps::{STAMP, put_stamp, take_id};
 use acc_base::{Bytes, OutOfMemory};
@@ -16,8 +17,10 @@ use acc_stamp::{Ids, TxnId};
 use acc_wire::{Reader, put_u16};
 use std::alloc::Global;
 
+#[tactic(auto, using(acc_code::proofs::Kept::keeps_all, acc_code::proofs::Kept::keeps_front, acc_code::proofs::Kept::keeps_more))]
 fn put_each_id(out: &mut Bytes, ids: &[TxnId]) -> Result<(), OutOfMemory>
     ensures spelled { OnOk result (out.new ≡ out.old ++ flat_map id_bytes ids.now) }
+    ensures kept { OnErr result (Keeps out.old out.new) }
     ensures stamps { OnOk result (FitStamps ids.now) }
 {
     for id in ids {
@@ -27,10 +30,11 @@ fn put_each_id(out: &mut Bytes, ids: &[TxnId]) -> Result<(), OutOfMemory>
 }
 
 /// Appends transactions: a count in two bytes, and their ids.
-#[tactic(auto, unfolding(crate::specs::Spelling::ids_bytes))]
+#[tactic(auto, using(acc_code::proofs::Kept::keeps_all, acc_code::proofs::Kept::keeps_front, acc_code::proofs::Kept::keeps_more), unfolding(crate::specs::Spelling::ids_bytes))]
 pub(crate) fn put_ids(out: &mut Bytes, ids: &[TxnId]) -> Result<(), OutOfMemory>
     requires { AreShortIds ids.now }
     ensures spelled { OnOk result (out.new ≡ out.old ++ ids_bytes ids.now) }
+    ensures kept { OnErr result (Keeps out.old out.new) }
     ensures stamps { OnOk result (FitStamps ids.now) }
 {
     put_u16(out, ids.len() as u16)?;

@@ -18,6 +18,6 @@ mod weight;
 
 pub use acc_code::CodeError;
 pub use lengths::deps_length;
-pub use message::{decode, encode};
+pub use message::{decode, encode, put_message};
 pub use message_lengths::message_length;
 pub use weight::messages_length;

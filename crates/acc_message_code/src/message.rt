@@ -1,5 +1,5 @@
 //! Messages.
-ghost use Rattle.std.specs.Prelude.{◌≡◌, ◌++◌, OnOk, IfOk, Ok};
+ghost use Rattle.std.specs.Prelude.{◌≡◌, ◌++◌, OnOk, OnErr, IfOk, Ok};
 ghost use Rattle.acc_wire.specs.Reading.{AreBytes};
 ghost use Rattle.acc_message.specs.declared.message.Message.{Message};
 ghost use Rattle.acc_code.specs.Reading.{Reads};
@@ -7,6 +7,7 @@ ghost use Rattle.acc_message_code.specs.Short.{HasShortContent, IsShortMessage};
 ghost use Rattle.acc_message_code.specs.Fitting.{HasFittingContent, FitsMessage};
 ghost use Rattle.acc_message_code.specs.MessageSpelling.{number_of as number_of_message, content_bytes, message_bytes};
 ghost use Rattle.acc_message_code.specs.MessageReading.{is_request as has_request, content_at, message_at, message_of, Gives};
+ghost use Rattle.acc_code.specs.Writing.{Keeps};
 
 use crate::answer::put_answer;
 use crate::deps::put_deps;
@@ -44,10 +45,11 @@ fn number_of(m: &Message) -> u8
     }
 }
 
-#[tactic(auto, unfolding(crate::specs::MessageSpelling::content_bytes))]
+#[tactic(auto, using(acc_code::proofs::Kept::keeps_all, acc_code::proofs::Kept::keeps_front, acc_code::proofs::Kept::keeps_more), unfolding(crate::specs::MessageSpelling::content_bytes))]
 fn put_content(out: &mut Bytes, m: &Message) -> Result<(), OutOfMemory>
     requires { HasShortContent m.now }
     ensures spelled { OnOk result (out.new ≡ out.old ++ content_bytes m.now) }
+    ensures kept { OnErr result (Keeps out.old out.new) }
     ensures fits { OnOk result (HasFittingContent m.now) }
 {
     match m {
@@ -77,15 +79,32 @@ fn put_content(out: &mut Bytes, m: &Message) -> Result<(), OutOfMemory>
     }
 }
 
-#[tactic(auto, unfolding(crate::specs::MessageSpelling::message_bytes))]
-fn put_message(out: &mut Bytes, m: &Message) -> Result<(), OutOfMemory>
+#[tactic(auto, using(acc_code::proofs::Kept::keeps_all, acc_code::proofs::Kept::keeps_front, acc_code::proofs::Kept::keeps_more), unfolding(crate::specs::MessageSpelling::message_bytes))]
+fn put_parts(out: &mut Bytes, m: &Message) -> Result<(), OutOfMemory>
     requires { IsShortMessage m.now }
     ensures spelled { OnOk result (out.new ≡ out.old ++ message_bytes m.now) }
+    ensures kept { OnErr result (Keeps out.old out.new) }
     ensures fits { OnOk result (FitsMessage m.now) }
 {
     put_u8(out, number_of(m))?;
     put_envelope(out, m.envelope())?;
     put_content(out, m)
+}
+
+/// Appends a message. Without memory for it the bytes are as before.
+pub fn put_message(out: &mut Bytes, m: &Message) -> Result<(), OutOfMemory>
+    requires { IsShortMessage m.now }
+    ensures spelled { OnOk result (out.new ≡ out.old ++ message_bytes m.now) }
+    ensures err { OnErr result (out.new ≡ out.old) }
+    // What is written can be read.
+    ensures fits { OnOk result (FitsMessage m.now) }
+{
+    let before = out.len();
+    let appended = put_parts(out, m);
+    if appended.is_err() {
+        out.truncate(before);
+    }
+    appended
 }
 
 /// The bytes of a message, in memory that is taken at once. A message has bytes where the numbers of its actors have two

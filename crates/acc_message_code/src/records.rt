@@ -1,10 +1,11 @@
 //! What a store keeps of a transaction.
-ghost use Rattle.std.specs.Prelude.{◌≡◌, ◌++◌, OnOk, IfSome};
+ghost use Rattle.std.specs.Prelude.{◌≡◌, ◌++◌, OnOk, OnErr, IfSome};
 ghost use Rattle.acc_code.specs.Reading.{Reads};
 ghost use Rattle.acc_message_code.specs.Spelling.{settled_bytes, accepted_bytes, optional, flag_bytes};
 ghost use Rattle.acc_message_code.specs.Short.{IsShortSettled, IsShortAccepted};
 ghost use Rattle.acc_message_code.specs.Fitting.{FitsSettled, FitsAccepted};
 ghost use Rattle.acc_message_code.specs.Reading.{settled_at, accepted_at, optional_at, flag_at};
+ghost use Rattle.acc_code.specs.Writing.{Keeps};
 
 use crate::deps::{put_deps, take_deps};
 use crate::stamps::{put_stamp, take_ballot, take_stamp};
@@ -16,20 +17,22 @@ use acc_wire::{Reader, put_u8};
 use std::alloc::Global;
 
 /// Appends a timestamp and dependencies.
-#[tactic(auto, unfolding(crate::specs::Spelling::settled_bytes))]
+#[tactic(auto, using(acc_code::proofs::Kept::keeps_all, acc_code::proofs::Kept::keeps_front, acc_code::proofs::Kept::keeps_more), unfolding(crate::specs::Spelling::settled_bytes))]
 pub(crate) fn put_settled(out: &mut Bytes, t: Stamp, deps: &Deps) -> Result<(), OutOfMemory>
     requires { IsShortSettled (record { t = t; deps = deps.now }) }
     ensures spelled { OnOk result (out.new ≡ out.old ++ settled_bytes (record { t = t; deps = deps.now })) }
+    ensures kept { OnErr result (Keeps out.old out.new) }
     ensures fits { OnOk result (FitsSettled (record { t = t; deps = deps.now })) }
 {
     put_stamp(out, t)?;
     put_deps(out, deps)
 }
 
-#[tactic(auto, unfolding(crate::specs::Spelling::accepted_bytes, crate::specs::Spelling::settled_bytes))]
+#[tactic(auto, using(acc_code::proofs::Kept::keeps_all, acc_code::proofs::Kept::keeps_front, acc_code::proofs::Kept::keeps_more), unfolding(crate::specs::Spelling::accepted_bytes, crate::specs::Spelling::settled_bytes))]
 fn put_accepted(out: &mut Bytes, accepted: &Accepted) -> Result<(), OutOfMemory>
     requires { IsShortAccepted accepted.now }
     ensures spelled { OnOk result (out.new ≡ out.old ++ accepted_bytes accepted.now) }
+    ensures kept { OnErr result (Keeps out.old out.new) }
     ensures fits { OnOk result (FitsAccepted accepted.now) }
 {
     put_stamp(out, accepted.ballot.0)?;
@@ -37,13 +40,14 @@ fn put_accepted(out: &mut Bytes, accepted: &Accepted) -> Result<(), OutOfMemory>
 }
 
 /// Appends 0, or 1 and what was accepted.
-#[tactic(auto, unfolding(crate::specs::Spelling::optional))]
+#[tactic(auto, using(acc_code::proofs::Kept::keeps_all, acc_code::proofs::Kept::keeps_front, acc_code::proofs::Kept::keeps_more), unfolding(crate::specs::Spelling::optional))]
 pub(crate) fn put_optional_accepted(
     out: &mut Bytes,
     accepted: &Option<Accepted>,
 ) -> Result<(), OutOfMemory>
     requires { IfSome accepted.now IsShortAccepted }
     ensures spelled { OnOk result (out.new ≡ out.old ++ optional accepted_bytes accepted.now) }
+    ensures kept { OnErr result (Keeps out.old out.new) }
     ensures fits { OnOk result (IfSome accepted.now FitsAccepted) }
 {
     match accepted {
@@ -56,13 +60,14 @@ pub(crate) fn put_optional_accepted(
 }
 
 /// Appends 0, or 1 and what is settled.
-#[tactic(auto, unfolding(crate::specs::Spelling::optional))]
+#[tactic(auto, using(acc_code::proofs::Kept::keeps_all, acc_code::proofs::Kept::keeps_front, acc_code::proofs::Kept::keeps_more), unfolding(crate::specs::Spelling::optional))]
 pub(crate) fn put_optional_settled(
     out: &mut Bytes,
     settled: &Option<Settled>,
 ) -> Result<(), OutOfMemory>
     requires { IfSome settled.now IsShortSettled }
     ensures spelled { OnOk result (out.new ≡ out.old ++ optional settled_bytes settled.now) }
+    ensures kept { OnErr result (Keeps out.old out.new) }
     ensures fits { OnOk result (IfSome settled.now FitsSettled) }
 {
     match settled {
@@ -75,9 +80,10 @@ pub(crate) fn put_optional_settled(
 }
 
 /// Appends 0 or 1.
-#[tactic(auto, unfolding(crate::specs::Spelling::flag_bytes))]
+#[tactic(auto, using(acc_code::proofs::Kept::keeps_all, acc_code::proofs::Kept::keeps_front, acc_code::proofs::Kept::keeps_more), unfolding(crate::specs::Spelling::flag_bytes))]
 pub(crate) fn put_flag(out: &mut Bytes, flag: bool) -> Result<(), OutOfMemory>
-    ensures { OnOk result (out.new ≡ out.old ++ flag_bytes flag) }
+    ensures spelled { OnOk result (out.new ≡ out.old ++ flag_bytes flag) }
+    ensures kept { OnErr result (Keeps out.old out.new) }
 {
     put_u8(out, u8::from(flag))
 }

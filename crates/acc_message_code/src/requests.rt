@@ -1,11 +1,12 @@
 //! The messages to a store.
-ghost use Rattle.std.specs.Prelude.{◌≡◌, ◌++◌, OnOk};
+ghost use Rattle.std.specs.Prelude.{◌≡◌, ◌++◌, OnOk, OnErr};
 ghost use Rattle.acc_code.specs.Reading.{Reads};
 ghost use Rattle.acc_code.specs.Short.{IsNumberedBody};
 ghost use Rattle.acc_message_code.specs.Short.{AreShortDeps};
 ghost use Rattle.acc_message_code.specs.Fitting.{FitsDated};
 ghost use Rattle.acc_message_code.specs.MessageSpelling.{proposal_bytes};
 ghost use Rattle.acc_message_code.specs.MessageReading.{proposal_at, pre_accept_at, accept_at, commit_at, stable_at, apply_at, recover_at, request_at};
+ghost use Rattle.acc_code.specs.Writing.{Keeps};
 
 use crate::records::{put_settled, take_settled};
 use acc_base::{Bytes, OutOfMemory};
@@ -18,7 +19,7 @@ use acc_wire::Reader;
 use std::alloc::Global;
 
 /// Appends a body with a timestamp and dependencies.
-#[tactic(auto, unfolding(crate::specs::MessageSpelling::proposal_bytes))]
+#[tactic(auto, using(acc_code::proofs::Kept::keeps_all, acc_code::proofs::Kept::keeps_front, acc_code::proofs::Kept::keeps_more), unfolding(crate::specs::MessageSpelling::proposal_bytes))]
 pub(crate) fn put_proposal(
     out: &mut Bytes,
     body: &Body,
@@ -27,6 +28,7 @@ pub(crate) fn put_proposal(
 ) -> Result<(), OutOfMemory>
     requires { AreShortDeps deps.now }
     ensures spelled { OnOk result (out.new ≡ out.old ++ proposal_bytes body.now t deps.now) }
+    ensures kept { OnErr result (Keeps out.old out.new) }
     ensures fits { OnOk result (IsNumberedBody body.now × FitsDated t deps.now) }
 {
     put_body(out, body)?;

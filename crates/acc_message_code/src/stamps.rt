@@ -1,10 +1,11 @@
 //! Actors and stamps.
-ghost use Rattle.std.specs.Prelude.{◌≡◌, ◌++◌, OnOk};
+ghost use Rattle.std.specs.Prelude.{◌≡◌, ◌++◌, OnOk, OnErr};
 ghost use Rattle.acc_message_code.specs.Spelling.{actor_bytes, stamp_bytes};
 ghost use Rattle.acc_message_code.specs.Short.{IsShortActor};
 ghost use Rattle.acc_message_code.specs.Fitting.{FitsStamp};
 ghost use Rattle.acc_code.specs.Reading.{Reads};
 ghost use Rattle.acc_message_code.specs.Reading.{actor_at, stamp_at, id_at, ballot_at};
+ghost use Rattle.acc_code.specs.Writing.{Keeps};
 
 use acc_base::{Bytes, OutOfMemory};
 use acc_code::CodeError;
@@ -15,18 +16,20 @@ use acc_wire::{Reader, put_u16, put_u32, put_u64};
 pub(crate) const STAMP: u64 = 12;
 
 /// Appends the number of an actor.
-#[tactic(auto, unfolding(crate::specs::Spelling::actor_bytes))]
+#[tactic(auto, using(acc_code::proofs::Kept::keeps_all, acc_code::proofs::Kept::keeps_front, acc_code::proofs::Kept::keeps_more), unfolding(crate::specs::Spelling::actor_bytes))]
 pub(crate) fn put_actor(out: &mut Bytes, actor: Actor) -> Result<(), OutOfMemory>
     requires { IsShortActor actor }
-    ensures { OnOk result (out.new ≡ out.old ++ actor_bytes actor) }
+    ensures spelled { OnOk result (out.new ≡ out.old ++ actor_bytes actor) }
+    ensures kept { OnErr result (Keeps out.old out.new) }
 {
     put_u16(out, actor.0 as u16)
 }
 
 /// Appends a stamp.
-#[tactic(auto, unfolding(crate::specs::Spelling::stamp_bytes))]
+#[tactic(auto, using(acc_code::proofs::Kept::keeps_all, acc_code::proofs::Kept::keeps_front, acc_code::proofs::Kept::keeps_more), unfolding(crate::specs::Spelling::stamp_bytes))]
 pub(crate) fn put_stamp(out: &mut Bytes, stamp: Stamp) -> Result<(), OutOfMemory>
     ensures spelled { OnOk result (out.new ≡ out.old ++ stamp_bytes stamp) }
+    ensures kept { OnErr result (Keeps out.old out.new) }
     ensures fits { FitsStamp stamp }
 {
     put_u64(out, stamp.h)?;
