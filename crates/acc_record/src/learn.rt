@@ -1,5 +1,5 @@
 //! Learning: what a message makes known of a transaction, before anything else of its record changes.
-ghost use Rattle.std.specs.Prelude.{◌≡◌, ◌++◌, cond, Some, None, IfOk, OnOk, OnErr};
+ghost use Rattle.std.specs.Prelude.{◌≡◌, ◌++◌, cond, Some, None, is_some, IfOk, OnOk, OnErr};
 ghost use Rattle.acc_stamp.specs.declared.stamps.TxnId.{TxnId};
 ghost use Rattle.acc_stamp.specs.Stamp.{id_eq};
 ghost use Rattle.acc_record.specs.Shelf.{IsSame, record_at};
@@ -30,8 +30,8 @@ impl Shelf {
         ensures ok { OnOk result (IsLearnt self.old self.new id body.now share.now stamp top) }
         ensures err { OnErr result (IsSame self.old self.new) }
     {
-        let stamp = self.stamp_to_note(id, stamp);
-        if self.records.contains_key(&id) {
+        let (is_known, stamp) = self.stamp_to_note(id, stamp);
+        if is_known {
             note(&mut self.index, id, share, stamp)?;
         } else {
             let record = Record::new(id, body)?;
@@ -41,14 +41,15 @@ impl Shelf {
         Ok(())
     }
 
-    // The stamp of a transaction that is to be noted, where a step brings this one.
-    fn stamp_to_note(&self, id: TxnId, stamp: Option<Stamp>) -> Option<Stamp>
-        ensures { result ≡ stamp_to_note (record_at self.now.records id) id stamp }
+    // Whether a transaction is known, and the stamp of it that is to be noted, where a step brings this one.
+    fn stamp_to_note(&self, id: TxnId, stamp: Option<Stamp>) -> (bool, Option<Stamp>)
+        ensures known { result.0 ≡ is_some (record_at self.now.records id) }
+        ensures stamp { result.1 ≡ stamp_to_note (record_at self.now.records id) id stamp }
     {
         match (self.records.get(&id), stamp) {
-            (None, stamp) => Some(later(id.0, stamp)),
-            (Some(record), Some(stamp)) if !record.covers(id, stamp) => Some(stamp),
-            (Some(_), _) => None,
+            (None, stamp) => (false, Some(later(id.0, stamp))),
+            (Some(record), Some(stamp)) if !record.covers(id, stamp) => (true, Some(stamp)),
+            (Some(_), _) => (true, None),
         }
     }
 }
