@@ -1,5 +1,5 @@
 //! The lists of who waits for whom, as a plan changes them.
-ghost use Rattle.std.specs.Prelude.{◌≡◌, ◌+◌, ◌≤◌, false, None, Some, OnOk, vec_len, vec_capacity};
+ghost use Rattle.std.specs.Prelude.{◌≡◌, ◌+◌, ◌≤◌, true, false, IsTrue, [], None, Some, OnOk, vec_len, vec_capacity};
 ghost use Rattle.std.specs.BTreeMap as tree;
 ghost use Rattle.acc_stamp.specs.declared.stamps.TxnId.{TxnId};
 ghost use Rattle.acc_stamp.specs.Stamp.{id_cmp};
@@ -74,10 +74,30 @@ fn change_list_of(waits: &mut Waits, id: TxnId, change: Touched)
     ensures changed { watchers waits.new id ≡ watches_with (Some change) (watchers waits.old id) }
     ensures others { (y : TxnId) → is_same id y ≡ false → tree.get id_cmp waits.new y ≡ tree.get id_cmp waits.old y }
 {
+    if is_emptied(&change) {
+        remove_list(waits, id);
+        return;
+    }
     match waits.get_mut(&id) {
         Some(list) => change_list(list, &change),
         None => {}
     }
+}
+
+// Whether nothing waits after a change, whatever waited before.
+fn is_emptied(change: &Touched) -> bool
+    ensures drained { IsTrue result → change.now.drained ≡ true }
+    ensures none { IsTrue result → change.now.added.items ≡ [] }
+{
+    change.drained && change.added.is_empty()
+}
+
+// Takes a list away, with its memory.
+fn remove_list(waits: &mut Waits, id: TxnId)
+    ensures gone { tree.get id_cmp waits.new id ≡ None }
+    ensures others { (y : TxnId) → is_same id y ≡ false → tree.get id_cmp waits.new y ≡ tree.get id_cmp waits.old y }
+{
+    let _ = waits.remove(&id);
 }
 
 fn change_list(list: &mut Vec<Watch>, change: &Touched)
