@@ -67,8 +67,28 @@ impl<E: Posted, R: Rules<E>> Tape<E, R> {
         }
     }
 
-    // Draws a ticket.
+    // Draws a ticket, at once where none is out.
+    #[inline(always)]
     fn draw<W: Wait>(&self, rt: &W, token: &mut Token<E, R>) -> u64
+        requires tape { (token.old.table_id ≡ self.now.table) × (token.old.me.0.limits ≡ self.now.limits) }
+        requires rests { IsResting token.old.me }
+        ensures tape { token.new.table_id ≡ token.old.table_id }
+        ensures draws { token.new.me ≡ (waiting token.old.me.0 result, []) }
+    {
+        let shared = &self.table.shared;
+        let ticket = shared.peek(NEXT);
+        if shared.peek(SERVED) == ticket
+            && ticket < MOST_TICKETS
+            && shared.compare_exchange::<Draw>(token, NEXT, ticket, ticket + 1) == ticket
+        {
+            return ticket;
+        }
+        self.draw_late(rt, token)
+    }
+
+    // Draws a ticket, at the latest after some looks.
+    #[inline(never)]
+    fn draw_late<W: Wait>(&self, rt: &W, token: &mut Token<E, R>) -> u64
         requires tape { (token.old.table_id ≡ self.now.table) × (token.old.me.0.limits ≡ self.now.limits) }
         requires rests { IsResting token.old.me }
         ensures tape { token.new.table_id ≡ token.old.table_id }
@@ -92,7 +112,21 @@ impl<E: Posted, R: Rules<E>> Tape<E, R> {
     }
 
     // Waits until the ticket is served, and takes what stands in the slot.
+    #[inline(always)]
     fn wait<W: Wait>(&self, rt: &W, token: &mut Token<E, R>, ticket: u64)
+        requires tape { (token.old.table_id ≡ self.now.table) × (token.old.me.0.limits ≡ self.now.limits) }
+        requires ticket { (token.old.me.0.is_live ≡ true) × (token.old.me.0.ticket ≡ Some ticket) × (token.old.me.0.taken ≡ None) × (token.old.me.1 ≡ []) }
+        ensures tape { token.new.table_id ≡ token.old.table_id }
+        ensures turn { (c : Content E) × (token.new.me ≡ (turning token.old.me.0 c, (0, c) ∷ [])) × Learns E.actor_of token.old.me.0 c }
+    {
+        if self.table.shared.load::<Look>(token, SERVED) != ticket {
+            self.wait_long(rt, token, ticket);
+        }
+    }
+
+    // Waits until the ticket is served, and lets others run between its looks.
+    #[inline(never)]
+    fn wait_long<W: Wait>(&self, rt: &W, token: &mut Token<E, R>, ticket: u64)
         requires tape { (token.old.table_id ≡ self.now.table) × (token.old.me.0.limits ≡ self.now.limits) }
         requires ticket { (token.old.me.0.is_live ≡ true) × (token.old.me.0.ticket ≡ Some ticket) × (token.old.me.0.taken ≡ None) × (token.old.me.1 ≡ []) }
         ensures tape { token.new.table_id ≡ token.old.table_id }
@@ -107,6 +141,7 @@ impl<E: Posted, R: Rules<E>> Tape<E, R> {
     }
 
     // Waits for the turn.
+    #[inline(always)]
     pub(crate) fn begin<W: Wait>(&self, rt: &W, token: &mut Token<E, R>)
         requires tape { (token.old.table_id ≡ self.now.table) × (token.old.me.0.limits ≡ self.now.limits) }
         requires rests { IsResting token.old.me }
@@ -118,6 +153,7 @@ impl<E: Posted, R: Rules<E>> Tape<E, R> {
     }
 
     // Ends the turn.
+    #[inline(always)]
     pub(crate) fn leave(&self, token: &mut Token<E, R>)
         requires tape { token.old.table_id ≡ self.now.table }
         requires turn { CanLeave E.actor_of token.old.me }

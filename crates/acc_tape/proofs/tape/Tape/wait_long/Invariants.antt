@@ -1,5 +1,5 @@
 use Rattle.std.proofs.Common.{◌≡◌}
-use Rattle.acc_tape.proofs.tape.Tape.wait.Given as goal
+use Rattle.acc_tape.proofs.tape.Tape.wait_long.Given as goal
 
 abbrev pub invariant-loop : goal.invariant-loop
 invariant-loop g l = record {
