@@ -87,9 +87,9 @@ all_went a _ _ _ (took e command items gone stop is other went) up =
     (taken_begins e items command is.1, all_more (StepItem e) items gone (all_went a items gone stop went up))
 all_went a _ _ _ (came_up e command items gone stop is other went) up =
     (taken_begins e items command is.1, all_more (StepItem e) items gone (all_went a items gone stop went up))
-all_went a _ _ _ (stopped actor command items gone stop is other went) up = no_down actor items up
+all_went a _ _ _ (stopped actor command items gone stop is other before went) up = no_down actor items up
 all_went a _ _ _ (stayed actor command items gone stop is other went) up = no_down actor items up
-all_went a _ _ _ (went_down actor items gone stop is went) up = no_down actor items up
+all_went a _ _ _ (went_down actor items gone stop is before went) up = no_down actor items up
 all_went a _ _ _ (kept e command items gone is went) up = all_more (StepItem e) items gone (all_went a items gone _ went up)
 all_went a _ _ _ (kept_message e items gone is went) up = all_more (StepItem e) items gone (all_went a items gone _ went up)
 all_went a _ _ _ (passed command items gone stop is went) up = (passed_begins a items command up is, all_went a items gone stop went up)

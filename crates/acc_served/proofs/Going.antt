@@ -9,7 +9,7 @@ use Rattle.acc_message.specs.declared.entry.Event.TheVariants.{Restart as Restar
 use Rattle.acc_message.specs.declared.item.Item.{Item}
 use Rattle.acc_message.specs.declared.item.Item.TheVariants.{Down}
 use Rattle.acc_message.specs.Items.{same_actor}
-use Rattle.acc_message.specs.Run.{Cluster, act_of}
+use Rattle.acc_message.specs.Run.{Cluster, act_of, is_down}
 use Rattle.acc_safety.proofs.Bridge.{same_itself}
 use Rattle.acc_safe_runs.specs.Asks.{emits_if}
 use Rattle.acc_schedule.specs.Content.{Content}
@@ -52,16 +52,16 @@ module _ (plan : Content) (s : Situation) (a : Actor) where
   -- ---- the turn of a command, or of a message
 
   pub command_went : (event : Event) (fails : Bool) (command : Step) (left : List Step) → is_event_of command event ≡ true
-      → is_restart command ≡ false → HasGone plan s a (command ∷ left) → HasGone plan (tried_if fails cluster s a event) a left
-  command_went event true command left is other h =
+      → is_restart command ≡ false → (fails ≡ true → is_down a s.own ≡ false) → HasGone plan s a (command ∷ left) → HasGone plan (tried_if fails cluster s a event) a left
+  command_went event true command left is other up h =
       record {
         gone = command ∷ h.gone;
         stop = Some command;
         split = one_gone (commands_of plan a) h.gone command left h.split;
-        went = stopped a command s.own h.gone h.stop (same_itself a) other h.went;
+        went = stopped a command s.own h.gone h.stop (same_itself a) other (up refl) h.went;
         stops = subst (IsStopOf (Some command)) (sym (stopped_own a event s)) is;
       }
-  command_went event false command left is other h =
+  command_went event false command left is other up h =
       record {
         gone = command ∷ h.gone;
         stop = h.stop;
@@ -70,17 +70,17 @@ module _ (plan : Content) (s : Situation) (a : Actor) where
         stops = h.stops;
       }
 
-  pub message_went : (event : Event) (fails : Bool) (left : List Step) → is_message event ≡ true → HasGone plan s a left
+  pub message_went : (event : Event) (fails : Bool) (left : List Step) → is_message event ≡ true → (fails ≡ true → is_down a s.own ≡ false) → HasGone plan s a left
       → HasGone plan (tried_if fails cluster s a event) a left
-  message_went event true left is h =
+  message_went event true left is up h =
       record {
         gone = h.gone;
         stop = None;
         split = h.split;
-        went = went_down a s.own h.gone h.stop (same_itself a) h.went;
+        went = went_down a s.own h.gone h.stop (same_itself a) (up refl) h.went;
         stops = subst (IsStopOf None) (sym (stopped_own a event s)) is;
       }
-  message_went event false left is h =
+  message_went event false left is up h =
       record {
         gone = h.gone;
         stop = h.stop;

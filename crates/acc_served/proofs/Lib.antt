@@ -5,6 +5,7 @@ pub mod Alone
 pub mod Serving
 pub mod Over
 pub mod Going
+pub mod Few
 pub mod Turns
 pub mod Commands
 pub mod Steps

@@ -26,6 +26,7 @@ use Rattle.acc_follow.specs.Situations.{Situation, whole, is_sent_lost, receiver
 use Rattle.acc_follow.specs.Moves.{Answers, fails_in, event_in, is_journalled, tried_if, tried, stepped_unless, begin_skip, recover_skip, restarted_if, Drains, stops, delivers, IsNext}
 use Rattle.acc_follow.specs.Schedules.{cluster_of}
 use Rattle.acc_entering.specs.Entries.{MayTake}
+use Rattle.acc_entering.proofs.Situations.{whole_alone}
 use Rattle.acc_entering.proofs.Skips.{begin_skip_is, recover_skip_is, begin_goes, recover_goes, sent_goes, waiting_goes}
 use Rattle.acc_served.specs.Commands.{is_restart, is_event_of, IsReady}
 use Rattle.acc_served.specs.FreeRun.{is_plain_event, IsUntaken}
@@ -54,6 +55,9 @@ module _ (plan : Content) (valid : IsPlan plan) (answers : Answers) where
   abbrev cluster : Cluster
   cluster = cluster_of plan
 
+  up_own : (s : Situation) → IsServing plan s → (a : Actor) → is_down a (whole s) ≡ false → is_down a s.own ≡ false
+  up_own s h a up = sym (ap (is_down a) (whole_alone s h.earlier)) ∙ up
+
   module _ (s : Situation) (h : IsServing plan s) where
     -- ---- the step of an actor
 
@@ -72,7 +76,7 @@ module _ (plan : Content) (valid : IsPlan plan) (answers : Answers) where
           by : (test : Bool) → (is_journalled a event && fails_in answers s) ≡ test → GoesBy plan a left s (tried_if test cluster s a event)
           by test k = (
             tried_serves test k,
-            command_went plan s a event test command left is other gone,
+            command_went plan s a event test command left is other (λ _. up_own s h a up) gone,
             λ b rest apart. others_went plan s a b event test rest apart,
           )
 
@@ -163,7 +167,8 @@ module _ (plan : Content) (valid : IsPlan plan) (answers : Answers) where
                 → HasGone plan (tried_if test cluster s a (MessageEvent message)) b left
             each test b left true here gone =
                 subst (λ c. HasGone plan (tried_if test cluster s a (MessageEvent message)) c left) (same a b here)
-                (message_went plan s a (MessageEvent message) test left refl (subst (λ c. HasGone plan s c left) (sym (same a b here)) gone))
+                (message_went plan s a (MessageEvent message) test left refl
+                (λ _. up_own s h a (waiting_goes cluster s message waiting).1) (subst (λ c. HasGone plan s c left) (sym (same a b here)) gone))
             each test b left false apart gone = others_went plan s a b (MessageEvent message) test left apart gone
 
   -- ---- drains

@@ -1,5 +1,6 @@
 -- A whole turn of an actor: it stepped by what it had seen, and then its item came behind others' items.
 use Rattle.std.proofs.Common.{◌≡◌, true, false, List, ◌∷◌, ◌++◌, None, Contains, refl, sym, ◌∙◌, ap, subst}
+use Rattle.std.proofs.lemmas.Bool.{true≢false}
 use Rattle.acc_stamp.specs.declared.actors.Actor.{Actor}
 use Rattle.acc_message.specs.declared.entry.Event.{Event}
 use Rattle.acc_message.specs.declared.entry.Event.TheVariants.{Restart as RestartEvent}
@@ -34,6 +35,14 @@ module _ (plan : Content) (seen others : List Item) (a : Actor) (stopped : List 
   abbrev found : Situation
   found = alone items stopped
 
+  never : {A : Type 0} → false ≡ true → A
+  never fails = absurd (true≢false (sym fails))
+
+  still_up : is_down a seen ≡ false → is_down a items ≡ false
+  still_up up =
+      let past : IsUntouched cluster seen items a = untouched_by cluster seen a others apart in
+      past.down ∙ up
+
   -- its entry stands as it was made
   module _ (event : Event) (act : Act) (may : MayTake cluster seen a event act) where
     pub entered_is : entered cluster found a event false ≡ alone (entering cluster seen a event false ∷ items) stopped
@@ -49,24 +58,24 @@ module _ (plan : Content) (seen others : List Item) (a : Actor) (stopped : List 
         → HasGone plan (alone (entering cluster seen a event false ∷ items) stopped) a left
     command_entered command left is other gone =
         subst (λ s. HasGone plan s a left) entered_is
-        (command_went plan found a event false command left is other (gone_over plan seen others a stopped (command ∷ left) apart gone))
+        (command_went plan found a event false command left is other never (gone_over plan seen others a stopped (command ∷ left) apart gone))
 
     pub message_entered : (left : List Step) → is_message event ≡ true → HasGone plan (alone seen stopped) a left
         → HasGone plan (alone (entering cluster seen a event false ∷ items) stopped) a left
     message_entered left is gone =
         subst (λ s. HasGone plan s a left) entered_is
-        (message_went plan found a event false left is (gone_over plan seen others a stopped left apart gone))
+        (message_went plan found a event false left is never (gone_over plan seen others a stopped left apart gone))
 
   pub command_stopped : (event : Event) (command : Step) (left : List Step) → is_event_of command event ≡ true → is_restart command ≡ false
-      → HasGone plan (alone seen stopped) a (command ∷ left)
+      → is_down a seen ≡ false → HasGone plan (alone seen stopped) a (command ∷ left)
       → HasGone plan (alone (Down a ∷ items) (record { actor = a; event = event } ∷ without a stopped)) a left
-  command_stopped event command left is other gone =
-      command_went plan found a event true command left is other (gone_over plan seen others a stopped (command ∷ left) apart gone)
+  command_stopped event command left is other up gone =
+      command_went plan found a event true command left is other (λ _. still_up up) (gone_over plan seen others a stopped (command ∷ left) apart gone)
 
-  pub message_stopped : (event : Event) (left : List Step) → is_message event ≡ true → HasGone plan (alone seen stopped) a left
+  pub message_stopped : (event : Event) (left : List Step) → is_message event ≡ true → is_down a seen ≡ false → HasGone plan (alone seen stopped) a left
       → HasGone plan (alone (Down a ∷ items) (record { actor = a; event = event } ∷ without a stopped)) a left
-  message_stopped event left is gone =
-      message_went plan found a event true left is (gone_over plan seen others a stopped left apart gone)
+  message_stopped event left is up gone =
+      message_went plan found a event true left is (λ _. still_up up) (gone_over plan seen others a stopped left apart gone)
 
   restarted_is : reopened cluster found a None ≡ alone (entering cluster seen a (RestartEvent 0) false ∷ items) (without a stopped)
   restarted_is =

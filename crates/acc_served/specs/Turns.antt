@@ -6,6 +6,7 @@ use Rattle.acc_message.specs.declared.entry.Entry.{Entry}
 use Rattle.acc_message.specs.declared.item.Item.{Item}
 use Rattle.acc_message.specs.declared.item.Item.TheVariants.{Step as StepItem, Down}
 use Rattle.acc_message.specs.Items.{same_actor}
+use Rattle.acc_message.specs.Run.{is_down}
 use Rattle.acc_payloads.specs.Items.{is_item_of}
 use Rattle.acc_schedule.specs.declared.plan.Step.{Step}
 use Rattle.acc_served.specs.Commands.{is_restart, is_event_of, is_message, IsPassed}
@@ -23,6 +24,7 @@ IsTakenBy a e command lost = (same_actor e.actor a ≡ true) × (is_event_of com
 --     took, came_up      its entry, the second of a restart
 --     stopped, stayed      a down that its turn entered, the second that of a restart whose disk failed
 --     passed      it was passed over there
+-- An actor that is down goes down again only by a restart of its own, so its downs are as few as its commands, and one.
 -- A kept step is that of the command whose turn entered the down.
 pub data Went (a : Actor) : List Item → List Step → Option Step → Type 0 where
   begins : Went a [] [] None
@@ -35,11 +37,11 @@ pub data Went (a : Actor) : List Item → List Step → Option Step → Type 0 w
   came_up : (e : Entry) (command : Step) (items : List Item) (gone : List Step) (stop : Option Step) → IsTakenBy a e command false
       → is_restart command ≡ true → Went a items gone stop → Went a (StepItem e ∷ items) (command ∷ gone) None
   stopped : (actor : Actor) (command : Step) (items : List Item) (gone : List Step) (stop : Option Step) → same_actor actor a ≡ true
-      → is_restart command ≡ false → Went a items gone stop → Went a (Down actor ∷ items) (command ∷ gone) (Some command)
+      → is_restart command ≡ false → is_down a items ≡ false → Went a items gone stop → Went a (Down actor ∷ items) (command ∷ gone) (Some command)
   stayed : (actor : Actor) (command : Step) (items : List Item) (gone : List Step) (stop : Option Step) → same_actor actor a ≡ true
       → is_restart command ≡ true → Went a items gone stop → Went a (Down actor ∷ items) (command ∷ gone) stop
-  went_down : (actor : Actor) (items : List Item) (gone : List Step) (stop : Option Step) → same_actor actor a ≡ true → Went a items gone stop
-      → Went a (Down actor ∷ items) gone None
+  went_down : (actor : Actor) (items : List Item) (gone : List Step) (stop : Option Step) → same_actor actor a ≡ true → is_down a items ≡ false
+      → Went a items gone stop → Went a (Down actor ∷ items) gone None
   kept : (e : Entry) (command : Step) (items : List Item) (gone : List Step) → IsTakenBy a e command true → Went a items gone (Some command)
       → Went a (StepItem e ∷ items) gone None
   kept_message : (e : Entry) (items : List Item) (gone : List Step) → IsDelivered a e true → Went a items gone None

@@ -1,5 +1,5 @@
 //! What holds of actors that step freely. Each law is the contract of a function that does nothing, or only calls another law.
-ghost use Rattle.std.specs.Prelude.{◌≡◌, ℕ, Bool, true, false, List, [], ◌∷◌, ◌++◌, Option, None, Some, Contains, count_by};
+ghost use Rattle.std.specs.Prelude.{◌≡◌, ℕ, ◌+◌, ◌≤◌, Bool, true, false, List, [], ◌∷◌, ◌++◌, Option, None, Some, Contains, count_by, length};
 ghost use Rattle.std.specs.List.{AllByRecursion};
 ghost use Rattle.acc_stamp.specs.declared.actors.Actor.{Actor};
 ghost use Rattle.acc_message.specs.declared.entry.Event.{Event};
@@ -11,6 +11,7 @@ ghost use Rattle.acc_safety.specs.Agreement.{Agreement};
 ghost use Rattle.acc_safety.specs.Calm.{EachBegunIsAnswered};
 ghost use Rattle.acc_safety.specs.Coverage.{Coverage};
 ghost use Rattle.acc_safety.specs.SerialOutcomes.{SerialOutcomes};
+ghost use Rattle.acc_payloads.specs.Items.{downs_in};
 ghost use Rattle.acc_report.specs.Report.{is_begin, is_reply, last_line};
 ghost use Rattle.acc_report_line.specs.declared.line.Line.{Line};
 ghost use Rattle.acc_schedule.specs.Actors.{actors};
@@ -146,10 +147,10 @@ pub fn commands_go_by()
         HasGone plan (alone (entering (cluster_of plan) seen a event false ∷ others ++ seen) stopped) a left }
     ensures stop { (plan : Content) (seen others : List Item) (a : Actor) (stopped : List Stopped) (event : Event) (command : Step)
         (left : List Step) → AreOthers a others → is_event_of command event ≡ true → is_restart command ≡ false →
-        HasGone plan (alone seen stopped) a (command ∷ left) →
+        is_down a seen ≡ false → HasGone plan (alone seen stopped) a (command ∷ left) →
         HasGone plan (alone (Item.Down a ∷ others ++ seen) (record { actor = a; event = event } ∷ without a stopped)) a left }
     ensures message_stop { (plan : Content) (seen others : List Item) (a : Actor) (stopped : List Stopped) (event : Event) (left : List Step) →
-        AreOthers a others → is_message event ≡ true → HasGone plan (alone seen stopped) a left →
+        AreOthers a others → is_message event ≡ true → is_down a seen ≡ false → HasGone plan (alone seen stopped) a left →
         HasGone plan (alone (Item.Down a ∷ others ++ seen) (record { actor = a; event = event } ∷ without a stopped)) a left }
     ensures restart { (plan : Content) (seen others : List Item) (a : Actor) (stopped : List Stopped) (command : Step) (left : List Step) →
         AreOthers a others → is_restart command ≡ true → HasGone plan (alone seen stopped) a (command ∷ left) →
@@ -167,10 +168,10 @@ pub fn steps_serve()
         is_down a (whole s) ≡ false → IsUntaken s.own event → (fails ≡ true → is_journalled a event ≡ true) → IsServing plan s →
         IsServing plan (tried_if fails (cluster_of plan) s a event) }
     ensures command { (plan : Content) (s : Situation) (a : Actor) (event : Event) (fails : Bool) (command : Step) (left : List Step) →
-        is_event_of command event ≡ true → is_restart command ≡ false → HasGone plan s a (command ∷ left) →
+        is_event_of command event ≡ true → is_restart command ≡ false → (fails ≡ true → is_down a s.own ≡ false) → HasGone plan s a (command ∷ left) →
         HasGone plan (tried_if fails (cluster_of plan) s a event) a left }
     ensures message { (plan : Content) (s : Situation) (a : Actor) (event : Event) (fails : Bool) (left : List Step) → is_message event ≡ true →
-        HasGone plan s a left → HasGone plan (tried_if fails (cluster_of plan) s a event) a left }
+        (fails ≡ true → is_down a s.own ≡ false) → HasGone plan s a left → HasGone plan (tried_if fails (cluster_of plan) s a event) a left }
     ensures others { (plan : Content) (s : Situation) (a b : Actor) (event : Event) (fails : Bool) (left : List Step) → same_actor a b ≡ false →
         HasGone plan s b left → HasGone plan (tried_if fails (cluster_of plan) s a event) b left }
 {}
@@ -229,6 +230,12 @@ pub fn served_commands_are_taken()
     plans_are_valid();
     nodes_are_actors();
 }
+
+/// An actor goes down once more at most than commands of its own went by.
+pub fn downs_are_few()
+    ensures { (plan : Content) (s : Situation) (a : Actor) (left : List Step) → IsServing plan s → HasGone plan s a left →
+        downs_in a s.own + length left ≤ length (commands_of plan a) + 1 }
+{}
 
 /// In a free run each restart kept one step at most, that of the down in front of it.
 pub fn restarts_keep_one()

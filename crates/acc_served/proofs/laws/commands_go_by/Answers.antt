@@ -10,12 +10,12 @@ returns-clause-message c = λ plan seen others a stopped event act left apart ma
     message_entered plan seen others a stopped apart event act may left is gone
 
 pub returns-clause-stop : goal.returns-clause-stop
-returns-clause-stop c = λ plan seen others a stopped event command left apart is other gone.
-    command_stopped plan seen others a stopped apart event command left is other gone
+returns-clause-stop c = λ plan seen others a stopped event command left apart is other up gone.
+    command_stopped plan seen others a stopped apart event command left is other up gone
 
 pub returns-clause-message_stop : goal.returns-clause-message_stop
-returns-clause-message_stop c = λ plan seen others a stopped event left apart is gone.
-    message_stopped plan seen others a stopped apart event left is gone
+returns-clause-message_stop c = λ plan seen others a stopped event left apart is up gone.
+    message_stopped plan seen others a stopped apart event left is up gone
 
 pub returns-clause-restart : goal.returns-clause-restart
 returns-clause-restart c = λ plan seen others a stopped command left apart is gone. restart_entered plan seen others a stopped apart command left is gone
