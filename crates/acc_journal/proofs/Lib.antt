@@ -6,3 +6,4 @@ pub mod Layouts
 pub mod Moments
 pub mod Readings
 pub mod Unique
+pub mod Waiting

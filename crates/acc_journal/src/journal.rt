@@ -5,8 +5,9 @@ ghost use Rattle.acc_ports.specs.Faults.{Rose};
 ghost use Rattle.acc_ports.specs.Strict.{after_call, LeftByChoice};
 
 use crate::append::put_down;
-use crate::group::{fill, fill_one};
+use crate::group::{fill, fill_one, push_all};
 use crate::reading::read_disk;
+use crate::records::Records;
 use crate::{JournalError, Payloads};
 use acc_base::OutOfMemory;
 use acc_ports::{Disk, Rig};
@@ -193,6 +194,44 @@ impl<D: Disk> Journal<D> {
             &mut self.broken,
             &self.buffer[1..],
         )
+    }
+
+    /// The same of a group that stands in the bytes of its records, which go to the disk as they are. The records stay. It takes no
+    /// memory of its own.
+    pub fn append_records(&mut self, records: &mut Records) -> Result<(), JournalError>
+        requires sound { self.old.broken ≡ false }
+        requires some { 0 < length records.old }
+
+        ensures ok { OnOk result ((self.new.broken ≡ false) × (self.new.payloads ≡ self.old.payloads ++ records.old)) }
+        ensures lasts { OnOk result ((image : List ℕ) → D.is_image self.new.disk image → Reads image self.new.payloads) }
+        ensures broken { OnErr result (self.new.broken ≡ true) }
+        ensures error { IfErr result IsOfTheDisk }
+        ensures any_moment { LeavesOnly D.clock D.was_image self.old.disk self.new.disk (ReadsAsEither self.old.payloads records.old) }
+        ensures kept { records.new ≡ records.old }
+        ensures spare { self.old.spare ≤ self.new.spare }
+
+        ensures counted { D.faults self.old.disk ≤ D.faults self.new.disk }
+        ensures cause { result ≡ Err JournalError.DiskFault → Rose (D.faults self.old.disk) (D.faults self.new.disk) }
+        ensures unfailed { result ≢ Err JournalError.DiskFault → D.faults self.new.disk ≡ D.faults self.old.disk }
+
+        // On a strict disk the armed one of the four calls fails, and no other; and what a crash leaves then is known.
+        ensures kind { D.strict self.new.disk ≡ D.strict self.old.disk }
+        ensures counts { IsTrue (D.strict self.old.disk) → OnOk result (D.armed self.new.disk ≡ after_call (after_call (after_call (after_call (D.armed self.old.disk))))) }
+        ensures early { IsTrue (D.strict self.old.disk) → FailsWithin 4 (D.armed self.old.disk) → IsErr result }
+        ensures late { IsTrue (D.strict self.old.disk) → ¬ FailsWithin 4 (D.armed self.old.disk) → result ≢ Err JournalError.DiskFault }
+        ensures still { IsTrue (D.strict self.old.disk) → ¬ FailsWithin 4 (D.armed self.old.disk) → D.faults self.new.disk ≡ D.faults self.old.disk }
+        ensures failed { IsTrue (D.strict self.old.disk) → result ≡ Err JournalError.DiskFault → (choice : ℕ) (left : List ℕ) → LeftByChoice choice (D.content self.new.disk) (D.synced self.new.disk) (D.written self.new.disk) left
+            → Reads left (left_by_choice (D.armed self.old.disk) choice self.old.payloads records.old) }
+    {
+        push_all(&mut records.bytes, &[0]);
+        let appended = put_down(
+            &mut self.disk,
+            &mut self.gate,
+            &mut self.broken,
+            &records.bytes[1..],
+        );
+        let _gate = records.bytes.pop();
+        appended
     }
 
     /// Whether a call of the disk failed or found no memory. Such a journal takes nothing any more.

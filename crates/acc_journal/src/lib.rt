@@ -8,10 +8,12 @@ mod group;
 mod journal;
 pub mod laws;
 mod reading;
+mod records;
 
 use acc_base::{Bytes, Sequence};
 pub use error::JournalError;
 pub use journal::Journal;
+pub use records::{Payload, Records};
 
 /// A list of payloads.
 pub type Payloads = Sequence<Bytes>;
