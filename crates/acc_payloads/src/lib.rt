@@ -12,7 +12,7 @@ mod store;
 mod text;
 
 pub use draw::{Draw, Purpose};
-pub use mark::{may_mark, put_payload};
+pub use mark::{may_mark, put_payload, put_record};
 pub use node::{NodePayload, NodeTold, read_node_journal, read_node_payload};
 pub use store::{StorePayload, may_follow, read_store_payload};
 pub use text::has_text;

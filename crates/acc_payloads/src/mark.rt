@@ -5,7 +5,7 @@ ghost use Rattle.acc_payloads.specs.Spelling.{mark_bytes};
 ghost use Rattle.acc_payloads.specs.Journals.{may_mark as mark_may_stand, appended};
 
 use acc_base::{Bytes, OutOfMemory};
-use acc_journal::Payloads;
+use acc_journal::{Payload, Payloads, Records};
 
 /// The payload that tells that an actor of version 2 went on with a journal.
 pub(crate) const MARK: [u8; 2] = [0xff, 2];
@@ -46,4 +46,43 @@ pub fn put_payload(
         group.truncate(before);
     }
     appended
+}
+
+/// A mark as a payload that is written in place.
+struct Mark;
+
+impl Payload for Mark {
+    ghost has_payload = { λ _. Unit {0} };
+
+    ghost bytes = { λ _. mark_bytes };
+
+    ghost is_written = { λ _. Unit {0} };
+
+    fn put(&self, out: &mut Bytes) -> Result<(), OutOfMemory> {
+        out.extend_from_slice(&MARK)
+    }
+}
+
+/// The same of a payload that is written in place, behind the records that wait for a journal.
+pub fn put_record<P: Payload>(
+    records: &mut Records,
+    version: u8,
+    marked: bool,
+    payload: &P,
+) -> Result<(), OutOfMemory>
+    requires { P.has_payload payload.now }
+    ensures ok { OnOk result (records.new ≡ records.old ++ appended version marked (P.bytes payload.now)) }
+    ensures written { OnOk result (P.is_written payload.now) }
+    ensures err { OnErr result (records.new ≡ records.old) }
+{
+    if !may_mark(version, marked) {
+        return records.put(payload);
+    }
+    let before = records.len();
+    records.put(&Mark)?;
+    let put = records.put(payload);
+    if put.is_err() {
+        records.truncate(before);
+    }
+    put
 }
