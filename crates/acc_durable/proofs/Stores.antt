@@ -50,13 +50,6 @@ pub record Stages {D : Type 0} (old new : DurableStore D) (m : Message) : Type 0
   pub staged : new.staged ≡ min (old.staged + 1) (2 ^ 64 - 1)
   pub long : length new.journal.group < 2 ^ 64
 
-pub staged_as : {D : Type 0} (old : DurableStore D) (j : StagedState D) (m : Message) (payload : List ℕ) → payload ≡ message_bytes m
-    → j ≡ record old.journal { group = old.journal.group ++ appended old.version old.marked payload }
-    → j ≡ record old.journal { group = old.journal.group ++ appended old.version old.marked (message_bytes m) }
-staged_as {D = D} old j m payload spelled e =
-    let put : List ℕ → StagedState D = λ b. record old.journal { group = old.journal.group ++ appended old.version old.marked b } in
-    e ∙ ap put spelled
-
 -- a message that the store may take
 pub record MayTake {D : Type 0} (s : DurableStore D) (m : Message) : Type 0 where
   pub fits : FitsMessage m

@@ -10,6 +10,7 @@ mod node;
 mod replay;
 mod staging;
 mod store;
+mod taken;
 mod weigh;
 
 pub use error::{DurableError, StepError};

@@ -5,40 +5,31 @@ ghost use Rattle.acc_ports.specs.Faults.{Rose};
 ghost use Rattle.acc_ports.specs.Strict.{after_call, LeftByChoice};
 ghost use Rattle.acc_payloads.specs.Journals.{appended};
 
-use acc_base::{Bytes, OutOfMemory};
-use acc_journal::{Journal, JournalError, Payloads};
-use acc_payloads::put_payload;
+use acc_base::OutOfMemory;
+use acc_journal::{Journal, JournalError, Payload, Records};
+use acc_payloads::put_record;
 use acc_ports::{Disk, Rig};
 use std::alloc::Global;
 use std::marker::Model;
 
-/// How much room a payload takes in a group besides its bytes, at most: a mark, and five bytes for each.
-const MORE: u64 = 12;
-
-/// A journal, and a group of payloads that is staged for it. The journal has room for all of the group, so that appending it takes no
-/// memory of the journal's own.
+/// A journal, and a group of payloads that is staged for it, in the bytes that go to its disk.
 #[derive(Debug, Drop)]
 pub(crate) struct StagedJournal<D: Disk> {
     journal: Journal<D>,
-    group: Payloads,
-    /// How much room the group takes in the journal.
-    room: u64,
+    group: Records,
 }
 
 impl<D: Disk> Model for StagedJournal<D> {
-    ghost use Rattle.std.specs.Prelude.{◌≡◌, false};
-    ghost use Rattle.acc_durable.specs.Staged.{StagedState, HasRoom};
+    ghost use Rattle.acc_durable.specs.Staged.{StagedState};
 
     ghost Value = { StagedState D };
 
     ghost view = { λ s. record { disk = s.journal.disk; payloads = s.journal.payloads; group = s.group; broken = s.journal.broken } };
-
-    ghost invariant = { λ s. s.journal.broken ≡ false → HasRoom s.group s.room s.journal.spare };
 }
 
 impl<D: Disk> StagedJournal<D> {
     ghost use Rattle.acc_journal.specs.Layout.{Reads};
-    ghost use Rattle.acc_journal.specs.Journal.{ReadsAsEither, IsOfTheDisk, FailsWithin, left_by_choice, group_room};
+    ghost use Rattle.acc_journal.specs.Journal.{ReadsAsEither, IsOfTheDisk, FailsWithin, left_by_choice};
 
     /// A journal with nothing staged.
     pub(crate) fn new(alloc: Global, journal: Journal<D>) -> StagedJournal<D>
@@ -46,46 +37,34 @@ impl<D: Disk> StagedJournal<D> {
     {
         StagedJournal {
             journal,
-            group: Payloads::new(alloc),
-            room: 0,
+            group: Records::new(alloc),
         }
     }
 
-    /// Stages a payload, with a mark in front of it where one is due, and answers how much room what was staged before takes. It makes
-    /// no call of the disk. Without memory nothing more is staged.
-    pub(crate) fn put(
+    /// Stages a payload, with a mark in front of it where one is due. It is written in place, and makes no call of the disk. Without
+    /// memory nothing more is staged.
+    pub(crate) fn put<P: Payload>(
         &mut self,
         version: u8,
         marked: bool,
-        payload: Bytes,
-    ) -> Result<u64, OutOfMemory>
-        requires sound { self.old.broken ≡ false }
-        requires short { length payload < 2 ^ 32 }
-        ensures ok { OnOk result (self.new ≡ record self.old { group = self.old.group ++ appended version marked payload }) }
+        payload: &P,
+    ) -> Result<(), OutOfMemory>
+        requires { P.has_payload payload.now }
+        ensures ok { OnOk result (self.new ≡ record self.old { group = self.old.group ++ appended version marked (P.bytes payload.now) }) }
+        ensures written { OnOk result (P.is_written payload.now) }
         ensures fits { OnOk result (length self.new.group < 2 ^ 64) }
-        ensures room { IfOk result (λ room. group_room self.old.group ≤ room) }
         ensures err { OnErr result (self.new ≡ self.old) }
     {
-        let before = self.room;
-        let Some(room) = before.checked_add(payload.len() as u64 + MORE) else {
-            return Err(OutOfMemory);
-        };
-        self.journal.reserve(room)?;
-        put_payload(&mut self.group, version, marked, payload)?;
-        self.room = room;
+        put_record(&mut self.group, version, marked, payload)?;
         let _fits = self.group.len();
-        Ok(before)
+        Ok(())
     }
 
-    /// Takes back what was staged behind the first payloads of the group, which take no more than this room.
-    pub(crate) fn cancel(&mut self, kept: usize, room: u64)
-        requires { group_room (take kept self.old.group) ≤ room }
+    /// Takes back what was staged behind the first payloads of the group.
+    pub(crate) fn cancel(&mut self, kept: usize)
         ensures { self.new ≡ record self.old { group = take kept self.old.group } }
     {
         self.group.truncate(kept);
-        if room < self.room {
-            self.room = room;
-        }
     }
 
     /// How many payloads are staged.
@@ -120,14 +99,9 @@ impl<D: Disk> StagedJournal<D> {
         ensures failed { IsTrue (D.strict self.old.disk) → result ≡ Err JournalError.DiskFault → (choice : ℕ) (left : List ℕ) → LeftByChoice choice (D.content self.new.disk) (D.synced self.new.disk) (D.written self.new.disk) left
             → Reads left (left_by_choice (D.armed self.old.disk) choice self.old.payloads self.old.group) }
     {
-        match self.journal.append_group(&self.group) {
-            Ok(()) => {
-                self.group.truncate(0);
-                self.room = 0;
-                Ok(())
-            }
-            Err(error) => Err(error),
-        }
+        self.journal.append_records(&mut self.group)?;
+        self.group.truncate(0);
+        Ok(())
     }
 
     /// Whether a call of the disk failed or found no memory.
@@ -143,11 +117,7 @@ impl<D: Disk> StagedJournal<D> {
     pub(crate) fn into_disk(self) -> D
         ensures { result ≡ self.disk }
     {
-        let StagedJournal {
-            journal,
-            group: _,
-            room: _,
-        } = self;
+        let StagedJournal { journal, group: _ } = self;
         journal.into_disk()
     }
 }

@@ -26,10 +26,10 @@ ghost use Rattle.acc_durable.specs.Store.{actor_in, StandsFor, Takes, IsAsBefore
 use crate::StepError;
 use crate::replay::replay;
 use crate::staging::StagedJournal;
+use crate::taken::Taken;
 use acc_base::OutOfMemory;
 use acc_journal::{Journal, JournalError};
 use acc_message::{Message, Messages};
-use acc_message_code::{encode, message_length};
 use acc_ports::{Disk, Rig};
 use acc_stamp::Actor;
 use acc_store::Store;
@@ -193,9 +193,8 @@ impl<D: Disk> DurableStore<D> {
         ensures same { IsTheSame self.old self.new }
     {
         let before = self.journal.count();
-        let payload = encode(self.alloc, m)?;
-        let _short = message_length(m);
-        let room = self.journal.put(self.version, self.marked, payload)?;
+        self.journal
+            .put(self.version, self.marked, &Taken { message: m })?;
         match self.store.step(topology, m) {
             Ok(sent) => {
                 self.marked = is_marked(self.version, self.marked);
@@ -203,7 +202,7 @@ impl<D: Disk> DurableStore<D> {
                 Ok(sent)
             }
             Err(error) => {
-                self.journal.cancel(before, room);
+                self.journal.cancel(before);
                 Err(error)
             }
         }
