@@ -1,9 +1,7 @@
 -- What one entry makes of a world.
-use Rattle.std.proofs.Common.{◌≡◌, ◌<◌, ◌^◌, ℕ, true, false, not, cond, ◌&&◌, ◌||◌, List, [], ◌∷◌, length, reverse, Option, None, Some, Result, Ok, Err, OnErr, refl, sym, ◌∙◌, ap, subst, arith}
+use Rattle.std.proofs.Common.{◌≡◌, ◌<◌, ◌^◌, ℕ, true, false, not, ◌&&◌, ◌||◌, List, [], ◌∷◌, length, reverse, Option, None, Some, Result, Ok, Err, OnErr, refl, sym, ◌∙◌, ap, subst, arith}
 use Rattle.std.specs.List.{list_all}
 use Rattle.std.specs.Option.{option_map}
-use Rattle.std.specs.Ordering.{nat_cmp}
-use Rattle.std.specs.BTreeMap.{BTreeMap, get, is_at}
 use Rattle.std.proofs.lemmas.Bool.{true≢false}
 use Rattle.std.proofs.lemmas.List.{reverse-reverse}
 use Rattle.std.proofs.lemmas.Option.{slice_get_within}
@@ -16,27 +14,24 @@ use Rattle.acc_message.specs.declared.entry.Event.TheVariants.{Begin, Recover, S
 use Rattle.acc_message.specs.declared.item.Item.{Item}
 use Rattle.acc_message.specs.declared.item.Item.TheVariants.{Step, Skipped, Down}
 use Rattle.acc_message.specs.Items.{same_actor, sent_of, message_at}
-use Rattle.acc_message.specs.NodeRules.{Act, Takes, Restarts, Deed}
+use Rattle.acc_message.specs.NodeRules.{Act, Takes, Restarts}
 use Rattle.acc_message.specs.Coordinator.{silence}
-use Rattle.acc_message.specs.Run.{Cluster, act_of, deeds_of, emits, kept_of, is_down, IsRun}
+use Rattle.acc_message.specs.Run.{Cluster, act_of, emits, kept_of, is_down, IsRun}
 use Rattle.acc_actor_laws.proofs.Standing.{not_none}
 use Rattle.acc_safety.specs.Valid.{IsValidCluster}
-use Rattle.acc_safety.proofs.Bridge.{same_itself}
 use Rattle.acc_safe_runs.specs.Asks.{emits_if}
 use Rattle.acc_safe_runs.specs.AskLaws.{is_no_down, IsRunWithoutDowns}
 use Rattle.acc_entering.specs.Entries.{entering, MayTake}
-use Rattle.acc_entering.proofs.Deeds.{deeds_more}
 use Rattle.acc_entering.proofs.Standing.{entry_run, restart_may}
 use Rattle.acc_entering.proofs.Replayed.{restart_emits}
 use Rattle.acc_history.specs.declared.history.History.{History}
 use Rattle.acc_history.specs.Stands.{StandsFor as IsHistoryOf, EventTakesSent}
 use Rattle.acc_world.specs.declared.setup.Setup.{Setup}
-use Rattle.acc_world.specs.declared.held.Held.{Held}
 use Rattle.acc_world.specs.declared.world.World.{World}
-use Rattle.acc_world.specs.Held.{cluster_of, past_of, HeldStands, HeldIs, restarted, IsPast, IsAsked}
+use Rattle.acc_world.specs.Held.{cluster_of, past_of, IsPast}
 use Rattle.acc_world.specs.Stands.{AreHeld, Stands}
+use Rattle.acc_world.specs.Keeping.{IsReady, came_back}
 use Rattle.acc_world.specs.Steps.{HasPlace, IsTried, HasEntered}
-use Rattle.acc_world.proofs.Kept.{entered, taken_out}
 
 -- ---- before it
 
@@ -47,11 +42,8 @@ pub past_at : (w : World) (items : List Item) → Stands w items → HasPlace it
 past_at w items stands place =
     record { standing = record { valid = stands.valid; stands = stands.run.run.stands }; few = few_of (length items) place; past = stands.past }
 
-pub asked_at : (w : World) (a : Actor) (event : Event) (items : List Item) (act : Act) (held : Held) → IsTried w a event items act
-    → HeldStands (cluster_of w.setup) a (deeds_of (cluster_of w.setup) a items) held → IsAsked w.setup w.history a event held items items act
-asked_at w a event items act held tried stands =
-    let past = past_at w items tried.stands tried.place in
-    record { past = past.past; known = tried.may.act_is; standing = past.standing; few = past.few; may = tried.may; stands = stands }
+pub ready_at : (w : World) (a : Actor) (event : Event) (items : List Item) (act : Act) → IsTried w a event items act → IsReady w.setup w.history w.actors a event items act
+ready_at w a event items act tried = record { past = past_at w items tried.stands tried.place; known = tried.known; may = tried.may; held = tried.stands.actors }
 
 -- a message that is taken was sent
 pub takes_sent : (cluster : Cluster) (items : List Item) (event : Event) (act : Act) → act_of cluster items event ≡ Some act → EventTakesSent (past_of items) event
@@ -91,12 +83,6 @@ module _ (cluster : Cluster) (items : List Item) (a : Actor) (event : Event) (ac
         no_downs = run.no_downs;
       }
 
-  -- the actor stands behind it
-  pub held_more : (held : Held) → MayTake cluster items a event act → HeldStands cluster a (record { act = act; emitted = emitted } ∷ deeds_of cluster a items) held
-      → HeldStands cluster a (deeds_of cluster a (Step e ∷ items)) held
-  held_more held may stands =
-      subst (λ (deeds : List Deed). HeldStands cluster a deeds held) (sym (deeds_more cluster items e a act (same_itself a) may.act_is)) stands
-
 -- ---- the whole
 
 -- what is known when an actor has taken an event, and the history has it
@@ -123,16 +109,6 @@ has_entered old new items a event act emitted e stands kept may emits_it entry_i
             (subst (λ (x : Entry). AreHeld c (Step x ∷ items) new.actors) (sym entry_is) all);
       };
     }
-
--- the actors, when the one that stepped is put back
-pub all_held : (cluster : Cluster) (items : List Item) (actors after : BTreeMap ℕ Held) (a : Actor) (event : Event) (act : Act) (emitted : Emitted) (held : Held)
-    → MayTake cluster items a event act → HeldStands cluster a (record { act = act; emitted = emitted } ∷ deeds_of cluster a items) held
-    → AreHeld cluster items actors → get nat_cmp actors a.0 ≡ None
-    → ((cluster : Cluster) (items : List Item) → AreHeld cluster items actors → HeldStands cluster a (deeds_of cluster a items) held → AreHeld cluster items after)
-    → AreHeld cluster (Step (record { actor = a; event = event; emitted = emitted; lost = false }) ∷ items) after
-all_held cluster items actors after a event act emitted held may stands all out put =
-    let e0 : Entry = record { actor = a; event = event; emitted = emitted; lost = false } in
-    put cluster (Step e0 ∷ items) (entered cluster items actors e0 out all) (held_more cluster items a event act emitted held may stands)
 
 -- an error leaves what the world stands for
 pub still : (old new : World) → new.setup ≡ old.setup → ((items : List Item) → IsHistoryOf old.history (past_of items) → IsHistoryOf new.history (past_of items))
@@ -168,30 +144,10 @@ on_err (Err error) P h = h
 
 -- ---- a restart
 
-module _ (cluster : Cluster) (items : List Item) (before taken : BTreeMap ℕ Held) (a : Actor) (emitted : Emitted) (none : emitted ≡ silence)
-    (out : (q : ℕ) → get nat_cmp taken q ≡ cond (is_at (nat_cmp a.0) q) None (get nat_cmp before q)) (gone : get nat_cmp taken a.0 ≡ None) (all : AreHeld cluster items before) where
-  abbrev back : Entry
-  back = record { actor = a; event = Restart 0; emitted = emitted; lost = false }
-
-  -- of an actor that is out
-  pub none_restarted : AreHeld cluster (Step back ∷ items) taken
-  none_restarted = entered cluster items taken back gone (taken_out cluster items before taken a out all)
-
-  -- of one that is put back
-  pub one_restarted : (after : BTreeMap ℕ Held) (old held : Held) → Some old ≡ get nat_cmp before a.0
-      → ((cluster : Cluster) (a : Actor) (deeds : List Deed) → HeldStands cluster a deeds old → HeldStands cluster a (restarted ∷ deeds) held)
-      → ((cluster : Cluster) (items : List Item) → AreHeld cluster items taken → HeldStands cluster a (deeds_of cluster a items) held → AreHeld cluster items after)
-      → AreHeld cluster (Step back ∷ items) after
-  one_restarted after old held found comes put =
-      put cluster (Step back ∷ items) none_restarted
-      (held_more cluster items a (Restart 0) Restarts emitted held (restart_may cluster items a 0)
-      (subst (λ (m : Emitted). HeldStands cluster a (record { act = Restarts; emitted = m } ∷ deeds_of cluster a items) held) (sym none)
-      (comes cluster a (deeds_of cluster a items) (subst (HeldIs cluster a (deeds_of cluster a items)) (sym found) (all a)))))
-
 pub has_restarted : (old new : World) (items : List Item) (a : Actor) (emitted : Emitted) (e : Entry) → Stands old items → emitted ≡ silence
     → e ≡ record { actor = a; event = Restart 0; emitted = emitted; lost = false } → new.setup ≡ old.setup → IsHistoryOf new.history (past_of (Step e ∷ items))
-    → AreHeld (cluster_of old.setup) (Step (record { actor = a; event = Restart 0; emitted = emitted; lost = false }) ∷ items) new.actors
-    → HasEntered old new items a (Restart 0) Restarts e
+    → AreHeld (cluster_of old.setup) (Step (came_back a) ∷ items) new.actors → HasEntered old new items a (Restart 0) Restarts e
 has_restarted old new items a emitted e stands none entry_is same past all =
     has_entered old new items a (Restart 0) Restarts emitted e stands refl (restart_may (cluster_of old.setup) items a 0)
-    (none ∙ sym (restart_emits (cluster_of old.setup) items a)) entry_is same past all
+    (none ∙ sym (restart_emits (cluster_of old.setup) items a)) entry_is same past
+    (subst (λ (m : Emitted). AreHeld (cluster_of old.setup) (Step (record { actor = a; event = Restart 0; emitted = m; lost = false }) ∷ items) new.actors) (sym none) all)

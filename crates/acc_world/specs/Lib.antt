@@ -1,4 +1,5 @@
 pub mod Values
 pub mod Held
 pub mod Stands
+pub mod Keeping
 pub mod Steps

@@ -1,12 +1,15 @@
 //! The actors that a world keeps, by their numbers. One that is missing is built anew when it is asked for.
-ghost use Rattle.std.specs.Prelude.{◌≡◌, ℕ, false, List, ◌∷◌, None, IfOk, OnOk, OnErr};
+ghost use Rattle.std.specs.Prelude.{◌≡◌, ℕ, false, List, ◌∷◌, IsSome, IfOk, IfErr, OnOk, OnErr};
 ghost use Rattle.std.specs.Ordering.{nat_cmp};
 ghost use Rattle.std.specs.BTreeMap.{get};
+ghost use Rattle.acc_message.specs.declared.entry.Entry.{Entry as AnEntry};
 ghost use Rattle.acc_message.specs.declared.item.Item.{Item as AnItem};
-ghost use Rattle.acc_message.specs.Run.{Cluster, deeds_of};
+ghost use Rattle.acc_message.specs.NodeRules.{Act};
+ghost use Rattle.acc_message.specs.Run.{Cluster};
 ghost use Rattle.acc_history.specs.Stands.{StandsFor as IsHistoryOf, EventTakesSent};
-ghost use Rattle.acc_world.specs.Held.{cluster_of, past_of, HeldStands, IsPast, IsActorOf};
+ghost use Rattle.acc_world.specs.Held.{cluster_of, past_of, IsPast, IsActorOf, IsRefused};
 ghost use Rattle.acc_world.specs.Stands.{AreHeld};
+ghost use Rattle.acc_world.specs.Keeping.{IsReady, MayAct, HasActed, came_back};
 
 use crate::held::Held;
 use crate::rebuilding::rebuild;
@@ -14,38 +17,73 @@ use crate::setup::Setup;
 use acc_base::OutOfMemory;
 use acc_history::History;
 use acc_message::{Emitted, Entry, Event, Item};
+use acc_node::NodeError;
 use acc_stamp::Actor;
 use std::collections::BTreeMap;
 
 /// Actors by their numbers.
 pub(crate) type Actors = BTreeMap<u32, Held>;
 
-/// Takes an actor out, or builds it anew.
-pub(crate) fn take_out(
+// Builds an actor anew that is missing.
+fn cover(
     actors: &mut Actors,
     setup: &Setup,
     history: &History,
     actor: Actor,
-) -> Result<Held, OutOfMemory>
+) -> Result<(), OutOfMemory>
     requires past { (items : List AnItem) × IsPast (cluster_of setup.now) history.now items }
     requires known { IsActorOf (cluster_of setup.now) actor }
-    ensures rest { (cluster : Cluster) (items : List AnItem) → AreHeld cluster items actors.old → AreHeld cluster items actors.new }
-    ensures out { get nat_cmp actors.new actor.0 ≡ None }
-    ensures held { IfOk result (λ held. (items : List AnItem) → IsPast (cluster_of setup.now) history.now items → AreHeld (cluster_of setup.now) items actors.old
-        → HeldStands (cluster_of setup.now) actor (deeds_of (cluster_of setup.now) actor items) held) }
+    ensures held { (items : List AnItem) → IsPast (cluster_of setup.now) history.now items → AreHeld (cluster_of setup.now) items actors.old
+        → AreHeld (cluster_of setup.now) items actors.new }
+    ensures there { OnOk result (IsSome (get nat_cmp actors.new actor.0)) }
 {
-    match actors.remove(&actor.0) {
-        Some(held) => Ok(held),
-        None => rebuild(setup.allocator(), setup, history, actor),
+    if actors.contains_key(&actor.0) {
+        return Ok(());
+    }
+    let held = rebuild(setup.allocator(), setup, history, actor)?;
+    actors.insert(actor.0, held)?;
+    Ok(())
+}
+
+/// An actor takes an event where it stands. After an error the actors stand for what they stood for.
+pub(crate) fn act(
+    actors: &mut Actors,
+    setup: &Setup,
+    history: &History,
+    actor: Actor,
+    event: Event,
+) -> Result<Emitted, NodeError>
+    requires { MayAct setup.now history.now actors.old actor event }
+    ensures ok { IfOk result (λ emitted. (items : List AnItem) (act : Act) → IsReady setup.now history.now actors.old actor event items act
+        → HasActed (cluster_of setup.now) items actor event act emitted actors.new) }
+    ensures refused { IfErr result (λ error. (items : List AnItem) (act : Act) → IsReady setup.now history.now actors.old actor event items act
+        → IsRefused (cluster_of setup.now) items event error) }
+    ensures err { OnErr result ((items : List AnItem) → IsPast (cluster_of setup.now) history.now items → AreHeld (cluster_of setup.now) items actors.old
+        → AreHeld (cluster_of setup.now) items actors.new) }
+{
+    cover(actors, setup, history, actor)?;
+    match actors.get_mut(&actor.0) {
+        Some(held) => held.act(setup, history, actor, event),
+        None => Err(NodeError::OutOfMemory),
     }
 }
 
-/// Puts an actor back. Without memory for it, it is left out.
-pub(crate) fn put_back(actors: &mut Actors, actor: Actor, held: Held)
-    ensures { (cluster : Cluster) (items : List AnItem) → AreHeld cluster items actors.old → HeldStands cluster actor (deeds_of cluster actor items) held
+/// An actor comes back from its journal. One that is missing needs nothing.
+pub(crate) fn restart(actors: &mut Actors, actor: Actor)
+    ensures { (cluster : Cluster) (items : List AnItem) → AreHeld cluster items actors.old → AreHeld cluster (AnItem.Step (came_back actor) ∷ items) actors.new }
+{
+    match actors.get_mut(&actor.0) {
+        Some(held) => held.restart(),
+        None => {}
+    }
+}
+
+/// Leaves an actor out that has taken an event which isn't entered.
+pub(crate) fn leave_out(actors: &mut Actors, actor: Actor)
+    ensures { (cluster : Cluster) (items : List AnItem) (entry : AnEntry) → entry.actor ≡ actor → AreHeld cluster (AnItem.Step entry ∷ items) actors.old
         → AreHeld cluster items actors.new }
 {
-    let _kept = actors.insert(actor.0, held);
+    let _taken = actors.remove(&actor.0);
 }
 
 /// Enters what an actor did; nobody asks a world for the bytes of its messages. Without memory for it the past is as before.

@@ -15,7 +15,7 @@ ghost use Rattle.acc_world.specs.Held.{cluster_of, IsRefused};
 
 use crate::error::WorldError;
 use crate::held::nothing;
-use crate::keeping::{Actors, note, put_back, take_out};
+use crate::keeping::{self, Actors, note};
 use crate::setup::Setup;
 use acc_base::OutOfMemory;
 use acc_history::History;
@@ -166,7 +166,6 @@ impl World {
         ensures err { OnErr result ((items : List AnItem) → Stands self.old items → Stands self.new items) }
         ensures same { self.new.setup ≡ self.old.setup }
     {
-        let held = self.actors.remove(&actor.0);
         let emitted = nothing(self.setup.allocator());
         let entry = note(
             &mut self.history,
@@ -174,14 +173,8 @@ impl World {
             Event::Restart { kept: 0 },
             emitted,
         )?;
-        match held {
-            Some(mut held) => {
-                held.restart();
-                put_back(&mut self.actors, actor, held);
-                Ok(entry)
-            }
-            None => Ok(entry),
-        }
+        keeping::restart(&mut self.actors, actor);
+        Ok(entry)
     }
 
     // An actor takes an event, which is entered. Where memory is refused behind its step, it is left out, as it has done more than the past
@@ -195,17 +188,15 @@ impl World {
         ensures err { OnErr result ((items : List AnItem) → Stands self.old items → Stands self.new items) }
         ensures same { self.new.setup ≡ self.old.setup }
     {
-        let mut held = take_out(&mut self.actors, &self.setup, &self.history, actor)?;
-        match held.act(&self.setup, &self.history, actor, event) {
-            Ok(emitted) => {
-                let entry = note(&mut self.history, actor, event, emitted)?;
-                put_back(&mut self.actors, actor, held);
-                Ok(entry)
-            }
-            Err(error) => {
-                put_back(&mut self.actors, actor, held);
-                Err(error)
-            }
+        match keeping::act(&mut self.actors, &self.setup, &self.history, actor, event) {
+            Ok(emitted) => match note(&mut self.history, actor, event, emitted) {
+                Ok(entry) => Ok(entry),
+                Err(error) => {
+                    keeping::leave_out(&mut self.actors, actor);
+                    Err(error.into())
+                }
+            },
+            Err(error) => Err(error),
         }
     }
 }
