@@ -124,8 +124,8 @@ module _ {D : Type 0} (images : D → List ℕ → Type 0) (faults : D → ℕ) 
 
   -- the command's turn, or a message's
   went : (fails : Bool) → IsTurn event left later → HasGone plan here a left → HasGone plan (tried_if fails (cluster_of plan) here a event) a later
-  went fails (inl message) gone = subst (HasGone plan (tried_if fails (cluster_of plan) here a event) a) (sym message.1) (message_went plan here a event fails left message.0 gone)
-  went fails (inr command) gone = command_went plan here a event fails command.0 later command.2 command.3 (subst (HasGone plan here a) command.1 gone)
+  went fails (inl message) gone = subst (HasGone plan (tried_if fails (cluster_of plan) here a event) a) (sym message.1) (message_went plan here a event fails left message.0 (λ _. may.up) gone)
+  went fails (inr command) gone = command_went plan here a event fails command.0 later command.2 command.3 (λ _. may.up) (subst (HasGone plan here a) command.1 gone)
 
   module _ (given : Option Emitted) (new_slot : Slot D) (tried : HasTried images faults plan here a event new_slot given)
       (strictly : (disks : Disks) → IsStrictSlot strict armed content synced written plan here disks a slot → HasTriedStrictly strict armed content synced written plan here disks a event new_slot given) where

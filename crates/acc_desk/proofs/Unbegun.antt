@@ -56,9 +56,9 @@ module _ (a : Actor) (txn : ℕ) where
   stop_none _ _ _ (delivered e items gone stop one went) none command is = stop_none items gone stop went none command is
   stop_none _ _ _ (took e one items gone stop taken other went) none command is = stop_none items gone stop went (none_later (begins_it txn one) _ none) command is
   stop_none _ _ _ (came_up e one items gone stop taken other went) none command is = absurd (cc)
-  stop_none _ _ _ (stopped actor one items gone stop own other went) none command is = let same : one ≡ command = cc in ap (begins_it txn) (sym same) ∙ none_first (begins_it txn one) _ none
+  stop_none _ _ _ (stopped actor one items gone stop own other before went) none command is = let same : one ≡ command = cc in ap (begins_it txn) (sym same) ∙ none_first (begins_it txn one) _ none
   stop_none _ _ _ (stayed actor one items gone stop own other went) none command is = stop_none items gone stop went (none_later (begins_it txn one) _ none) command is
-  stop_none _ _ _ (went_down actor items gone stop own went) none command is = absurd (cc)
+  stop_none _ _ _ (went_down actor items gone stop own before went) none command is = absurd (cc)
   stop_none _ _ _ (kept e one items gone taken went) none command is = absurd (cc)
   stop_none _ _ _ (kept_message e items gone one went) none command is = absurd (cc)
   stop_none _ _ _ (passed one items gone stop is_passed went) none command is = stop_none items gone stop went (none_later (begins_it txn one) _ none) command is
@@ -94,9 +94,9 @@ module _ (a : Actor) (txn : ℕ) where
         both (event_begins txn e.event) _ (event_is_no_begin txn one e.event taken.1 (none_first (begins_it txn one) _ none)) (unbegun items gone stop went stands.1 (none_later (begins_it txn one) _ none))
     unbegun _ _ _ (came_up e one items gone stop taken other went) stands none =
         both (event_begins txn e.event) _ (event_is_no_begin txn one e.event taken.1 (none_first (begins_it txn one) _ none)) (unbegun items gone stop went stands.1 (none_later (begins_it txn one) _ none))
-    unbegun _ _ _ (stopped actor one items gone stop own other went) stands none = unbegun items gone stop went stands.1 (none_later (begins_it txn one) _ none)
+    unbegun _ _ _ (stopped actor one items gone stop own other before went) stands none = unbegun items gone stop went stands.1 (none_later (begins_it txn one) _ none)
     unbegun _ _ _ (stayed actor one items gone stop own other went) stands none = unbegun items gone stop went stands.1 (none_later (begins_it txn one) _ none)
-    unbegun _ _ _ (went_down actor items gone stop own went) stands none = unbegun items gone stop went stands.1 none
+    unbegun _ _ _ (went_down actor items gone stop own before went) stands none = unbegun items gone stop went stands.1 none
     unbegun _ _ _ (kept e one items gone taken went) stands none =
         both (event_begins txn e.event) _ (event_is_no_begin txn one e.event taken.1 (stop_none items gone (Some one) went none one refl)) (unbegun items gone (Some one) went stands.1 none)
     unbegun _ _ _ (kept_message e items gone one went) stands none = both (event_begins txn e.event) _ (message_is_no_begin txn e.event one.1) (unbegun items gone None went stands.1 none)
