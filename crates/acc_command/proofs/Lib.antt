@@ -6,3 +6,4 @@ pub mod StrictReports
 pub mod CalmReports
 mod GeneratedReports
 pub mod LineFacts
+pub mod FreeReports

@@ -81,7 +81,7 @@ abbrev pub OverThreads : {D : Type 0} → (D → ℕ) → (D → List ℕ → Ty
 OverThreads faults images strict before after =
     record {
       Items = ServesOver faults images strict before after;
-      Limits = λ plan items which number. EndsAt (IsFreeFront plan []) items which number;
+      Limits = λ plan items which number. EndsAt (IsFreeFront strict plan []) items which number;
     }
 
 -- where nothing is run
@@ -201,16 +201,16 @@ pub record EndsOnSome (DueOn : List ℕ → Status → List ℕ → Type 0) (lef
 abbrev pub EndsOnGiven : Over → Command → Option (List ℕ) → Status → Option (List ℕ) → Option (List ℕ) → Type 0
 EndsOnGiven over command = EndsOnSome (IsDue over command)
 
--- what is left of the source: nothing of a document that was read whole, or all behind the byte past the limit; with a fault of the
--- source or want of memory no less than that
+-- What is left of the source: all behind the byte past the limit, which is nothing where the document was read whole; with a fault of
+-- the source or want of memory no less than that.
 abbrev pub Leaves : Status → Option (List ℕ) → Option (List ℕ) → Type 0
-Leaves Done old new = new ≡ none_left old
+Leaves Done old new = (new ≡ none_left old) × (new ≡ without_first (document_limit + 1) old)
 Leaves No old new = ⊥
 Leaves Usage old new = ⊥
 Leaves ReadFault old new = TakesAtMost (document_limit + 1) old new
-Leaves WriteFault old new = (new ≡ none_left old) ⊎ (new ≡ without_first (document_limit + 1) old)
-Leaves BadInput old new = new ≡ none_left old
-Leaves Limit old new = (new ≡ none_left old) ⊎ (new ≡ without_first (document_limit + 1) old)
+Leaves WriteFault old new = new ≡ without_first (document_limit + 1) old
+Leaves BadInput old new = (new ≡ none_left old) × (new ≡ without_first (document_limit + 1) old)
+Leaves Limit old new = new ≡ without_first (document_limit + 1) old
 Leaves OutOfMemory old new = TakesAtMost (document_limit + 1) old new
 
 -- a text was written with its status, or the sink failed or had no memory before the end

@@ -4,7 +4,7 @@ ghost use Rattle.acc_ports.specs.Faults.{Rose};
 ghost use Rattle.acc_schedule.specs.Content.{Content};
 ghost use Rattle.acc_schedule.specs.Document.{Means};
 ghost use Rattle.acc_command.specs.declared.words.Command.TheVariants.{Run, Check};
-ghost use Rattle.acc_command.specs.Words.{AsksForWorkers, IsCheckLine, IsFreeLine, IsGenerateLine, IsLine, IsRunLine, ReadsDocument, RunsDocument};
+ghost use Rattle.acc_command.specs.Words.{AsksForWorkers, IsCheckLine, IsGenerateLine, IsLine, IsRunLine, ReadsDocument, RunsDocument};
 ghost use Rattle.acc_command.specs.Command.{document_limit, Ends, EndsOnGiven, IsDone, IsGenerated, IsMade, IsUsage, Leaves, no_run, OverDisks, OverThreads};
 
 use crate::alone::accord_alone;
@@ -21,9 +21,10 @@ use std::thread::Threads;
 /// `words` don't count the program's name. `run`, `free` and `check` take what the source gives up to its end as a document, but
 /// no more than 16,777,216 bytes: where there is one more, reading stops there. `run` writes the report of its run, `free` that of
 /// what its actors did side by side on so many threads, `check` a line of what it has, and a document that is refused gets the line of
-/// its refusal. A run past a limit gets the line of this limit and nothing else. `run` and `free` give their disks back once the run is
-/// over. `gen` reads nothing and writes the document of its two numbers. Other words get the usage line, and nothing is read. Each
-/// turn of an actor in `free` comes through `gate`.
+/// its refusal. A run past a limit gets the line of this limit and nothing else, and its disks may be gone; after any other run `run` and
+/// `free` have given their disks back. `gen` reads nothing and writes the document of its two numbers. Other words get the usage line, and
+/// nothing is read. Each step or restart that an actor takes on a thread of `free` comes through `gate`; what is left once the threads
+/// are done doesn't.
 pub fn accord<
     R: AllocGlobal + Threads + Wait + Sync,
     S: Source,

@@ -4,12 +4,17 @@ ghost use Rattle.acc_schedule.specs.Content.{Content};
 ghost use Rattle.acc_schedule.specs.Document.{Means};
 ghost use Rattle.acc_schedule.specs.Plan.{IsPlan};
 ghost use Rattle.acc_follow.specs.Laws.{EndsWithDrain};
+ghost use Rattle.acc_message.specs.declared.item.Item.{Item};
+ghost use Rattle.acc_safety.specs.Calm.{EachBegunIsAnswered};
+ghost use Rattle.acc_served.specs.Served.{HasNoRecover, IsBegunIn};
+ghost use Rattle.std.specs.List.{AllByRecursion};
 ghost use Rattle.acc_generated_runs.specs.Counts.{answered_text};
 ghost use Rattle.acc_report_line.specs.declared.line.Line.{Line};
 ghost use Rattle.acc_report_line.specs.Texts.{lines_text};
 ghost use Rattle.acc_command.specs.declared.words.Command.TheVariants.{Run};
 ghost use Rattle.acc_command.specs.declared.status.Status.{Status};
-ghost use Rattle.acc_command.specs.Command.{IsDue, IsGenerated, IsReport, OverDisks};
+ghost use Rattle.acc_command.specs.Command.{IsDue, IsGenerated, IsReport, OverDisks, OverThreads, ServesOver};
+ghost use Rattle.acc_command.specs.Free.{HasNoRestart};
 ghost use Rattle.acc_command.specs.Words.{IsGenerateLine};
 
 use acc_generated_runs::laws::generated_documents_are_answered;
@@ -17,6 +22,7 @@ use acc_generator::laws::generated_documents_are_accepted;
 use acc_limits::laws::{a_limit_or_the_whole_over_strict_disks, one_limit_over_strict_disks};
 use acc_plan_laws::laws::plans_run_safely_over_strict_disks;
 use acc_ports::DiskMaker;
+use acc_served::laws::{served_commands_are_taken, served_runs_are_answered};
 use acc_strict::laws::one_strict_run;
 
 /// Over strict disks the document alone fixes what `run` writes, and with which status, unless a port fails or memory runs out.
@@ -50,4 +56,18 @@ pub fn generated_reports_leave_none_open<M: DiskMaker>()
 {
     generated_documents_are_accepted();
     generated_documents_are_answered();
+}
+
+/// Over strict disks the actors of a schedule without a recover and a restart begin each transaction that it begins and answer it, on
+/// however many threads, and the report of `free` says that none is open.
+pub fn free_reports_leave_none_open<M: DiskMaker>()
+    ensures answered { (before after : List (ℕ × M.D)) (plan : Content) (items : List Item) → IsPlan plan → HasNoRecover plan.steps →
+        HasNoRestart plan.steps → ServesOver M.D.faults M.D.is_image true before after plan items →
+        AllByRecursion (IsBegunIn items) plan.steps × EachBegunIsAnswered items }
+    ensures report { (before after : List (ℕ × M.D)) (bytes text : List ℕ) (plan : Content) → IsPlan plan → Means bytes plan →
+        HasNoRecover plan.steps → HasNoRestart plan.steps → IsReport (OverThreads M.D.faults M.D.is_image true before after) bytes text →
+        (begun : ℕ) × (replied : ℕ) × (front : List ℕ) × (text ≡ front ++ lines_text (Line.End begun replied 0 ∷ [])) }
+{
+    served_commands_are_taken();
+    served_runs_are_answered();
 }

@@ -1,5 +1,5 @@
 //! The words of a command line.
-ghost use Rattle.std.specs.Prelude.{◌≡◌, ◌↔◌, ◌≤◌, [], ◌∷◌, codes, IsTrue, IfOk};
+ghost use Rattle.std.specs.Prelude.{◌≡◌, ◌↔◌, ◌≤◌, [], ◌∷◌, IsTrue, IfOk};
 ghost use Rattle.acc_command.specs.Words.{IsLineOf, IsDocumentLineOf, IsNumbersOf, IsWorkersOf};
 
 use acc_base::{OutOfMemory, Text};

@@ -1,5 +1,5 @@
 -- The end of all rounds: the items are served.
-use Rattle.std.proofs.Common.{◌≡◌, ℕ, Bool, List, [], ◌∷◌, ◌++◌, reverse, map, Contains, Option, refl, sym, ◌∙◌, ap, subst}
+use Rattle.std.proofs.Common.{◌≡◌, ℕ, Bool, true, List, [], ◌∷◌, ◌++◌, reverse, map, Contains, Option, refl, sym, ◌∙◌, ap, subst}
 use Rattle.std.specs.List.{AllByRecursion}
 use Rattle.std.proofs.lemmas.List.{reverse-append, reverse-reverse}
 use Rattle.acc_stamp.specs.declared.actors.Actor.{Actor}
@@ -24,7 +24,7 @@ use Rattle.acc_served.specs.Serving.{IsServing, HasGone}
 use Rattle.acc_free.specs.declared.rest.Rest.{Rest}
 use Rattle.acc_free.specs.declared.rest.Queue.{Queue}
 use Rattle.acc_free.specs.Queues.{placed_in, queue_in, left_in, actor_in, rest_actor, AreAllActors, HaveGone}
-use Rattle.acc_free.specs.Moves.{HasEnded, IsUpStrictly}
+use Rattle.acc_free.specs.Moves.{HasEnded}
 use Rattle.acc_free.specs.Finish.{HasFinished}
 use Rattle.acc_free.proofs.Lists.{each_at_place, from_map}
 use Rattle.acc_free.proofs.Rounds.{queue_of}
@@ -70,8 +70,8 @@ turned_back : (entered later own items : List Item) → own ≡ later ++ reverse
 turned_back entered later own items behind are =
     are ∙ ap reverse behind ∙ reverse-append later (reverse entered) ∙ ap (λ (l : List Item). l ++ reverse later) (reverse-reverse entered)
 
-module _ {D : Type 0} (images : D → List ℕ → Type 0) (faults : D → ℕ) (plan : Content) (entered : List Item) (stopped : List Stopped) (queues : List Queue) (names : List Actor)
-    (named : map actor_in queues ≡ names) (are : AreAllActors plan names) (cluster : Cluster D) (h : HasEnded images faults plan queues cluster (behind_items entered stopped)) where
+module _ {D : Type 0} (images : D → List ℕ → Type 0) (faults : D → ℕ) (strict : D → Bool) (armed : D → Option ℕ) (content synced : D → List ℕ) (written : D → Ranges) (strict_run : Bool) (plan : Content) (entered : List Item) (stopped : List Stopped) (queues : List Queue) (names : List Actor)
+    (named : map actor_in queues ≡ names) (are : AreAllActors plan names) (cluster : Cluster D) (h : HasEnded images faults strict armed content synced written strict_run plan queues cluster (behind_items entered stopped)) where
   each_held : (a : Actor) → Contains (actors plan.topology) a → (left : List Step) × HasGone plan h.last a left × IsHeld h.last.own left
   each_held a member =
       let q = queue_of plan queues names named are a member in
@@ -93,10 +93,9 @@ module _ {D : Type 0} (images : D → List ℕ → Type 0) (faults : D → ℕ) 
             (e.kept h.serves.serving.earlier);
       }
 
--- over strict disks
-pub nobody_down : {D : Type 0} (images : D → List ℕ → Type 0) (faults : D → ℕ) (strict : D → Bool) (armed : D → Option ℕ) (content synced : D → List ℕ) (written : D → Ranges) (plan : Content)
-    (cluster : Cluster D) (ended : Ended D) → ((plan : Content) (s : Situation) → StandsFor images faults plan cluster s → IsEndOf images faults plan s ended)
-    → IsUpStrictly images faults strict armed content synced written plan cluster → NobodyIsDown (reverse ended.items)
-nobody_down images faults strict armed content synced written plan cluster ended ends up =
-    let e = ends plan up.found.found up.stands.stands in
-    subst NobodyIsDown (sym (ap reverse e.items_are ∙ reverse-reverse up.found.found.own)) up.up
+  -- in a strict run
+  pub nobody_down : (ended : Ended D) → ((plan : Content) (s : Situation) → StandsFor images faults plan cluster s → IsEndOf images faults plan s ended)
+      → strict_run ≡ true → NobodyIsDown (reverse ended.items)
+  nobody_down ended ends on =
+      let e = ends plan h.last h.serves.stands in
+      subst NobodyIsDown (sym (ap reverse e.items_are ∙ reverse-reverse h.last.own)) (h.serves.stayed on).up

@@ -1,5 +1,5 @@
 -- Rounds of all actors, with all deliveries behind each.
-use Rattle.std.proofs.Common.{◌≡◌, ℕ, zero, suc, ◌+◌, ◌<◌, ◌≤◌, Bool, true, false, List, [], ◌∷◌, length, map, Contains, Some, refl, sym, ◌∙◌, ap, subst, arith, ⊎_elim}
+use Rattle.std.proofs.Common.{◌≡◌, ℕ, zero, suc, ◌+◌, ◌<◌, ◌≤◌, Bool, true, false, List, [], ◌∷◌, length, map, Contains, Option, Some, refl, sym, ◌∙◌, ap, subst, arith, ⊎_elim}
 use Rattle.std.specs.List.{slice_get, slice_set}
 use Rattle.std.proofs.lemmas.Bool.{true≢false}
 use mathlib.Core.Logic.{dite}
@@ -7,6 +7,7 @@ use native.Mathlib.Decide.{dec_lt}
 use Rattle.std.proofs.lemmas.List.Sums.{sum_by-set}
 use Rattle.std.proofs.lemmas.Option.{same_Some, slice_get_within, get_or_from_slice_get}
 use Rattle.acc_stamp.specs.declared.actors.Actor.{Actor}
+use Rattle.acc_ports.specs.Strict.{Ranges}
 use Rattle.acc_message.specs.declared.error.Which.{Which}
 use Rattle.acc_message.specs.Items.{same_actor}
 use Rattle.acc_message.specs.declared.entry.Event.TheVariants.{Message as MessageEvent}
@@ -18,31 +19,30 @@ use Rattle.acc_schedule.specs.declared.plan.Step.TheVariants.{Drain}
 use Rattle.acc_follow.specs.Situations.{Situation, NothingWaits, receiver_in, waits}
 use Rattle.acc_follow.specs.Moves.{Answers, tried, Drains}
 use Rattle.acc_follow.specs.Schedules.{cluster_of}
+use Rattle.acc_strict.specs.Moves.{StrictSituation}
+use Rattle.acc_strict.proofs.Answering.{next_answered}
 use Rattle.acc_limits.specs.Fronts.{DrainsTo, comes, goes_on, Begins}
 use Rattle.acc_limits.proofs.Beginnings.{begins_itself, begins_chain}
 use Rattle.acc_limits.proofs.Reached.{next_adds, comes_adds}
 use Rattle.acc_cluster.specs.declared.cluster.Cluster.{Cluster}
-use Rattle.acc_cluster.specs.Steps.{StepsTo, EndsIn}
+use Rattle.acc_cluster.specs.Stands.{StandsFor, StandsStrictly}
+use Rattle.acc_cluster.specs.Steps.{StepsTo, StepsStrictly, EndsIn, EndsStrictlyIn}
 use Rattle.acc_served.specs.Commands.{IsHeld}
 use Rattle.acc_served.specs.Serving.{IsServing, HasGone}
 use Rattle.acc_free.specs.declared.rest.Queue.{Queue}
 use Rattle.acc_free.specs.Queues.{left_in, actor_in, AreAllActors, HaveGone, AreHeld, count_in, count_left}
-use Rattle.acc_free.specs.Moves.{Serves, HasMoved, HasGoneRound, IsEmptied, HasEnded, EachWent, EndsFreely}
+use Rattle.acc_free.specs.Moves.{StaysUp, Serves, HasMoved, HasGoneRound, IsEmptied, HasEnded, EachWent, EndsFreely}
+use Rattle.acc_free.proofs.Steps.{some_answers}
+use Rattle.acc_free.proofs.Strictly.{up_drained, DeliveryLaw, drained_to}
 use Rattle.acc_free.proofs.Lists.{set_cases, each_at_place, contained_at, apart_at, mapped_at, from_map}
 
 -- ---- drains
 
--- the law of drains, and that of one delivery
+-- the law of drains
 abbrev pub DrainLaw : Type 0
 DrainLaw =
     (plan : Content) (answers : Answers) (s next : Situation) → IsPlan plan → Drains (cluster_of plan) answers next s → IsServing plan s
     → IsServing plan next × NothingWaits next × ((a : Actor) (left : List Step) → HasGone plan s a left → HasGone plan next a left)
-
-abbrev pub DeliveryLaw : Type 0
-DeliveryLaw =
-    (plan : Content) (answers : Answers) (s : Situation) (message : ℕ) → IsPlan plan → waits s message ≡ true → IsServing plan s
-    → IsServing plan (tried (cluster_of plan) answers s (receiver_in s message) (MessageEvent message))
-    × ((a : Actor) (left : List Step) → HasGone plan s a left → HasGone plan (tried (cluster_of plan) answers s (receiver_in s message) (MessageEvent message)) a left)
 
 module _ (plan : Content) (valid : IsPlan plan) where
   -- of a drain that is under way
@@ -55,40 +55,92 @@ module _ (plan : Content) (valid : IsPlan plan) where
       let more = part_serves law answers reached (tried (cluster_of plan) answers s (receiver_in s n) (MessageEvent n)) rest one.0 in
       (more.0, λ a left gone. more.1 a left (one.1 a left gone))
 
-  pub drain_limit : DeliveryLaw → (s : Situation) (answers : Answers) (which : Which) (number : ℕ) → IsServing plan s → EndsIn plan answers 0 Drain s which number → EachWent plan s
-      → EndsFreely plan s.own which number
-  drain_limit law s answers which number serving e each =
-      let f = e.ends.front in
-      let part = part_serves law e.other f.0 s f.1 serving in
-      record {
-        items = e.items;
-        ends =
-            record {
-              next = e.ends.next;
-              front =
-                  record {
-                    reached = f.0;
-                    serving = part.0;
-                    went = λ a member. let h = each a member in (h.0, part.1 a h.0 h.1);
-                    behind = comes_adds (cluster_of plan) e.other 0 Drain s f.0 f.1;
-                    begins = f.2;
-                  };
-              within = e.ends.within;
-              passed = e.ends.passed;
-            };
-      }
+  module _ {D : Type 0} (images : D → List ℕ → Type 0) (faults : D → ℕ) (strict : D → Bool) (armed : D → Option ℕ) (content synced : D → List ℕ) (written : D → Ranges) (strict_run : Bool) (s : Situation) (cluster : Cluster D)
+      (serves : Serves images faults strict armed content synced written strict_run plan cluster s) where
+    abbrev Strictly : (StrictSituation → Type 0) → Type 0
+    Strictly P = (t : StrictSituation) → StandsStrictly images faults strict armed content synced written plan cluster t → P t
 
-  pub drained : {D : Type 0} (images : D → List ℕ → Type 0) (faults : D → ℕ) → DrainLaw → (s : Situation) (answers : Answers) (old new : Cluster D) → Serves images faults plan old s
-      → StepsTo images faults plan answers 0 Drain old new s → IsEmptied images faults plan new s
-  drained images faults law s answers old new serves steps =
-      let goes = law plan steps.other s steps.next valid steps.next_is serves.serving in
-      record {
-        next = steps.next;
-        serves = record { stands = steps.stands; serving = goes.0 };
-        gone = goes.2;
-        behind = next_adds (cluster_of plan) steps.other 0 Drain s steps.next steps.next_is;
-        nothing = goes.1;
-      }
+    -- over strict disks
+    abbrev there : StaysUp strict armed content synced written plan cluster s → StrictSituation
+    there up = record { found = s; disks = up.disks }
+
+    pub drain_limit : DeliveryLaw → (answers : Answers) (which : Which) (number : ℕ) → EndsIn plan answers 0 Drain s which number
+        → Strictly (λ t. EndsStrictlyIn plan 0 Drain t which number) → EachWent plan s → EndsFreely strict_run plan s.own which number
+    drain_limit law answers which number e strictly each = by strict_run refl
+      where
+        by : (test : Bool) → strict_run ≡ test → EndsFreely strict_run plan s.own which number
+        by false off =
+            let f = e.ends.front in
+            let part = part_serves law e.other f.0 s f.1 serves.serving in
+            record {
+              items = e.items;
+              ends =
+                  record {
+                    next = e.ends.next;
+                    front =
+                        record {
+                          reached = f.0;
+                          serving = part.0;
+                          went = λ a member. let h = each a member in (h.0, part.1 a h.0 h.1);
+                          behind = comes_adds (cluster_of plan) e.other 0 Drain s f.0 f.1;
+                          begins = f.2;
+                          stayed = λ on. absurd (true≢false (sym on ∙ off));
+                        };
+                    within = e.ends.within;
+                    passed = e.ends.passed;
+                  };
+            }
+        by true on =
+            let up = serves.stayed on in
+            let told = strictly (there up) (record { stands = serves.stands; strictly = up.strictly }) in
+            let f = told.ends.front in
+            let part = drained_to plan valid law f.0 (there up) f.1 serves.serving (record { unarmed = up.unarmed; up = up.up }) in
+            record {
+              items = told.items;
+              ends =
+                  record {
+                    next = told.ends.next;
+                    front =
+                        record {
+                          reached = f.0.found;
+                          serving = part.serving;
+                          went = λ a member. let h = each a member in (h.0, part.gone a h.0 h.1);
+                          behind = part.behind;
+                          begins = f.2;
+                          stayed = λ _. part.up.up;
+                        };
+                    within = told.ends.within;
+                    passed = told.ends.passed;
+                  };
+            }
+
+    pub drained : DrainLaw → (answers : Answers) (new : Cluster D) → StepsTo images faults plan answers 0 Drain cluster new s
+        → Strictly (λ t. StepsStrictly images faults strict armed content synced written plan 0 Drain new t)
+        → IsEmptied images faults strict armed content synced written strict_run plan new s
+    drained law answers new steps strictly = by strict_run refl
+      where
+        emptied : (other : Answers) (next : Situation) → Drains (cluster_of plan) other next s → StandsFor images faults plan new next
+            → (strict_run ≡ true → StaysUp strict armed content synced written plan new next)
+            → IsEmptied images faults strict armed content synced written strict_run plan new s
+        emptied other next is stands stayed =
+            let goes = law plan other s next valid is serves.serving in
+            record {
+              next = next;
+              serves = record { stands = stands; serving = goes.0; stayed = stayed };
+              gone = goes.2;
+              behind = next_adds (cluster_of plan) other 0 Drain s next is;
+              nothing = goes.1;
+            }
+
+        by : (test : Bool) → strict_run ≡ test → IsEmptied images faults strict armed content synced written strict_run plan new s
+        by false off = emptied steps.other steps.next steps.next_is steps.stands (λ on. absurd (true≢false (sym on ∙ off)))
+        by true on =
+            let up = serves.stayed on in
+            let n = strictly (there up) (record { stands = serves.stands; strictly = up.strictly }) in
+            let found = next_answered (cluster_of plan) some_answers 0 (there up) n.next Drain n.next_is in
+            let later = up_drained (cluster_of plan) n.next (there up) n.next_is (record { unarmed = up.unarmed; up = up.up }) in
+            emptied found.0 n.next.found found.2 n.stands.stands
+            (λ _. record { disks = n.next.disks; strictly = n.stands.strictly; unarmed = later.unarmed; up = later.up })
 
 -- ---- the actors of queues
 
@@ -116,9 +168,9 @@ module _ (plan : Content) (queues : List Queue) (names : List Actor) (named : ma
 -- ---- a round
 
 -- of the queues before this place all commands went by that can, and nothing else went by
-pub record IsUnder {D : Type 0} (images : D → List ℕ → Type 0) (faults : D → ℕ) (plan : Content) (before now : List Queue) (place : ℕ) (went : Bool) (cluster : Cluster D) (s : Situation) : Type 0 where
+pub record IsUnder {D : Type 0} (images : D → List ℕ → Type 0) (faults : D → ℕ) (strict : D → Bool) (armed : D → Option ℕ) (content synced : D → List ℕ) (written : D → Ranges) (strict_run : Bool) (plan : Content) (before now : List Queue) (place : ℕ) (went : Bool) (cluster : Cluster D) (s : Situation) : Type 0 where
   pub reached : Situation
-  pub serves : Serves images faults plan cluster reached
+  pub serves : Serves images faults strict armed content synced written strict_run plan cluster reached
   pub gone : HaveGone plan reached now
   pub behind : Begins s.own reached.own
   pub less : count_left now ≤ count_left before
@@ -146,8 +198,8 @@ lt_right a b c p q = omega (arith, p, q)
 at_or_before : (j place : ℕ) → j < place + 1 → (j ≡ place → ⊥) → j < place
 at_or_before j place lt other = dite (dec_lt j place) (λ less. less) (λ not. absurd (other (omega (arith, lt, not))))
 
-module _ {D : Type 0} (images : D → List ℕ → Type 0) (faults : D → ℕ) (plan : Content) (s : Situation) where
-  pub under_none : (queues : List Queue) (cluster : Cluster D) → Serves images faults plan cluster s → HaveGone plan s queues → IsUnder images faults plan queues queues 0 false cluster s
+module _ {D : Type 0} (images : D → List ℕ → Type 0) (faults : D → ℕ) (strict : D → Bool) (armed : D → Option ℕ) (content synced : D → List ℕ) (written : D → Ranges) (strict_run : Bool) (plan : Content) (s : Situation) where
+  pub under_none : (queues : List Queue) (cluster : Cluster D) → Serves images faults strict armed content synced written strict_run plan cluster s → HaveGone plan s queues → IsUnder images faults strict armed content synced written strict_run plan queues queues 0 false cluster s
   under_none queues cluster serves gone = record {
     reached = s;
     serves = serves;
@@ -181,8 +233,8 @@ module _ {D : Type 0} (images : D → List ℕ → Type 0) (faults : D → ℕ) 
         set_named (x ∷ xs) zero e = ap (λ (a : Actor). a ∷ map actor_in xs) (same ∙ ap actor_in (sym (same_Some x queue e)))
         set_named (x ∷ xs) (suc i) e = ap (λ (l : List Actor). x.actor ∷ l) (set_named xs i e)
 
-    module _ (went moved : Bool) (old new : Cluster D) (under : IsUnder images faults plan before now place went old s)
-        (move : HasMoved images faults plan queue.actor (left_in queue) (left_in turned) moved new under.reached) where
+    module _ (went moved : Bool) (old new : Cluster D) (under : IsUnder images faults strict armed content synced written strict_run plan before now place went old s)
+        (move : HasMoved images faults strict armed content synced written strict_run plan queue.actor (left_in queue) (left_in turned) moved new under.reached) where
       gone_now : HaveGone plan move.next (slice_set now place turned)
       gone_now j other is =
           ⊎_elim
@@ -196,7 +248,7 @@ module _ {D : Type 0} (images : D → List ℕ → Type 0) (faults : D → ℕ) 
           (set_cases now place turned j other is)
 
       -- something went by
-      pub under_went : moved ≡ true → IsUnder images faults plan before (slice_set now place turned) (place + 1) true new s
+      pub under_went : moved ≡ true → IsUnder images faults strict armed content synced written strict_run plan before (slice_set now place turned) (place + 1) true new s
       under_went is =
           let fewer = lt_left (count_left (slice_set now place turned)) (count_left now) (count_left before) (fewer_left (move.fewer is)) under.less in
           record {
@@ -210,7 +262,7 @@ module _ {D : Type 0} (images : D → List ℕ → Type 0) (faults : D → ℕ) 
           }
 
       -- nothing went by
-      pub under_stayed : moved ≡ false → IsUnder images faults plan before (slice_set now place turned) (place + 1) went new s
+      pub under_stayed : moved ≡ false → IsUnder images faults strict armed content synced written strict_run plan before (slice_set now place turned) (place + 1) went new s
       under_stayed is = record {
         reached = move.next;
         serves = move.serves;
@@ -231,8 +283,8 @@ module _ {D : Type 0} (images : D → List ℕ → Type 0) (faults : D → ℕ) 
             );
       }
 
-  pub round_ended : (before now : List Queue) (place : ℕ) (went : Bool) (cluster : Cluster D) → IsUnder images faults plan before now place went cluster s → length now ≤ place
-      → HasGoneRound images faults plan before now went cluster s
+  pub round_ended : (before now : List Queue) (place : ℕ) (went : Bool) (cluster : Cluster D) → IsUnder images faults strict armed content synced written strict_run plan before now place went cluster s → length now ≤ place
+      → HasGoneRound images faults strict armed content synced written strict_run plan before now went cluster s
   round_ended before now place went cluster under all = record {
     next = under.reached;
     serves = under.serves;
@@ -248,15 +300,15 @@ module _ {D : Type 0} (images : D → List ℕ → Type 0) (faults : D → ℕ) 
 -- ---- all rounds
 
 -- behind a drain
-pub record HasCome {D : Type 0} (images : D → List ℕ → Type 0) (faults : D → ℕ) (plan : Content) (now : List Queue) (cluster : Cluster D) (s : Situation) : Type 0 where
+pub record HasCome {D : Type 0} (images : D → List ℕ → Type 0) (faults : D → ℕ) (strict : D → Bool) (armed : D → Option ℕ) (content synced : D → List ℕ) (written : D → Ranges) (strict_run : Bool) (plan : Content) (now : List Queue) (cluster : Cluster D) (s : Situation) : Type 0 where
   pub reached : Situation
-  pub serves : Serves images faults plan cluster reached
+  pub serves : Serves images faults strict armed content synced written strict_run plan cluster reached
   pub gone : HaveGone plan reached now
   pub behind : Begins s.own reached.own
   pub nothing : NothingWaits reached
 
-module _ {D : Type 0} (images : D → List ℕ → Type 0) (faults : D → ℕ) (plan : Content) (s : Situation) where
-  pub come_first : (queues : List Queue) (cluster : Cluster D) → HaveGone plan s queues → IsEmptied images faults plan cluster s → HasCome images faults plan queues cluster s
+module _ {D : Type 0} (images : D → List ℕ → Type 0) (faults : D → ℕ) (strict : D → Bool) (armed : D → Option ℕ) (content synced : D → List ℕ) (written : D → Ranges) (strict_run : Bool) (plan : Content) (s : Situation) where
+  pub come_first : (queues : List Queue) (cluster : Cluster D) → HaveGone plan s queues → IsEmptied images faults strict armed content synced written strict_run plan cluster s → HasCome images faults strict armed content synced written strict_run plan queues cluster s
   come_first queues cluster gone e = record {
     reached = e.next;
     serves = e.serves;
@@ -265,8 +317,8 @@ module _ {D : Type 0} (images : D → List ℕ → Type 0) (faults : D → ℕ) 
     nothing = e.nothing;
   }
 
-  pub come_on : (before now : List Queue) (old between new : Cluster D) (come : HasCome images faults plan before old s)
-      → (turned : HasGoneRound images faults plan before now true between come.reached) → IsEmptied images faults plan new turned.next → HasCome images faults plan now new s
+  pub come_on : (before now : List Queue) (old between new : Cluster D) (come : HasCome images faults strict armed content synced written strict_run plan before old s)
+      → (turned : HasGoneRound images faults strict armed content synced written strict_run plan before now true between come.reached) → IsEmptied images faults strict armed content synced written strict_run plan new turned.next → HasCome images faults strict armed content synced written strict_run plan now new s
   come_on before now old between new come turned e = record {
     reached = e.next;
     serves = e.serves;
@@ -275,8 +327,8 @@ module _ {D : Type 0} (images : D → List ℕ → Type 0) (faults : D → ℕ) 
     nothing = e.nothing;
   }
 
-  pub come_to_end : (before now : List Queue) (old new : Cluster D) (come : HasCome images faults plan before old s) → HasGoneRound images faults plan before now false new come.reached
-      → HasEnded images faults plan now new s
+  pub come_to_end : (before now : List Queue) (old new : Cluster D) (come : HasCome images faults strict armed content synced written strict_run plan before old s) → HasGoneRound images faults strict armed content synced written strict_run plan before now false new come.reached
+      → HasEnded images faults strict armed content synced written strict_run plan now new s
   come_to_end before now old new come turned =
       let held = turned.held refl in
       record {

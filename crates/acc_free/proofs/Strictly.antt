@@ -4,7 +4,6 @@ use Rattle.std.proofs.Math.Bool.{and-false}
 use Rattle.std.proofs.lemmas.Bool.{true≢false, and_from}
 use Rattle.acc_stamp.specs.declared.actors.Actor.{Actor}
 use Rattle.acc_stamp.specs.Actor.{actor_of}
-use Rattle.acc_ports.specs.Strict.{Ranges}
 use Rattle.acc_journal.specs.Journal.{keeps_group}
 use Rattle.acc_message.specs.declared.entry.Event.{Event}
 use Rattle.acc_message.specs.declared.entry.Event.TheVariants.{Begin as BeginEvent, Recover as RecoverEvent, Message as MessageEvent}
@@ -13,24 +12,26 @@ use Rattle.acc_message.specs.Items.{same_actor}
 use Rattle.acc_message.specs.Run.{Cluster as RunCluster}
 use Rattle.acc_safe_runs.specs.Asks.{home_of_txn}
 use Rattle.acc_schedule.specs.Content.{Content}
+use Rattle.acc_schedule.specs.Plan.{IsPlan}
 use Rattle.acc_schedule.specs.declared.plan.Step.{Step}
 use Rattle.acc_schedule.specs.declared.plan.Step.TheVariants.{Begin, Deliver, Drop, Recover, Slow, Restart, Fail, Drain}
-use Rattle.acc_follow.specs.Situations.{Situation, receiver_in}
-use Rattle.acc_follow.specs.Moves.{is_journalled, tried_if, begin_skip, recover_skip, kept_if, reopened}
+use Rattle.acc_follow.specs.Situations.{Situation, receiver_in, waits}
+use Rattle.acc_follow.specs.Moves.{Answers, is_journalled, tried_if, tried, begin_skip, recover_skip, kept_if, reopened}
 use Rattle.acc_follow.specs.Schedules.{cluster_of}
 use Rattle.acc_follow.specs.Laws.{NobodyIsDown}
-use Rattle.acc_strict.specs.Disks.{Disks, fails_append, after_append, after_step}
+use Rattle.acc_strict.specs.Disks.{Disks, fails_append, after_append, after_step, step_answers}
 use Rattle.acc_strict.specs.Moves.{StrictSituation, tried_strictly, stepped_strictly, StrictDrains, stops, delivers, IsStrictNext}
-use Rattle.acc_cluster.specs.declared.cluster.Cluster.{Cluster}
-use Rattle.acc_cluster.specs.Stands.{StandsStrictly}
-use Rattle.acc_cluster.specs.Steps.{StepsStrictly}
+use Rattle.acc_limits.specs.Fronts.{Begins}
+use Rattle.acc_limits.specs.StrictFronts.{StrictlyDrainsTo, comes, goes_on}
+use Rattle.acc_limits.proofs.Beginnings.{begins_itself, begins_chain}
+use Rattle.acc_limits.proofs.Reached.{tried_adds}
 use Rattle.acc_served.specs.Commands.{is_command_of}
-use Rattle.acc_free.specs.Moves.{IsUpStrictly}
+use Rattle.acc_served.specs.Serving.{IsServing, HasGone}
 
 -- nothing is armed, and nobody was ever down
-record IsUp (s : StrictSituation) : Type 0 where
-  unarmed : (a : Actor) → s.disks.armed a ≡ None
-  up : NobodyIsDown s.found.own
+pub record IsUp (s : StrictSituation) : Type 0 where
+  pub unarmed : (a : Actor) → s.disks.armed a ≡ None
+  pub up : NobodyIsDown s.found.own
 
 either_none : (test : Bool) (one other : Option ℕ) → one ≡ None → other ≡ None → cond test one other ≡ None
 either_none true one other a b = a
@@ -53,7 +54,7 @@ module _ (cluster : RunCluster) where
   up_reopened s a None up = and_from true _ refl up
   up_reopened s a (Some event) up = and_from true _ refl (and_from true _ refl up)
 
-  up_drained : (last s : StrictSituation) → StrictDrains cluster last s → IsUp s → IsUp last
+  pub up_drained : (last s : StrictSituation) → StrictDrains cluster last s → IsUp s → IsUp last
   up_drained last s (stops _ none is) h = subst IsUp (sym is) h
   up_drained last s (delivers _ n oldest rest) h =
       up_drained last (tried_strictly cluster s (receiver_in s.found n) (MessageEvent n)) rest (up_tried s (receiver_in s.found n) (MessageEvent n) h)
@@ -63,7 +64,7 @@ module _ (cluster : RunCluster) where
     up_stepped (Some cause) s a event h = record { unarmed = h.unarmed; up = and_from true _ refl h.up }
     up_stepped None s a event h = up_tried s a event h
 
-    up_command : (a : Actor) (command : Step) (s next : StrictSituation) → is_command_of cluster a command ≡ true → IsStrictNext cluster number command s next → IsUp s → IsUp next
+    pub up_command : (a : Actor) (command : Step) (s next : StrictSituation) → is_command_of cluster a command ≡ true → IsStrictNext cluster number command s next → IsUp s → IsUp next
     up_command a (Begin txn) s next own is h =
         subst IsUp (sym is) (up_stepped (begin_skip cluster s.found txn) s (home_of_txn cluster txn) (BeginEvent txn) h)
     up_command a (Recover txn node) s next own is h =
@@ -79,24 +80,35 @@ module _ (cluster : RunCluster) where
     up_command a (Fail actor calls) s next own is h = absurd (true≢false (sym own))
     up_command a Drain s next own is h = absurd (true≢false (sym own))
 
--- ---- over the disks of a cluster
+-- ---- part of a drain
 
-module _ {D : Type 0} (images : D → List ℕ → Type 0) (faults : D → ℕ) (strict : D → Bool) (armed : D → Option ℕ) (content synced : D → List ℕ) (written : D → Ranges) (plan : Content) (old new : Cluster D) where
-  went_on : (h : IsUpStrictly images faults strict armed content synced written plan old) (next : StrictSituation)
-      → StandsStrictly images faults strict armed content synced written plan new next → IsUp next → IsUpStrictly images faults strict armed content synced written plan new
-  went_on h next stands up = record { found = next; stands = stands; unarmed = up.unarmed; up = up.up }
+-- the law of one delivery
+abbrev pub DeliveryLaw : Type 0
+DeliveryLaw =
+    (plan : Content) (answers : Answers) (s : Situation) (message : ℕ) → IsPlan plan → waits s message ≡ true → IsServing plan s
+    → IsServing plan (tried (cluster_of plan) answers s (receiver_in s message) (MessageEvent message))
+    × ((a : Actor) (left : List Step) → HasGone plan s a left → HasGone plan (tried (cluster_of plan) answers s (receiver_in s message) (MessageEvent message)) a left)
 
-  pub command_up : (a : Actor) (command : Step) → is_command_of (cluster_of plan) a command ≡ true
-      → ((s : StrictSituation) → StandsStrictly images faults strict armed content synced written plan old s
-      → StepsStrictly images faults strict armed content synced written plan 0 command new s)
-      → IsUpStrictly images faults strict armed content synced written plan old → IsUpStrictly images faults strict armed content synced written plan new
-  command_up a command own steps h =
-      let n = steps h.found h.stands in
-      went_on h n.next n.stands (up_command (cluster_of plan) 0 a command h.found n.next own n.next_is (record { unarmed = h.unarmed; up = h.up }))
+-- the deliveries serve, and nobody goes down
+pub record IsDrainedTo (plan : Content) (reached s : StrictSituation) : Type 0 where
+  pub serving : IsServing plan reached.found
+  pub gone : (a : Actor) (left : List Step) → HasGone plan s.found a left → HasGone plan reached.found a left
+  pub up : IsUp reached
+  pub behind : Begins s.found.own reached.found.own
 
-  pub drained_up : ((s : StrictSituation) → StandsStrictly images faults strict armed content synced written plan old s
-      → StepsStrictly images faults strict armed content synced written plan 0 Drain new s)
-      → IsUpStrictly images faults strict armed content synced written plan old → IsUpStrictly images faults strict armed content synced written plan new
-  drained_up steps h =
-      let n = steps h.found h.stands in
-      went_on h n.next n.stands (up_drained (cluster_of plan) n.next h.found n.next_is (record { unarmed = h.unarmed; up = h.up }))
+module _ (plan : Content) (valid : IsPlan plan) (law : DeliveryLaw) where
+  pub drained_to : (reached s : StrictSituation) → StrictlyDrainsTo (cluster_of plan) reached s → IsServing plan s.found → IsUp s → IsDrainedTo plan reached s
+  drained_to reached s (comes _ is) serving up =
+      subst (λ t. IsDrainedTo plan t s) (sym is) (record { serving = serving; gone = λ a left gone. gone; up = up; behind = begins_itself s.found.own })
+  drained_to reached s (goes_on _ n oldest rest) serving up =
+      let a : Actor = receiver_in s.found n in
+      let next : StrictSituation = tried_strictly (cluster_of plan) s a (MessageEvent n) in
+      let one = law plan (step_answers s.disks a) s.found n valid oldest.0 serving in
+      let more = drained_to reached next rest one.0 (up_tried (cluster_of plan) s a (MessageEvent n) up) in
+      record {
+        serving = more.serving;
+        gone = λ b left gone. more.gone b left (one.1 b left gone);
+        up = more.up;
+        behind =
+            begins_chain s.found.own next.found.own reached.found.own (tried_adds (cluster_of plan) (step_answers s.disks a) s.found a (MessageEvent n)) more.behind;
+      }

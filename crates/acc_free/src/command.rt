@@ -1,5 +1,5 @@
 //! The commands of one actor.
-ghost use Rattle.std.specs.Prelude.{◌≡◌, true, List, Contains, IfOk, IfErr, OnOk};
+ghost use Rattle.std.specs.Prelude.{◌≡◌, Bool, true, false, Contains, IfOk, IfErr, OnOk};
 ghost use Rattle.acc_schedule.specs.Actors.{actors};
 ghost use Rattle.acc_schedule.specs.Content.{Content};
 ghost use Rattle.acc_schedule.specs.Plan.{IsPlan};
@@ -11,7 +11,7 @@ ghost use Rattle.acc_cluster.specs.Steps.{IfLimit};
 ghost use Rattle.acc_served.specs.Commands.{is_command_of};
 ghost use Rattle.acc_served.specs.Serving.{HasGone};
 ghost use Rattle.acc_free.specs.Queues.{left_in};
-ghost use Rattle.acc_free.specs.Moves.{Serves, IsTurn, HasMoved, EachWent, EndsFreely, IsUpStrictly};
+ghost use Rattle.acc_free.specs.Moves.{Serves, IsTurn, HasMoved, EachWent, EndsFreely};
 
 use crate::rest::Queue;
 use acc_cluster::Cluster;
@@ -84,14 +84,12 @@ fn take_command<D: Rig + Drop>(
 ) -> Result<bool, RunError>
     requires is_plan { IsPlan plan.now }
     requires known { Contains (actors plan.now.topology) queue.old.actor }
-    requires standing { (s : Situation) × Serves D.is_image D.faults plan.now cluster.old s × HasGone plan.now s queue.old.actor (left_in queue.old) }
+    requires standing { (s : Situation) × Serves D.is_image D.faults D.strict D.armed D.content D.synced D.written false plan.now cluster.old s × HasGone plan.now s queue.old.actor (left_in queue.old) }
     ensures same { queue.new.actor ≡ queue.old.actor }
-    ensures ok { IfOk result (λ went. (s : Situation) → Serves D.is_image D.faults plan.now cluster.old s → HasGone plan.now s queue.old.actor (left_in queue.old)
-        → HasMoved D.is_image D.faults plan.now queue.old.actor (left_in queue.old) (left_in queue.new) went cluster.new s) }
-    ensures limit { IfErr result (IfLimit (λ which most. (s : Situation) → Serves D.is_image D.faults plan.now cluster.old s → HasGone plan.now s queue.old.actor (left_in queue.old)
-        → EachWent plan.now s → EndsFreely plan.now s.own which most)) }
-    ensures strict { OnOk result (IsUpStrictly D.is_image D.faults D.strict D.armed D.content D.synced D.written plan.now cluster.old
-        → IsUpStrictly D.is_image D.faults D.strict D.armed D.content D.synced D.written plan.now cluster.new) }
+    ensures ok { IfOk result (λ went. (strict_run : Bool) (s : Situation) → Serves D.is_image D.faults D.strict D.armed D.content D.synced D.written strict_run plan.now cluster.old s → HasGone plan.now s queue.old.actor (left_in queue.old)
+        → HasMoved D.is_image D.faults D.strict D.armed D.content D.synced D.written strict_run plan.now queue.old.actor (left_in queue.old) (left_in queue.new) went cluster.new s) }
+    ensures limit { IfErr result (IfLimit (λ which most. (strict_run : Bool) (s : Situation) → Serves D.is_image D.faults D.strict D.armed D.content D.synced D.written strict_run plan.now cluster.old s → HasGone plan.now s queue.old.actor (left_in queue.old)
+        → EachWent plan.now s → EndsFreely strict_run plan.now s.own which most)) }
 {
     schedule_steps_serve();
     let commands = queue.commands.as_slice();
@@ -121,14 +119,12 @@ pub(crate) fn take_commands<D: Rig + Drop>(
 ) -> Result<bool, RunError>
     requires is_plan { IsPlan plan.now }
     requires known { Contains (actors plan.now.topology) queue.old.actor }
-    requires standing { (s : Situation) × Serves D.is_image D.faults plan.now cluster.old s × HasGone plan.now s queue.old.actor (left_in queue.old) }
+    requires standing { (s : Situation) × Serves D.is_image D.faults D.strict D.armed D.content D.synced D.written false plan.now cluster.old s × HasGone plan.now s queue.old.actor (left_in queue.old) }
     ensures same { queue.new.actor ≡ queue.old.actor }
-    ensures ok { IfOk result (λ went. (s : Situation) → Serves D.is_image D.faults plan.now cluster.old s → HasGone plan.now s queue.old.actor (left_in queue.old)
-        → HasMoved D.is_image D.faults plan.now queue.old.actor (left_in queue.old) (left_in queue.new) went cluster.new s) }
-    ensures limit { IfErr result (IfLimit (λ which most. (s : Situation) → Serves D.is_image D.faults plan.now cluster.old s → HasGone plan.now s queue.old.actor (left_in queue.old)
-        → EachWent plan.now s → EndsFreely plan.now s.own which most)) }
-    ensures strict { OnOk result (IsUpStrictly D.is_image D.faults D.strict D.armed D.content D.synced D.written plan.now cluster.old
-        → IsUpStrictly D.is_image D.faults D.strict D.armed D.content D.synced D.written plan.now cluster.new) }
+    ensures ok { IfOk result (λ went. (strict_run : Bool) (s : Situation) → Serves D.is_image D.faults D.strict D.armed D.content D.synced D.written strict_run plan.now cluster.old s → HasGone plan.now s queue.old.actor (left_in queue.old)
+        → HasMoved D.is_image D.faults D.strict D.armed D.content D.synced D.written strict_run plan.now queue.old.actor (left_in queue.old) (left_in queue.new) went cluster.new s) }
+    ensures limit { IfErr result (IfLimit (λ which most. (strict_run : Bool) (s : Situation) → Serves D.is_image D.faults D.strict D.armed D.content D.synced D.written strict_run plan.now cluster.old s → HasGone plan.now s queue.old.actor (left_in queue.old)
+        → EachWent plan.now s → EndsFreely strict_run plan.now s.own which most)) }
 {
     let mut went = false;
     'commands: while take_command(cluster, plan, queue)? {

@@ -1,5 +1,5 @@
 //! The end of free items.
-ghost use Rattle.std.specs.Prelude.{◌≡◌, None, List, reverse, map, IfOk, IfErr};
+ghost use Rattle.std.specs.Prelude.{◌≡◌, true, false, None, List, reverse, map, IfOk, IfErr};
 ghost use Rattle.acc_stamp.specs.declared.actors.Actor.{Actor};
 ghost use Rattle.acc_schedule.specs.Plan.{IsPlan};
 ghost use Rattle.acc_follow.specs.Situations.{Stopped};
@@ -34,7 +34,10 @@ pub fn finish<D: Rig + Drop>(
     requires actors { AreAllActors plan.now (map rest_actor rests.items) }
     requires standing { (stopped : List Stopped) × AreResting D.is_image D.faults plan.now rests.items entered stopped }
     ensures ok { IfOk result (HasFinished D.is_image D.faults plan.now entered) }
-    ensures limit { IfErr result (IfLimit (EndsFreely plan.now (reverse entered))) }
+    ensures limit { IfErr result (IfLimit (EndsFreely false plan.now (reverse entered))) }
+    ensures strict_limit { (stopped : List Stopped) (disks : StrictDisks) → AreResting D.is_image D.faults plan.now rests.items entered stopped
+        → AreStrictSlots D.strict D.armed D.content D.synced D.written plan.now (behind_items entered stopped) disks (map placed_in rests.items)
+        → ((a : Actor) → disks.armed a ≡ None) → NobodyIsDown (reverse entered) → IfErr result (IfLimit (EndsFreely true plan.now (reverse entered))) }
     ensures strict { (stopped : List Stopped) (disks : StrictDisks) → AreResting D.is_image D.faults plan.now rests.items entered stopped
         → AreStrictSlots D.strict D.armed D.content D.synced D.written plan.now (behind_items entered stopped) disks (map placed_in rests.items)
         → ((a : Actor) → disks.armed a ≡ None) → NobodyIsDown (reverse entered) → IfOk result (λ ended. NobodyIsDown (reverse ended.items)) }

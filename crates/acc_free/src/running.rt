@@ -54,7 +54,7 @@ where
     // Whatever the disks answered and in whatever order turns came, every actor took its turns, and the items are within the limits.
     ensures served { IfOk result (λ items. IsServed plan.now (reverse items)) }
     ensures within { IfOk result (λ items. IsWithin (reverse items)) }
-    ensures limit { IfErr result (λ e. (which : Which) (number : ℕ) → e ≡ Why.Limit which number → EndsFreely plan.now [] which number) }
+    ensures limit { IfErr result (λ e. (which : Which) (number : ℕ) → e ≡ Why.Limit which number → EndsFreely (M.strict disks.old) plan.now [] which number) }
     ensures stayed { IsTrue (M.strict disks.old) → IfOk result (λ items. NobodyIsDown (reverse items)) }
 
     ensures given { IfOk result (λ items. GivesBack M.D.faults M.D.is_image plan.now (reverse items) (M.given disks.old) (M.given disks.new)) }
@@ -80,7 +80,7 @@ where
     requires is_plan { IsPlan plan.now }
     ensures served { IfOk result (λ items. IsServed plan.now (reverse items)) }
     ensures within { IfOk result (λ items. IsWithin (reverse items)) }
-    ensures limit { IfErr result (λ e. (which : Which) (number : ℕ) → e ≡ Why.Limit which number → EndsFreely plan.now [] which number) }
+    ensures limit { IfErr result (λ e. (which : Which) (number : ℕ) → e ≡ Why.Limit which number → EndsFreely J.strict plan.now [] which number) }
     ensures stayed { J.strict ≡ true → IfOk result (λ items. NobodyIsDown (reverse items)) }
     ensures given { IfOk result (λ items. GivesBack M.D.faults M.D.is_image plan.now (reverse items) (M.given disks.old) (M.given disks.new)) }
     ensures kind { M.strict disks.new ≡ M.strict disks.old }

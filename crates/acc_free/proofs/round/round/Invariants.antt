@@ -1,8 +1,8 @@
 -- The actors before this one took their commands.
-use Rattle.std.proofs.Common.{◌≡◌, length, map}
+use Rattle.std.proofs.Common.{◌≡◌, Bool, length, map}
 use Rattle.acc_follow.specs.Situations.{Situation}
 use Rattle.acc_free.specs.Queues.{actor_in, HaveGone}
-use Rattle.acc_free.specs.Moves.{Serves, IsUpStrictly}
+use Rattle.acc_free.specs.Moves.{Serves}
 use Rattle.acc_free.proofs.Rounds.{IsUnder}
 use Rattle.acc_free.proofs.round.round.Given as goal
 
@@ -10,9 +10,6 @@ abbrev pub invariant-loop-place : goal.invariant-loop-place
 invariant-loop-place g l = record {
   same : map actor_in l.queues.items ≡ map actor_in l.fn.queues.items;
   long : length l.queues.items ≡ length l.fn.queues.items;
-  under : (s : Situation) → Serves g.D.Disk.is_image g.D.Disk.faults l.plan l.fn.cluster s → HaveGone l.plan s l.fn.queues.items
-      → IsUnder g.D.Disk.is_image g.D.Disk.faults l.plan l.fn.queues.items l.queues.items l.place l.went l.cluster s;
-  strict :
-      IsUpStrictly g.D.Disk.is_image g.D.Disk.faults g.D.Disk.strict g.D.Disk.armed g.D.Disk.content g.D.Disk.synced g.D.Disk.written l.plan l.fn.cluster
-      → IsUpStrictly g.D.Disk.is_image g.D.Disk.faults g.D.Disk.strict g.D.Disk.armed g.D.Disk.content g.D.Disk.synced g.D.Disk.written l.plan l.cluster;
+  under : (strict_run : Bool) (s : Situation) → Serves g.D.Disk.is_image g.D.Disk.faults g.D.Disk.strict g.D.Disk.armed g.D.Disk.content g.D.Disk.synced g.D.Disk.written strict_run l.plan l.fn.cluster s → HaveGone l.plan s l.fn.queues.items
+      → IsUnder g.D.Disk.is_image g.D.Disk.faults g.D.Disk.strict g.D.Disk.armed g.D.Disk.content g.D.Disk.synced g.D.Disk.written strict_run l.plan l.fn.queues.items l.queues.items l.place l.went l.cluster s;
 }

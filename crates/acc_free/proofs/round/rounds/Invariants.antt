@@ -1,19 +1,16 @@
 -- All that waited was delivered, and some commands went by.
-use Rattle.std.proofs.Common.{◌≡◌, map}
+use Rattle.std.proofs.Common.{◌≡◌, Bool, map}
 use Rattle.acc_follow.specs.Situations.{Situation}
 use Rattle.acc_free.specs.Queues.{actor_in, HaveGone, count_left}
-use Rattle.acc_free.specs.Moves.{Serves, IsUpStrictly}
+use Rattle.acc_free.specs.Moves.{Serves}
 use Rattle.acc_free.proofs.Rounds.{HasCome}
 use Rattle.acc_free.proofs.round.rounds.Given as goal
 
 abbrev pub invariant-rounds : goal.invariant-rounds
 invariant-rounds g l = record {
   same : map actor_in l.queues.items ≡ map actor_in l.fn.queues.items;
-  come : (s : Situation) → Serves g.D.Disk.is_image g.D.Disk.faults l.plan l.fn.cluster s → HaveGone l.plan s l.fn.queues.items
-      → HasCome g.D.Disk.is_image g.D.Disk.faults l.plan l.queues.items l.cluster s;
-  strict :
-      IsUpStrictly g.D.Disk.is_image g.D.Disk.faults g.D.Disk.strict g.D.Disk.armed g.D.Disk.content g.D.Disk.synced g.D.Disk.written l.plan l.fn.cluster
-      → IsUpStrictly g.D.Disk.is_image g.D.Disk.faults g.D.Disk.strict g.D.Disk.armed g.D.Disk.content g.D.Disk.synced g.D.Disk.written l.plan l.cluster;
+  come : (strict_run : Bool) (s : Situation) → Serves g.D.Disk.is_image g.D.Disk.faults g.D.Disk.strict g.D.Disk.armed g.D.Disk.content g.D.Disk.synced g.D.Disk.written strict_run l.plan l.fn.cluster s → HaveGone l.plan s l.fn.queues.items
+      → HasCome g.D.Disk.is_image g.D.Disk.faults g.D.Disk.strict g.D.Disk.armed g.D.Disk.content g.D.Disk.synced g.D.Disk.written strict_run l.plan l.queues.items l.cluster s;
 }
 
 abbrev pub decreases-rounds : goal.decreases-rounds

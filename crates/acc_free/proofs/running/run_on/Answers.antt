@@ -1,8 +1,11 @@
 -- What is left undone is done, and the disks go back.
-use Rattle.std.proofs.Common.{List, ◌++◌, [], map, reverse, refl, sym, ◌∙◌, ap, append-nil}
+use Rattle.std.proofs.Common.{◌≡◌, Bool, true, false, List, ◌++◌, [], map, reverse, refl, sym, ◌∙◌, ap, append-nil}
+use Rattle.acc_message.specs.declared.error.RunError.{RunError}
 use Rattle.acc_message.specs.declared.item.Item.{Item}
+use Rattle.acc_schedule.specs.Content.{Content}
 use Rattle.acc_strict.specs.Disks.{fresh_disks}
 use Rattle.acc_limits.specs.Fronts.{Begins}
+use Rattle.acc_cluster.specs.Steps.{IfLimit}
 use Rattle.acc_run.specs.Given.{numbered}
 use Rattle.acc_run.proofs.Whole.{limit_told}
 use Rattle.acc_free.specs.Moves.{EndsFreely}
@@ -11,6 +14,12 @@ use Rattle.acc_free.proofs.running.run_on.Goals as goal
 
 none_begins : (items : List Item) → Begins [] items
 none_begins items = record { later = items; items_are = sym (append-nil items) }
+
+-- in a strict run, or in any
+either_limit : (plan : Content) (items : List Item) (error : RunError) (strict : Bool) → (strict ≡ true → IfLimit (EndsFreely true plan items) error)
+    → IfLimit (EndsFreely false plan items) error → IfLimit (EndsFreely strict plan items) error
+either_limit plan items error true strictly some = strictly refl
+either_limit plan items error false strictly some = some
 
 pub finish-requires-clause-standing : goal.finish-requires-clause-standing
 finish-requires-clause-standing g c = (c.in_ok-rests.ensures.rested.stopped, c.in_ok-rests.ensures.rested.resting)
@@ -33,6 +42,11 @@ returns-clause-given g c =
 pub returns-in_err-ended-clause-limit : goal.returns-in_err-ended-clause-limit
 returns-in_err-ended-clause-limit g c =
     let plan = c.args.plan.now in
+    let strict = g.J.Planned.strict in
     let items = reverse c.in_ok-rests.entered in
-    limit_told (EndsFreely plan []) c.in_err-ended.field-0.0 c.from_residual-in_err-ended.result c.from_residual-in_err-ended.ensures.1
-    (map_limit (EndsFreely plan items) (EndsFreely plan []) (λ which number ends. ends_later plan [] items which number (none_begins items) ends) c.in_err-ended.field-0.0 c.in_err-ended.ensures.limit)
+    let r = c.in_ok-rests.ensures.rested in
+    let error = c.in_err-ended.field-0.0 in
+    limit_told (EndsFreely strict plan []) error c.from_residual-in_err-ended.result c.from_residual-in_err-ended.ensures.1
+    (map_limit (EndsFreely strict plan items) (EndsFreely strict plan []) (λ which number ends. ends_later strict plan [] items which number (none_begins items) ends) error
+    (either_limit plan items error strict (λ is. c.in_err-ended.ensures.strict_limit r.stopped fresh_disks r.resting (r.strictly is) (λ a. refl) (r.up is))
+    c.in_err-ended.ensures.limit))
