@@ -33,6 +33,8 @@ pub struct Desk<D: Rig, J: Planned> {
     pub(crate) gone: usize,
     /// So many items, of those that the seat has seen, don't begin the transaction that the next command recovers.
     pub(crate) looked: u64,
+    /// How many messages the actor took. Nothing is said of it.
+    pub(crate) taken: u64,
 }
 
 /// Desks in the order of their actors.
@@ -83,6 +85,7 @@ impl<D: Rig + Drop, J: Planned> Desk<D, J> {
             commands,
             gone: 0,
             looked: 0,
+            taken: 0,
         }
     }
 
@@ -98,6 +101,7 @@ impl<D: Rig + Drop, J: Planned> Desk<D, J> {
             commands,
             gone,
             looked: _,
+            taken: _,
         } = self;
         Parts {
             actor,

@@ -5,6 +5,7 @@
 #![tactic(auto)]
 
 mod ask;
+mod bell;
 mod desk;
 mod floor;
 pub mod laws;

@@ -11,7 +11,6 @@ use acc_base::OutOfMemory;
 use acc_ports::{Gate, Rig};
 use acc_schedule::Plan;
 use std::sync::Wait;
-use std::thread::yield_now;
 
 /// Desks that were served, and whether memory was refused meanwhile.
 #[derive(Drop)]
@@ -20,11 +19,22 @@ pub struct Served<D: Rig, J: Planned> {
     pub refused: bool,
 }
 
+// Lets others call the worker for what comes to its desks.
+fn keep<D: Rig + Drop, J: Planned>(desks: &Desks<D, J>, worker: usize, floor: &Floor) {
+    for desk in desks {
+        floor.keep(worker, desk.actor);
+        if desk.recovers() {
+            floor.await_begins(worker);
+        }
+    }
+}
+
 // A turn of each desk. It ends early where the tape is full.
 fn round<W: Wait, G: Gate, D: Rig + Drop, J: Planned>(
     rt: &W,
     plan: &Plan,
     desks: &mut Desks<D, J>,
+    floor: &Floor,
     tape: &PlanTape<J>,
     gate: &G,
     turns: &mut u64,
@@ -38,7 +48,7 @@ fn round<W: Wait, G: Gate, D: Rig + Drop, J: Planned>(
 {
     let mut all = Turned::Idle;
     for place in 0..desks.len() {
-        match desks[place].turn(rt, plan, tape, gate, *turns)? {
+        match desks[place].turn(rt, plan, floor, tape, gate, *turns)? {
             Turned::Idle => {}
             Turned::Taken => {
                 all = Turned::Taken;
@@ -69,23 +79,20 @@ fn rounds<W: Wait, G: Gate, D: Rig + Drop, J: Planned>(
 {
     let mut turns = 0;
     for _ in rt.forever() {
-        let ends = floor.is_idle();
-        match round(rt, plan, desks, tape, gate, &mut turns)? {
+        let heard = floor.calls(worker);
+        match round(rt, plan, desks, floor, tape, gate, &mut turns)? {
             Turned::Full => break,
-            Turned::Taken => floor.set(worker, true),
-            Turned::Idle if ends => break,
-            Turned::Idle => {
-                floor.set(worker, false);
-                yield_now();
-            }
+            Turned::Taken => {}
+            Turned::Idle if floor.has_ended() => break,
+            Turned::Idle => floor.rest(rt, worker, heard),
         }
     }
     Ok(())
 }
 
-/// Goes round the desks of a worker and gives each a turn, until there is nothing to do on the whole floor or the tape is full. Where memory
-/// is refused it ends with `refused`: then each desk still keeps its actor, its commands and its seat, which holds nothing reserved. It
-/// waits where the tape is taken.
+/// Goes round the desks of a worker and gives each a turn, until there is nothing to do on the whole floor or the tape is full. Where
+/// memory is refused it ends with `refused`: then each desk still keeps its actor, its commands and its seat, which holds nothing reserved.
+/// It waits where the tape is taken, and for calls of other workers while its own desks have nothing to do.
 pub fn serve<W: Wait, G: Gate, D: Rig + Drop, J: Planned>(
     rt: &W,
     plan: &Plan,
@@ -102,6 +109,7 @@ pub fn serve<W: Wait, G: Gate, D: Rig + Drop, J: Planned>(
     ensures sound { result.refused ≡ false → AreSound D.is_image D.faults D.strict D.armed D.content D.synced D.written J.strict plan.now tape.now result.desks.items }
     ensures seated { AreSeated tape.now result.desks.items }
 {
+    keep(&desks, worker, floor);
     let mut desks = desks;
     let served = rounds(rt, plan, &mut desks, worker, floor, tape, gate);
     floor.clear(worker);

@@ -6,6 +6,7 @@ ghost use Rattle.acc_desk.specs.Desks.{newest, item_of, IsSeated, IsSound, MaySt
 
 use crate::ask::{Ask, step, weigh};
 use crate::desk::Desk;
+use crate::floor::Floor;
 use crate::rules::{PlanTape, Planned};
 use crate::turning::Turned;
 use acc_base::OutOfMemory;
@@ -31,12 +32,30 @@ pub(crate) fn item_for(actor: Actor, event: Event, given: Option<Emitted>) -> It
     }
 }
 
+// Counts what is sent. Answers the bits of the workers that are to be called once it is entered.
+fn count_sent(floor: &Floor, given: &Option<Emitted>) -> u64 {
+    match given {
+        Some(emitted) => floor.send(emitted.out.as_slice()),
+        None => 0,
+    }
+}
+
+// Calls the workers with these bits, and those that wait for a begin if this was one.
+fn call_for(floor: &Floor, ask: Ask, workers: u64) {
+    floor.call(workers);
+    if let Ask::Begin { .. } = ask {
+        floor.call_waiting();
+    }
+}
+
 impl<D: Rig + Drop, J: Planned> Desk<D, J> {
-    /// The actor takes what it is asked for, where the tape has room for it. Then so many commands have gone by.
+    /// The actor takes what it is asked for, where the tape has room for it. Then so many commands have gone by, and the workers that have
+    /// something to do by it are called.
     pub(crate) fn take<W: Wait, G: Gate>(
         &mut self,
         rt: &W,
         plan: &Plan,
+        floor: &Floor,
         tape: &PlanTape<J>,
         gate: &G,
         turn: u64,
@@ -62,8 +81,10 @@ impl<D: Rig + Drop, J: Planned> Desk<D, J> {
             tape.release(rt, &mut self.seat, weight);
             return Err(OutOfMemory);
         };
+        let keepers = count_sent(floor, &given);
         let item = item_for(self.actor, ask.event(), given);
         tape.put(rt, self.alloc, &mut self.seat, weight, item)?;
+        call_for(floor, ask, keepers);
         self.gone = gone;
         Ok(Turned::Taken)
     }

@@ -12,6 +12,7 @@ ghost use Rattle.acc_desk.specs.Desks.{newest, IsSeated, IsSound, begins_it};
 
 use crate::ask::Ask;
 use crate::desk::Desk;
+use crate::floor::Floor;
 use crate::rules::{PlanTape, Planned};
 use acc_base::OutOfMemory;
 use acc_message::{Item, Message};
@@ -98,6 +99,7 @@ impl<D: Rig + Drop, J: Planned> Desk<D, J> {
         &mut self,
         rt: &W,
         plan: &Plan,
+        floor: &Floor,
         tape: &PlanTape<J>,
         gate: &G,
         turn: u64,
@@ -109,8 +111,8 @@ impl<D: Rig + Drop, J: Planned> Desk<D, J> {
         ensures ok { OnOk result (IsSound D.is_image D.faults D.strict D.armed D.content D.synced D.written J.strict plan.now tape.now self.new.actor self.new.seat self.new.slot self.new.commands self.new.gone) }
         ensures err { OnErr result (IsSeated tape.now self.new.actor [] self.new.seat) }
     {
-        match self.command(rt, plan, tape, gate, turn)? {
-            Turned::Idle => self.message(rt, plan, tape, gate, turn),
+        match self.command(rt, plan, floor, tape, gate, turn)? {
+            Turned::Idle => self.message(rt, plan, floor, tape, gate, turn),
             Turned::Taken => Ok(Turned::Taken),
             Turned::Full => Ok(Turned::Full),
         }
@@ -124,11 +126,27 @@ impl<D: Rig + Drop, J: Planned> Desk<D, J> {
         self.slot.is_down()
     }
 
+    // Whether the tape has to be asked for a message.
+    fn has_mail(&self, floor: &Floor) -> bool {
+        !self.slot.is_down() && floor.sent_to(self.actor) != self.taken
+    }
+
+    /// Whether the actor recovers any transaction.
+    pub(crate) fn recovers(&self) -> bool {
+        for command in self.commands.as_slice() {
+            if let Step::Recover { .. } = command {
+                return true;
+            }
+        }
+        false
+    }
+
     // The next command, if it can be taken.
     fn command<W: Wait, G: Gate>(
         &mut self,
         rt: &W,
         plan: &Plan,
+        floor: &Floor,
         tape: &PlanTape<J>,
         gate: &G,
         turn: u64,
@@ -144,9 +162,9 @@ impl<D: Rig + Drop, J: Planned> Desk<D, J> {
             return Ok(Turned::Idle);
         }
         match command_at(self.commands.as_slice(), self.gone) {
-            Some(Step::Begin { txn }) => self.begin(rt, plan, tape, gate, turn, txn),
+            Some(Step::Begin { txn }) => self.begin(rt, plan, floor, tape, gate, turn, txn),
             Some(Step::Recover { txn, node }) => {
-                self.recover(rt, plan, tape, gate, turn, txn, node)
+                self.recover(rt, plan, floor, tape, gate, turn, txn, node)
             }
             Some(Step::Restart { actor: _, choice }) => {
                 self.restart(rt, plan, tape, gate, turn, choice)
@@ -160,6 +178,7 @@ impl<D: Rig + Drop, J: Planned> Desk<D, J> {
         &mut self,
         rt: &W,
         plan: &Plan,
+        floor: &Floor,
         tape: &PlanTape<J>,
         gate: &G,
         turn: u64,
@@ -185,7 +204,7 @@ impl<D: Rig + Drop, J: Planned> Desk<D, J> {
         }
         let _home = home;
         let ask = Ask::Begin { txn, body };
-        self.take(rt, plan, tape, gate, turn, ask, self.gone + 1)
+        self.take(rt, plan, floor, tape, gate, turn, ask, self.gone + 1)
     }
 
     // Takes a transaction over, once it is begun.
@@ -193,6 +212,7 @@ impl<D: Rig + Drop, J: Planned> Desk<D, J> {
         &mut self,
         rt: &W,
         plan: &Plan,
+        floor: &Floor,
         tape: &PlanTape<J>,
         gate: &G,
         turn: u64,
@@ -222,12 +242,9 @@ impl<D: Rig + Drop, J: Planned> Desk<D, J> {
         if self.gone >= self.commands.len() {
             return Ok(Turned::Idle);
         }
+        self.looked = 0;
         let ask = Ask::Recover { txn, id, body };
-        let turned = self.take(rt, plan, tape, gate, turn, ask, self.gone + 1)?;
-        if turned == Turned::Taken {
-            self.looked = 0;
-        }
-        Ok(turned)
+        self.take(rt, plan, floor, tape, gate, turn, ask, self.gone + 1)
     }
 
     // Takes the oldest message to the actor.
@@ -235,6 +252,7 @@ impl<D: Rig + Drop, J: Planned> Desk<D, J> {
         &mut self,
         rt: &W,
         plan: &Plan,
+        floor: &Floor,
         tape: &PlanTape<J>,
         gate: &G,
         turn: u64,
@@ -246,6 +264,9 @@ impl<D: Rig + Drop, J: Planned> Desk<D, J> {
         ensures ok { OnOk result (IsSound D.is_image D.faults D.strict D.armed D.content D.synced D.written J.strict plan.now tape.now self.new.actor self.new.seat self.new.slot self.new.commands self.new.gone) }
         ensures err { OnErr result (IsSeated tape.now self.new.actor [] self.new.seat) }
     {
+        if !self.has_mail(floor) {
+            return Ok(Turned::Idle);
+        }
         let Some((post, sender)) = tape.next_with_item(rt, &mut self.seat, self.actor.0)? else {
             return Ok(Turned::Idle);
         };
@@ -255,8 +276,9 @@ impl<D: Rig + Drop, J: Planned> Desk<D, J> {
         if self.is_down() {
             return Ok(Turned::Idle);
         }
+        self.taken = self.taken.wrapping_add(1);
         let number = post.number;
         let ask = Ask::Message { number, message };
-        self.take(rt, plan, tape, gate, turn, ask, self.gone)
+        self.take(rt, plan, floor, tape, gate, turn, ask, self.gone)
     }
 }

@@ -6,10 +6,23 @@ ghost use Rattle.acc_free.specs.Dealing.{all_in};
 use acc_base::OutOfMemory;
 use std::alloc::Global;
 
-/// Deals things to so many hands, round and round: the thing with the number i, counted from 0, goes to the hand i modulo the count.
+// The hand for the thing with this number.
+fn hand_for(number: usize, together: usize, count: usize) -> usize
+    requires { 0 < count }
+    ensures { result < count }
+{
+    if number < together || count == 1 {
+        return 0;
+    }
+    1 + (number - together) % (count - 1)
+}
+
+/// Deals things to so many hands. The first ones go together to the first hand, and the others to the other hands, round and round. Where
+/// there is one hand, it gets all.
 pub(crate) fn deal<T: Drop>(
     alloc: Global,
     things: Vec<T>,
+    together: usize,
     count: usize,
 ) -> Result<Vec<Vec<T>>, OutOfMemory>
     requires { 0 < count }
@@ -19,10 +32,10 @@ pub(crate) fn deal<T: Drop>(
     let mut hands = empty(alloc, count)?;
     let mut rest = things;
     rest.reverse();
-    let mut place = 0;
+    let mut number: usize = 0;
     while let Some(thing) = rest.pop() {
-        put(&mut hands, place, thing)?;
-        place = if place + 1 == count { 0 } else { place + 1 };
+        put(&mut hands, hand_for(number, together, count), thing)?;
+        number = number.wrapping_add(1);
     }
     Ok(hands)
 }

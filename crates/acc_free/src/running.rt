@@ -114,7 +114,8 @@ where
     free_runs_begin();
     let (tape, mut first): (PlanTape<J>, First<J>) = Tape::new(alloc, MOST_ITEMS, MOST_BYTES)?;
     let all = desks(rt, alloc, plan, disks, &tape, &mut first)?;
-    let hands = deal(alloc, all, workers as usize)?;
+    let nodes = plan.topology.nodes().count_ones() as usize;
+    let hands = deal(alloc, all, nodes, workers as usize)?;
     let floor = Floor::new(alloc, workers as usize)?;
     let on = Shared {
         rt,
