@@ -27,7 +27,7 @@ use Rattle.acc_follow.specs.Laws.{NobodyIsDown}
 use Rattle.acc_report_line.specs.declared.line.Line.{Line}
 use Rattle.acc_report_line.specs.declared.line.Line.TheVariants.{End}
 use Rattle.acc_report_line.specs.Texts.{lines_text}
-use Rattle.acc_report.specs.Report.{is_begin, is_reply, last_line}
+use Rattle.acc_report.specs.Report.{is_begin, is_reply, last_line, report_text}
 use Rattle.acc_served.specs.Commands.{is_command_of, is_restart, is_event_of, is_message}
 use Rattle.acc_served.specs.Turns.{Went, begins, aside, delivered, took, came_up, stopped, stayed, went_down, kept, kept_message, passed}
 use Rattle.acc_served.specs.FreeRun.{is_plain, AreKnown}
@@ -39,7 +39,7 @@ use Rattle.acc_command.proofs.CalmReports.{ends_with_last}
 -- ---- lists
 
 module _ {X : Type 0} (P : X → Type 0) where
-  all_front : (front back : List X) → AllByRecursion P (front ++ back) → AllByRecursion P front
+  pub all_front : (front back : List X) → AllByRecursion P (front ++ back) → AllByRecursion P front
   all_front [] back all = tt
   all_front (x ∷ front) back all = (all.0, all_front front back all.1)
 
@@ -47,11 +47,11 @@ module _ {X : Type 0} (P : X → Type 0) where
   all_joined [] back some others = others
   all_joined (x ∷ front) back some others = (some.0, all_joined front back some.1 others)
 
-  all_turned : (xs : List X) → AllByRecursion P xs → AllByRecursion P (reverse xs)
+  pub all_turned : (xs : List X) → AllByRecursion P xs → AllByRecursion P (reverse xs)
   all_turned [] all = tt
   all_turned (x ∷ xs) all = subst (AllByRecursion P) (sym (reverse-append (x ∷ []) xs)) (all_joined (reverse xs) (x ∷ []) (all_turned xs all.1) (all.0, tt))
 
-  all_filtered : (p : X → Bool) (xs : List X) → AllByRecursion P xs → AllByRecursion P (filter p xs)
+  pub all_filtered : (p : X → Bool) (xs : List X) → AllByRecursion P xs → AllByRecursion P (filter p xs)
   all_filtered p [] all = tt
   all_filtered p (x ∷ xs) all = by (p x) (all_filtered p xs all.1)
     where
@@ -72,7 +72,7 @@ all_forward (step ∷ steps) recovers restarts =
     let other = and_parts (not (is_restart step)) (list_all (λ s. not (is_restart s)) steps) restarts in
     ((not-true (is_recover step) one.0, not-true (is_restart step) other.0), all_forward steps one.1 other.1)
 
-nothing : {A : Type 0} → false ≡ true → A
+pub nothing : {A : Type 0} → false ≡ true → A
 nothing is = absurd (true≢false (sym is))
 
 forward_is_calm : (command : Step) (event : Event) → is_event_of command event ≡ true → IsForward command → is_calm_event event ≡ true
@@ -112,11 +112,11 @@ message_is_calm (RestartEvent count) is = nothing is
 
 -- ---- the items of an actor
 
-no_down : {A : Type 0} (actor : Actor) (items : List Item) → NobodyIsDown (Down actor ∷ items) → A
+pub no_down : {A : Type 0} (actor : Actor) (items : List Item) → NobodyIsDown (Down actor ∷ items) → A
 no_down actor items up = absurd (true≢false (sym up))
 
 module _ (a : Actor) where
-  no_stop : (items : List Item) (gone : List Step) (stop : Option Step) → Went a items gone stop → NobodyIsDown items → stop ≡ None
+  pub no_stop : (items : List Item) (gone : List Step) (stop : Option Step) → Went a items gone stop → NobodyIsDown items → stop ≡ None
   no_stop _ _ _ begins up = refl
   no_stop _ _ _ (aside item items gone stop apart went) up = no_stop items gone stop went (and_parts (is_no_down item) (list_all is_no_down items) up).1
   no_stop _ _ _ (delivered e items gone stop is went) up = no_stop items gone stop went up
@@ -193,3 +193,14 @@ module _ {D : Type 0} (faults : D → ℕ) (images : D → List ℕ → Type 0) 
         last.0,
         report.reports.prints ∙ last.1 ∙ ap (λ (line : Line). last.0 ++ lines_text (line ∷ [])) (calm items served (report.reports.also.stayed refl)),
       )
+
+  -- what each report of served items of a plan ends with, that of its document ends with
+  pub free_ends_alike : (end : List ℕ)
+      → ((items : List Item) → IsServed plan items → NobodyIsDown items → (front : List ℕ) × (report_text plan.print plan.names [] items ≡ front ++ end))
+      → Means bytes plan → IsReport (OverThreads faults images true before after) bytes text → (front : List ℕ) × (text ≡ front ++ end)
+  free_ends_alike end each says report =
+      let same : report.plan ≡ plan = same_plan bytes report.plan plan report.says says in
+      let items : List Item = report.reports.items in
+      let served : IsServed plan items = subst (λ p. IsServed p items) same report.reports.also.served in
+      let found = each items served (report.reports.also.stayed refl) in
+      (found.0, report.reports.prints ∙ ap (λ (p : Content). report_text p.print p.names [] items) same ∙ found.1)

@@ -7,3 +7,4 @@ pub mod CalmReports
 mod GeneratedReports
 pub mod LineFacts
 pub mod FreeReports
+pub mod FreeCounts

@@ -17,8 +17,8 @@ ghost use Rattle.acc_command.specs.Command.{IsDue, IsGenerated, IsReport, OverDi
 ghost use Rattle.acc_command.specs.Free.{HasNoRestart};
 ghost use Rattle.acc_command.specs.Words.{IsGenerateLine};
 
-use acc_generated_runs::laws::generated_documents_are_answered;
-use acc_generator::laws::generated_documents_are_accepted;
+use acc_generated_runs::laws::{generated_documents_are_answered, replies_are_few};
+use acc_generator::laws::{generated_documents_are_accepted, generated_plans_keep_the_rules};
 use acc_limits::laws::{a_limit_or_the_whole_over_strict_disks, one_limit_over_strict_disks};
 use acc_plan_laws::laws::plans_run_safely_over_strict_disks;
 use acc_ports::DiskMaker;
@@ -68,6 +68,20 @@ pub fn free_reports_leave_none_open<M: DiskMaker>()
         HasNoRecover plan.steps → HasNoRestart plan.steps → IsReport (OverThreads M.D.faults M.D.is_image true before after) bytes text →
         (begun : ℕ) × (replied : ℕ) × (front : List ℕ) × (text ≡ front ++ lines_text (Line.End begun replied 0 ∷ [])) }
 {
+    served_commands_are_taken();
+    served_runs_are_answered();
+}
+
+/// What `gen --seed N --txns M` writes, given to `free` over strict disks, on however many threads: where the status is 0, the report ends
+/// with the line `end txns=M replied=M open=0`.
+pub fn generated_reports_of_free_leave_none_open<M: DiskMaker>()
+    ensures { (before after : List (ℕ × M.D)) (words : List (List ℕ)) (seed txns : ℕ) (bytes text : List ℕ) → IsGenerateLine words seed txns →
+        IsGenerated seed txns Status.Done bytes → IsDue (OverThreads M.D.faults M.D.is_image true before after) Run bytes Status.Done text →
+        (front : List ℕ) × (text ≡ front ++ answered_text txns) }
+{
+    generated_documents_are_accepted();
+    generated_plans_keep_the_rules();
+    replies_are_few();
     served_commands_are_taken();
     served_runs_are_answered();
 }

@@ -1,4 +1,4 @@
 mod FewReplies
 mod Begun
 mod Counted
-mod Generated
+pub mod Generated
