@@ -6,8 +6,8 @@ use Rattle.acc_command.proofs.laws.free_reports_leave_none_open.Goals as goal
 pub returns : goal.returns
 returns g c = record {
   answered = λ before after plan items is recovers restarts over. (
-      c.served_commands_are_taken.ensures plan items is over.served (over.stayed refl) recovers,
-      c.served_runs_are_answered.ensures.answered plan items is over.served (quiet_served plan items over.served (over.stayed refl) recovers restarts),
+    c.served_commands_are_taken.ensures plan items is over.served (over.stayed refl) recovers,
+    c.served_runs_are_answered.ensures.answered plan items is over.served (quiet_served plan items over.served (over.stayed refl) recovers restarts),
   );
   report = λ before after bytes text plan is says recovers restarts report.
       free_none_open g.M.D.Disk.faults g.M.D.Disk.is_image before after bytes text plan
