@@ -1,5 +1,5 @@
 -- One command more goes by, or the next one is held.
-use Rattle.std.proofs.Common.{◌∙◌, refl, sym, subst, Contains}
+use Rattle.std.proofs.Common.{◌∙◌, false, refl, sym, subst, Contains}
 use Rattle.acc_stamp.specs.declared.actors.Actor.{Actor}
 use Rattle.acc_schedule.specs.Actors.{actors}
 use Rattle.acc_free.specs.Queues.{left_in}
@@ -65,5 +65,5 @@ returns-in_err-take_command-clause-limit g c =
     (λ which most ends strict_run s serves gone each.
     let m = c.commands.invariant.moving strict_run s serves gone in
     moved_limit g.D.Disk.is_image g.D.Disk.faults g.D.Disk.strict g.D.Disk.armed g.D.Disk.content g.D.Disk.synced g.D.Disk.written strict_run c.args.plan.now c.args.queue.now.actor s (left_in c.args.queue.now) (left_in c.commands.queue) c.commands.went c.commands.cluster m
-    c.commands.queue.actor c.commands.invariant.same which most ends each)
+    c.commands.queue.actor c.commands.invariant.same which most (ends strict_run) each)
     c.in_err-take_command.ensures.limit

@@ -1,5 +1,5 @@
 -- One actor more took its commands.
-use Rattle.std.proofs.Common.{◌≡◌, ◌∙◌, ◌+◌, length, map, slice_get, slice_set, Some, refl, sym, subst, arith}
+use Rattle.std.proofs.Common.{false, ◌≡◌, ◌∙◌, ◌+◌, length, map, slice_get, slice_set, Some, refl, sym, subst, arith}
 use Rattle.std.proofs.lemmas.Option.{slice_get_read}
 use Rattle.std.proofs.lemmas.List.{length-set}
 use Rattle.acc_free.specs.Queues.{actor_in}

@@ -1,5 +1,5 @@
 -- One round more with all deliveries, or the last one.
-use Rattle.std.proofs.Common.{◌∙◌, map, refl, sym, subst}
+use Rattle.std.proofs.Common.{◌∙◌, false, map, refl, sym, subst}
 use Rattle.acc_free.specs.Queues.{actor_in, AreAllActors}
 use Rattle.acc_free.specs.Moves.{HasGoneRound}
 use Rattle.acc_free.proofs.Steps.{limit_handed, ends_later}
