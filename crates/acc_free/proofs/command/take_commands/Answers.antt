@@ -21,7 +21,7 @@ take_command-requires-clause-known g c =
 pub take_command-requires-clause-standing : goal.take_command-requires-clause-standing
 take_command-requires-clause-standing g c =
     let s = c.requires.standing.0 in
-    let m = c.commands.invariant.moving s c.requires.standing.1 c.requires.standing.2 in (
+    let m = c.commands.invariant.moving false s c.requires.standing.1 c.requires.standing.2 in (
       m.reached,
       m.serves,
       gone_so_far g.D.Disk.is_image g.D.Disk.faults g.D.Disk.strict g.D.Disk.armed g.D.Disk.content g.D.Disk.synced g.D.Disk.written false c.args.plan.now c.args.queue.now.actor s (left_in c.args.queue.now) (left_in c.commands.queue) c.commands.went c.commands.cluster m
@@ -31,7 +31,7 @@ take_command-requires-clause-standing g c =
 pub commands-smaller : goal.commands-smaller
 commands-smaller g c =
     let s = c.requires.standing.0 in
-    let m = c.commands.invariant.moving s c.requires.standing.1 c.requires.standing.2 in
+    let m = c.commands.invariant.moving false s c.requires.standing.1 c.requires.standing.2 in
     let gone = gone_so_far g.D.Disk.is_image g.D.Disk.faults g.D.Disk.strict g.D.Disk.armed g.D.Disk.content g.D.Disk.synced g.D.Disk.written false c.args.plan.now c.args.queue.now.actor s (left_in c.args.queue.now) (left_in c.commands.queue) c.commands.went c.commands.cluster m
     c.commands.queue.actor c.commands.invariant.same in
     fewer_left g.D.Disk.is_image g.D.Disk.faults g.D.Disk.strict g.D.Disk.armed g.D.Disk.content g.D.Disk.synced g.D.Disk.written false c.args.plan.now c.args.queue.now.actor s (left_in c.args.queue.now) (left_in c.commands.queue) c.commands.went c.commands.cluster m

@@ -2,6 +2,7 @@
 use Rattle.std.proofs.Common.{◌∙◌, true, false, List, map, refl, sym, ap, subst}
 use Rattle.std.proofs.lemmas.Bool.{true≢false}
 use Rattle.acc_stamp.specs.declared.actors.Actor.{Actor}
+use Rattle.acc_message.specs.declared.error.RunError.TheVariants as why
 use Rattle.acc_cluster.specs.declared.slot.Slot.{Slot}
 use Rattle.acc_cluster.specs.Over.{behind_items, IsOver, AreSlotsOf, AreStrictSlots}
 use Rattle.acc_free.specs.declared.rest.Queue.{Queue}
@@ -102,3 +103,15 @@ returns-in_err-rounds-clause-strict_limit g c = λ stopped disks resting strictl
     let gone = subst (HaveGone plan s) (sym c.in_ok-slots.ensures.queues) (rests_gone plan s c.args.rests.items resting.gone) in
     limit_handed _ _ c.from_residual-in_err-rounds.result c.in_err-rounds.field-0.0 c.from_residual-in_err-rounds.ensures.1 (λ which most ends. ends true s serves gone)
     c.in_err-rounds.ensures.limit
+
+pub returns-in_err-slots-clause-strict_limit : goal.returns-in_err-slots-clause-strict_limit
+returns-in_err-slots-clause-strict_limit g c = λ stopped disks resting strictly unarmed up.
+    limit_handed (λ which most. ⊥) _ c.from_residual.result why.OutOfMemory c.from_residual.ensures.1 (λ which most none. absurd none) tt
+
+pub returns-in_err-cluster-clause-strict_limit : goal.returns-in_err-cluster-clause-strict_limit
+returns-in_err-cluster-clause-strict_limit g c = λ stopped disks resting strictly unarmed up.
+    limit_handed (λ which most. ⊥) _ c.from_residual-in_err-cluster.result why.OutOfMemory c.from_residual-in_err-cluster.ensures.1 (λ which most none. absurd none) tt
+
+pub returns-in_err-finish-clause-strict_limit : goal.returns-in_err-finish-clause-strict_limit
+returns-in_err-finish-clause-strict_limit g c = λ stopped disks resting strictly unarmed up.
+    limit_handed (λ which most. ⊥) _ c.from_residual-in_err-finish.result why.OutOfMemory c.from_residual-in_err-finish.ensures.1 (λ which most none. absurd none) tt

@@ -41,7 +41,7 @@ loop-place-preserved g c =
     let turned = c.take_commands.new.queue in
     let now = slice_set c.loop-place.queues.items c.loop-place.place turned in
     record {
-      same = still_named g.D.Disk.is_image g.D.Disk.faults g.D.Disk.strict g.D.Disk.armed g.D.Disk.content g.D.Disk.synced g.D.Disk.written strict_run c.args.plan.now c.requires.standing.0 c.args.queues.now.items c.loop-place.queues.items c.loop-place.place names c.loop-place.invariant.same c.requires.actors queue turned there c.take_commands.ensures.same;
+      same = still_named g.D.Disk.is_image g.D.Disk.faults g.D.Disk.strict g.D.Disk.armed g.D.Disk.content g.D.Disk.synced g.D.Disk.written false c.args.plan.now c.requires.standing.0 c.args.queues.now.items c.loop-place.queues.items c.loop-place.place names c.loop-place.invariant.same c.requires.actors queue turned there c.take_commands.ensures.same;
       long = length-set c.loop-place.queues.items c.loop-place.place turned ∙ c.loop-place.invariant.long;
       under = λ strict_run s serves gone.
           let under = c.loop-place.invariant.under strict_run s serves gone in
