@@ -2,12 +2,13 @@
 ghost use Rattle.std.specs.Prelude.{OnOk};
 ghost use Rattle.acc_node_tables.specs.Pairs.{AreTwins};
 
+use crate::document::Document;
 use crate::twins::{Told, Twins};
+use acc_message::Message;
 use acc_message_code::decode;
-use acc_schedule::Plan;
 use acc_stamp::{Stamp, TxnId};
 use acc_txn::Body;
-use anyhow::{Context, Result};
+use anyhow::{Context, Result, bail};
 use serde_json::Value;
 use std::alloc::Global;
 
@@ -46,26 +47,31 @@ impl<'l> Asked<'l> {
     }
 
     /// What a node tells of it.
-    pub fn told(&self, alloc: Global, plan: &Plan, twins: &mut Twins) -> Result<Told>
+    pub fn told(&self, alloc: Global, document: &Document, twins: &mut Twins) -> Result<Told>
         requires { AreTwins twins.old.topology twins.old.height twins.old.first twins.old.second }
         ensures { OnOk result (AreTwins twins.new.topology twins.new.height twins.new.first twins.new.second) }
     {
         match self {
-            Asked::Begin(txn) => twins.begin(*txn, body_of(plan, *txn)?),
-            Asked::Recover(id, txn) => twins.recover(*id, body_of(plan, *txn)?),
+            Asked::Begin(txn) => twins.begin(*txn, body_of(document, *txn)?),
+            Asked::Recover(id, txn) => twins.recover(*id, body_of(document, *txn)?),
             Asked::Slow(txn) => twins.slow(*txn),
-            Asked::Take(digits) => {
-                let bytes = hex::decode(alloc, digits)?;
-                let message = decode(alloc, bytes.as_slice())?;
-                twins.take(&message)
-            }
+            Asked::Take(digits) => twins.take(&message(alloc, digits)?),
             Asked::Restart => twins.restart(alloc),
         }
     }
 }
 
-fn body_of(plan: &Plan, txn: u32) -> Result<&Body> {
-    plan.bodies
+fn message(alloc: Global, digits: &str) -> Result<Message> {
+    let bytes = hex::decode(alloc, digits)?;
+    match decode(alloc, bytes.as_slice()) {
+        Ok(message) => Ok(message),
+        Err(_) => bail!("no message"),
+    }
+}
+
+fn body_of(document: &Document, txn: u32) -> Result<&Body> {
+    document
+        .bodies
         .as_slice()
         .get(txn as usize)
         .context("no transaction")

@@ -1,8 +1,8 @@
 //! A case of the table.
 use crate::asked::Asked;
+use crate::document::Document;
 use crate::lines::lines;
 use crate::twins::Twins;
-use acc_schedule::Plan;
 use acc_topology::NodeSpec;
 use anyhow::{Context, Result};
 use serde_json::Value;
@@ -33,13 +33,13 @@ fn parts(block: &Value) -> Option<Option<Case<'_>>> {
 
 impl Case<'_> {
     /// The first step that goes otherwise, if there is one.
-    pub fn first_otherwise(&self, alloc: Global, plan: &Plan) -> Result<Option<usize>> {
-        let topology = plan.topology.copy()?;
-        let node = self.start(plan).context("no node of the document")?;
+    pub fn first_otherwise(&self, alloc: Global, document: &Document) -> Result<Option<usize>> {
+        let topology = document.topology.copy()?;
+        let node = self.start(document).context("no node of the document")?;
         let mut twins = Twins::new(alloc, topology, node)?;
         for (place, step) in self.steps.iter().enumerate() {
             let (asked, wanted) = Asked::read(step).context("a step of another form")?;
-            let told = asked.told(alloc, plan, &mut twins)?;
+            let told = asked.told(alloc, document, &mut twins)?;
             if !are_same(lines(alloc, &told)?.as_slice(), wanted) {
                 return Ok(Some(place));
             }
@@ -48,8 +48,8 @@ impl Case<'_> {
     }
 
     // The node in the document, with the start of its clock.
-    fn start(&self, plan: &Plan) -> Option<NodeSpec> {
-        for node in plan.starts.as_slice() {
+    fn start(&self, document: &Document) -> Option<NodeSpec> {
+        for node in document.starts.as_slice() {
             if node.id == self.node {
                 return Some(*node);
             }

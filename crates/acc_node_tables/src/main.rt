@@ -21,6 +21,7 @@
 
 mod asked;
 mod case;
+mod document;
 mod lines;
 mod table;
 mod twins;

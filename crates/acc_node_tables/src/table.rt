@@ -1,14 +1,14 @@
 //! The blocks of the table.
 use crate::case;
-use acc_schedule::{Plan, read_plan};
-use anyhow::{Context, Result};
+use crate::document::{self, Document};
+use anyhow::{Context, Result, bail};
 use serde_json::Value;
 use std::alloc::Global;
 
 /// What was read of the table: the last document, and how many cases went as wanted, of how many.
-#[derive(Debug, Drop)]
+#[derive(Drop)]
 pub struct Table {
-    pub plan: Option<Plan>,
+    pub document: Option<Document>,
     pub agree: u64,
     pub all: u64,
 }
@@ -17,7 +17,7 @@ impl Table {
     /// Nothing.
     pub fn new() -> Table {
         Table {
-            plan: None,
+            document: None,
             agree: 0,
             all: 0,
         }
@@ -25,16 +25,18 @@ impl Table {
 
     /// Takes a block. The first step of a case that goes otherwise, if there is one.
     pub fn take(&mut self, alloc: Global, block: &str) -> Result<Option<usize>> {
-        let block = Value::from_str(alloc, block)?;
+        let Ok(block) = Value::from_str(alloc, block) else {
+            bail!("no JSON");
+        };
         if block.as_object().is_some() {
-            self.plan = Some(read_plan(alloc, &block)?);
+            self.document = Some(document::read(alloc, &block)?);
             return Ok(None);
         }
         let otherwise = match case::read(&block)? {
             None => return Ok(None),
             Some(case) => {
-                let plan = self.plan.as_ref().context("no document before")?;
-                case.first_otherwise(alloc, plan)?
+                let document = self.document.as_ref().context("no document before")?;
+                case.first_otherwise(alloc, document)?
             }
         };
         self.all = self.all.saturating_add(1);

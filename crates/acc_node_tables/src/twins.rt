@@ -11,7 +11,7 @@ use anyhow::{Context, Result, ensure};
 use std::alloc::Global;
 
 /// Two nodes with one number and one start, and the layout around them. No `h` that they drew or saw is above `height`.
-#[derive(Debug, Drop)]
+#[derive(Drop)]
 pub struct Twins {
     pub topology: Topology,
     pub first: Node,
@@ -21,7 +21,7 @@ pub struct Twins {
 
 /// What is told of a step: its notes and messages, behind how many bytes these have, where the node can be asked for it
 /// beforehand; or why it is refused.
-#[derive(Debug, Drop)]
+#[derive(Drop)]
 pub enum Told {
     Emits(Option<u64>, Emitted),
     Refuses(NodeError),
