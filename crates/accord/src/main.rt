@@ -1,5 +1,6 @@
 //! The program: the commands over standard input and output, disks in memory, and a gate that holds nobody.
 #![tactic(auto)]
+
 ghost use Rattle.std.specs.Prelude.{◌≡◌, IfOk, drop, map, string_bytes};
 ghost use Rattle.std.specs.Process.{exit_status};
 ghost use Rattle.acc_command.specs.Command.{code_of};
