@@ -233,7 +233,6 @@ fn take_each_cell(alloc: Global, reader: &mut Reader<'_>, count: u8) -> Result<C
     ensures { Reads result reader.new (each_at (λ _. cell_at) count [] reader.old) }
 {
     let mut values = Cells::new(alloc);
-    values.reserve(usize::from(count))?;
     for _ in 0..count {
         let cell = take_cell(alloc, reader)?;
         values.push(cell)?;

@@ -20,9 +20,9 @@ impl Coord {
     pub(crate) fn noted(&self, note: Note) -> Result<Notes, OutOfMemory>
         ensures { IfOk result (λ notes. notes ≡ note ∷ []) }
     {
-        let mut notes = Notes::new(self.allocator());
-        notes.push(note)?;
-        Ok(notes)
+        let mut notes = Vec::with_capacity(self.allocator(), 1)?;
+        notes.push_reserved(note);
+        Ok(Notes::from_vec(notes))
     }
 
     /// Proposes a timestamp and dependencies.

@@ -35,13 +35,12 @@ impl Coord {
         home(self.id, self.ballot)
     }
 
-    // A list with room for a message to each store and one more.
-    fn round(&self) -> Result<Messages, OutOfMemory>
+    // A list with room for a message to each store and so many more.
+    fn round(&self, more: usize) -> Result<Messages, OutOfMemory>
         ensures { IfOk result (λ out. out ≡ []) }
     {
-        let mut out = Messages::new(self.allocator());
-        out.reserve(self.stores.len().saturating_add(1))?;
-        Ok(out)
+        let room = self.stores.len().saturating_add(more);
+        Ok(Messages::from_vec(Vec::with_capacity(self.allocator(), room)?))
     }
 
     fn question(&self, store: Actor) -> Result<Message, OutOfMemory>
@@ -60,7 +59,7 @@ impl Coord {
     pub(crate) fn ask_for_votes(&self) -> Result<Messages, OutOfMemory>
         ensures { IfOk result (λ out. out ≡ map (question_to self.now) self.now.stores) }
     {
-        let mut out = self.round()?;
+        let mut out = self.round(0)?;
         for store in self.stores.as_slice() {
             out.push(self.question(*store)?)?;
         }
@@ -109,7 +108,7 @@ impl Coord {
     pub(crate) fn send(&self, round: Round, settled: &Settled) -> Result<Messages, OutOfMemory>
         ensures { IfOk result (λ out. out ≡ map (message_to self.now round settled.now) self.now.stores) }
     {
-        let mut out = self.round()?;
+        let mut out = self.round(0)?;
         for store in self.stores.as_slice() {
             out.push(self.message(round, settled, *store)?)?;
         }
@@ -144,7 +143,7 @@ impl Coord {
     ) -> Result<Messages, OutOfMemory>
         ensures { IfOk result (λ out. out ≡ map (apply_to self.now settled.now outcome.now) self.now.stores) }
     {
-        let mut out = self.round()?;
+        let mut out = self.round(1)?;
         for store in self.stores.as_slice() {
             out.push(self.apply(settled, outcome, *store)?)?;
         }

@@ -110,6 +110,7 @@ pub(crate) fn push_shared(
 {
     if let Some(last) = push_alone(content, last)? {
         let mut own = ShardDeps::copy_all(alloc, shards_in(content))?;
+        own.reserve_exact(1)?;
         own.push(last)?;
         *content = Some(Arc::new(alloc, own)?);
     }

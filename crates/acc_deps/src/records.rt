@@ -4,6 +4,9 @@ ghost use Rattle.std.specs.Prelude.{◌≡◌, IfOk};
 use crate::deps::Deps;
 use acc_base::{Duplicate, OutOfMemory};
 use acc_stamp::{Actor, Ballot, Ids, Stamp};
+use std::alloc::Global;
+use std::marker::Model;
+use std::sync::Arc;
 
 /// A timestamp and dependencies that an attempt proposed or committed, with its ballot.
 #[derive(Debug, PartialEq, Eq, Drop)]
@@ -109,6 +112,49 @@ impl View {
 impl Duplicate for View {
     fn copy(&self) -> Result<View, OutOfMemory> {
         View::copy(self)
+    }
+}
+
+/// A view whose copies share it. Contracts see the view.
+#[derive(Debug, Drop)]
+pub struct SharedView {
+    view: Arc<View, Global>,
+}
+
+impl Model for SharedView {
+    ghost use Rattle.std.specs.Arc.{arc_value};
+    ghost use Rattle.acc_deps.specs.declared.records.View.{View as Seen};
+
+    ghost Value = { Seen };
+
+    ghost view = { λ s. arc_value s.view };
+}
+
+impl SharedView {
+    /// The same view, which may be shared now.
+    pub fn new(view: View) -> Result<SharedView, OutOfMemory>
+        ensures { IfOk result (λ shared. shared ≡ view) }
+    {
+        let alloc = view.waits.allocator();
+        Ok(SharedView {
+            view: Arc::new(alloc, view)?,
+        })
+    }
+
+    /// The view.
+    pub fn view(&self) -> &View
+        ensures { result.now ≡ self.now }
+    {
+        &self.view
+    }
+
+    /// The same view, shared with this one. It takes no memory of its own.
+    pub fn copy(&self) -> Result<SharedView, OutOfMemory>
+        ensures { IfOk result (λ copy. copy ≡ self.now) }
+    {
+        Ok(SharedView {
+            view: Arc::try_clone(&self.view)?,
+        })
     }
 }
 

@@ -4,7 +4,7 @@ ghost use Rattle.acc_message.specs.Fields.{from_of, to_of, id_of, ballot_of, env
 
 use crate::answer::ReadAnswer;
 use crate::message::Message;
-use acc_deps::{Deps, View};
+use acc_deps::{Deps, SharedView};
 use acc_stamp::{Actor, Ballot, Stamp, TxnId};
 use acc_txn::{Body, Outcome};
 
@@ -324,7 +324,7 @@ impl Envelope {
     }
 
     /// What a store knows of the transaction.
-    pub fn recover_ok(self, view: View) -> Message
+    pub fn recover_ok(self, view: SharedView) -> Message
         ensures { result ≡ Message.RecoverOk self.from self.to self.id self.ballot view }
     {
         let Envelope {

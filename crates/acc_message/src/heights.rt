@@ -35,7 +35,7 @@ fn top_of_fields(m: &Message) -> u64
         | Message::Stable { t, .. }
         | Message::Apply { t, .. }
         | Message::Decided { t, .. } => t.h,
-        Message::RecoverOk { view, .. } => top_of_a_view(view),
+        Message::RecoverOk { view, .. } => top_of_a_view(view.view()),
         Message::Nack { promised, .. } => promised.0.h,
     }
 }

@@ -3,7 +3,7 @@ ghost use Rattle.std.specs.Prelude.{◌≡◌, IfOk};
 
 use crate::answer::ReadAnswer;
 use acc_base::{Duplicate, OutOfMemory, Sequence};
-use acc_deps::{Deps, View};
+use acc_deps::{Deps, SharedView};
 use acc_stamp::{Actor, Ballot, Stamp, TxnId};
 use acc_txn::{Body, Outcome};
 
@@ -116,7 +116,7 @@ pub enum Message {
         to: Actor,
         id: TxnId,
         ballot: Ballot,
-        view: View,
+        view: SharedView,
     },
 
     /// A store refuses, since it has promised a greater ballot.

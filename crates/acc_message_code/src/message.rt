@@ -73,7 +73,7 @@ fn put_content(out: &mut Bytes, m: &Message) -> Result<(), OutOfMemory>
             put_proposal(out, body, *t, deps)?;
             put_outcome(out, outcome)
         }
-        Message::RecoverOk { view, .. } => put_view(out, view),
+        Message::RecoverOk { view, .. } => put_view(out, view.view()),
         Message::Nack { promised, .. } => put_stamp(out, promised.0),
         Message::Inform { outcome, .. } => put_outcome(out, outcome),
     }

@@ -56,7 +56,7 @@ fn content_length(m: &Message) -> u64
             outcome,
             ..
         } => proposal_length(body, deps) + outcome_length(outcome),
-        Message::RecoverOk { view, .. } => view_length(view),
+        Message::RecoverOk { view, .. } => view_length(view.view()),
         Message::Nack { .. } => STAMP,
         Message::Inform { outcome, .. } => outcome_length(outcome),
     }

@@ -9,7 +9,7 @@ use crate::records::take_settled;
 use crate::stamps::take_ballot;
 use crate::view::take_view;
 use acc_code::{CodeError, take_outcome};
-use acc_deps::Settled;
+use acc_deps::{Settled, SharedView};
 use acc_message::{Envelope, Message};
 use acc_wire::Reader;
 use std::alloc::Global;
@@ -59,7 +59,7 @@ fn take_recover_ok(
     ensures { Reads result reader.new (recover_ok_at envelope reader.old) }
 {
     let view = take_view(alloc, reader)?;
-    Ok(envelope.recover_ok(view))
+    Ok(envelope.recover_ok(SharedView::new(view)?))
 }
 
 #[tactic(auto, unfolding(crate::specs::MessageReading::nack_at))]

@@ -14,9 +14,9 @@ use std::alloc::Global;
 pub(crate) fn one_note(alloc: Global, note: Note) -> Result<Notes, OutOfMemory>
     ensures { IfOk result (λ notes. notes ≡ note ∷ []) }
 {
-    let mut notes = Notes::new(alloc);
-    notes.push(note)?;
-    Ok(notes)
+    let mut notes = Vec::with_capacity(alloc, 1)?;
+    notes.push_reserved(note);
+    Ok(Notes::from_vec(notes))
 }
 
 /// The reply to a client, where it is open.

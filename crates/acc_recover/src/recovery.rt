@@ -87,7 +87,7 @@ impl Recovery {
         match m {
             Message::RecoverOk { from, view, .. } => {
                 if is_store(topology, self.shards, *from) {
-                    self.on_view(topology, *from, view)
+                    self.on_view(topology, *from, view.view())
                 } else {
                     Ok(Judged::Wait)
                 }
@@ -138,7 +138,7 @@ impl Recovery {
         match m {
             Message::RecoverOk { from, view, .. } => {
                 if is_store(topology, self.shards, *from) {
-                    self.judge_view(topology, *from, view)
+                    self.judge_view(topology, *from, view.view())
                 } else {
                     Ok(Judged::Wait)
                 }

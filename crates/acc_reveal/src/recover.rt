@@ -14,7 +14,7 @@ use crate::grant::grant;
 use crate::view::view;
 use acc_answers::answering;
 use acc_base::OutOfMemory;
-use acc_deps::View;
+use acc_deps::{SharedView, View};
 use acc_message::{Message, top};
 use acc_record::Shelf;
 use acc_stamp::{Actor, Ballot, Stamp, TxnId};
@@ -88,7 +88,7 @@ fn answer(
     let promised = promised(shelf, id);
     if promised < ballot {
         let view = view(shelf, id, share, top)?;
-        Ok(answering(shelf, id, ballot).recover_ok(view))
+        Ok(answering(shelf, id, ballot).recover_ok(SharedView::new(view)?))
     } else {
         Ok(answering(shelf, id, ballot).nack(promised))
     }
@@ -111,8 +111,9 @@ fn recover(
     let promised = promised(shelf, id);
     if promised < ballot {
         let view = view(shelf, id, share, top)?;
-        learn_granted(shelf, id, ballot, body, share, top, &view)?;
-        Ok(answering(shelf, id, ballot).recover_ok(view))
+        let shared = SharedView::new(view)?;
+        learn_granted(shelf, id, ballot, body, share, top, shared.view())?;
+        Ok(answering(shelf, id, ballot).recover_ok(shared))
     } else {
         shelf.learn(id, body, share, None, top)?;
         Ok(answering(shelf, id, ballot).nack(promised))

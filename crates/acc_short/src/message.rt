@@ -48,7 +48,7 @@ fn has_short_content(m: &Message) -> bool
         | Message::Decided { deps, .. } => are_short_deps(deps),
         Message::ReadOk { answer, .. } => is_short_answer(answer),
         Message::Apply { deps, outcome, .. } => are_short_deps(deps) && is_short_outcome(outcome),
-        Message::RecoverOk { view, .. } => is_short_view(view),
+        Message::RecoverOk { view, .. } => is_short_view(view.view()),
         Message::Inform { outcome, .. } => is_short_outcome(outcome),
     }
 }

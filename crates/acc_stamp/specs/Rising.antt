@@ -67,9 +67,6 @@ ids_union ids more = rising_union id_lt ids more
 
 -- ---- ballots
 
-abbrev pub AreRisingBallots : List Ballot → Type 0
-AreRisingBallots ballots = IsRisingBy ballot_lt ballots
-
 abbrev pub ballot_among : Ballot → List Ballot → Bool
 ballot_among ballot ballots = is_among ballot_eq ballot ballots
 

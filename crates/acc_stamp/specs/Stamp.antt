@@ -39,9 +39,6 @@ ballot_cmp a b = stamp_cmp a.0 b.0
 abbrev pub ballot_lt : Ballot → Ballot → Bool
 ballot_lt a b = stamp_lt a.0 b.0
 
-abbrev pub ballot_le : Ballot → Ballot → Bool
-ballot_le a b = stamp_le a.0 b.0
-
 abbrev pub ballot_eq : Ballot → Ballot → Bool
 ballot_eq a b = stamp_eq a.0 b.0
 

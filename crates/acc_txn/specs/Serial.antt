@@ -16,11 +16,6 @@ abbrev pub replies_from : (Key → Option Value) → List BodyParts → List Rep
 replies_from cells [] = []
 replies_from cells (body ∷ bodies) = (outcome_of body cells).reply ∷ replies_from (map_after cells body) bodies
 
--- the cells after them all
-abbrev pub map_after_all : (Key → Option Value) → List BodyParts → Key → Option Value
-map_after_all cells [] = cells
-map_after_all cells (body ∷ bodies) = map_after_all (map_after cells body) bodies
-
 -- the replies of bodies in turn, from the map on which every cell is null
 abbrev pub serial : List BodyParts → List Reply
 serial bodies = replies_from (λ _. None) bodies

@@ -125,7 +125,7 @@ fn cells_named(alloc: Global, bound: &[Option<Value>], names: &[u8]) -> Result<C
     for name in names {
         values.push(copy_of(cell_named(bound, *name))?)?;
     }
-    Ok(Cells::from_vec(values))
+    Ok(Cells::from_vec(alloc, values)?)
 }
 
 /// The cell of a name, by its number.

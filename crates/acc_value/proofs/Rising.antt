@@ -109,6 +109,18 @@ module _ {V : Type 0} where
       ap (λ r. by_order r ((q, v) ∷ p ∷ pairs) ((p.0, v) ∷ pairs) (p ∷ put pairs q v)) after
       ∙ ap (λ ps. p ∷ ps) (put-at pairs q v i x (second_so _ _ rises) (omega (arith, at.0), λ d. at.1 d) is)
 
+  -- a pair of the very key may be written in the place of the one of its key
+  pub put-over : (pairs : List (Key × V)) (q : Key) (v : V) (i : ℕ) → IsRising pairs → HasKeyAt pairs q i → put pairs q v ≡ set pairs i (q, v)
+  put-over [] q v i rises at = absurd (omega (arith, at.0))
+  put-over (p ∷ pairs) q v zero rises at =
+      ap (λ r. by_order r ((q, v) ∷ p ∷ pairs) ((p.0, v) ∷ pairs) (p ∷ put pairs q v)) (tied_back key_cmp_total p.0 q (at.1 p))
+      ∙ ap (λ key. (key, v) ∷ pairs) (key_cmp-IsAntisymmetric p.0 q (at.1 p))
+  put-over (p ∷ pairs) q v (suc i) rises at =
+      let below = below_each p.0 pairs i p (first_so _ _ rises) (omega (arith, at.0)) in
+      let after : key_cmp q p.0 ≡ Greater = reversed p.0 q (sym (alike_right key_cmp_total (get_or pairs i p).0 q p.0 (at.1 p)) ∙ below) in
+      ap (λ r. by_order r ((q, v) ∷ p ∷ pairs) ((p.0, v) ∷ pairs) (p ∷ put pairs q v)) after
+      ∙ ap (λ ps. p ∷ ps) (put-over pairs q v i (second_so _ _ rises) (omega (arith, at.0), λ d. at.1 d))
+
   -- the same of the list behind the first pair
   lacks_rest : (p : Key × V) (pairs : List (Key × V)) (q : Key) (i : ℕ) → LacksKeyAt (p ∷ pairs) q (suc i) → LacksKeyAt pairs q i
   lacks_rest p pairs q i lacks =

@@ -8,19 +8,20 @@ ghost use Rattle.acc_value.specs.Pairs.{IsRising, put};
 ghost use Rattle.acc_value.specs.Cells.{cell_of, cells_eq};
 
 use crate::key::Key;
+use crate::room::insert_pair;
 use crate::search::place_of;
 use crate::value::Value;
-use acc_base::{Duplicate, OutOfMemory, Sequence};
+use acc_base::{Duplicate, OutOfMemory, SharedSequence};
 use std::alloc::Global;
 use std::marker::Model;
 
-/// A list of cells. A cell is a value, or null where it is `None`.
-pub type Cells = Sequence<Option<Value>>;
+/// A list of cells, whose copies share them. A cell is a value, or null where it is `None`.
+pub type Cells = SharedSequence<Option<Value>>;
 
-/// Cells by their keys, in the order of the keys, each key once. Contracts see the pairs as a plain list.
+/// Cells by their keys, in the order of the keys, each key once. Copies share the pairs. Contracts see the pairs as a plain list.
 #[derive(Debug, Drop)]
 pub struct CellList {
-    cells: Vec<(Key, Option<Value>)>,
+    cells: SharedSequence<(Key, Option<Value>)>,
 }
 
 impl Model for CellList {
@@ -31,9 +32,9 @@ impl Model for CellList {
 
     ghost Value = { List (Key × Option CellValue) };
 
-    ghost view = { λ l. l.cells.items };
+    ghost view = { λ l. l.cells };
 
-    ghost invariant = { λ l. IsRising l.cells.items };
+    ghost invariant = { λ l. IsRising l.cells };
 }
 
 impl CellList {
@@ -42,7 +43,7 @@ impl CellList {
         ensures { result ≡ [] }
     {
         CellList {
-            cells: Vec::new(alloc),
+            cells: SharedSequence::new(alloc),
         }
     }
 
@@ -56,7 +57,7 @@ impl CellList {
 
     /// The allocator of the pairs, for a further list beside this one.
     pub fn allocator(&self) -> Global {
-        *self.cells.allocator()
+        self.cells.allocator()
     }
 
     /// How many pairs there are.
@@ -77,18 +78,11 @@ impl CellList {
     pub fn get(&self, key: &Key) -> Option<&Value>
         ensures { option_copied result ≡ cell_of self.now key.now }
     {
-        match place_of(&self.cells, key) {
-            Ok(place) => self.cells[place].1.as_ref(),
+        let pairs = self.cells.as_slice();
+        match place_of(pairs, key) {
+            Ok(place) => pairs[place].1.as_ref(),
             Err(_) => None,
         }
-    }
-
-    /// Asks for room for so many more pairs, so that pushing them takes no more memory. The pairs stay in any case.
-    pub fn reserve(&mut self, additional: usize) -> Result<(), OutOfMemory>
-        ensures { self.new ≡ self.old }
-    {
-        self.cells.reserve(additional)?;
-        Ok(())
     }
 
     /// Appends the pair of a key that is greater than those before. Without memory for it the list is as before.
@@ -97,8 +91,8 @@ impl CellList {
         ensures ok { OnOk result (self.new ≡ self.old ++ (key, cell) ∷ []) }
         ensures err { OnErr result (self.new ≡ self.old) }
     {
-        self.cells.push((key, cell))?;
-        Ok(())
+        let place = self.cells.len();
+        insert_pair(&mut self.cells, place, (key, cell))
     }
 
     /// Sets the cell of a key. Without memory for a new pair the list is as before.
@@ -106,24 +100,24 @@ impl CellList {
         ensures ok { OnOk result (self.new ≡ put self.old key cell) }
         ensures err { OnErr result (self.new ≡ self.old) }
     {
-        match place_of(&self.cells, &key) {
+        match place_of(self.cells.as_slice(), &key) {
             Ok(place) => {
-                self.cells[place].1 = cell;
+                self.cells.set(place, (key, cell))?;
                 Ok(())
             }
             Err(place) => {
-                self.cells.insert(place, (key, cell))?;
+                insert_pair(&mut self.cells, place, (key, cell))?;
                 Ok(())
             }
         }
     }
 
-    /// An equal list, in memory of its own.
+    /// An equal list, which shares its pairs with this one. It takes no memory of its own.
     pub fn copy(&self) -> Result<CellList, OutOfMemory>
         ensures { IfOk result (λ copy. copy ≡ self.now) }
     {
         Ok(CellList {
-            cells: Duplicate::copy_all(*self.cells.allocator(), &self.cells)?,
+            cells: self.cells.copy()?,
         })
     }
 }

@@ -7,6 +7,7 @@ ghost use Rattle.acc_value.specs.Pairs.{IsRising};
 ghost use Rattle.acc_value.specs.Footprint.{used, uses_eq, clashes};
 
 use crate::key::Key;
+use crate::room::insert_pair;
 use crate::search::place_of;
 use acc_base::{Duplicate, OutOfMemory, SharedSequence};
 use std::alloc::Global;
@@ -78,7 +79,7 @@ impl Footprint {
                 Ok(())
             }
             Err(place) => {
-                self.uses.insert(place, (key.copy()?, writes))?;
+                insert_pair(&mut self.uses, place, (key.copy()?, writes))?;
                 Ok(())
             }
         }
@@ -90,7 +91,8 @@ impl Footprint {
         ensures ok { OnOk result (self.new ≡ self.old ++ (key, writes) ∷ []) }
         ensures err { OnErr result (self.new ≡ self.old) }
     {
-        self.uses.push((key, writes))
+        let place = self.uses.len();
+        insert_pair(&mut self.uses, place, (key, writes))
     }
 
     /// An equal footprint, which shares its keys with this one and takes no memory of its own.

@@ -5,6 +5,7 @@ mod cells;
 mod footprint;
 mod key;
 mod map;
+mod room;
 mod search;
 mod value;
 

@@ -76,7 +76,7 @@ fn push_answer(text: &mut Vec<u8>, message: &Message) -> Result<(), OutOfMemory>
         Message::Decided { t, deps, .. } => push_settled(text, *t, deps),
         Message::AcceptOk { deps, .. } => push_deps(text, deps),
         Message::ReadOk { answer, .. } => push_read(text, answer),
-        Message::RecoverOk { view, .. } => push_view(text, view),
+        Message::RecoverOk { view, .. } => push_view(text, view.view()),
         Message::Nack { promised, .. } => push_stamp(text, promised.0),
         Message::Inform { outcome, .. } => push_enclosed(text, outcome),
         _ => Ok(()),

@@ -15,7 +15,7 @@ pub invariant_of-self-in-Err : goal.invariant_of-self-in-Err
 invariant_of-self-in-Err c =
     let nowhere = rw c.as_slice.ensures at c.in-Err.ensures in
     let is = used-lacks c.self.inside.uses c.args.key.now c.args.writes c.in-Err.place nowhere in
-    rw (c.in_ok-insert-in-Err.ensures.ok, c.in_ok-copy-in-Err.ensures, ← is) (IsRising-put c.self.inside.uses c.args.key.now _ c.self.invariant)
+    rw (c.in_ok-insert_pair-in-Err.ensures.ok, c.in_ok-copy-in-Err.ensures, ← is) (IsRising-put c.self.inside.uses c.args.key.now _ c.self.invariant)
 
 pub returns-in_ok-set-in-Ok-clause-ok : goal.returns-in_ok-set-in-Ok-clause-ok
 returns-in_ok-set-in-Ok-clause-ok c =
@@ -23,8 +23,8 @@ returns-in_ok-set-in-Ok-clause-ok c =
     let is = used-at c.self.inside.uses c.args.key.now c.args.writes c.in-Ok.place c.index-as_slice-place.result c.self.invariant here (rw c.as_slice-in-Ok.ensures at c.index-as_slice-place.is) in
     rw (c.in_ok-set-in-Ok.ensures.ok, c.in_ok-copy-in-Ok.ensures) (sym is ∙ ap (λ uses. used uses c.args.key.now c.args.writes) c.self.view_is)
 
-pub returns-in_ok-insert-in-Err-clause-ok : goal.returns-in_ok-insert-in-Err-clause-ok
-returns-in_ok-insert-in-Err-clause-ok c =
+pub returns-in_ok-insert_pair-in-Err-clause-ok : goal.returns-in_ok-insert_pair-in-Err-clause-ok
+returns-in_ok-insert_pair-in-Err-clause-ok c =
     let nowhere = rw c.as_slice.ensures at c.in-Err.ensures in
     let is = used-lacks c.self.inside.uses c.args.key.now c.args.writes c.in-Err.place nowhere in
-    rw (c.in_ok-insert-in-Err.ensures.ok, c.in_ok-copy-in-Err.ensures) (sym is ∙ ap (λ uses. used uses c.args.key.now c.args.writes) c.self.view_is)
+    rw (c.in_ok-insert_pair-in-Err.ensures.ok, c.in_ok-copy-in-Err.ensures) (sym is ∙ ap (λ uses. used uses c.args.key.now c.args.writes) c.self.view_is)

@@ -1,0 +1,24 @@
+//! Room for no more than is held.
+ghost use Rattle.std.specs.Prelude.{◌≡◌, ◌≤◌, length, insert, OnOk, OnErr};
+
+use acc_base::{Duplicate, OutOfMemory, SharedSequence};
+
+/// Puts a value at a place, with what stood from there on behind it. The first one takes memory for itself alone, since most
+/// lists keep one. Without memory for it the list is as before.
+pub(crate) fn insert_pair<T: Duplicate>(
+    list: &mut SharedSequence<T>,
+    place: usize,
+    value: T,
+) -> Result<(), OutOfMemory>
+    requires { place ≤ length list.old }
+    ensures ok { OnOk result (list.new ≡ insert list.old place value) }
+    ensures err { OnErr result (list.new ≡ list.old) }
+{
+    if !list.is_empty() {
+        return list.insert(place, value);
+    }
+    let mut alone = Vec::with_capacity(list.allocator(), 1)?;
+    alone.push_reserved(value);
+    *list = SharedSequence::from_vec(list.allocator(), alone)?;
+    Ok(())
+}
