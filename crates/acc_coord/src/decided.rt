@@ -16,13 +16,13 @@ use acc_stamp::{Ballot, Stamp};
 use acc_tally::Tally;
 
 impl Coord {
-    // A list of one note.
-    pub(crate) fn noted(&self, note: Note) -> Result<Notes, OutOfMemory>
+    // A list of one note, with room for so many and no more.
+    pub(crate) fn noted(&self, note: Note, room: usize) -> Result<Notes, OutOfMemory>
         ensures { IfOk result (λ notes. notes ≡ note ∷ []) }
     {
-        let mut notes = Vec::with_capacity(self.allocator(), 1)?;
-        notes.push_reserved(note);
-        Ok(Notes::from_vec(notes))
+        let mut notes = Notes::from_vec(Vec::with_capacity(self.allocator(), room)?);
+        notes.push(note)?;
+        Ok(notes)
     }
 
     /// Proposes a timestamp and dependencies.
@@ -63,12 +63,13 @@ impl Coord {
         ensures { IfOk result (λ step. (layout : Layout) (answers : List Letter) → IsPlaced layout self.now →
             Follows layout self.now answers step (decide layout (own_of self.now) self.now.id (attempt_in self.now answers) path settled)) }
     {
-        let notes = self.noted(Note::Decide {
+        let decide = Note::Decide {
             id: self.id,
             t: settled.t,
             path,
             deps: settled.deps.copy()?,
-        })?;
+        };
+        let notes = self.noted(decide, 1)?;
         let out = self.send(Round::Decided, &settled)?;
         Ok(Step {
             emitted: Emitted { notes, out },
@@ -118,11 +119,12 @@ impl Coord {
         if self.has_decided() || !(self.ballot < promised) {
             return Ok(silent(self.allocator(), Next::Same));
         }
-        let notes = self.noted(Note::Ended {
+        let ended = Note::Ended {
             id: self.id,
             ballot: self.ballot,
             by: promised,
-        })?;
+        };
+        let notes = self.noted(ended, 1)?;
         Ok(Step {
             emitted: Emitted {
                 notes,

@@ -43,15 +43,16 @@ impl Coord {
         Ok(())
     }
 
-    // Tells the outcome to all stores, and ends.
+    // Tells the outcome to all stores, and ends. There is room for the node's reply behind the note.
     fn finish(&self, settled: &Settled, outcome: &Outcome) -> Result<Step, OutOfMemory>
         ensures { IfOk result (λ step. (layout : Layout) (answers : List Letter) → IsPlaced layout self.now →
             Follows layout self.now answers step (finish layout (own_of self.now) self.now.id (attempt_in self.now answers) settled.now outcome.now)) }
     {
-        let notes = self.noted(Note::Outcome {
+        let told = Note::Outcome {
             id: self.id,
             reply: outcome.reply.copy()?,
-        })?;
+        };
+        let notes = self.noted(told, 2)?;
         let mut out = self.apply_all(settled, outcome)?;
         self.inform(&mut out, outcome)?;
         Ok(Step {

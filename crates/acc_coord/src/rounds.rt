@@ -7,7 +7,7 @@ use crate::coord::Coord;
 use acc_base::OutOfMemory;
 use acc_deps::Settled;
 use acc_message::{Message, Messages};
-use acc_stamp::{Actor, home};
+use acc_stamp::{Actor, Ballot, home};
 use acc_txn::Outcome;
 use std::alloc::Global;
 
@@ -41,6 +41,11 @@ impl Coord {
     {
         let room = self.stores.len().saturating_add(more);
         Ok(Messages::from_vec(Vec::with_capacity(self.allocator(), room)?))
+    }
+
+    // How many messages may tell of an outcome besides those to the stores: an Inform, where the attempt took the transaction over.
+    fn more_to_finish(&self) -> usize {
+        if self.ballot == Ballot::ZERO { 0 } else { 1 }
     }
 
     fn question(&self, store: Actor) -> Result<Message, OutOfMemory>
@@ -143,7 +148,7 @@ impl Coord {
     ) -> Result<Messages, OutOfMemory>
         ensures { IfOk result (λ out. out ≡ map (apply_to self.now settled.now outcome.now) self.now.stores) }
     {
-        let mut out = self.round(1)?;
+        let mut out = self.round(self.more_to_finish())?;
         for store in self.stores.as_slice() {
             out.push(self.apply(settled, outcome, *store)?)?;
         }
