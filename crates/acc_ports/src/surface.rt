@@ -3,6 +3,7 @@ ghost use Rattle.std.specs.Prelude.{◌≡◌, ◌+◌, ◌≤◌, ◌<◌, ◌^
 ghost use Rattle.acc_ports.specs.Disk.{overwritten, Only, Stands};
 ghost use Rattle.acc_ports.specs.Strict.{IsImage, LeftByChoice};
 
+use crate::saved::Saved;
 use crate::undo::{fill, note_failure, take_back, write_over};
 use acc_base::{Bytes, OutOfMemory};
 use std::alloc::Global;
@@ -18,7 +19,7 @@ pub(crate) struct Write {
     /// How many bytes there were before it.
     pub(crate) before: usize,
     /// The bytes that it wrote over.
-    pub(crate) saved: Bytes,
+    pub(crate) saved: Saved,
 }
 
 /// The content, and the writes since the last sync, the newest last.

@@ -4,8 +4,9 @@ ghost use Rattle.acc_ports.specs.Disk.{overwritten};
 ghost use Rattle.acc_ports.specs.Strict.{IsFilled};
 ghost use Rattle.acc_ports.specs.Undo.{synced_of, ranges_of, CanUndo, CanCrash};
 
+use crate::saved::Saved;
 use crate::surface::Write;
-use acc_base::{OutOfMemory, Sequence};
+use acc_base::OutOfMemory;
 
 /// Writes bytes over some of the content.
 pub(crate) fn overwrite(content: &mut Vec<u8>, at: usize, bytes: &[u8])
@@ -36,7 +37,7 @@ pub(crate) fn write_over(
     let before = content.len();
     let count = bytes.len();
     let over = count.min(before - at);
-    let saved = Sequence::from_slice(*content.allocator(), &content[at..at + over])?;
+    let saved = Saved::of(*content.allocator(), &content[at..at + over])?;
     content.extend_from_slice(&bytes[over..])?;
     let write = Write {
         at,
@@ -67,7 +68,7 @@ pub(crate) fn note_failure(
     ensures same { OnErr result (writes.new.items ≡ writes.old.items) }
 {
     let before = content.len();
-    let saved = Sequence::new(*writes.allocator());
+    let saved = Saved::nothing(*writes.allocator());
     writes.push(Write {
         at,
         count,
@@ -84,7 +85,7 @@ pub(crate) fn take_back(content: &mut Vec<u8>, writes: &mut Vec<Write>)
     ensures none { writes.new.items ≡ [] }
 {
     while let Some(write) = writes.pop() {
-        overwrite(content, write.at, write.saved.as_slice());
+        write.saved.put_back(content, write.at);
         content.truncate(write.before);
     }
 }
