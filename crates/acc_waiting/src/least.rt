@@ -17,7 +17,7 @@ fn bare(alloc: Global, count: usize) -> Result<Vec<u64>, OutOfMemory>
     Ok(vec![in alloc; NOTHING; 2 * count]?)
 }
 
-/// Writes a leaf.
+/// Writes a leaf. The nodes above it are written as far as they change.
 pub(crate) fn set_leaf(places: &mut Vec<u64>, count: usize, number: usize, value: u64)
     requires tree { IsTree count places.old.items }
     requires within { number < count }
@@ -31,7 +31,11 @@ pub(crate) fn set_leaf(places: &mut Vec<u64>, count: usize, number: usize, value
     places[at] = value;
     while at > 1 {
         at /= 2;
-        places[at] = places[2 * at].min(places[2 * at + 1]);
+        let lesser = places[2 * at].min(places[2 * at + 1]);
+        if places[at] == lesser {
+            return;
+        }
+        places[at] = lesser;
     }
 }
 
