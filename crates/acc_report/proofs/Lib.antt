@@ -1,3 +1,4 @@
+pub mod CountedNotes
 pub mod Joined
 mod KnownFacts
 pub mod NameFacts

@@ -1,6 +1,7 @@
 //! The text of a report.
 ghost use Rattle.std.specs.Prelude.{◌≡◌, ◌+◌, [], ◌∷◌, ◌++◌, length, reverse, IfOk, OnOk};
 ghost use Rattle.acc_message.specs.Items.{notes_of};
+ghost use Rattle.acc_report.specs.Counts.{last_line_of};
 ghost use Rattle.acc_report.specs.Numbers.{name_in};
 ghost use Rattle.acc_report.specs.Report.{name_at, last_line, lines_in, lines_from, lines_report, summary_report, report_text};
 ghost use Rattle.acc_report_line.specs.Texts.{lines_text};
@@ -8,7 +9,7 @@ ghost use Rattle.acc_report_line.specs.Texts.{lines_text};
 use crate::names::Directory;
 use crate::notes::push_notes;
 use crate::skips::{push_down, push_event, push_skip};
-use crate::summary::{push_decided, push_last};
+use crate::summary::{Counts, push_decided, push_last};
 use acc_base::{Bytes, OutOfMemory};
 use acc_message::{Item, Items, Roll};
 use acc_report_line::Names;
@@ -32,11 +33,13 @@ fn text_in_lines(items: &Items, roll: &Roll, names: &Names) -> Result<Bytes, Out
 {
     let alloc = names.allocator();
     let directory = Directory::of_items(names, roll, items)?;
-    let mut text = Vec::with_capacity(alloc, length_in_lines(alloc, items, &directory)?)?;
+    let counts = Counts::of(items)?;
+    let room = length_in_lines(alloc, items, &directory, &counts)?;
+    let mut text = Vec::with_capacity(alloc, room)?;
     for item in items.as_slice() {
         push_item(&mut text, &directory, item)?;
     }
-    push_last(&mut text, items)?;
+    push_last(&mut text, &counts)?;
     Ok(Bytes::from_vec(text))
 }
 
@@ -46,7 +49,9 @@ fn length_in_lines(
     alloc: Global,
     items: &Items,
     directory: &Directory<'_>,
+    counts: &Counts,
 ) -> Result<usize, OutOfMemory>
+    requires { last_line_of counts.now ≡ last_line (notes_of (reverse items.now)) }
     ensures { IfOk result (λ count. count
         ≡ length (lines_text (lines_from (name_in directory.now) (name_at directory.now.names.now) (reverse items.now) ++ last_line (notes_of (reverse items.now)) ∷ []))) }
 {
@@ -58,7 +63,7 @@ fn length_in_lines(
         count = sum(count, part.len())?;
     }
     part.clear();
-    push_last(&mut part, items)?;
+    push_last(&mut part, counts)?;
     sum(count, part.len())
 }
 
@@ -75,9 +80,10 @@ fn sum(one: usize, other: usize) -> Result<usize, OutOfMemory>
 fn text_in_summary(items: &Items, names: &Names) -> Result<Bytes, OutOfMemory>
     ensures { IfOk result (λ text. text ≡ lines_text (summary_report (reverse items.now))) }
 {
+    let counts = Counts::of(items)?;
     let mut text = Vec::new(names.allocator());
-    push_decided(&mut text, items)?;
-    push_last(&mut text, items)?;
+    push_decided(&mut text, &counts)?;
+    push_last(&mut text, &counts)?;
     Ok(Bytes::from_vec(text))
 }
 

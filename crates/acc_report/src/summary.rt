@@ -1,8 +1,10 @@
 //! The counts of a report, and the lines that give them.
 ghost use Rattle.std.specs.Prelude.{◌≡◌, ◌+◌, ◌++◌, count_by, decimal, reverse, IfOk, OnOk};
 ghost use Rattle.acc_message.specs.Items.{notes_of, noted_in};
-ghost use Rattle.acc_report.specs.Counts.{is_counted as counts};
-ghost use Rattle.acc_report.specs.Report.{same_path as paths_agree, last_line, decided_line, decides_by};
+ghost use Rattle.acc_report.specs.declared.summary.Tally.{Tally as AnyTally};
+ghost use Rattle.acc_report.specs.declared.summary.Tally.TheVariants.{Decisions};
+ghost use Rattle.acc_report.specs.Counts.{is_counted as counts, counted, counts_with, AreCounts, last_line_of, decided_line_of};
+ghost use Rattle.acc_report.specs.Report.{last_line, decided_line};
 ghost use Rattle.acc_report_line.specs.Texts.{full_text};
 
 use crate::parts::push_number;
@@ -20,12 +22,23 @@ pub(crate) enum Tally {
     Decisions(Path),
 }
 
+/// How many notes there are of each that is counted.
+#[derive(Debug, Drop)]
+pub(crate) struct Counts {
+    begins: u64,
+    replies: u64,
+    fast: u64,
+    slow: u64,
+    recovered: u64,
+    adopted: u64,
+}
+
 /// Appends the last line.
-pub(crate) fn push_last(text: &mut Vec<u8>, items: &Items) -> Result<(), OutOfMemory>
-    ensures { OnOk result (text.new.items ≡ text.old.items ++ full_text (last_line (notes_of (reverse items.now)))) }
+pub(crate) fn push_last(text: &mut Vec<u8>, all: &Counts) -> Result<(), OutOfMemory>
+    ensures { OnOk result (text.new.items ≡ text.old.items ++ full_text (last_line_of all.now)) }
 {
-    let begins = count(items, Tally::Begins)?;
-    let replies = count(items, Tally::Replies)?;
+    let begins = all.number(Tally::Begins);
+    let replies = all.number(Tally::Replies);
     text.extend_from_slice(b"end txns=")?;
     push_number(text, begins)?;
     text.extend_from_slice(b" replied=")?;
@@ -37,13 +50,13 @@ pub(crate) fn push_last(text: &mut Vec<u8>, items: &Items) -> Result<(), OutOfMe
 }
 
 /// Appends the line that counts the decisions of each path.
-pub(crate) fn push_decided(text: &mut Vec<u8>, items: &Items) -> Result<(), OutOfMemory>
-    ensures { OnOk result (text.new.items ≡ text.old.items ++ full_text (decided_line (notes_of (reverse items.now)))) }
+pub(crate) fn push_decided(text: &mut Vec<u8>, all: &Counts) -> Result<(), OutOfMemory>
+    ensures { OnOk result (text.new.items ≡ text.old.items ++ full_text (decided_line_of all.now)) }
 {
-    push_decisions(text, b"decided fast=", items, Path::Fast)?;
-    push_decisions(text, b" slow=", items, Path::Slow)?;
-    push_decisions(text, b" recovered=", items, Path::Recovered)?;
-    push_decisions(text, b" adopted=", items, Path::Adopted)?;
+    push_decisions(text, b"decided fast=", all, Path::Fast)?;
+    push_decisions(text, b" slow=", all, Path::Slow)?;
+    push_decisions(text, b" recovered=", all, Path::Recovered)?;
+    push_decisions(text, b" adopted=", all, Path::Adopted)?;
     text.push(b'\n')?;
     Ok(())
 }
@@ -51,47 +64,101 @@ pub(crate) fn push_decided(text: &mut Vec<u8>, items: &Items) -> Result<(), OutO
 fn push_decisions(
     text: &mut Vec<u8>,
     word: &[u8],
-    items: &Items,
+    all: &Counts,
     path: Path,
 ) -> Result<(), OutOfMemory>
-    ensures { OnOk result (text.new.items
-        ≡ text.old.items ++ (word.now ++ decimal (count_by (decides_by path) (notes_of (reverse items.now))))) }
+    ensures { OnOk result (text.new.items ≡ text.old.items ++ (word.now ++ decimal (counted all.now (Decisions path)))) }
 {
     text.extend_from_slice(word)?;
-    push_number(text, count(items, Tally::Decisions(path))?)
+    push_number(text, all.number(Tally::Decisions(path)))
 }
 
-/// How many notes of the items are counted. More than 64 bits hold don't fit in memory, and are refused as memory is.
-fn count(items: &Items, what: Tally) -> Result<u64, OutOfMemory>
-    ensures { IfOk result (λ number. number ≡ count_by (counts what) (notes_of (reverse items.now))) }
-{
-    let mut number = 0;
-    for item in items.as_slice() {
-        number = count_in(number, item, what)?;
-    }
-    Ok(number)
-}
-
-/// Counts the notes of an item too.
-fn count_in(before: u64, item: &Item, what: Tally) -> Result<u64, OutOfMemory>
-    ensures { IfOk result (λ number. number ≡ before + count_by (counts what) (noted_in item.now)) }
-{
-    match item {
-        Item::Step(entry) => count_more(before, entry.emitted.notes.as_slice(), what),
-        Item::Skipped { .. } | Item::Down { .. } => Ok(before),
-    }
-}
-
-fn count_more(before: u64, notes: &[Note], what: Tally) -> Result<u64, OutOfMemory>
-    ensures { IfOk result (λ number. number ≡ before + count_by (counts what) notes.now) }
-{
-    let mut number = before;
-    for note in notes {
-        if is_counted(what, note) {
-            number = one_more(number)?;
+impl Counts {
+    // Nothing is counted yet.
+    fn none() -> Counts
+        ensures { (what : AnyTally) → counted result what ≡ 0 }
+    {
+        Counts {
+            begins: 0,
+            replies: 0,
+            fast: 0,
+            slow: 0,
+            recovered: 0,
+            adopted: 0,
         }
     }
-    Ok(number)
+
+    /// How many notes of the items are counted as each. More than 64 bits hold don't fit in memory, and are refused as memory is.
+    pub(crate) fn of(items: &Items) -> Result<Counts, OutOfMemory>
+        ensures last { IfOk result (λ all. last_line_of all ≡ last_line (notes_of (reverse items.now))) }
+        ensures decided { IfOk result (λ all. decided_line_of all ≡ decided_line (notes_of (reverse items.now))) }
+    {
+        let all = Counts::count(items)?;
+        Ok(all)
+    }
+
+    fn count(items: &Items) -> Result<Counts, OutOfMemory>
+        ensures { IfOk result (λ all. AreCounts all (notes_of (reverse items.now))) }
+    {
+        let mut all = Counts::none();
+        for item in items.as_slice() {
+            all.add_item(item)?;
+        }
+        Ok(all)
+    }
+
+    // Counts the notes of an item too.
+    fn add_item(&mut self, item: &Item) -> Result<(), OutOfMemory>
+        ensures { OnOk result ((what : AnyTally) → counted self.new what ≡ counted self.old what + count_by (counts what) (noted_in item.now)) }
+    {
+        match item {
+            Item::Step(entry) => self.add_notes(entry.emitted.notes.as_slice()),
+            Item::Skipped { .. } | Item::Down { .. } => Ok(()),
+        }
+    }
+
+    fn add_notes(&mut self, notes: &[Note]) -> Result<(), OutOfMemory>
+        ensures { OnOk result ((what : AnyTally) → counted self.new what ≡ counted self.old what + count_by (counts what) notes.now) }
+    {
+        for note in notes {
+            self.add(note)?;
+        }
+        Ok(())
+    }
+
+    fn add(&mut self, note: &Note) -> Result<(), OutOfMemory>
+        ensures { OnOk result (self.new ≡ counts_with self.old note.now) }
+    {
+        match note {
+            Note::Begin { .. } => self.begins = one_more(self.begins)?,
+            Note::Reply { .. } => self.replies = one_more(self.replies)?,
+            Note::Decide { path, .. } => match path {
+                Path::Fast => self.fast = one_more(self.fast)?,
+                Path::Slow => self.slow = one_more(self.slow)?,
+                Path::Recovered => self.recovered = one_more(self.recovered)?,
+                Path::Adopted => self.adopted = one_more(self.adopted)?,
+            },
+            Note::Recover { .. }
+            | Note::Blocked { .. }
+            | Note::Ended { .. }
+            | Note::Outcome { .. } => {}
+        }
+        Ok(())
+    }
+
+    // How many notes are counted as this.
+    fn number(&self, what: Tally) -> u64
+        ensures { result ≡ counted self.now what }
+    {
+        match what {
+            Tally::Begins => self.begins,
+            Tally::Replies => self.replies,
+            Tally::Decisions(Path::Fast) => self.fast,
+            Tally::Decisions(Path::Slow) => self.slow,
+            Tally::Decisions(Path::Recovered) => self.recovered,
+            Tally::Decisions(Path::Adopted) => self.adopted,
+        }
+    }
 }
 
 fn one_more(number: u64) -> Result<u64, OutOfMemory>
@@ -101,26 +168,4 @@ fn one_more(number: u64) -> Result<u64, OutOfMemory>
         Some(more) => Ok(more),
         None => Err(OutOfMemory),
     }
-}
-
-fn is_counted(what: Tally, note: &Note) -> bool
-    ensures { result ≡ counts what note.now }
-{
-    match (what, note) {
-        (Tally::Begins, Note::Begin { .. }) | (Tally::Replies, Note::Reply { .. }) => true,
-        (Tally::Decisions(path), Note::Decide { path: taken, .. }) => same_path(path, *taken),
-        _ => false,
-    }
-}
-
-fn same_path(path: Path, taken: Path) -> bool
-    ensures { result ≡ paths_agree path taken }
-{
-    matches!(
-        (path, taken),
-        (Path::Fast, Path::Fast)
-            | (Path::Slow, Path::Slow)
-            | (Path::Recovered, Path::Recovered)
-            | (Path::Adopted, Path::Adopted)
-    )
 }

@@ -16,6 +16,7 @@ returns c =
     let history = reverse c.args.items.now in
     let last = last_line (notes_of history) in
     c.from_vec.ensures ∙ c.in_ok-push_last.ensures
+    ∙ ap (λ line. c.loop-item.text.items ++ full_text line) c.in_ok-counts.ensures.last
     ∙ ap (λ text. text ++ full_text last)
     (c.loop-item.invariant
     ∙ ap (λ items. lines_text (lines_from (name_in directory) called (reverse (map arc_value items))))

@@ -6,13 +6,13 @@ use Rattle.std.specs.List.{count_by}
 use Rattle.acc_message.specs.Items.{notes_of, noted_in}
 use Rattle.acc_report.specs.Counts.{is_counted}
 use Rattle.acc_report.proofs.Steps.{reverse_more}
-use Rattle.acc_report.proofs.summary.count.Goals as goal
+use Rattle.acc_report.proofs.summary.Counts.count.Goals as goal
 
 pub loop-item-preserved : goal.loop-item-preserved
-loop-item-preserved c =
-    let is = is_counted c.args.what in
-    let before = c.loop-item.invariant in
-    let added = c.in_ok-number.ensures in
+loop-item-preserved c what =
+    let is = is_counted what in
+    let before = c.loop-item.invariant what in
+    let added = c.in_ok-add_item.ensures what in
     let same = ap noted_in c.deref.ensures in
     let more = ap (λ items. count_by is (notes_of items))
     (reverse_more arc_value c.as_slice-item-items.result.now c.loop-item.item-index c.item-item.result c.loop-item-test.true c.item-item.is) in
