@@ -71,6 +71,7 @@ pub(crate) fn all_below(
     let mut found = Vec::new(alloc);
     for (key, writes) in uses {
         let (writers, readers) = users_of(users, key, *writes);
+        found.reserve(writers.len().saturating_add(readers.len()))?;
         columns.collect_below(writers, id, bound, &mut found)?;
         columns.collect_below(readers, id, bound, &mut found)?;
     }
