@@ -90,6 +90,14 @@ fn apply_turn(
     }
 }
 
+// No messages yet, with room for this many.
+fn with_room(alloc: Global, room: usize) -> Result<Messages, OutOfMemory>
+    ensures { IfOk result (λ sent. sent ≡ []) }
+{
+    let sent = Vec::with_capacity(alloc, room)?;
+    Ok(Messages::from_vec(sent))
+}
+
 /// What the turns of a step send and write, where each transaction has a record. Nothing is written yet.
 pub fn release(
     alloc: Global,
@@ -107,7 +115,8 @@ pub fn release(
         shard: own.shard(),
         cells,
     };
-    let mut sent = Messages::new(alloc);
+    // Mostly one attempt waits for each transaction that is opened.
+    let mut sent = with_room(alloc, turns.len())?;
     let mut writes = CellList::new(alloc);
     for turn in turns {
         let Some(there) = record_of(known.records, known.own, turn.id) else {
