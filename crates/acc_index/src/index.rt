@@ -80,7 +80,9 @@ impl Index {
         ensures rises { IfOk result IsRising }
     {
         let alloc = *self.shares.allocator();
-        Ok(rising(all_below(alloc, &self.columns, &self.users, share.pairs(), id, bound)?))
+        let found = all_below(alloc, &self.columns, &self.users, share.pairs(), id, bound)?;
+        let ids = rising(found)?;
+        Ok(ids)
     }
 
     /// The other transactions that conflict with this one, rising.
@@ -89,7 +91,9 @@ impl Index {
         ensures rises { IfOk result IsRising }
     {
         let alloc = *self.shares.allocator();
-        Ok(rising(all_of(alloc, &self.columns, &self.users, share.pairs(), id)?))
+        let found = all_of(alloc, &self.columns, &self.users, share.pairs(), id)?;
+        let ids = rising(found)?;
+        Ok(ids)
     }
 
     /// The transactions that write a key, rising.
@@ -100,7 +104,8 @@ impl Index {
         let mut found = Vec::new(*self.shares.allocator());
         let (writers, _) = users_of(&self.users, key, false);
         self.columns.collect(writers, &mut found)?;
-        Ok(rising(found))
+        let ids = rising(found)?;
+        Ok(ids)
     }
 
     /// The `h` of each stamp, in the order noted.

@@ -9,8 +9,8 @@ use Rattle.acc_index.proofs.order.rising.Goals as goal
 found_names : goal.returns-clause-ids
 found_names c =
     c.from_vec.ensures ∙ c.shrink_to_fit.ensures.items ∙ dedup_is id_eq _ _ c.dedup.ensures.filtered
-    ∙ sorted_names c.args.found.items c.sort_unstable.new.self.items
-    (λ x. Contains-permutation _ _ x c.sort_unstable.ensures.permutation) (λ x. Contains-permutation _ _ x (IsPermutation-sym _ _ c.sort_unstable.ensures.permutation)) c.sort_unstable.ensures.sorted
+    ∙ sorted_names c.args.found.items c.sort.new.self.items
+    (λ x. Contains-permutation _ _ x c.sort.ensures.permutation) (λ x. Contains-permutation _ _ x (IsPermutation-sym _ _ c.sort.ensures.permutation)) c.in_ok-sort.ensures.sorted
 
 pub returns-clause-ids : goal.returns-clause-ids
 returns-clause-ids c = found_names c

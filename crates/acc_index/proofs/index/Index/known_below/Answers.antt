@@ -13,6 +13,6 @@ pub returns-clause-ids : goal.returns-clause-ids
 returns-clause-ids c =
     let x = c.self.inside in
     let rises = subst IsRising (sym c.pairs.ensures.pairs) c.pairs.ensures.rising in
-    c.rising.ensures.ids ∙ ap (ids_union []) c.in_ok-all_below.ensures ∙ kept_below x.columns x.shares.items x.users c.self.invariant c.args.id c.pairs.result.now rises c.args.bound
+    c.in_ok-ids.ensures.ids ∙ ap (ids_union []) c.in_ok-found.ensures ∙ kept_below x.columns x.shares.items x.users c.self.invariant c.args.id c.pairs.result.now rises c.args.bound
     ∙ ap (λ uses. rival_ids_below (noted_of x.columns x.shares.items) c.args.id uses c.args.bound) c.pairs.ensures.pairs
     ∙ ap (λ noted. rival_ids_below noted c.args.id c.args.share.now c.args.bound) c.self.view_is

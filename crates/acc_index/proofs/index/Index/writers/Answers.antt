@@ -13,5 +13,5 @@ collect-requires-clause-in_range c =
 pub returns-clause-ids : goal.returns-clause-ids
 returns-clause-ids c =
     let x = c.self.inside in
-    c.rising.ensures.ids ∙ ap (ids_union []) (c.in_ok-collect.ensures ∙ ap (λ zs. zs ++ ids_of x.columns c.users_of.result.0.now) c.new-found.ensures.items ∙ ap (ids_of x.columns) c.users_of.ensures.writers) ∙ kept_writers x.columns x.shares.items x.users c.self.invariant c.args.key.now
+    c.in_ok-ids.ensures.ids ∙ ap (ids_union []) (c.in_ok-collect.ensures ∙ ap (λ zs. zs ++ ids_of x.columns c.users_of.result.0.now) c.new-found.ensures.items ∙ ap (ids_of x.columns) c.users_of.ensures.writers) ∙ kept_writers x.columns x.shares.items x.users c.self.invariant c.args.key.now
     ∙ ap (λ noted. writer_ids noted c.args.key.now) c.self.view_is
