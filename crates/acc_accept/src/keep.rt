@@ -17,7 +17,7 @@ pub(crate) fn keep_accepted(records: &mut Records, id: TxnId, accepted: Accepted
     ensures { (y : TxnId) → record_at records.new y ≡ cond (id_eq id y) (option_map (with_accepted accepted) (record_at records.old id)) (record_at records.old y) }
 {
     match records.get_mut(&id) {
-        Some(there) => accept_in(there, accepted),
+        Some(there) => accept_in(there.get_mut(), accepted),
         None => {}
     }
 }
@@ -34,7 +34,7 @@ pub(crate) fn keep_committed(records: &mut Records, id: TxnId, committed: Accept
     ensures { (y : TxnId) → record_at records.new y ≡ cond (id_eq id y) (option_map (with_committed committed) (record_at records.old id)) (record_at records.old y) }
 {
     match records.get_mut(&id) {
-        Some(there) => commit_in(there, committed),
+        Some(there) => commit_in(there.get_mut(), committed),
         None => {}
     }
 }

@@ -18,7 +18,7 @@ pub(crate) fn keep(records: &mut Records, own: Record)
 {
     let id = own.id;
     match records.get_mut(&id) {
-        Some(there) => replace(there, own),
+        Some(there) => replace(there.get_mut(), own),
         None => {}
     }
 }
@@ -42,7 +42,7 @@ fn take_turn(records: &mut Records, turn: Turn)
     ensures { (y : TxnId) → record_at records.new y ≡ cond (id_eq turn.id y) (option_map (after_turn turn) (record_at records.old turn.id)) (record_at records.old y) }
 {
     match records.get_mut(&turn.id) {
-        Some(there) => change(there, turn),
+        Some(there) => change(there.get_mut(), turn),
         None => {}
     }
 }

@@ -13,6 +13,9 @@ pub fn record_of<'a>(records: &'a Records, own: &'a Record, id: TxnId) -> Option
     if id == own.id {
         Some(own)
     } else {
-        records.get(&id)
+        match records.get(&id) {
+            Some(kept) => Some(kept.get()),
+            None => None,
+        }
     }
 }

@@ -162,7 +162,7 @@ fn is_stable(records: &Records, id: TxnId) -> bool
     ensures { result ≡ is_some (settled_in (record_at records.now id)) }
 {
     match records.get(&id) {
-        Some(there) => there.stable.is_some(),
+        Some(there) => there.get().stable.is_some(),
         None => false,
     }
 }

@@ -14,7 +14,7 @@ pub(crate) fn keep_vote(records: &mut Records, id: TxnId, vote: Vote)
     ensures { (y : TxnId) → record_at records.new y ≡ cond (id_eq id y) (option_map (with_vote vote) (record_at records.old id)) (record_at records.old y) }
 {
     match records.get_mut(&id) {
-        Some(there) => keep_in(there, vote),
+        Some(there) => keep_in(there.get_mut(), vote),
         None => {}
     }
 }

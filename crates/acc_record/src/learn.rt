@@ -6,7 +6,7 @@ ghost use Rattle.acc_record.specs.Shelf.{IsSame, record_at};
 ghost use Rattle.acc_record.specs.Steps.{fresh};
 ghost use Rattle.acc_record.specs.Learning.{IsLearnt, is_covered_by, is_below_accepted, is_below_settled, later_of, stamp_to_note, notes_with};
 
-use crate::record::{Record, Records};
+use crate::record::{KeptRecord, Record, Records};
 use crate::shelf::Shelf;
 use acc_base::OutOfMemory;
 use acc_deps::{Accepted, Deps, Settled};
@@ -46,7 +46,7 @@ impl Shelf {
         ensures known { result.0 ≡ is_some (record_at self.now.records id) }
         ensures stamp { result.1 ≡ stamp_to_note (record_at self.now.records id) id stamp }
     {
-        match (self.records.get(&id), stamp) {
+        match (self.find(id), stamp) {
             (None, stamp) => (false, Some(later(id.0, stamp))),
             (Some(record), Some(stamp)) if !record.covers(id, stamp) => (true, Some(stamp)),
             (Some(_), _) => (true, None),
@@ -156,7 +156,9 @@ fn put(records: &mut Records, made: Record) -> Result<(), OutOfMemory>
     ensures ok { OnOk result ((y : TxnId) → record_at records.new y ≡ cond (id_eq made.id y) (Some made) (record_at records.old y)) }
     ensures err { OnErr result ((y : TxnId) → record_at records.new y ≡ record_at records.old y) }
 {
-    records.insert(made.id, made)?;
+    let id = made.id;
+    let kept = KeptRecord::new(made.waiters.allocator(), made)?;
+    records.insert(id, kept)?;
     Ok(())
 }
 

@@ -8,6 +8,6 @@ mod shelf;
 mod vote;
 
 pub use cells::Cells;
-pub use record::{Record, Records};
+pub use record::{KeptRecord, Record, Records};
 pub use shelf::{Shelf, Waits, Watch};
 pub use vote::Vote;

@@ -1,8 +1,16 @@
 //! What a store keeps of a transaction.
+ghost use Rattle.std.specs.Prelude.{◌≡◌, IfOk};
+ghost use Rattle.std.specs.Borrow.{Lends, sem};
+ghost use Rattle.acc_record.specs.contracts.record.KeptRecord.{the_row};
+ghost use Rattle.acc_record.specs.contracts.record.Record.{the_row as record_row};
+
+use acc_base::OutOfMemory;
 use acc_deps::{Accepted, Deps, Settled};
 use acc_stamp::{Ballot, Ballots, Stamp, TxnId};
 use acc_txn::{Body, Outcome};
+use std::alloc::Global;
 use std::collections::BTreeMap;
+use std::marker::Model;
 
 /// What a store keeps of a transaction that it knows.
 #[derive(Debug, Drop)]
@@ -33,5 +41,44 @@ pub struct Record {
     pub applied: bool,
 }
 
-/// The records of a store, by their transactions.
-pub type Records = BTreeMap<TxnId, Record>;
+/// A record in a place of its own, which contracts see as the record.
+#[derive(Debug, Drop)]
+pub struct KeptRecord {
+    place: Box<Record>,
+}
+
+impl Model for KeptRecord {
+    ghost use Rattle.acc_record.specs.declared.record.Record.{Record};
+
+    ghost Value = { Record };
+
+    ghost view = { λ k. k.place.value };
+}
+
+impl KeptRecord {
+    /// Puts a record in a place of its own.
+    pub fn new(alloc: Global, made: Record) -> Result<KeptRecord, OutOfMemory>
+        ensures { IfOk result (λ kept. kept ≡ made) }
+    {
+        let place = Box::new(alloc, made)?;
+        Ok(KeptRecord { place })
+    }
+
+    /// The record.
+    pub fn get(&self) -> &Record
+        ensures { result.now ≡ self.now }
+    {
+        self.place.as_ref()
+    }
+
+    /// The record, to be changed.
+    pub fn get_mut(&mut self) -> &mut Record
+        ensures value { result.now ≡ self.old }
+        ensures* writes_back { sem 𝓛 (Lends the_row record_row self.entry result (λ w. w)) }
+    {
+        self.place.as_mut()
+    }
+}
+
+/// The records of a store, by their transactions. Each has a place of its own, such that the nodes of the tree stay small.
+pub type Records = BTreeMap<TxnId, KeptRecord>;

@@ -70,7 +70,10 @@ impl Shelf {
     pub fn find(&self, id: TxnId) -> Option<&Record>
         ensures { option_copied result ≡ record_at self.now.records id }
     {
-        self.records.get(&id)
+        match self.records.get(&id) {
+            Some(kept) => Some(kept.get()),
+            None => None,
+        }
     }
 
     /// The keys of this shard that a transaction uses, by the body that the store heard first, which is this one where the

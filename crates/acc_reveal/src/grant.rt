@@ -15,7 +15,7 @@ pub(crate) fn grant(records: &mut Records, id: TxnId, ballot: Ballot, vote: Stam
     ensures { (y : TxnId) → record_at records.new y ≡ cond (id_eq id y) (option_map (granted ballot vote deps) (record_at records.old id)) (record_at records.old y) }
 {
     match records.get_mut(&id) {
-        Some(record) => grant_in(record, ballot, vote, deps),
+        Some(record) => grant_in(record.get_mut(), ballot, vote, deps),
         None => {}
     }
 }
