@@ -36,7 +36,7 @@ not_third k apart l same other =
 
 -- ---- looking for a field
 
-passed_by : {X : Type 0} (r : Ordering) (x y : X) → is_eq r ≡ false → match_ordering r x y x ≡ x
+pub passed_by : {X : Type 0} (r : Ordering) (x y : X) → is_eq r ≡ false → match_ordering r x y x ≡ x
 passed_by Less x y h = refl
 passed_by Equal x y h = absurd cc
 passed_by Greater x y h = refl

@@ -1,5 +1,5 @@
 -- A JSON value's parts, as its data has them.
-use Rattle.std.proofs.Common.{◌≡◌, ℕ, ◌||◌, List, [], ◌∷◌, ◌++◌, find, map, Bool, true, false, not, cond, Option, Some, is_some, option_map, String, Global, Bor, string_bytes, refl, sym, ap, ◌∙◌}
+use Rattle.std.proofs.Common.{◌≡◌, ℕ, ◌||◌, List, [], ◌∷◌, ◌++◌, find, map, Bool, true, false, not, cond, Option, Some, is_some, option_map, String, Vec, Global, Bor, string_bytes, refl, sym, ap, ◌∙◌}
 use Rattle.std.specs.List.{list_any, list_all}
 use Rattle.std.specs.Map.{keys_of}
 use Rattle.std.specs.Str.{bytes_eq}
@@ -7,7 +7,8 @@ use Rattle.std.proofs.lemmas.List.Folds.{list_all-map, list_any-append}
 use Rattle.serde_json.specs.Data.{Data}
 use Rattle.serde_json.specs.Find.{get, as_array, as_object}
 use Rattle.serde_json.specs.View.{view, items_of, items_view, members_view}
-use Rattle.serde_json.specs.declared.value.Value.{Value}
+use Rattle.serde_json.specs.declared.value.Value.{Value, Array}
+use Rattle.serde_json.proofs.Views.{view-Array}
 use Rattle.acc_schedule.specs.declared.error.PlanKind.TheVariants.{Shape}
 use Rattle.acc_schedule.specs.Paths.{Path}
 use Rattle.acc_schedule.specs.Faults.{fault}
@@ -20,6 +21,9 @@ items_list-items_of (d ∷ ds) = ap (λ rest. d ∷ rest) (items_list-items_of d
 
 pub elements-as_array : (d : Data) (vs xs : List Value) → Some (items_view vs) ≡ as_array d → xs ≡ vs → Some (map view xs) ≡ elements d
 elements-as_array d vs xs e same = rw (← e, same) (ap Some (sym (items_list-items_of (map view vs))))
+
+pub elements-Array : (v : Vec Value Global) → Some (map view v.items) ≡ elements (view (Array v))
+elements-Array v = elements-as_array (view (Array v)) v.items v.items (ap as_array (sym (view-Array v))) refl
 
 abbrev pub Entry : Type 0
 Entry = String Global × Value

@@ -10,6 +10,7 @@ mod KeptFacts
 mod NameFacts
 mod PathFacts
 mod PlanFacts
+mod RootFacts
 mod ShardFacts
 mod TextFacts
 mod TransactionFacts

@@ -60,6 +60,21 @@ root_of d print = record {
   print = printed print;
 }
 
+-- the transactions, which may stand apart from the root
+abbrev pub txns_with : Data → Option Data → Data
+txns_with d apart = unwrap_or apart (txns d)
+
+-- the fields of a root, with those transactions
+abbrev pub root_with : Data → Option Data → Option Data → Root
+root_with d apart print = record {
+  version = field (codes "version") d;
+  nodes = nodes d;
+  shards = shards d;
+  txns = txns_with d apart;
+  schedule = schedule d;
+  print = printed print;
+}
+
 -- the version of the document
 abbrev pub version_of : Root → ℕ
 version_of r = number r.version

@@ -1,8 +1,9 @@
 //! Reads a whole document.
-ghost use Rattle.std.specs.Prelude.{◌≡◌, None, codes, map, IfOk, IfErr};
+ghost use Rattle.std.specs.Prelude.{◌≡◌, None, Option, codes, map, option_map, IfOk, IfErr};
+ghost use Rattle.serde_json.specs.Data.{Data};
 ghost use Rattle.serde_json.specs.Find.{get};
 ghost use Rattle.serde_json.specs.View.{view};
-ghost use Rattle.acc_schedule.specs.Document.{base_fault, document_fault, fields_fault, layout_of, needed_fields, nodes as nodes_data, plan_in as plan_said, plan_of, print_fault, print_of, printed, root_fault, root_of, version_fault, IsCause, IsRead, IsRefused, IsUnread, Means, Reads};
+ghost use Rattle.acc_schedule.specs.Document.{base_fault, document_fault, fields_fault, layout_of, needed_fields, nodes as nodes_data, plan_in as plan_said, plan_of, print_fault, print_of, printed, root_fault, root_of, root_with, version_fault, IsCause, IsRead, IsRefused, IsUnread, Means, Reads};
 ghost use Rattle.acc_schedule.specs.declared.error.PlanError.{PlanError};
 ghost use Rattle.acc_schedule.specs.Content.{Content};
 ghost use Rattle.acc_schedule.specs.Faults.{Gives, IsOfRule};
@@ -42,7 +43,32 @@ pub fn read(alloc: Global, bytes: &[u8]) -> Result<Plan, PlanError>
     ensures refuses { (error : PlanError) → IsCause bytes.now error → IsRefused error result }
 {
     let root = read_json(alloc, bytes)?;
-    read_plan(alloc, &root)
+    read_whole(alloc, root)
+}
+
+// The plan that the JSON of a document says. Each transaction's JSON is let go once it is read.
+fn read_whole(alloc: Global, root: Value) -> Result<Plan, PlanError>
+    ensures plan { Gives (document_fault (view root)) (λ plan. plan ≡ plan_of (view root)) result }
+    ensures sound { IfOk result IsPlan }
+    ensures built { IfErr result IsOfRule }
+{
+    object(alloc, &root, &needed(), &["print"], &[])?;
+    let (others, txns) = set_apart(root);
+    plan_in(alloc, &others, txns, others.get("print"))
+}
+
+// The root without its transactions, and these.
+fn set_apart(root: Value) -> (Value, Option<Value>)
+    ensures root { (print : Option Data) → root_with (view result.0) (option_map view result.1) print ≡ root_of (view root) print }
+    ensures print { get (codes "print") (view result.0) ≡ get (codes "print") (view root) }
+{
+    match root {
+        Value::Object(mut fields) => {
+            let txns = fields.remove("txns");
+            (Value::Object(fields), txns)
+        }
+        other => (other, None),
+    }
 }
 
 /// The JSON of a document.
@@ -77,7 +103,7 @@ pub fn read_plan(alloc: Global, root: &Value) -> Result<Plan, PlanError>
     ensures built { IfErr result IsOfRule }
 {
     object(alloc, root, &needed(), &["print"], &[])?;
-    plan_in(alloc, root, root.get("print"))
+    plan_in(alloc, root, None, root.get("print"))
 }
 
 /// The plan that the JSON of a document says, as if its root had no field of the name `apart`.
@@ -90,7 +116,7 @@ pub fn read_value(alloc: Global, root: &Value, apart: &str) -> Result<Plan, Plan
     ensures built { IfErr result IsOfRule }
 {
     object_without(alloc, root, apart)?;
-    plan_in(alloc, root, print_without(root, apart))
+    plan_in(alloc, root, None, print_without(root, apart))
 }
 
 // What the root without the field says of printing.
@@ -114,10 +140,16 @@ fn object_without(alloc: Global, root: &Value, apart: &str) -> Result<(), PlanEr
     object(alloc, root, &needed(), &["print", apart], &[])
 }
 
-// The plan that the fields of the root say, with what is printed.
-fn plan_in(alloc: Global, root: &Value, print: Option<&Value>) -> Result<Plan, PlanError>
-    ensures plan { Gives (fields_fault (root_of (view root.now) (seen_value print.entry)))
-        (λ plan. plan ≡ plan_said (root_of (view root.now) (seen_value print.entry))) result }
+// The plan that the fields of the root say, with the transactions that stand apart from it, if they do, and with what is
+// printed.
+fn plan_in(
+    alloc: Global,
+    root: &Value,
+    apart: Option<Value>,
+    print: Option<&Value>,
+) -> Result<Plan, PlanError>
+    ensures plan { Gives (fields_fault (root_with (view root.now) (option_map view apart) (seen_value print.entry)))
+        (λ plan. plan ≡ plan_said (root_with (view root.now) (option_map view apart) (seen_value print.entry))) result }
     ensures sound { IfOk result IsPlan }
 {
     let version = version(alloc, root)?;
@@ -126,7 +158,7 @@ fn plan_in(alloc: Global, root: &Value, print: Option<&Value>) -> Result<Plan, P
         names,
         homes,
         bodies,
-    } = transactions(alloc, root, version, topology.nodes())?;
+    } = transactions(alloc, root, apart, version, topology.nodes())?;
     let steps = schedule(alloc, root, &names, &topology)?;
     let print = print_in(alloc, print)?;
     Ok(Plan {

@@ -24,6 +24,16 @@ pub(crate) fn elements(value: &Value) -> Option<&[Value]>
     Some(value.as_array()?.as_slice())
 }
 
+/// The elements of an array that is given away.
+pub(crate) fn into_elements(value: Value) -> Option<Vec<Value>>
+    ensures { option_map (λ items. map view items.items) result ≡ elements (view value) }
+{
+    match value {
+        Value::Array(items) => Some(items),
+        _ => None,
+    }
+}
+
 /// The elements of a field that is an array.
 pub(crate) fn field_elements<'v>(object: &'v Value, name: &str) -> Option<&'v [Value]>
     ensures { option_map (λ items. map view items.now) result

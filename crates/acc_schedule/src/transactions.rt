@@ -1,17 +1,17 @@
 //! The transactions of a document.
-ghost use Rattle.std.specs.Prelude.{◌≡◌, ◌<◌, [], ◌∷◌, ◌++◌, codes, length};
+ghost use Rattle.std.specs.Prelude.{◌≡◌, ◌<◌, ◌≤◌, [], ◌∷◌, ◌++◌, codes, length, map, option_map};
 ghost use Rattle.std.specs.List.{list_all, AllByRecursion};
 ghost use Rattle.serde_json.specs.View.{view};
 ghost use Rattle.acc_topology.specs.Sets.{in_set};
 ghost use Rattle.acc_txn.specs.Rules.{IsBody};
-ghost use Rattle.acc_schedule.specs.Document.{txns};
+ghost use Rattle.acc_schedule.specs.Document.{txns, txns_with};
 ghost use Rattle.acc_schedule.specs.Faults.{Gives};
-ghost use Rattle.acc_schedule.specs.Fields.{field};
-ghost use Rattle.acc_schedule.specs.Paths.{part_path};
+ghost use Rattle.acc_schedule.specs.Fields.{field, items as items_of, list_fault};
+ghost use Rattle.acc_schedule.specs.Paths.{field_path, part_path};
 ghost use Rattle.acc_schedule.specs.Transactions.{bodies_of, body_fault, body_of, home_fault, home_of, homes_of, is_name as is_name_of, is_name_byte as is_name_byte_of, name_fault, name_of, names_of, transaction_fault, transactions_fault};
 
 use crate::error::{PlanError, PlanKind};
-use crate::fields::{field_text, is_whole, list, node_in, object};
+use crate::fields::{field_text, into_elements, is_whole, list, node_in, object};
 use crate::names::NameTable;
 use crate::path::{Part, wrong};
 use crate::plan::Bodies;
@@ -37,8 +37,25 @@ pub(crate) struct TransactionLists {
     pub(crate) bodies: Bodies,
 }
 
-/// The transactions, each at one of the nodes.
+/// The transactions, each at one of the nodes. Those that stand apart from the root are let go one by one, as they are read.
 pub(crate) fn transactions(
+    alloc: Global,
+    root: &Value,
+    apart: Option<Value>,
+    version: u8,
+    nodes: NodeSet,
+) -> Result<TransactionLists, PlanError>
+    ensures { Gives (transactions_fault version (in_set nodes) (txns_with (view root.now) (option_map view apart)))
+        (λ all. (all.names ≡ names_of (txns_with (view root.now) (option_map view apart))) × (all.homes ≡ homes_of (txns_with (view root.now) (option_map view apart))) × (all.bodies ≡ bodies_of version (txns_with (view root.now) (option_map view apart))) × AllByRecursion IsBody all.bodies) result }
+{
+    match apart {
+        Some(txns) => read_apart(alloc, txns, version, nodes),
+        None => read_in_place(alloc, root, version, nodes),
+    }
+}
+
+// The transactions that the root has.
+fn read_in_place(
     alloc: Global,
     root: &Value,
     version: u8,
@@ -65,6 +82,46 @@ pub(crate) fn transactions(
         all.bodies.push(body)?;
     }
     Ok(all)
+}
+
+// The transactions, each of which is let go once it is read.
+fn read_apart(
+    alloc: Global,
+    txns: Value,
+    version: u8,
+    nodes: NodeSet,
+) -> Result<TransactionLists, PlanError>
+    ensures { Gives (transactions_fault version (in_set nodes) (view txns))
+        (λ all. (all.names ≡ names_of (view txns)) × (all.homes ≡ homes_of (view txns)) × (all.bodies ≡ bodies_of version (view txns)) × AllByRecursion IsBody all.bodies) result }
+{
+    let items = items_in(alloc, txns)?;
+    let mut all = TransactionLists {
+        names: NameTable::new(alloc),
+        homes: Sequence::new(alloc),
+        bodies: Sequence::new(alloc),
+    };
+    let mut place = 0;
+    for item in items {
+        let (home, body) = transaction(alloc, &item, place, version, nodes, &mut all.names)?;
+        all.homes.push(home)?;
+        all.bodies.push(body)?;
+        place += 1;
+    }
+    Ok(all)
+}
+
+// The elements of the list of transactions, of which there are not too many.
+fn items_in(alloc: Global, txns: Value) -> Result<Vec<Value>, PlanError>
+    ensures { Gives (list_fault 10000 (field_path (codes "txns")) (view txns))
+        (λ list. (map view list.items ≡ items_of (view txns)) × (length list.items ≤ 10000)) result }
+{
+    let Some(items) = into_elements(txns) else {
+        return Err(wrong(alloc, PlanKind::Shape, &[Part::Field("txns")]));
+    };
+    if items.len() > MOST_TRANSACTIONS {
+        return Err(wrong(alloc, PlanKind::Limit, &[Part::Field("txns")]));
+    }
+    Ok(items)
 }
 
 // The home and the body of a transaction, whose name is added to those before it.

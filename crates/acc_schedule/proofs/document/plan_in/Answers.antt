@@ -1,9 +1,9 @@
-use Rattle.std.proofs.Common.{◌≡◌, ℕ, None, Err, sym, ap, subst, ◌∙◌}
+use Rattle.std.proofs.Common.{◌≡◌, ℕ, None, Err, option_map, sym, ap, subst, ◌∙◌}
 use Rattle.std.proofs.lemmas.Result.{err_from_is_err_and}
 use Rattle.serde_json.specs.View.{view}
 use Rattle.acc_topology.specs.Sets.{in_set}
 use Rattle.acc_schedule.specs.declared.error.PlanError.{PlanError}
-use Rattle.acc_schedule.specs.Document.{base_fault, cast_of, is_node_of, layout_of, print_fault, Root, root_of, version_fault, version_of}
+use Rattle.acc_schedule.specs.Document.{base_fault, cast_of, is_node_of, layout_of, print_fault, Root, root_with, version_fault, version_of}
 use Rattle.acc_schedule.specs.Faults.{Fault, IsFault}
 use Rattle.acc_schedule.specs.Seen.{seen_value}
 use Rattle.acc_schedule.specs.Steps.{Cast, cast_in, schedule_fault, steps_of}
@@ -14,7 +14,7 @@ use Rattle.acc_schedule.proofs.document.plan_in.Goals as goal
 
 pub returns-in_err-names-clause-plan : goal.returns-in_err-names-clause-plan
 returns-in_err-names-clause-plan c =
-    let r : Root = root_of (view c.args.root.now) (seen_value c.args.print) in
+    let r : Root = root_with (view c.args.root.now) (option_map view c.args.apart) (seen_value c.args.print) in
     let given : PlanError = c.in_err-names.field-0.0 in
     let p : (e : PlanError) × (c.from_residual-in_err-names.result ≡ Err e) × (e ≡ given) = err_from_is_err_and c.from_residual-in_err-names.result c.from_residual-in_err-names.ensures.1 in
     let its_nodes : in_set c.nodes.result ≡ is_node_of r = same_nodes c.nodes.result c.in_ok-starts.topology (layout_of r) c.nodes.ensures.set c.in_ok-starts.ensures.1.1 in
@@ -23,7 +23,7 @@ returns-in_err-names-clause-plan c =
 
 pub returns-in_err-steps-clause-plan : goal.returns-in_err-steps-clause-plan
 returns-in_err-steps-clause-plan c =
-    let r : Root = root_of (view c.args.root.now) (seen_value c.args.print) in
+    let r : Root = root_with (view c.args.root.now) (option_map view c.args.apart) (seen_value c.args.print) in
     let given : PlanError = c.in_err-steps.field-0.0 in
     let p : (e : PlanError) × (c.from_residual-in_err-steps.result ≡ Err e) × (e ≡ given) = err_from_is_err_and c.from_residual-in_err-steps.result c.from_residual-in_err-steps.ensures.1 in
     let its_nodes : in_set c.nodes.result ≡ is_node_of r = same_nodes c.nodes.result c.in_ok-starts.topology (layout_of r) c.nodes.ensures.set c.in_ok-starts.ensures.1.1 in
@@ -34,7 +34,7 @@ returns-in_err-steps-clause-plan c =
 
 pub returns-in_err-print-clause-plan : goal.returns-in_err-print-clause-plan
 returns-in_err-print-clause-plan c =
-    let r : Root = root_of (view c.args.root.now) (seen_value c.args.print) in
+    let r : Root = root_with (view c.args.root.now) (option_map view c.args.apart) (seen_value c.args.print) in
     let given : PlanError = c.in_err-print.field-0.0 in
     let p : (e : PlanError) × (c.from_residual-in_err-print.result ≡ Err e) × (e ≡ given) = err_from_is_err_and c.from_residual-in_err-print.result c.from_residual-in_err-print.ensures.1 in
     let its_nodes : in_set c.nodes.result ≡ is_node_of r = same_nodes c.nodes.result c.in_ok-starts.topology (layout_of r) c.nodes.ensures.set c.in_ok-starts.ensures.1.1 in
@@ -45,7 +45,7 @@ returns-in_err-print-clause-plan c =
 
 pub invariant_of-result-2 : goal.invariant_of-result-2
 invariant_of-result-2 c =
-    let r : Root = root_of (view c.args.root.now) (seen_value c.args.print) in
+    let r : Root = root_with (view c.args.root.now) (option_map view c.args.apart) (seen_value c.args.print) in
     let its_nodes : in_set c.nodes.result ≡ is_node_of r = same_nodes c.nodes.result c.in_ok-starts.topology (layout_of r) c.nodes.ensures.set c.in_ok-starts.ensures.1.1 in
     let fine : transactions_fault (version_of r) (is_node_of r) r.txns ≡ None = (λ i. transactions_fault (sym c.in_ok-version.ensures.1 i) (sym its_nodes i) r.txns) ∙ c.in_ok-names.ensures.0 in
     let cast : cast_in c.in_ok-names.field-0.names c.in_ok-starts.topology ≡ cast_of r = λ i. cast_in (c.in_ok-names.ensures.1.0 i) (c.in_ok-starts.ensures.1.1 i) in
@@ -71,7 +71,7 @@ invariant_of-result-2 c =
 
 pub returns-clause-plan : goal.returns-clause-plan
 returns-clause-plan c =
-    let r : Root = root_of (view c.args.root.now) (seen_value c.args.print) in
+    let r : Root = root_with (view c.args.root.now) (option_map view c.args.apart) (seen_value c.args.print) in
     let its_nodes : in_set c.nodes.result ≡ is_node_of r = same_nodes c.nodes.result c.in_ok-starts.topology (layout_of r) c.nodes.ensures.set c.in_ok-starts.ensures.1.1 in
     let fine : transactions_fault (version_of r) (is_node_of r) r.txns ≡ None = (λ i. transactions_fault (sym c.in_ok-version.ensures.1 i) (sym its_nodes i) r.txns) ∙ c.in_ok-names.ensures.0 in
     let cast : cast_in c.in_ok-names.field-0.names c.in_ok-starts.topology ≡ cast_of r = λ i. cast_in (c.in_ok-names.ensures.1.0 i) (c.in_ok-starts.ensures.1.1 i) in
@@ -96,7 +96,7 @@ returns-clause-plan c =
 
 pub returns-clause-sound : goal.returns-clause-sound
 returns-clause-sound c =
-    let r : Root = root_of (view c.args.root.now) (seen_value c.args.print) in
+    let r : Root = root_with (view c.args.root.now) (option_map view c.args.apart) (seen_value c.args.print) in
     let its_nodes : in_set c.nodes.result ≡ is_node_of r = same_nodes c.nodes.result c.in_ok-starts.topology (layout_of r) c.nodes.ensures.set c.in_ok-starts.ensures.1.1 in
     let fine : transactions_fault (version_of r) (is_node_of r) r.txns ≡ None = (λ i. transactions_fault (sym c.in_ok-version.ensures.1 i) (sym its_nodes i) r.txns) ∙ c.in_ok-names.ensures.0 in
     let cast : cast_in c.in_ok-names.field-0.names c.in_ok-starts.topology ≡ cast_of r = λ i. cast_in (c.in_ok-names.ensures.1.0 i) (c.in_ok-starts.ensures.1.1 i) in

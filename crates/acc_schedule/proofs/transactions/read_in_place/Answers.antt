@@ -6,7 +6,7 @@ use Rattle.acc_schedule.specs.declared.error.PlanError.{PlanError}
 use Rattle.acc_schedule.specs.Document.{txns}
 use Rattle.acc_schedule.specs.Fields.{items}
 use Rattle.acc_schedule.proofs.TransactionFacts.{few_names, none_keep, nothing_read, one_more_keeps, one_more_transaction, transaction_fails, transactions_read}
-use Rattle.acc_schedule.proofs.transactions.transactions.Goals as goal
+use Rattle.acc_schedule.proofs.transactions.read_in_place.Goals as goal
 
 pub loop-place-init : goal.loop-place-init
 loop-place-init c =
