@@ -1,4 +1,4 @@
-use Rattle.std.proofs.Common.{◌≡◌, sym, ◌∙◌}
+use Rattle.std.proofs.Common.{◌≡◌, sym, subst, ◌∙◌, IfOk}
 use Rattle.std.proofs.lemmas.Result.{IfOk-weaker}
 use Rattle.acc_stamp.specs.declared.stamps.TxnId.{TxnId}
 use Rattle.acc_message.specs.Attempts.{Attempt}
@@ -21,7 +21,7 @@ returns-then-is_store c =
     (λ judged h x a s.
     would_for_message layout x w.id r a c.args.m.now w.from w.to w.ballot w.view judged w.is same
     (h x w.id a w.to s (sym (c.is_store.ensures.value r.body s.shards_are) ∙ c.if-is_store.true)))
-    c.judge_view.ensures
+    (subst (λ seen. IfOk c.judge_view.result (WouldJudgeAll layout r w.from seen)) c.view.ensures c.judge_view.ensures)
 
 pub returns-else-is_store : goal.returns-else-is_store
 returns-else-is_store c = λ x a s.

@@ -1,4 +1,4 @@
-use Rattle.std.proofs.Common.{◌≡◌, sym, ◌∙◌}
+use Rattle.std.proofs.Common.{◌≡◌, sym, subst, ◌∙◌, IfOk}
 use Rattle.std.proofs.lemmas.Result.{IfOk-weaker}
 use Rattle.acc_stamp.specs.declared.stamps.TxnId.{TxnId}
 use Rattle.acc_message.specs.Attempts.{Attempt}
@@ -21,7 +21,7 @@ returns-then-is_store-clause-ok c =
     (λ judged h x a s.
     for_message layout x w.id r c.on_view.new.self a c.args.m.now w.from w.to w.ballot w.view judged w.is same
     (h x w.id a w.to s (sym (c.is_store.ensures.value r.body s.shards_are) ∙ c.if-is_store.true)))
-    c.on_view.ensures.ok
+    (subst (λ seen. IfOk c.on_view.result (JudgesAll layout r c.on_view.new.self w.from seen)) c.view.ensures c.on_view.ensures.ok)
 
 pub returns-else-is_store-clause-ok : goal.returns-else-is_store-clause-ok
 returns-else-is_store-clause-ok c = λ x a s.
