@@ -11,6 +11,6 @@ mod turns;
 
 pub use lookup::record_of;
 pub use plan::{Known, Plan, planned};
-pub use queue::{Due, Queue};
+pub use queue::Queue;
 pub use touched::{Touched, TouchedWaits};
 pub use turns::Turn;

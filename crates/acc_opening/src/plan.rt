@@ -128,7 +128,11 @@ impl Plan {
         let alloc = *self.done.allocator();
         let id = known.own.id;
         let mut woken = take_watches(alloc, &mut self.touched, known.waits, id)?;
-        woken.push(Watch { id, place: 0 })?;
+        let own = Watch { id, place: 0 };
+        if woken.as_slice().is_empty() {
+            return self.wake_all(known, &[own]);
+        }
+        woken.push(own)?;
         self.wake_all(known, &woken)
     }
 
@@ -174,7 +178,7 @@ pub fn planned(alloc: Global, known: &Known<'_>) -> Result<Plan, OutOfMemory>
 {
     let mut plan = Plan {
         done: Vec::new(alloc),
-        queue: BTreeMap::new(alloc),
+        queue: Vec::new(alloc),
         touched: BTreeMap::new(alloc),
     };
     if is_stable(known.records, known.own.id) {

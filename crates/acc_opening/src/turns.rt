@@ -31,8 +31,8 @@ pub(crate) fn turn_of(there: &Record, t: Stamp, id: TxnId) -> Turn
     }
 }
 
-// Where the turn of a transaction with this timestamp stands, or would stand.
-fn place_of(turns: &[Turn], t: Stamp, id: TxnId) -> Result<usize, usize>
+/// Where the turn of a transaction with this timestamp stands, or would stand.
+pub(crate) fn place_of(turns: &[Turn], t: Stamp, id: TxnId) -> Result<usize, usize>
     requires { IsRisingBy turn_lt turns.now }
     ensures { MatchResult result (IsPlaceOf key_of turns.now (t, id)) (IsGapFor key_lt key_of turns.now (t, id)) }
 {
