@@ -14,12 +14,12 @@ use crate::keep::{keep_accepted, keep_committed};
 use acc_answers::{answering, refusal};
 use acc_base::OutOfMemory;
 use acc_deps::Accepted;
+use acc_index::Share;
 use acc_message::{Message, top};
 use acc_record::Shelf;
 use acc_stamp::{Ballot, Stamp, TxnId};
 use acc_topology::Topology;
 use acc_txn::Body;
-use acc_value::Footprint;
 
 /// The step of a store that takes an Accept: what it answers. Without memory for it the shelf is as before.
 pub fn on_accept(
@@ -124,7 +124,7 @@ fn accepted(
     shelf: &Shelf,
     id: TxnId,
     ballot: Ballot,
-    share: &Footprint,
+    share: &Share,
     t: Stamp,
 ) -> Result<Message, OutOfMemory>
     ensures { IfOk result (λ answer. answer ≡ refusal_or (refusal_at shelf.now id ballot) (accept_ok shelf.now id ballot share.now t)) }
@@ -149,7 +149,7 @@ fn accept(
     shelf: &mut Shelf,
     id: TxnId,
     body: &Body,
-    share: &Footprint,
+    share: &Share,
     proposed: Accepted,
     top: u64,
 ) -> Result<Message, OutOfMemory>
@@ -173,7 +173,7 @@ fn learn_accepted(
     shelf: &mut Shelf,
     id: TxnId,
     body: &Body,
-    share: &Footprint,
+    share: &Share,
     proposed: Accepted,
     top: u64,
 ) -> Result<(), OutOfMemory>
@@ -189,7 +189,7 @@ fn commit(
     shelf: &mut Shelf,
     id: TxnId,
     body: &Body,
-    share: &Footprint,
+    share: &Share,
     fixed: Accepted,
     top: u64,
 ) -> Result<Message, OutOfMemory>
@@ -211,7 +211,7 @@ fn learn_committed(
     shelf: &mut Shelf,
     id: TxnId,
     body: &Body,
-    share: &Footprint,
+    share: &Share,
     fixed: Accepted,
     top: u64,
 ) -> Result<(), OutOfMemory>

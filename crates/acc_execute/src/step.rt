@@ -16,6 +16,7 @@ use crate::present::at_once;
 use crate::waits::{change_lists, make_room};
 use acc_base::OutOfMemory;
 use acc_deps::Deps;
+use acc_index::Share;
 use acc_message::{Message, Messages, top};
 use acc_opening::{Known, Plan, planned};
 use acc_reads::{Released, release};
@@ -23,7 +24,7 @@ use acc_record::{Record, Shelf};
 use acc_stamp::{Ballot, Stamp, TxnId};
 use acc_topology::Topology;
 use acc_txn::{Body, Outcome};
-use acc_value::{CellList, Footprint};
+use acc_value::CellList;
 
 /// What a step does, with all memory that it takes.
 #[derive(Debug, Drop)]
@@ -40,7 +41,7 @@ pub(crate) struct News<'a> {
     /// The body that the message brings.
     pub body: &'a Body,
     /// The keys of the shard that the transaction uses.
-    pub share: &'a Footprint,
+    pub share: &'a Share,
     /// Its timestamp.
     pub t: Stamp,
     /// The greatest `h` of the message.
@@ -272,6 +273,9 @@ fn sent_of(prepared: Prepared) -> Messages
 fn join(first: Messages, rest: Messages) -> Result<Messages, OutOfMemory>
     ensures { IfOk result (λ all. all ≡ first ++ rest) }
 {
+    if first.is_empty() {
+        return Ok(rest);
+    }
     let mut first = first.into_vec();
     let mut rest = rest.into_vec();
     let room = first.len().saturating_add(rest.len());

@@ -6,10 +6,11 @@ ghost use Rattle.acc_index.specs.Noted.{Noted, IsGreatestStamp, rival_stamps, ri
 use crate::columns::{Columns, put};
 use crate::order::rising;
 use crate::questions::{all_below, all_of, greatest_stamp};
+use crate::share::Share;
 use crate::users::{Users, add_all, reserve_all, users_of};
 use acc_base::OutOfMemory;
 use acc_stamp::{Ids, Stamp, TxnId};
-use acc_value::{Footprint, Key};
+use acc_value::Key;
 use std::alloc::Global;
 use std::collections::BTreeMap;
 use std::marker::Model;
@@ -19,7 +20,7 @@ use std::marker::Model;
 #[derive(Debug, Drop)]
 pub struct Index {
     columns: Columns,
-    shares: Vec<Footprint>,
+    shares: Vec<Share>,
     users: BTreeMap<Key, Users>,
 }
 
@@ -48,7 +49,7 @@ impl Index {
     }
 
     /// Notes a stamp of a transaction that uses these keys. Without memory for it the index is as before.
-    pub fn note(&mut self, id: TxnId, share: &Footprint, stamp: Stamp) -> Result<(), OutOfMemory>
+    pub fn note(&mut self, id: TxnId, share: &Share, stamp: Stamp) -> Result<(), OutOfMemory>
         ensures ok { OnOk result (self.new ≡ self.old ++ record { id = id; share = share.now; stamp = stamp } ∷ []) }
         ensures err { OnErr result (self.new ≡ self.old) }
     {
@@ -63,19 +64,14 @@ impl Index {
     }
 
     /// The greatest stamp that was noted of another transaction which conflicts with this one. Takes no memory.
-    pub fn greatest_conflict(&self, id: TxnId, share: &Footprint) -> Option<Stamp>
+    pub fn greatest_conflict(&self, id: TxnId, share: &Share) -> Option<Stamp>
         ensures { IsGreatestStamp (rival_stamps self.now id share.now) result }
     {
         greatest_stamp(&self.columns, &self.users, share.pairs(), id)
     }
 
     /// The other transactions that conflict with this one and whose own stamp is smaller than the bound, rising.
-    pub fn known_below(
-        &self,
-        id: TxnId,
-        share: &Footprint,
-        bound: Stamp,
-    ) -> Result<Ids, OutOfMemory>
+    pub fn known_below(&self, id: TxnId, share: &Share, bound: Stamp) -> Result<Ids, OutOfMemory>
         ensures ids { IfOk result (λ ids. ids ≡ rival_ids_below self.now id share.now bound) }
         ensures rises { IfOk result IsRising }
     {
@@ -86,7 +82,7 @@ impl Index {
     }
 
     /// The other transactions that conflict with this one, rising.
-    pub fn conflicting(&self, id: TxnId, share: &Footprint) -> Result<Ids, OutOfMemory>
+    pub fn conflicting(&self, id: TxnId, share: &Share) -> Result<Ids, OutOfMemory>
         ensures ids { IfOk result (λ ids. ids ≡ rival_ids self.now id share.now) }
         ensures rises { IfOk result IsRising }
     {

@@ -8,9 +8,11 @@ mod index;
 mod order;
 mod questions;
 mod scan;
+mod share;
 mod users;
 
 pub use acc_base::OutOfMemory;
 pub use acc_stamp::{Ids, Stamp, TxnId};
 pub use acc_value::{Footprint, Key};
 pub use index::Index;
+pub use share::Share;

@@ -13,12 +13,12 @@ ghost use Rattle.acc_preaccept.specs.PreAccepting.{is_preaccept, answer_at, with
 use crate::keep::keep_vote;
 use acc_answers::{answering, refusal};
 use acc_base::OutOfMemory;
+use acc_index::Share;
 use acc_message::{Message, top};
 use acc_record::{Shelf, Vote};
 use acc_stamp::{Actor, Ballot, Stamp, TxnId};
 use acc_topology::Topology;
 use acc_txn::Body;
-use acc_value::Footprint;
 
 /// The step of a store that takes a PreAccept: what it answers. Without memory for it the shelf is as before.
 pub fn on_preaccept(
@@ -76,7 +76,7 @@ fn answer(
     shelf: &Shelf,
     id: TxnId,
     ballot: Ballot,
-    share: &Footprint,
+    share: &Share,
     top: u64,
 ) -> Result<Message, OutOfMemory>
     requires greatest { shelf.now.greatest < 2 ^ 62 }
@@ -95,7 +95,7 @@ fn preaccept(
     id: TxnId,
     ballot: Ballot,
     body: &Body,
-    share: &Footprint,
+    share: &Share,
     top: u64,
 ) -> Result<Message, OutOfMemory>
     requires greatest { shelf.old.greatest < 2 ^ 62 }
@@ -119,7 +119,7 @@ fn learn_vote(
     shelf: &mut Shelf,
     id: TxnId,
     body: &Body,
-    share: &Footprint,
+    share: &Share,
     top: u64,
     vote: &Vote,
 ) -> Result<(), OutOfMemory>

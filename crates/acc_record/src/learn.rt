@@ -10,10 +10,9 @@ use crate::record::{KeptRecord, Record, Records};
 use crate::shelf::Shelf;
 use acc_base::OutOfMemory;
 use acc_deps::{Accepted, Deps, Settled};
-use acc_index::Index;
+use acc_index::{Index, Share};
 use acc_stamp::{Ballot, Ballots, Stamp, TxnId};
 use acc_txn::Body;
-use acc_value::Footprint;
 
 impl Shelf {
     /// Makes a transaction known, with the body where it was not, notes a stamp of it that isn't covered by those that its
@@ -23,7 +22,7 @@ impl Shelf {
         &mut self,
         id: TxnId,
         body: &Body,
-        share: &Footprint,
+        share: &Share,
         stamp: Option<Stamp>,
         top: u64,
     ) -> Result<(), OutOfMemory>
@@ -117,7 +116,7 @@ fn is_below_settled(stamp: Stamp, settled: &Option<Settled>) -> bool
 fn note(
     index: &mut Index,
     id: TxnId,
-    share: &Footprint,
+    share: &Share,
     stamp: Option<Stamp>,
 ) -> Result<(), OutOfMemory>
     ensures ok { OnOk result (index.new ≡ index.old ++ notes_with id share.now stamp) }
@@ -134,7 +133,7 @@ fn add(
     records: &mut Records,
     index: &mut Index,
     made: Record,
-    share: &Footprint,
+    share: &Share,
     stamp: Option<Stamp>,
 ) -> Result<(), OutOfMemory>
     requires { record_at records.old made.id ≡ None }

@@ -4,6 +4,7 @@
 mod cells;
 mod learn;
 mod record;
+mod share;
 mod shelf;
 mod vote;
 

@@ -11,12 +11,12 @@ ghost use Rattle.acc_record.specs.Stands.{StandsFor};
 
 use crate::cells::Cells;
 use crate::record::{Record, Records};
+use crate::share::share_of;
 use acc_base::OutOfMemory;
-use acc_index::Index;
+use acc_index::{Index, Share};
 use acc_stamp::{Actor, TxnId};
 use acc_topology::Topology;
 use acc_txn::Body;
-use acc_value::Footprint;
 use std::alloc::Global;
 use std::collections::BTreeMap;
 
@@ -78,18 +78,13 @@ impl Shelf {
 
     /// The keys of this shard that a transaction uses, by the body that the store heard first, which is this one where the
     /// transaction isn't known.
-    pub fn share(
-        &self,
-        topology: &Topology,
-        id: TxnId,
-        body: &Body,
-    ) -> Result<Footprint, OutOfMemory>
+    pub fn share(&self, topology: &Topology, id: TxnId, body: &Body) -> Result<Share, OutOfMemory>
         ensures { IfOk result (λ share. share ≡ share_of topology.now (footprint_of (body_of (record_at self.now.records id) body.now)) (shard_of self.now.actor)) }
     {
         let shard = self.actor.shard();
         match self.find(id) {
-            Some(record) => topology.share(record.body.uses(), shard),
-            None => topology.share(body.uses(), shard),
+            Some(record) => share_of(topology, record.body.uses(), shard),
+            None => share_of(topology, body.uses(), shard),
         }
     }
 }

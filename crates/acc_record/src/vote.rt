@@ -8,8 +8,8 @@ ghost use Rattle.acc_record.specs.Learning.{vote_at, stamp_at, deps_below};
 use crate::shelf::Shelf;
 use acc_base::OutOfMemory;
 use acc_deps::Deps;
+use acc_index::Share;
 use acc_stamp::{Stamp, TxnId};
-use acc_value::Footprint;
 
 /// A vote for the timestamp of a transaction.
 #[derive(Debug, Drop)]
@@ -23,7 +23,7 @@ pub struct Vote {
 impl Shelf {
     /// The vote that is given for a transaction that uses these keys here: the one that was given before, or else a new one.
     /// `top` is the greatest `h` of the message that asks for it. The shelf stays; whoever sends the vote has it learnt.
-    pub fn vote(&self, id: TxnId, share: &Footprint, top: u64) -> Result<Vote, OutOfMemory>
+    pub fn vote(&self, id: TxnId, share: &Share, top: u64) -> Result<Vote, OutOfMemory>
         requires greatest { self.now.greatest < 2 ^ 62 }
         requires top { top < 2 ^ 62 }
         ensures { IfOk result (λ vote. vote ≡ vote_at self.now id share.now top) }
@@ -40,7 +40,7 @@ impl Shelf {
         })
     }
 
-    fn new_stamp(&self, id: TxnId, share: &Footprint, top: u64) -> Stamp
+    fn new_stamp(&self, id: TxnId, share: &Share, top: u64) -> Stamp
         requires greatest { self.now.greatest < 2 ^ 62 }
         requires top { top < 2 ^ 62 }
         ensures { result ≡ stamp_at self.now id share.now top }
@@ -55,7 +55,7 @@ impl Shelf {
     }
 
     // Whether every known stamp of a conflicting transaction is smaller than this one's own.
-    fn is_above_rivals(&self, id: TxnId, share: &Footprint) -> bool
+    fn is_above_rivals(&self, id: TxnId, share: &Share) -> bool
         ensures { result ≡ list_all (λ s. stamp_lt s id.0) (rival_stamps self.now.index id share.now) }
     {
         match self.index.greatest_conflict(id, share) {
@@ -66,12 +66,7 @@ impl Shelf {
 
     /// The known transactions that conflict with this one and whose own timestamp is smaller than the bound, as
     /// dependencies in the store's shard.
-    pub fn deps_below(
-        &self,
-        id: TxnId,
-        share: &Footprint,
-        bound: Stamp,
-    ) -> Result<Deps, OutOfMemory>
+    pub fn deps_below(&self, id: TxnId, share: &Share, bound: Stamp) -> Result<Deps, OutOfMemory>
         ensures { IfOk result (λ deps. deps ≡ deps_below self.now id share.now bound) }
     {
         let ids = self.index.known_below(id, share, bound)?;

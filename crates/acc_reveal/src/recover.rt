@@ -15,12 +15,12 @@ use crate::view::view;
 use acc_answers::answering;
 use acc_base::OutOfMemory;
 use acc_deps::{SharedView, View};
+use acc_index::Share;
 use acc_message::{Message, top};
 use acc_record::Shelf;
 use acc_stamp::{Actor, Ballot, Stamp, TxnId};
 use acc_topology::Topology;
 use acc_txn::Body;
-use acc_value::Footprint;
 
 /// The step of a store that takes a Recover: what it answers. Without memory for it the shelf is as before.
 pub fn on_recover(
@@ -78,7 +78,7 @@ fn answer(
     shelf: &Shelf,
     id: TxnId,
     ballot: Ballot,
-    share: &Footprint,
+    share: &Share,
     top: u64,
 ) -> Result<Message, OutOfMemory>
     requires greatest { shelf.now.greatest < 2 ^ 62 }
@@ -99,7 +99,7 @@ fn recover(
     id: TxnId,
     ballot: Ballot,
     body: &Body,
-    share: &Footprint,
+    share: &Share,
     top: u64,
 ) -> Result<Message, OutOfMemory>
     requires greatest { shelf.old.greatest < 2 ^ 62 }
@@ -126,7 +126,7 @@ fn learn_granted(
     id: TxnId,
     ballot: Ballot,
     body: &Body,
-    share: &Footprint,
+    share: &Share,
     top: u64,
     view: &View,
 ) -> Result<(), OutOfMemory>

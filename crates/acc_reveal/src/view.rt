@@ -6,17 +6,12 @@ ghost use Rattle.acc_reveal.specs.Revealed.{accepted_in, committed_in, stable_in
 use crate::evidence::{awaited, superseded};
 use acc_base::{Duplicate, OutOfMemory};
 use acc_deps::{Accepted, Settled, View};
+use acc_index::Share;
 use acc_record::{Shelf, Vote};
 use acc_stamp::{Ids, TxnId};
-use acc_value::Footprint;
 
 /// What the store reveals of a transaction that uses these keys here. `top` is the greatest `h` of the message that asks.
-pub(crate) fn view(
-    shelf: &Shelf,
-    id: TxnId,
-    share: &Footprint,
-    top: u64,
-) -> Result<View, OutOfMemory>
+pub(crate) fn view(shelf: &Shelf, id: TxnId, share: &Share, top: u64) -> Result<View, OutOfMemory>
     requires greatest { shelf.now.greatest < 2 ^ 62 }
     requires top { top < 2 ^ 62 }
     ensures { IfOk result (λ view. view ≡ view_at shelf.now id share.now top) }
