@@ -10,7 +10,7 @@ use Rattle.acc_safe_runs.specs.Asks.{home_of_txn}
 use Rattle.acc_schedule.specs.declared.plan.Step.{Step}
 use Rattle.acc_schedule.specs.declared.plan.Step.TheVariants.{Begin, Deliver, Drop, Recover, Slow, Restart, Fail, Drain}
 use Rattle.acc_follow.specs.Situations.{Situation, receiver_in}
-use Rattle.acc_follow.specs.Moves.{Answers, fails_in, is_journalled, tried_if, tried, stepped_unless, dropped_unless, begin_skip, recover_skip, slowing_skip, message_skip, deliver_skip, kept_if, reopened, restarted_if, Drains, stops, delivers, IsNext}
+use Rattle.acc_follow.specs.Moves.{Answers, fails_in, is_journalled, tried_if, tried, stepped_unless, dropped_unless, begin_skip, recover_skip, slowing_skip, message_skip, deliver_skip, kept_if, entered, entered_all, with_kept, reopened, restarted_if, Drains, stops, delivers, IsNext}
 use Rattle.acc_follow.specs.Schedules.{Follows}
 use Rattle.acc_follow.specs.Laws.{AgreeBelow}
 
@@ -31,6 +31,9 @@ equal_is_most h = omega arith
 
 chain : {n k m : ℕ} → n ≤ k → k ≤ m → n ≤ m
 chain h k = omega arith
+
+below_next : {n k : ℕ} → n ≤ k → n < suc k
+below_next h = omega arith
 
 pub fewer : {answers other : Answers} {n k : ℕ} → n ≤ k → AgreeBelow answers other k → AgreeBelow answers other n
 fewer less agree = λ place below. agree place (both below less)
@@ -63,9 +66,12 @@ module _ (cluster : Cluster) where
   dropped_grows (Some cause) number s message = below_is_most (next_below refl)
   dropped_grows None number s message = equal_is_most refl
 
-  reopened_grows : (s : Situation) (a : Actor) (kept : Option Event) → length s.own < length (reopened cluster s a kept).own
-  reopened_grows s a None = next_below refl
-  reopened_grows s a (Some event) = later {k = suc (length s.own)} refl (below_is_most (next_below refl))
+  all_grows : (s : Situation) (a : Actor) (events : List Event) (lost : Bool) → length s.own ≤ length (entered_all cluster s a events lost).own
+  all_grows s a [] lost = equal_is_most refl
+  all_grows s a (event ∷ events) lost = chain (below_is_most (next_below refl)) (all_grows (entered cluster s a event lost) a events lost)
+
+  reopened_grows : (s : Situation) (a : Actor) (kept : List Event) → length s.own < length (reopened cluster s a kept).own
+  reopened_grows s a kept = below_next {n = length s.own} {k = length (with_kept cluster s a kept).own} (all_grows s a kept true)
 
   pub restarted_grows : (fails : Bool) (answers : Answers) (s : Situation) (a : Actor) → length s.own < length (restarted_if fails cluster answers s a).own
   restarted_grows true answers s a = next_below refl

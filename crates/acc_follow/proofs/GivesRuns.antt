@@ -1,9 +1,10 @@
 -- The items of a schedule, behind the run that stood before, are a run.
-use Rattle.std.proofs.Common.{◌≡◌, ℕ, ◌+◌, ◌<◌, ◌≤◌, nat_lt, Bool, true, false, not, ◌&&◌, List, [], ◌∷◌, length, Option, None, Some, refl, sym, ◌∙◌, ap, subst, arith, ⊎_elim}
+use Rattle.std.proofs.Common.{◌≡◌, ℕ, suc, ◌+◌, ◌<◌, ◌≤◌, nat_lt, Bool, true, false, not, ◌&&◌, List, [], ◌∷◌, length, Option, None, Some, refl, sym, ◌∙◌, ap, subst, arith, ⊎_elim}
 use Rattle.std.specs.List.{slice_get, AllByRecursion}
 use Rattle.std.proofs.lemmas.Bool.{true≢false, and_parts, not-false, not-true}
 use Rattle.std.proofs.lemmas.Option.{slice_get_cases}
 use Rattle.acc_base.specs.Faults.{or_else}
+use Rattle.acc_stamp.proofs.Rising.{each_weaker}
 use Rattle.acc_stamp.specs.declared.actors.Actor.{Actor}
 use Rattle.acc_stamp.specs.Actor.{actor_of}
 use Rattle.acc_topology.specs.Sets.{is_among}
@@ -27,14 +28,15 @@ use Rattle.acc_schedule.specs.Plan.{IsStep, IsPlan}
 use Rattle.acc_schedule.specs.declared.plan.Step.{Step}
 use Rattle.acc_schedule.specs.declared.plan.Step.TheVariants.{Begin, Deliver, Drop, Recover, Slow, Restart, Fail, Drain}
 use Rattle.acc_actor_laws.proofs.Standing.{not_none}
-use Rattle.acc_actor_laws.proofs.OpeningFacts.{some_is}
 use Rattle.acc_safety.proofs.Bridge.{same}
-use Rattle.acc_follow.specs.Situations.{Situation, opened, raised_event, raised, joined, whole, receiver_in, is_through, IsOldestWaiting, event_if, stopped_at, without}
+use Rattle.acc_follow.specs.Situations.{Situation, opened, raised_event, raised, joined, whole, receiver_in, is_through, IsOldestWaiting, stopped_at, without}
 use Rattle.acc_follow.specs.Moves.{Answers, fails_in, with_item, event_in, entry_of, entered, is_journalled, stopped_by, tried_if, tried, stepped_unless, dropped_unless, down_skip, begin_skip, recover_skip, slowing_skip, message_skip, deliver_skip, kept_if, reopened, restarted_if, Drains, stops, delivers, IsNext}
 use Rattle.acc_follow.specs.Schedules.{Follows, cluster_of, Obeys}
 use Rattle.acc_follow.specs.Laws.{IsStepOf}
 use Rattle.acc_follow.proofs.Joined.{message_whole, is_sent_whole, joined_alone}
-use Rattle.acc_follow.proofs.StoppedSteps.{CanGoOn, is_other, still, gone_down, comes_back, without_other, without_own}
+use Rattle.acc_follow.proofs.StopLists.{by_without, by_stops}
+use Rattle.acc_follow.proofs.OneStop.{StopsOne, one_stopped, one_reopened, none_stopped}
+use Rattle.acc_follow.proofs.StoppedSteps.{CanGoOn, is_other, still, gone_down, comes_back}
 
 journalled_in : (by : ℕ) (a : Actor) (event : Event) → is_journalled a (raised_event by event) ≡ is_journalled a event
 journalled_in by a (BeginEvent txn) = refl
@@ -48,11 +50,15 @@ or_else-none None other e = (refl, e)
 or_else-none (Some cause) other e = absurd (not_none cause (sym e))
 
 module _ (cluster : Cluster) (first : List Item) where
+  abbrev AllGoOn : Situation → Actor → List Event → Type 0
+  AllGoOn s a events = AllByRecursion (λ (event : Event). CanGoOn cluster (whole s) a (event_in s event)) events
+
   -- The whole past is a run, which goes on from the first one, and each step that was stopped can still be entered.
   record Sound (s : Situation) : Type 0 where
     earlier : s.earlier ≡ first
     run : IsRun cluster (whole s)
-    stopped : (a : Actor) (event : Event) → stopped_at a s.stopped ≡ Some event → CanGoOn cluster (whole s) a (event_in s event)
+    stopped : (a : Actor) → AllGoOn s a (stopped_at a s.stopped)
+    one : StopsOne s
 
   -- ---- an item more
 
@@ -63,9 +69,11 @@ module _ (cluster : Cluster) (first : List Item) where
       record {
         earlier = h.earlier;
         run = run;
-        stopped = λ a event is.
-            still cluster (whole s) (raised (length (sent_of s.earlier)) item) a (event_in s event) run.stands.0
-            (other a (h.stopped a event is).down) (h.stopped a event is);
+        stopped = λ a.
+            each_weaker _ (λ event. CanGoOn cluster (whole (with_item item s)) a (event_in s event)) (stopped_at a s.stopped)
+            (λ event can. still cluster (whole s) (raised (length (sent_of s.earlier)) item) a (event_in s event) run.stands.0 (other a can.down) can)
+            (h.stopped a);
+        one = h.one;
       }
 
   sound_skip : (s : Situation) (number : ℕ) (cause : Skip) → Sound s → Sound (with_item (Skipped number cause) s)
@@ -90,9 +98,16 @@ module _ (cluster : Cluster) (first : List Item) where
     run : IsRun cluster (StepItem (entry_at cluster (whole s) a (event_in s event)) ∷ whole s)
 
   sound_stopped : (s : Situation) (a : Actor) (event : Event) → is_journalled a event ≡ true → Sound s → Steps s a event
-      → Sound (stopped_by a event s)
+      → Sound (stopped_by a (event ∷ []) s)
   sound_stopped s a event journalled h next =
-      record { earlier = h.earlier; run = down.run; stopped = λ b other. by b other (same_actor a b) refl }
+      record {
+        earlier = h.earlier;
+        run = down.run;
+        stopped = λ b.
+            by_stops (AllGoOn (with_item (Down a) s) b) a b s.stopped (event ∷ []) (λ is. (subst (λ c. CanGoOn cluster (Down a ∷ whole s) c (event_in s event)) (same a b is) gone, tt))
+            (λ is. down.stopped b);
+        one = one_stopped s a event h.one;
+      }
     where
       down : Sound (with_item (Down a) s)
       down = sound_down s a h
@@ -100,22 +115,8 @@ module _ (cluster : Cluster) (first : List Item) where
       stands : StandsOn cluster (whole s) (entry_at cluster (whole s) a (event_in s event))
       stands = next.run.stands.0
 
-      by : (b : Actor) (other : Event) (here : Bool) → same_actor a b ≡ here
-          → event_if (same_actor a b) (record { actor = a; event = event }) (stopped_at b (without a s.stopped)) ≡ Some other
-          → CanGoOn cluster (Down a ∷ whole s) b (event_in s other)
-      by b other true is found =
-          subst (λ c. CanGoOn cluster (Down a ∷ whole s) c (event_in s other)) (same a b is)
-          (subst (λ e. CanGoOn cluster (Down a ∷ whole s) a (event_in s e))
-          (some_is event other (sym (ap (λ t. event_if t (record { actor = a; event = event }) (stopped_at b (without a s.stopped))) is) ∙ found))
-          gone)
-        where
-          gone : CanGoOn cluster (Down a ∷ whole s) a (event_in s event)
-          gone = gone_down cluster (whole s) a (event_in s event) (journalled_in (length (sent_of s.earlier)) a event ∙ journalled) stands
-      by b other false is found =
-          down.stopped b other
-          (sym (without_other b a is s.stopped)
-          ∙ sym (ap (λ t. event_if t (record { actor = a; event = event }) (stopped_at b (without a s.stopped))) is)
-          ∙ found)
+      gone : CanGoOn cluster (Down a ∷ whole s) a (event_in s event)
+      gone = gone_down cluster (whole s) a (event_in s event) (journalled_in (length (sent_of s.earlier)) a event ∙ journalled) stands
 
   sound_entered : (s : Situation) (a : Actor) (event : Event) → Sound s → Steps s a event → Sound (entered cluster s a event false)
   sound_entered s a event h next =
@@ -190,31 +191,34 @@ module _ (cluster : Cluster) (first : List Item) where
 
   -- ---- restarts
 
-  -- a step of another actor is still to come
-  of_another : (s : Situation) (a b : Actor) (event : Event) → stopped_at b (without a s.stopped) ≡ Some event → Sound s
-      → (not (same_actor a b) ≡ true) × CanGoOn cluster (whole s) b (event_in s event)
-  of_another s a b event found h = by (same_actor a b) refl
-    where
-      by : (here : Bool) → same_actor a b ≡ here → (not here ≡ true) × CanGoOn cluster (whole s) b (event_in s event)
-      by true is =
-          absurd (not_none event (sym (without_own b s.stopped) ∙ ap (λ c. stopped_at b (without c s.stopped)) (sym (same a b is)) ∙ found))
-      by false is = (refl, h.stopped b event (sym (without_other b a is s.stopped) ∙ found))
+  -- the steps of the other actors are still to come
+  left_over : (s next : Situation) (a : Actor)
+      → ((b : Actor) (event : Event) → same_actor a b ≡ false → CanGoOn cluster (whole s) b (event_in s event) → CanGoOn cluster (whole next) b (event_in next event))
+      → Sound s → (b : Actor) → AllGoOn next b (stopped_at b (without a s.stopped))
+  left_over s next a later h b =
+      by_without (AllGoOn next b) a b s.stopped (λ is. tt)
+      (λ is. each_weaker _ (λ event. CanGoOn cluster (whole next) b (event_in next event)) (stopped_at b s.stopped) (λ event. later b event is) (h.stopped b))
 
-  sound_reopened : (s : Situation) (a : Actor) (kept : Option Event) → ((event : Event) → kept ≡ Some event → stopped_at a s.stopped ≡ Some event)
-      → Sound s → Sound (reopened cluster s a kept)
-  sound_reopened s a None is h =
-      record { earlier = h.earlier; run = run; stopped = later }
+  too_many : {n : ℕ} → suc (suc n) ≤ 1 → ⊥
+  too_many h = omega arith
+
+  sound_reopened : (s : Situation) (a : Actor) (kept : List Event) → AllGoOn s a kept → length kept ≤ 1 → Sound s → Sound (reopened cluster s a kept)
+  sound_reopened s a [] can few h =
+      record { earlier = h.earlier; run = run; stopped = left_over s (reopened cluster s a []) a later h; one = one_reopened cluster s a [] h.one }
     where
-      run : IsRun cluster (whole (reopened cluster s a None))
+      run : IsRun cluster (whole (reopened cluster s a []))
       run = restart_is_run cluster a (whole s) [] h.run tt
 
-      later : (b : Actor) (event : Event) → stopped_at b (without a s.stopped) ≡ Some event
-          → CanGoOn cluster (whole (reopened cluster s a None)) b (event_in s event)
-      later b event found =
-          let other = of_another s a b event found h in
-          still cluster (whole s) (restart_at cluster (whole s) a 0) b (event_in s event) run.stands.0 other.0 other.1
-  sound_reopened s a (Some kept) is h =
-      record { earlier = h.earlier; run = run; stopped = later }
+      later : (b : Actor) (event : Event) → same_actor a b ≡ false → CanGoOn cluster (whole s) b (event_in s event)
+          → CanGoOn cluster (whole (reopened cluster s a [])) b (event_in s event)
+      later b event apart can = still cluster (whole s) (restart_at cluster (whole s) a 0) b (event_in s event) run.stands.0 (ap not apart) can
+  sound_reopened s a (kept ∷ []) can few h =
+      record {
+        earlier = h.earlier;
+        run = run;
+        stopped = left_over s (reopened cluster s a (kept ∷ [])) a later h;
+        one = one_reopened cluster s a (kept ∷ []) h.one;
+      }
     where
       lost : Entry
       lost =
@@ -225,32 +229,35 @@ module _ (cluster : Cluster) (first : List Item) where
             lost = true;
           }
 
-      run : IsRun cluster (whole (reopened cluster s a (Some kept)))
-      run =
-          restart_is_run cluster a (whole s) (lost ∷ []) h.run
-          (comes_back cluster (whole s) a (event_in s kept) (h.stopped a kept (is kept refl)), tt)
+      run : IsRun cluster (whole (reopened cluster s a (kept ∷ [])))
+      run = restart_is_run cluster a (whole s) (lost ∷ []) h.run (comes_back cluster (whole s) a (event_in s kept) can.0, tt)
 
-      later : (b : Actor) (event : Event) → stopped_at b (without a s.stopped) ≡ Some event
-          → CanGoOn cluster (whole (reopened cluster s a (Some kept))) b (event_in s event)
-      later b event found =
-          let other = of_another s a b event found h in
-          still cluster (StepItem lost ∷ whole s) (restart_at cluster (StepItem lost ∷ whole s) a 1) b (event_in s event) run.stands.0 other.0
-          (still cluster (whole s) (StepItem lost) b (event_in s event) run.stands.1.0 other.0 other.1)
+      later : (b : Actor) (event : Event) → same_actor a b ≡ false → CanGoOn cluster (whole s) b (event_in s event)
+          → CanGoOn cluster (whole (reopened cluster s a (kept ∷ []))) b (event_in s event)
+      later b event apart goes =
+          still cluster (StepItem lost ∷ whole s) (restart_at cluster (StepItem lost ∷ whole s) a 1) b (event_in s event) run.stands.0 (ap not apart)
+          (still cluster (whole s) (StepItem lost) b (event_in s event) run.stands.1.0 (ap not apart) goes)
+  sound_reopened s a (kept ∷ other ∷ more) can few h = absurd (too_many few)
 
   sound_restarted : (answers : Answers) (s : Situation) (a : Actor) (fails : Bool) → Sound s → Sound (restarted_if fails cluster answers s a)
   sound_restarted answers s a true h = sound_down s a h
   sound_restarted answers s a false h =
-      sound_reopened s a (kept_if (answers.keeps (length s.own)) a s) (by (answers.keeps (length s.own))) h
+      let keeps : Bool = answers.keeps (length s.own) in
+      sound_reopened s a (kept_if keeps a s) (can keeps) (few keeps) h
     where
-      by : (keeps : Bool) (event : Event) → kept_if keeps a s ≡ Some event → stopped_at a s.stopped ≡ Some event
-      by true event is = is
-      by false event is = absurd (not_none event is)
+      can : (keeps : Bool) → AllGoOn s a (kept_if keeps a s)
+      can true = h.stopped a
+      can false = tt
+
+      few : (keeps : Bool) → length (kept_if keeps a s) ≤ 1
+      few true = h.one a
+      few false = omega arith
 
   -- ---- steps of a schedule
 
   sound_dropped : (skip : Option Skip) (number : ℕ) (s : Situation) (message : ℕ) → Sound s → Sound (dropped_unless skip number s message)
   sound_dropped (Some cause) number s message h = sound_skip s number cause h
-  sound_dropped None number s message h = record { earlier = h.earlier; run = h.run; stopped = h.stopped }
+  sound_dropped None number s message h = record { earlier = h.earlier; run = h.run; stopped = h.stopped; one = h.one }
 
   sound_drained : (answers : Answers) (last s : Situation) → Drains cluster answers last s → Sound s → Sound last
   sound_drained answers last s (stops _ none is) h = subst Sound (sym is) h
@@ -285,7 +292,7 @@ module _ (cluster : Cluster) (first : List Item) where
       sound_last answers (number + 1) steps follows.0 last of.1 follows.2 (sound_next answers number step s follows.0 of.0 follows.1 h)
 
   sound_opened : IsRun cluster first → Sound (opened first)
-  sound_opened run = record { earlier = refl; run = run; stopped = λ a event is. absurd (not_none event is) }
+  sound_opened run = record { earlier = refl; run = run; stopped = λ a. tt; one = none_stopped first }
 
 pub gives_a_run : (cluster : Cluster) (answers : Answers) (earlier : List Item) (steps : List Step) (last : Situation) → IsRun cluster earlier
     → AllByRecursion (IsStepOf cluster) steps → Follows cluster answers 0 steps (opened earlier) last → IsRun cluster (whole last)

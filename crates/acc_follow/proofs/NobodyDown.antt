@@ -39,7 +39,7 @@ clean_item s item up kept h =
     still (Skipped step cause) h = refl
     still (Down actor) h = h
 
-kept_none : (keeps : Bool) (a : Actor) (s : Situation) → s.stopped ≡ [] → kept_if keeps a s ≡ None
+kept_none : (keeps : Bool) (a : Actor) (s : Situation) → s.stopped ≡ [] → kept_if keeps a s ≡ []
 kept_none true a s none = ap (stopped_at a) none
 kept_none false a s none = refl
 

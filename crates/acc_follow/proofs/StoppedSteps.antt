@@ -22,8 +22,7 @@ use Rattle.acc_safe_runs.specs.Asks.{emits_if, entry_at}
 use Rattle.acc_safe_runs.specs.AskLaws.{IsLostOf}
 use Rattle.acc_actor_laws.proofs.Standing.{not_none}
 use Rattle.acc_actor_laws.proofs.OpeningFacts.{some_is}
-use Rattle.acc_safety.proofs.Bridge.{same, same_itself}
-use Rattle.acc_follow.specs.Situations.{Stopped, event_if, stopped_at, without}
+use Rattle.acc_safety.proofs.Bridge.{same_itself}
 use Rattle.acc_follow.specs.Moves.{is_journalled}
 
 -- the actor is down, and may take the event
@@ -155,25 +154,3 @@ comes_back cluster items a event h =
     no_restart (Slow txn) journalled = refl
     no_restart (TakesMessage number) journalled = refl
     no_restart (Restart kept) journalled = absurd (true≢false (sym journalled))
-
--- ---- the steps that were stopped
-
-pub without_other : (a b : Actor) → same_actor b a ≡ false → (stopped : List Stopped) → stopped_at a (without b stopped) ≡ stopped_at a stopped
-without_other a b apart [] = refl
-without_other a b apart (one ∷ others) = by (same_actor one.actor b) refl (without_other a b apart others)
-  where
-    by : (here : Bool) → same_actor one.actor b ≡ here → stopped_at a (without b others) ≡ stopped_at a others
-        → stopped_at a (cond (not here) (one ∷ without b others) (without b others)) ≡ event_if (same_actor one.actor a) one (stopped_at a others)
-    by false is rest = ap (event_if (same_actor one.actor a) one) rest
-    by true is rest =
-        rest
-        ∙ sym (ap (λ t. event_if t one (stopped_at a others)) (ap (λ c. same_actor c a) (same one.actor b is) ∙ apart))
-
-pub without_own : (a : Actor) (stopped : List Stopped) → stopped_at a (without a stopped) ≡ None
-without_own a [] = refl
-without_own a (one ∷ others) = by (same_actor one.actor a) refl (without_own a others)
-  where
-    by : (here : Bool) → same_actor one.actor a ≡ here → stopped_at a (without a others) ≡ None
-        → stopped_at a (cond (not here) (one ∷ without a others) (without a others)) ≡ None
-    by true is rest = rest
-    by false is rest = ap (λ t. event_if t one (stopped_at a (without a others))) is ∙ rest

@@ -1,5 +1,5 @@
 -- What each step of a schedule enters, or why it is passed over. What disks answer is given.
-use Rattle.std.specs.Prelude.{◌≡◌, ℕ, nat_lt, Bool, true, false, not, ◌&&◌, List, ◌∷◌, length, Option, None, Some}
+use Rattle.std.specs.Prelude.{◌≡◌, ℕ, nat_lt, Bool, true, false, not, ◌&&◌, List, [], ◌∷◌, ◌++◌, length, Option, None, Some}
 use Rattle.acc_base.specs.Faults.{or_else}
 use Rattle.acc_stamp.specs.declared.actors.Actor.{Actor}
 use Rattle.acc_stamp.specs.Actor.{actor_of}
@@ -14,10 +14,10 @@ use Rattle.acc_message.specs.Run.{Cluster, act_of, is_node, is_down}
 use Rattle.acc_safe_runs.specs.Asks.{home_of_txn, skip_if, slow_skip, emits_if}
 use Rattle.acc_schedule.specs.declared.plan.Step.{Step}
 use Rattle.acc_schedule.specs.declared.plan.Step.TheVariants.{Begin, Deliver, Drop, Recover, Slow, Restart, Fail, Drain}
-use Rattle.acc_follow.specs.Situations.{Stopped, Situation, raised_event, whole, IsOldestWaiting, NothingWaits, receiver_in, stopped_at, without}
+use Rattle.acc_follow.specs.Situations.{Stopped, Situation, raised_event, whole, IsOldestWaiting, NothingWaits, receiver_in, stopped_at, without, stops_of}
 
 -- What disks answer, by the place of the item, which is how many of the cluster's own items stand before it: whether the step there,
--- which is to be journalled, or the restart fails; and whether the journal kept the step that was stopped, where a restart begins there.
+-- which is to be journalled, or the restart fails; and whether the journal kept the steps that were stopped, where a restart begins there.
 pub record Answers : Type 0 where
   pub fails : ℕ → Bool
   pub keeps : ℕ → Bool
@@ -51,6 +51,11 @@ entry_of cluster s a event lost =
 abbrev pub entered : Cluster → Situation → Actor → Event → Bool → Situation
 entered cluster s a event lost = with_item (entry_of cluster s a event lost) s
 
+-- one behind another
+abbrev pub entered_all : Cluster → Situation → Actor → List Event → Bool → Situation
+entered_all cluster s a [] lost = s
+entered_all cluster s a (event ∷ events) lost = entered_all cluster (entered cluster s a event lost) a events lost
+
 -- ---- steps of actors
 
 -- begins, recovers and the messages that stores take are journalled
@@ -61,12 +66,12 @@ is_journalled a (SlowEvent txn) = false
 is_journalled a (MessageEvent number) = not (is_node a)
 is_journalled a (RestartEvent kept) = false
 
--- the actor goes down, and its step is stopped
-abbrev pub stopped_by : Actor → Event → Situation → Situation
-stopped_by a event s = with_stopped (record { actor = a; event = event } ∷ without a s.stopped) (with_item (Down a) s)
+-- the actor goes down, and these steps of it are stopped: those of one append, the oldest first
+abbrev pub stopped_by : Actor → List Event → Situation → Situation
+stopped_by a events s = with_stopped (stops_of a events ++ without a s.stopped) (with_item (Down a) s)
 
 abbrev pub tried_if : Bool → Cluster → Situation → Actor → Event → Situation
-tried_if true cluster s a event = stopped_by a event s
+tried_if true cluster s a event = stopped_by a (event ∷ []) s
 tried_if false cluster s a event = entered cluster s a event false
 
 -- an actor's step, which its disk can stop if it is journalled
@@ -106,23 +111,18 @@ dropped_unless (Some cause) number s message = with_item (Skipped number cause) 
 dropped_unless None number s message =
     record { earlier = s.earlier; own = s.own; dropped = message ∷ s.dropped; stopped = s.stopped }
 
--- the step that was stopped, if the journal kept it
-abbrev pub kept_if : Bool → Actor → Situation → Option Event
+-- the steps that were stopped, if the journal kept them: all or none
+abbrev pub kept_if : Bool → Actor → Situation → List Event
 kept_if true a s = stopped_at a s.stopped
-kept_if false a s = None
+kept_if false a s = []
 
-abbrev pub count_of : Option Event → ℕ
-count_of None = 0
-count_of (Some event) = 1
+-- What was kept is entered as lost, the oldest first, and then the restart with how many they are. The actor has no stopped step any more.
+abbrev pub with_kept : Cluster → Situation → Actor → List Event → Situation
+with_kept cluster s a kept = entered_all cluster s a kept true
 
--- what was kept is entered as lost, and then the restart with its number. The actor has no stopped step any more
-abbrev pub with_kept : Cluster → Situation → Actor → Option Event → Situation
-with_kept cluster s a None = s
-with_kept cluster s a (Some event) = entered cluster s a event true
-
-abbrev pub reopened : Cluster → Situation → Actor → Option Event → Situation
+abbrev pub reopened : Cluster → Situation → Actor → List Event → Situation
 reopened cluster s a kept =
-    with_stopped (without a s.stopped) (entered cluster (with_kept cluster s a kept) a (RestartEvent (count_of kept)) false)
+    with_stopped (without a s.stopped) (entered cluster (with_kept cluster s a kept) a (RestartEvent (length kept)) false)
 
 abbrev pub restarted_if : Bool → Cluster → Answers → Situation → Actor → Situation
 restarted_if true cluster answers s a = with_item (Down a) s

@@ -1,5 +1,5 @@
 -- What a step of a schedule finds, and which messages wait there.
-use Rattle.std.specs.Prelude.{◌≡◌, ℕ, ◌+◌, ◌<◌, nat_lt, cond, Bool, true, false, not, ◌&&◌, ◌||◌, IsTrue, List, [], ◌∷◌, length, filter, Option, None, Some}
+use Rattle.std.specs.Prelude.{◌≡◌, ℕ, ◌+◌, ◌<◌, nat_lt, cond, Bool, true, false, not, ◌&&◌, ◌||◌, IsTrue, List, [], ◌∷◌, length, map, filter}
 use Rattle.std.specs.List.{list_any}
 use Rattle.acc_stamp.specs.declared.actors.Actor.{Actor}
 use Rattle.acc_topology.specs.Sets.{is_among}
@@ -18,7 +18,8 @@ pub record Stopped : Type 0 where
   pub event : Event
 
 -- The run that stood before the cluster was opened, the cluster's own items since, newest first, the numbers of the messages that
--- were dropped, and the steps that faults of disks stopped. Own items and drops count the cluster's own messages alone.
+-- were dropped, and the steps that faults of disks stopped, of each actor the oldest first. Own items and drops count the cluster's own
+-- messages alone.
 pub record Situation : Type 0 where
   pub earlier : List Item
   pub own : List Item
@@ -84,15 +85,14 @@ IsOldestWaiting s number = IsTrue (waits s number) × ((older : ℕ) → older <
 
 -- ---- steps that were stopped
 
-abbrev pub event_if : Bool → Stopped → Option Event → Option Event
-event_if true stopped other = Some stopped.event
-event_if false stopped other = other
-
--- the step of the actor that was stopped
-abbrev pub stopped_at : Actor → List Stopped → Option Event
-stopped_at a [] = None
-stopped_at a (stopped ∷ others) = event_if (same_actor stopped.actor a) stopped (stopped_at a others)
+-- the steps of the actor that were stopped, the oldest first
+abbrev pub stopped_at : Actor → List Stopped → List Event
+stopped_at a stopped = map (λ (one : Stopped). one.event) (filter (λ (one : Stopped). same_actor one.actor a) stopped)
 
 -- those of the other actors
 abbrev pub without : Actor → List Stopped → List Stopped
 without a stopped = filter (λ (one : Stopped). not (same_actor one.actor a)) stopped
+
+-- these of the actor
+abbrev pub stops_of : Actor → List Event → List Stopped
+stops_of a events = map (λ (event : Event). record { actor = a; event = event }) events

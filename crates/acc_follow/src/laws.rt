@@ -1,6 +1,7 @@
 //! What holds of the runs of schedules. Each law is the contract of a function that does nothing.
-ghost use Rattle.std.specs.Prelude.{◌≡◌, ℕ, ◌+◌, List, [], ◌∷◌, ◌++◌, length};
+ghost use Rattle.std.specs.Prelude.{◌≡◌, ℕ, ◌+◌, ◌≤◌, List, [], ◌∷◌, ◌++◌, length};
 ghost use Rattle.std.specs.List.{AllByRecursion};
+ghost use Rattle.acc_stamp.specs.declared.actors.Actor.{Actor};
 ghost use Rattle.acc_message.specs.declared.item.Item.{Item};
 ghost use Rattle.acc_message.specs.declared.item.Skip.{Skip};
 ghost use Rattle.acc_message.specs.Run.{Cluster, IsRun};
@@ -8,7 +9,7 @@ ghost use Rattle.acc_safety.specs.Calm.{IsCalm};
 ghost use Rattle.acc_schedule.specs.Content.{Content};
 ghost use Rattle.acc_schedule.specs.Plan.{IsPlan};
 ghost use Rattle.acc_schedule.specs.declared.plan.Step.{Step};
-ghost use Rattle.acc_follow.specs.Situations.{Situation, opened, whole};
+ghost use Rattle.acc_follow.specs.Situations.{Situation, opened, whole, stopped_at};
 ghost use Rattle.acc_follow.specs.Moves.{Answers, with_item, IsNext};
 ghost use Rattle.acc_follow.specs.Causes.{IsCause};
 ghost use Rattle.acc_follow.specs.Schedules.{Follows, cluster_of, Obeys};
@@ -45,6 +46,12 @@ pub fn schedules_give_runs()
         IsRun cluster (whole last) }
     ensures plan { (plan : Content) (answers : Answers) (items : List Item) → IsPlan plan → Obeys plan answers items →
         IsRun (cluster_of plan) items }
+{}
+
+/// A schedule stops one step of an actor at a time, so each of its restarts keeps one at most.
+pub fn schedules_stop_one_step()
+    ensures { (cluster : Cluster) (answers : Answers) (earlier : List Item) (steps : List Step) (last : Situation) (a : Actor) →
+        Follows cluster answers 0 steps (opened earlier) last → length (stopped_at a last.stopped) ≤ 1 }
 {}
 
 /// A step is passed over exactly where it has a cause for that, and then nothing but the skip is entered.
