@@ -39,7 +39,7 @@ passed_in (Some calls) = cond (nat_lt calls 4) (Some calls) None
 
 -- ---- what happens to the disks
 
--- a step of the actor, which is one append if it is journalled
+-- a step of the actor, which is one append if it is journalled; the steps of a group are one append together
 abbrev pub after_step : Bool → Actor → Disks → Disks
 after_step true a disks =
     record { armed = with_entry a (after_append (disks.armed a)) disks.armed; passed = with_entry a (passed_in (disks.armed a)) disks.passed }
@@ -59,7 +59,7 @@ after_restart a disks = record { armed = with_entry a None disks.armed; passed =
 abbrev pub step_answers : Disks → Actor → Answers
 step_answers disks a = record { fails = λ place. fails_append (disks.armed a); keeps = λ place. false }
 
--- to a restart of the actor with a choice: the step that was stopped is kept where the second sync of its append failed, and the crash
+-- to a restart of the actor with a choice: the steps that were stopped are kept where the second sync of their append failed, and the crash
 -- leaves what a read gives
 abbrev pub restart_answers : Disks → Actor → ℕ → Answers
 restart_answers disks a choice = record { fails = λ place. false; keeps = λ place. keeps_group (disks.passed a) choice }

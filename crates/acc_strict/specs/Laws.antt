@@ -32,6 +32,6 @@ ArmsNothing (Restart actor choice) = Unit {0}
 ArmsNothing (Fail actor calls) = ⊥
 ArmsNothing Drain = Unit {0}
 
--- the answers of disks of which none fails and none keeps a step that was stopped
+-- the answers of disks of which none fails and none keeps what was stopped
 abbrev pub no_faults : Answers
 no_faults = record { fails = λ place. false; keeps = λ place. false }
