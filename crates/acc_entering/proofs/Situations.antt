@@ -1,5 +1,5 @@
--- The whole past of a situation, its messages, and the steps that were stopped.
-use Rattle.std.proofs.Common.{◌≡◌, ℕ, suc, ◌+◌, Bool, true, false, not, cond, List, [], ◌∷◌, ◌++◌, length, None, Some, refl, sym, ◌∙◌, ap, arith}
+-- The whole past of a situation, its messages, and its events.
+use Rattle.std.proofs.Common.{◌≡◌, ◌≢◌, ℕ, suc, ◌+◌, ◌-◌, Bool, List, [], ◌∷◌, ◌++◌, length, refl, sym, ◌∙◌, ap, arith}
 use Rattle.std.specs.List.{slice_get}
 use Rattle.std.proofs.lemmas.List.{append_assoc, append-nil}
 use Rattle.acc_stamp.specs.declared.actors.Actor.{Actor}
@@ -8,11 +8,10 @@ use Rattle.acc_message.specs.declared.entry.Event.{Event}
 use Rattle.acc_message.specs.declared.entry.Event.TheVariants.{Begin, Recover, Slow, Message as TakesMessage, Restart}
 use Rattle.acc_message.specs.declared.item.Item.{Item}
 use Rattle.acc_message.specs.declared.item.Item.TheVariants.{Step, Skipped, Down}
-use Rattle.acc_message.specs.Items.{same_actor, sent_in, sent_of, message_at}
+use Rattle.acc_message.specs.Items.{sent_in, sent_of, message_at}
 use Rattle.acc_message.specs.Run.{Cluster}
-use Rattle.acc_safety.proofs.Bridge.{same, same_itself}
-use Rattle.acc_follow.specs.Situations.{Stopped, Situation, raised_event, raised, joined, whole, event_if, stopped_at, without}
-use Rattle.acc_follow.specs.Moves.{event_in, entered, is_journalled, stopped_by}
+use Rattle.acc_follow.specs.Situations.{Situation, raised_event, raised, joined, whole}
+use Rattle.acc_follow.specs.Moves.{event_in, entered, is_journalled}
 use Rattle.acc_entering.specs.Entries.{entering}
 
 -- ---- the whole past
@@ -68,7 +67,7 @@ joined_alone (item ∷ own) = ap (λ i. i ∷ joined [] own) (alone item) ∙ ap
 pub whole_alone : (s : Situation) → s.earlier ≡ [] → whole s ≡ s.own
 whole_alone s none = ap (λ items. joined items s.own) none ∙ joined_alone s.own
 
--- ---- the steps that were stopped
+-- ---- events
 
 pub journalled_in : (s : Situation) (a : Actor) (event : Event) → is_journalled a (event_in s event) ≡ is_journalled a event
 journalled_in s a (Begin txn) = refl
@@ -77,30 +76,22 @@ journalled_in s a (Slow txn) = refl
 journalled_in s a (TakesMessage number) = refl
 journalled_in s a (Restart kept) = refl
 
-pub without_other : (a b : Actor) → same_actor b a ≡ false → (stopped : List Stopped) → stopped_at a (without b stopped) ≡ stopped_at a stopped
-without_other a b apart [] = refl
-without_other a b apart (one ∷ others) = by (same_actor one.actor b) refl (without_other a b apart others)
-  where
-    by : (here : Bool) → same_actor one.actor b ≡ here → stopped_at a (without b others) ≡ stopped_at a others
-        → stopped_at a (cond (not here) (one ∷ without b others) (without b others)) ≡ event_if (same_actor one.actor a) one (stopped_at a others)
-    by false is rest = ap (event_if (same_actor one.actor a) one) rest
-    by true is rest =
-        rest
-        ∙ sym (ap (λ t. event_if t one (stopped_at a others)) (ap (λ c. same_actor c a) (same one.actor b is) ∙ apart))
+-- different events stay so
+abbrev lowered : ℕ → Event → Event
+lowered by (Begin txn) = Begin txn
+lowered by (Recover txn) = Recover txn
+lowered by (Slow txn) = Slow txn
+lowered by (TakesMessage number) = TakesMessage (number - by)
+lowered by (Restart kept) = Restart kept
 
-pub without_own : (a : Actor) (stopped : List Stopped) → stopped_at a (without a stopped) ≡ None
-without_own a [] = refl
-without_own a (one ∷ others) = by (same_actor one.actor a) refl (without_own a others)
-  where
-    by : (here : Bool) → same_actor one.actor a ≡ here → stopped_at a (without a others) ≡ None
-        → stopped_at a (cond (not here) (one ∷ without a others) (without a others)) ≡ None
-    by true is rest = rest
-    by false is rest = ap (λ t. event_if t one (stopped_at a (without a others))) is ∙ rest
+lowered_back : (by : ℕ) (event : Event) → lowered by (raised_event by event) ≡ event
+lowered_back by (Begin txn) = refl
+lowered_back by (Recover txn) = refl
+lowered_back by (Slow txn) = refl
+lowered_back by (TakesMessage number) =
+    let same : by + number - by ≡ number = omega arith in ap TakesMessage same
+lowered_back by (Restart kept) = refl
 
-pub stopped_own : (a : Actor) (event : Event) (s : Situation) → stopped_at a (stopped_by a event s).stopped ≡ Some event
-stopped_own a event s =
-    ap (λ t. event_if t (record { actor = a; event = event }) (stopped_at a (without a s.stopped))) (same_itself a)
-
-pub stopped_other : (a b : Actor) (event : Event) (s : Situation) → same_actor a b ≡ false → stopped_at b (stopped_by a event s).stopped ≡ stopped_at b s.stopped
-stopped_other a b event s apart =
-    ap (λ t. event_if t (record { actor = a; event = event }) (stopped_at b (without a s.stopped))) apart ∙ without_other b a apart s.stopped
+pub different_in : (s : Situation) (one other : Event) → one ≢ other → event_in s one ≢ event_in s other
+different_in s one other differ same =
+    differ (sym (lowered_back (length (sent_of s.earlier)) one) ∙ ap (lowered (length (sent_of s.earlier))) same ∙ lowered_back (length (sent_of s.earlier)) other)

@@ -1,12 +1,13 @@
--- While an actor is down nothing takes the step away that a fault stopped, and it stays the same.
-use Rattle.std.proofs.Common.{◌≡◌, ℕ, zero, suc, Bool, true, false, not, cond, ◌||◌, List, [], ◌∷◌, ◌++◌, Option, None, Some, refl, sym, ◌∙◌, ap, subst}
-use Rattle.std.specs.List.{slice_get}
+-- While an actor is down nothing takes a step away that a fault stopped, and it stays the same, also behind its actor's other stopped steps.
+use Rattle.std.proofs.Common.{◌≡◌, ◌≢◌, ℕ, zero, suc, Bool, true, false, not, cond, ◌||◌, List, [], ◌∷◌, ◌++◌, Option, None, Some, refl, sym, ◌∙◌, ap, subst}
+use Rattle.std.specs.List.{AllByRecursion, slice_get}
 use Rattle.std.specs.Option.{option_map}
 use Rattle.std.proofs.lemmas.Bool.{true≢false, or_right, eqb-true}
 use Rattle.acc_base.specs.Faults.{or_else}
 use Rattle.acc_stamp.specs.declared.stamps.TxnId.{TxnId}
 use Rattle.acc_stamp.specs.declared.actors.Actor.{Actor}
 use Rattle.acc_stamp.specs.Actor.{actor_of}
+use Rattle.acc_stamp.proofs.Rising.{each_weaker}
 use Rattle.acc_txn.specs.declared.parts.BodyParts.{BodyParts}
 use Rattle.acc_message.specs.declared.message.Message.{Message}
 use Rattle.acc_message.specs.declared.note.Note.{Note}
@@ -26,9 +27,9 @@ use Rattle.acc_safe_runs.specs.Asks.{emits_if}
 use Rattle.acc_safe_runs.specs.AskLaws.{IsLostOf}
 use Rattle.acc_payloads.specs.Items.{message_payload, payload_by}
 use Rattle.acc_follow.specs.Moves.{is_journalled}
-use Rattle.acc_entering.specs.Entries.{emitted_for, MayTake}
-use Rattle.acc_entering.specs.Stopped.{is_other, CanGoOn, IsSameStep}
-use Rattle.acc_entering.proofs.Deeds.{deeds_same, down_other}
+use Rattle.acc_entering.specs.Entries.{emitted_for, entering, MayTake}
+use Rattle.acc_entering.specs.Stopped.{is_other, CanGoOn, IsSameStep, AreSameSteps}
+use Rattle.acc_entering.proofs.Deeds.{deeds_more, deeds_same, down_own, down_other}
 use Rattle.acc_entering.proofs.Standing.{entry_stands}
 
 apart_is : (b : Bool) → not b ≡ true → b ≡ false
@@ -102,15 +103,59 @@ begins_not cluster items (Step e) a txn stands other home = not_begun_by cluster
 begins_not cluster items (Skipped step cause) a txn stands other home = refl
 begins_not cluster items (Down actor) a txn stands other home = refl
 
-place_still : (cluster : Cluster) (items : List Item) (item : Item) (a : Actor) (act : Act) (event : Event) → Stands cluster items item
-    → is_other a item ≡ true → is_journalled a event ≡ true → MayStand cluster items a act event → MayStand cluster (item ∷ items) a act event
-place_still cluster items item a act (Begin txn) stands other journalled place =
-    (place.0, ap (λ b. not (b || is_begun items txn)) (begins_not cluster items item a txn stands other place.0) ∙ place.1)
-place_still cluster items item a act (Recover txn) stands other journalled place =
-    (place.0, or_right (begins_txn txn item) (is_begun items txn) place.1)
-place_still cluster items item a act (Slow txn) stands other journalled place = absurd (true≢false (sym journalled))
-place_still cluster items item a act (TakesMessage number) stands other journalled place = place
-place_still cluster items item a act (Restart kept) stands other journalled place = tt
+place_on : (cluster : Cluster) (items : List Item) (item : Item) (a : Actor) (act : Act) (event : Event)
+    → ((txn : ℕ) → event ≡ Begin txn → IsHomeOf cluster txn a → begins_txn txn item ≡ false) → is_journalled a event ≡ true
+    → MayStand cluster items a act event → MayStand cluster (item ∷ items) a act event
+place_on cluster items item a act (Begin txn) fresh journalled place =
+    (place.0, ap (λ b. not (b || is_begun items txn)) (fresh txn refl place.0) ∙ place.1)
+place_on cluster items item a act (Recover txn) fresh journalled place = (place.0, or_right (begins_txn txn item) (is_begun items txn) place.1)
+place_on cluster items item a act (Slow txn) fresh journalled place = absurd (true≢false (sym journalled))
+place_on cluster items item a act (TakesMessage number) fresh journalled place = place
+place_on cluster items item a act (Restart kept) fresh journalled place = tt
+
+-- ---- what its entry would be
+
+deeds_still : (cluster : Cluster) (items : List Item) (a : Actor) (item : Item) → is_other a item ≡ true
+    → deeds_of cluster a (item ∷ items) ≡ deeds_of cluster a items
+deeds_still cluster items a (Step e) other = deeds_same cluster items e a (apart_is (same_actor e.actor a) other)
+deeds_still cluster items a (Skipped step cause) other = refl
+deeds_still cluster items a (Down actor) other = refl
+
+abbrev message_or : Message → Act → Message
+message_or m (Takes other) = other
+message_or m act = m
+
+-- what is taken tells the message
+same_message : (one other : Option Message) (act : Act) → option_map Takes one ≡ Some act → option_map Takes other ≡ Some act → one ≡ other
+same_message None other act h k = absurd (not_none act h)
+same_message (Some m) None act h k = absurd (not_none act k)
+same_message (Some m) (Some n) act h k = ap Some (ap (message_or m) (some_is (Takes m) act h ∙ sym (some_is (Takes n) act k)))
+
+-- where the actor did the same and the event takes the same, its entry is the same
+module _ (cluster : Cluster) (before now : List Item) (a : Actor) (event : Event) (act : Act) (deeds : deeds_of cluster a now ≡ deeds_of cluster a before)
+    (was : act_of cluster before event ≡ Some act) (is : act_of cluster now event ≡ Some act) where
+  emitted_alike : emitted_for cluster now a event ≡ emitted_for cluster before a event
+  emitted_alike =
+      ap (emits_if cluster now a) is
+      ∙ ap (λ (past : List Deed). emits_by (is_node a) cluster a past act) deeds
+      ∙ sym (ap (emits_if cluster before a) was)
+
+  payload_alike : (event : Event) (notes : List Note) → act_of cluster before event ≡ Some act → act_of cluster now event ≡ Some act
+      → payload_by now a event notes ≡ payload_by before a event notes
+  payload_alike (Begin txn) notes one other = refl
+  payload_alike (Recover txn) notes one other = refl
+  payload_alike (Slow txn) notes one other = refl
+  payload_alike (TakesMessage number) notes one other =
+      ap (λ m. cond (is_node a) [] (message_payload m)) (same_message (message_at now number) (message_at before number) act other one)
+  payload_alike (Restart kept) notes one other = refl
+
+  pub same_by_deeds : IsSameStep cluster before now a event
+  same_by_deeds =
+      record {
+        act = is ∙ sym was;
+        emitted = emitted_alike;
+        payload = ap (λ (m : Emitted). payload_by now a event m.notes) emitted_alike ∙ payload_alike event (emitted_for cluster before a event).notes was is;
+      }
 
 module _ (cluster : Cluster) (items : List Item) (item : Item) (a : Actor) (event : Event) (act : Act) (other : is_other a item ≡ true)
     (may : MayTake cluster items a event act) where
@@ -118,46 +163,50 @@ module _ (cluster : Cluster) (items : List Item) (item : Item) (a : Actor) (even
   may_still stands journalled =
       record {
         act_is = act_still cluster items item event act may.act_is;
-        place = place_still cluster items item a act event stands other journalled may.place;
+        place = place_on cluster items item a act event (λ txn is. begins_not cluster items item a txn stands other) journalled may.place;
       }
-
-  -- ---- what its entry would be
-
-  deeds_still : (item : Item) → is_other a item ≡ true → deeds_of cluster a (item ∷ items) ≡ deeds_of cluster a items
-  deeds_still (Step e) other = deeds_same cluster items e a (apart_is (same_actor e.actor a) other)
-  deeds_still (Skipped step cause) other = refl
-  deeds_still (Down actor) other = refl
-
-  emitted_still : emitted_for cluster (item ∷ items) a event ≡ emitted_for cluster items a event
-  emitted_still =
-      ap (emits_if cluster (item ∷ items) a) (act_still cluster items item event act may.act_is)
-      ∙ ap (λ (past : List Deed). emits_by (is_node a) cluster a past act) (deeds_still item other)
-      ∙ sym (ap (emits_if cluster items a) may.act_is)
-
-  payload_still : (event : Event) (notes : List Note) → act_of cluster items event ≡ Some act
-      → payload_by (item ∷ items) a event notes ≡ payload_by items a event notes
-  payload_still (Begin txn) notes is = refl
-  payload_still (Recover txn) notes is = refl
-  payload_still (Slow txn) notes is = refl
-  payload_still (TakesMessage number) notes is = by (message_at items number) refl is
-    where
-      by : (o : Option Message) → message_at items number ≡ o → option_map Takes o ≡ Some act
-          → payload_by (item ∷ items) a (TakesMessage number) notes ≡ payload_by items a (TakesMessage number) notes
-      by None found e = absurd (not_none act e)
-      by (Some m) found e =
-          ap (λ p. cond (is_node a) [] (message_payload p)) (message_still items item number m found)
-          ∙ sym (ap (λ p. cond (is_node a) [] (message_payload p)) found)
-  payload_still (Restart kept) notes is = refl
 
   pub same_step : IsSameStep cluster items (item ∷ items) a event
   same_step =
-      record {
-        act = act_still cluster items item event act may.act_is ∙ sym may.act_is;
-        emitted = emitted_still;
-        payload =
-            ap (λ (m : Emitted). payload_by (item ∷ items) a event m.notes) emitted_still
-            ∙ payload_still event (emitted_for cluster items a event).notes may.act_is;
-      }
+      same_by_deeds cluster items (item ∷ items) a event act (deeds_still cluster items a item other) may.act_is (act_still cluster items item event act may.act_is)
+
+-- each of more events, behind those before it
+pub same_steps : (cluster : Cluster) (before now : List Item) (a : Actor) (events : List Event) (lost : Bool)
+    → deeds_of cluster a now ≡ deeds_of cluster a before
+    → AllByRecursion (λ (event : Event). (act : Act) × (act_of cluster before event ≡ Some act) × (act_of cluster now event ≡ Some act)) events
+    → AreSameSteps cluster before now a events lost
+same_steps cluster before now a [] lost deeds acts = tt
+same_steps cluster before now a (event ∷ events) lost deeds acts = (
+  same,
+  same_steps cluster (entering cluster before a event lost ∷ before) (entering cluster now a event lost ∷ now) a events lost deeds_too
+      (each_weaker _ _ events (λ other h. (
+        h.0,
+        act_still cluster before (entering cluster before a event lost) other h.0 h.1,
+        act_still cluster now (entering cluster now a event lost) other h.0 h.2,
+      )) acts.1),
+)
+  where
+    act : Act
+    act = acts.0.0
+
+    same : IsSameStep cluster before now a event
+    same = same_by_deeds cluster before now a event act deeds acts.0.1 acts.0.2
+
+    entry_on : List Item → Entry
+    entry_on items = record { actor = a; event = event; emitted = emitted_for cluster items a event; lost = lost }
+
+    deeds_too : deeds_of cluster a (entering cluster now a event lost ∷ now) ≡ deeds_of cluster a (entering cluster before a event lost ∷ before)
+    deeds_too =
+        deeds_more cluster now (entry_on now) a act (same_itself a) acts.0.2
+        ∙ ap (λ (m : Emitted). record { act = act; emitted = m } ∷ deeds_of cluster a now) same.emitted
+        ∙ ap (λ (past : List Deed). record { act = act; emitted = emitted_for cluster before a event } ∷ past) deeds
+        ∙ sym (deeds_more cluster before (entry_on before) a act (same_itself a) acts.0.1)
+
+pub stay_same : (cluster : Cluster) (items : List Item) (item : Item) (a : Actor) (events : List Event) (lost : Bool) → is_other a item ≡ true
+    → AllByRecursion (λ (event : Event). (act : Act) × MayTake cluster items a event act) events → AreSameSteps cluster items (item ∷ items) a events lost
+stay_same cluster items item a events lost other may =
+    same_steps cluster items (item ∷ items) a events lost (deeds_still cluster items a item other)
+    (each_weaker _ _ events (λ event h. (h.0, h.1.act_is, act_still cluster items item event h.0 h.1.act_is)) may)
 
 -- ---- a stopped step
 
@@ -186,6 +235,35 @@ gone_down cluster items a event act journalled may =
       act = act;
       may = may_still cluster items (Down a) a event act refl may tt journalled;
     }
+
+-- behind the lost entry of another event of its actor
+pub behind_lost : (cluster : Cluster) (items : List Item) (a : Actor) (first event : Event) → first ≢ event → CanGoOn cluster items a event
+    → CanGoOn cluster (entering cluster items a first true ∷ items) a event
+behind_lost cluster items a first event differ h =
+    record {
+      down = down_own items e a (same_itself a) ∙ h.down;
+      journalled = h.journalled;
+      act = h.act;
+      may =
+          record {
+            act_is = act_still cluster items (Step e) event h.act h.may.act_is;
+            place = place_on cluster items (Step e) a h.act event (λ txn is home. begins_other first txn (λ same. differ (same ∙ sym is))) h.journalled h.may.place;
+          };
+    }
+  where
+    e : Entry
+    e = record { actor = a; event = first; emitted = emitted_for cluster items a first; lost = true }
+
+    begins_other : (first : Event) (txn : ℕ) → first ≢ Begin txn → event_begins txn first ≡ false
+    begins_other (Begin number) txn differ = by (event_begins txn (Begin number)) refl
+      where
+        by : (begins : Bool) → event_begins txn (Begin number) ≡ begins → begins ≡ false
+        by true is = absurd (differ (ap Begin (eqb-true number txn is)))
+        by false is = refl
+    begins_other (Recover number) txn differ = refl
+    begins_other (Slow number) txn differ = refl
+    begins_other (TakesMessage number) txn differ = refl
+    begins_other (Restart kept) txn differ = refl
 
 -- a step that comes back is entered as lost
 pub comes_back : (cluster : Cluster) (items : List Item) (a : Actor) (event : Event) → CanGoOn cluster items a event

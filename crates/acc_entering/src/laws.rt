@@ -1,6 +1,6 @@
 //! What entering an item changes. Each law is the contract of a function that does nothing.
-ghost use Rattle.std.specs.Prelude.{◌≡◌, ℕ, Bool, true, false, List, [], ◌∷◌, Option, None, Some, is_some};
-ghost use Rattle.std.specs.List.{slice_get};
+ghost use Rattle.std.specs.Prelude.{◌≡◌, ℕ, Bool, true, false, List, [], ◌∷◌, None, Some, is_some};
+ghost use Rattle.std.specs.List.{AllByRecursion, slice_get};
 ghost use Rattle.acc_stamp.specs.declared.stamps.TxnId.{TxnId};
 ghost use Rattle.acc_stamp.specs.declared.actors.Actor.{Actor};
 ghost use Rattle.acc_stamp.specs.Actor.{actor_of};
@@ -12,7 +12,7 @@ ghost use Rattle.acc_message.specs.declared.item.Item.{Item};
 ghost use Rattle.acc_message.specs.declared.item.Skip.{Skip};
 ghost use Rattle.acc_message.specs.Items.{same_actor, message_at, is_begun, id_of_txn};
 ghost use Rattle.acc_message.specs.NodeRules.{Act, Begins, Recovers, Restarts, begun_id, attempt_of};
-ghost use Rattle.acc_message.specs.Run.{Cluster, clock_start, deeds_of, emits, is_node, is_down, kept_of, EachStands, IsRun};
+ghost use Rattle.acc_message.specs.Run.{Cluster, clock_start, act_of, deeds_of, emits, is_node, is_down, kept_of, EachStands, IsRun};
 ghost use Rattle.acc_message_code.specs.MessageSpelling.{message_bytes};
 ghost use Rattle.acc_safety.specs.Valid.{IsStanding};
 ghost use Rattle.acc_safe_runs.specs.Asks.{slow_skip_at, slow_skip};
@@ -25,7 +25,7 @@ ghost use Rattle.acc_follow.specs.Situations.{Situation, whole, stopped_at};
 ghost use Rattle.acc_follow.specs.Moves.{with_item, event_in, entered, is_journalled, stopped_by, reopened};
 ghost use Rattle.acc_entering.specs.Entries.{entering, MayTake};
 ghost use Rattle.acc_entering.specs.Pasts.{IsUntouched, DidMore, WentDown};
-ghost use Rattle.acc_entering.specs.Stopped.{IsSameStep, IsSound, is_other};
+ghost use Rattle.acc_entering.specs.Stopped.{CanGoOn, AreDifferent, CanAllGoOn, IsSameStep, AreSameSteps, IsSound, is_other};
 
 /// An item changes its own actor alone: an entry adds what the actor did and what its journal gets of that, a down adds a down.
 pub fn items_change_one_actor()
@@ -35,7 +35,7 @@ pub fn items_change_one_actor()
         MayTake cluster items a event act → DidMore cluster items (entering cluster items a event lost ∷ items) a act
         (emits cluster items a act) (payload_by items a event (emits cluster items a act).notes) lost }
     ensures down { (cluster : Cluster) (items : List Item) (a : Actor) → WentDown cluster items (Item.Down a ∷ items) a }
-    ensures reopened_apart { (cluster : Cluster) (s : Situation) (a b : Actor) (kept : Option Event) → same_actor a b ≡ false →
+    ensures reopened_apart { (cluster : Cluster) (s : Situation) (a b : Actor) (kept : List Event) → same_actor a b ≡ false →
         IsUntouched cluster (whole s) (whole (reopened cluster s a kept)) b }
 {}
 
@@ -56,8 +56,8 @@ pub fn downs_are_last()
     ensures { (cluster : Cluster) (items : List Item) (a : Actor) → IsRun cluster items → ends_down a items ≡ is_down a items }
 {}
 
-/// A sound situation stays sound, whatever is entered: a step, a step that a fault stops, a down, a restart, with the stopped step or
-/// without it.
+/// A sound situation stays sound, whatever is entered: a step, a fault that stops the steps of one append, a down, a restart, with what
+/// was stopped or without it.
 pub fn situations_stay_sound()
     ensures skipped { (cluster : Cluster) (s : Situation) (number : ℕ) (cause : Skip) → IsSound cluster s →
         IsSound cluster (with_item (Item.Skipped number cause) s) }
@@ -65,18 +65,32 @@ pub fn situations_stay_sound()
     ensures entry { (cluster : Cluster) (s : Situation) (a : Actor) (event : Event) (act : Act) →
         MayTake cluster (whole s) a (event_in s event) act → kept_of (event_in s event) ≡ 0 → is_down a (whole s) ≡ false →
         IsSound cluster s → IsSound cluster (entered cluster s a event false) }
-    ensures stopped { (cluster : Cluster) (s : Situation) (a : Actor) (event : Event) (act : Act) →
-        MayTake cluster (whole s) a (event_in s event) act → is_journalled a event ≡ true → IsSound cluster s →
-        IsSound cluster (stopped_by a event s) }
-    ensures reopened { (cluster : Cluster) (s : Situation) (a : Actor) → IsSound cluster s → IsSound cluster (reopened cluster s a None) }
-    ensures kept { (cluster : Cluster) (s : Situation) (a : Actor) (kept : Event) → stopped_at a s.stopped ≡ Some kept → IsSound cluster s →
-        IsSound cluster (reopened cluster s a (Some kept)) }
+    ensures stopped { (cluster : Cluster) (s : Situation) (a : Actor) (events : List Event) →
+        AllByRecursion (λ event. (act : Act) × MayTake cluster (whole s) a (event_in s event) act × (is_journalled a event ≡ true)) events →
+        AreDifferent events → IsSound cluster s → IsSound cluster (stopped_by a events s) }
+    ensures reopened { (cluster : Cluster) (s : Situation) (a : Actor) → IsSound cluster s → IsSound cluster (reopened cluster s a []) }
+    ensures kept { (cluster : Cluster) (s : Situation) (a : Actor) → IsSound cluster s →
+        IsSound cluster (reopened cluster s a (stopped_at a s.stopped)) }
 {}
 
-/// What an event takes, what its entry emits and what the journal gets of it stay the same as long as its actor enters nothing.
+/// What an event takes, what its entry emits and what the journal gets of it stay the same as long as its actor enters nothing. So does
+/// that of more events, each behind the entries of those before it: it depends on what their actor did, and not on what others enter.
 pub fn stopped_steps_stay()
-    ensures { (cluster : Cluster) (items : List Item) (item : Item) (a : Actor) (event : Event) (act : Act) → is_other a item ≡ true →
+    ensures one { (cluster : Cluster) (items : List Item) (item : Item) (a : Actor) (event : Event) (act : Act) → is_other a item ≡ true →
         MayTake cluster items a event act → IsSameStep cluster items (item ∷ items) a event }
+    ensures all { (cluster : Cluster) (items : List Item) (item : Item) (a : Actor) (events : List Event) (lost : Bool) →
+        is_other a item ≡ true → AllByRecursion (λ event. (act : Act) × MayTake cluster items a event act) events →
+        AreSameSteps cluster items (item ∷ items) a events lost }
+    ensures alike { (cluster : Cluster) (before now : List Item) (a : Actor) (event : Event) (act : Act) →
+        deeds_of cluster a now ≡ deeds_of cluster a before → act_of cluster before event ≡ Some act → act_of cluster now event ≡ Some act →
+        IsSameStep cluster before now a event }
+{}
+
+/// The steps of an actor that were stopped can be entered one behind another: behind the first one, which is lost, the others still can.
+pub fn stopped_steps_go_on()
+    ensures { (cluster : Cluster) (s : Situation) (a : Actor) (event : Event) (events : List Event) →
+        CanAllGoOn cluster s a (event ∷ events) →
+        CanGoOn cluster (whole s) a (event_in s event) × CanAllGoOn cluster (entered cluster s a event true) a events }
 {}
 
 /// A transaction is begun by its home alone, which therefore knows its id; by the attempt of the home a slow is passed over.
