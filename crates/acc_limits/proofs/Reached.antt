@@ -12,7 +12,7 @@ use Rattle.acc_safe_runs.specs.Asks.{home_of_txn}
 use Rattle.acc_schedule.specs.declared.plan.Step.{Step}
 use Rattle.acc_schedule.specs.declared.plan.Step.TheVariants.{Begin, Deliver, Drop, Recover, Slow, Restart, Fail, Drain}
 use Rattle.acc_follow.specs.Situations.{Situation, receiver_in}
-use Rattle.acc_follow.specs.Moves.{Answers, fails_in, is_journalled, entry_of, tried_if, tried, stepped_unless, dropped_unless, begin_skip, recover_skip, slowing_skip, message_skip, deliver_skip, kept_if, entered, reopened, restarted_if, Drains, stops, delivers, IsNext}
+use Rattle.acc_follow.specs.Moves.{Answers, fails_in, is_journalled, entry_of, tried_if, tried, stepped_unless, dropped_unless, begin_skip, recover_skip, slowing_skip, message_skip, deliver_skip, kept_if, entered, entered_all, with_kept, reopened, restarted_if, Drains, stops, delivers, IsNext}
 use Rattle.acc_follow.specs.Schedules.{Follows}
 use Rattle.acc_follow.proofs.OneRun.{one_oldest, one_next}
 use Rattle.acc_limits.specs.Fronts.{DrainsTo, comes, goes_on, ComesTo, Reaches, Begins}
@@ -42,12 +42,18 @@ module _ (cluster : Cluster) (answers : Answers) where
     dropped_adds (Some cause) s message = begins_longer (Skipped number cause) s.own
     dropped_adds None s message = begins_itself s.own
 
-    reopened_adds : (s : Situation) (a : Actor) (kept : Option Event) → Begins s.own (reopened cluster s a kept).own
-    reopened_adds s a None = begins_longer (entry_of cluster s a (RestartEvent 0) false) s.own
-    reopened_adds s a (Some event) =
-        let lost : Situation = entered cluster s a event true in
-        begins_chain s.own lost.own (reopened cluster s a (Some event)).own (begins_longer (entry_of cluster s a event true) s.own)
-        (begins_longer (entry_of cluster lost a (RestartEvent 1) false) lost.own)
+    all_add : (s : Situation) (a : Actor) (events : List Event) (lost : Bool) → Begins s.own (entered_all cluster s a events lost).own
+    all_add s a [] lost = begins_itself s.own
+    all_add s a (event ∷ events) lost =
+        let next : Situation = entered cluster s a event lost in
+        begins_chain s.own next.own (entered_all cluster next a events lost).own (begins_longer (entry_of cluster s a event lost) s.own)
+        (all_add next a events lost)
+
+    reopened_adds : (s : Situation) (a : Actor) (kept : List Event) → Begins s.own (reopened cluster s a kept).own
+    reopened_adds s a kept =
+        let between : Situation = with_kept cluster s a kept in
+        begins_chain s.own between.own (reopened cluster s a kept).own (all_add s a kept true)
+        (begins_longer (entry_of cluster between a (RestartEvent (length kept)) false) between.own)
 
     restarted_adds : (fails : Bool) (s : Situation) (a : Actor) → Begins s.own (restarted_if fails cluster answers s a).own
     restarted_adds true s a = begins_longer (Down a) s.own
