@@ -109,7 +109,7 @@ module _ (cluster : Cluster) where
   -- ---- what comes back
 
   -- an item of no such actor
-  stays : (s : Situation) (item : Item) (b : Actor) (events : List Event) → Stands cluster (whole s) (raised (length (sent_of s.earlier)) item)
+  pub stays : (s : Situation) (item : Item) (b : Actor) (events : List Event) → Stands cluster (whole s) (raised (length (sent_of s.earlier)) item)
       → is_other b (raised (length (sent_of s.earlier)) item) ≡ true → CanAllGoOn cluster s b events → CanAllGoOn cluster (with_item item s) b events
   stays s item b events stands other h = (
     each_weaker _ (λ (event : Event). CanGoOn cluster (whole (with_item item s)) b (event_in s event)) events
@@ -180,7 +180,7 @@ module _ (cluster : Cluster) where
           }
 
   -- the steps of another actor, behind what comes back
-  stay_behind : (s : Situation) (a b : Actor) (events others : List Event) → same_actor a b ≡ false → CanAllGoOn cluster s a events
+  pub stay_behind : (s : Situation) (a b : Actor) (events others : List Event) → same_actor a b ≡ false → CanAllGoOn cluster s a events
       → CanAllGoOn cluster s b others → CanAllGoOn cluster (with_kept cluster s a events) b others
   stay_behind s a b [] others apart h k = k
   stay_behind s a b (event ∷ events) others apart h k =
@@ -191,7 +191,7 @@ module _ (cluster : Cluster) where
   -- ---- restarts
 
   -- with steps that were stopped
-  sound_up : (s : Situation) (a : Actor) (kept : List Event) → CanAllGoOn cluster s a kept → IsSound cluster s → IsSound cluster (reopened cluster s a kept)
+  pub sound_up : (s : Situation) (a : Actor) (kept : List Event) → CanAllGoOn cluster s a kept → IsSound cluster s → IsSound cluster (reopened cluster s a kept)
   sound_up s a kept can h =
       record {
         valid = h.valid;
