@@ -1,5 +1,5 @@
 -- The actors, the steps and the numbers that the items of a plan's run name, besides those of their notes.
-use Rattle.std.proofs.Common.{◌≡◌, ℕ, ◌+◌, ◌<◌, ◌≤◌, ◌^◌, nat_lt, cond, Bool, true, false, not, ◌&&◌, IsTrue, List, [], ◌∷◌, length, Option, None, Some, unwrap_or, refl, sym, subst, ⊎_elim, arith}
+use Rattle.std.proofs.Common.{◌≡◌, ℕ, ◌+◌, ◌<◌, ◌≤◌, ◌^◌, nat_lt, cond, Bool, true, false, not, ◌&&◌, IsTrue, List, [], ◌∷◌, length, map, filter, Option, None, Some, unwrap_or, refl, sym, subst, ⊎_elim, arith}
 use Rattle.std.specs.Prelude.{IfSome}
 use Rattle.std.specs.List.{slice_get, AllByRecursion}
 use Rattle.std.proofs.lemmas.Bool.{true≢false, and_parts, ltb-true}
@@ -34,9 +34,10 @@ use Rattle.acc_schedule.specs.Content.{Content}
 use Rattle.acc_schedule.specs.Plan.{IsPlan, IsStep}
 use Rattle.acc_schedule.specs.declared.plan.Step.{Step}
 use Rattle.acc_schedule.specs.declared.plan.Step.TheVariants.{Begin, Deliver, Drop, Recover, Slow, Restart, Fail, Drain}
-use Rattle.acc_follow.specs.Situations.{Stopped, Situation, whole, receiver_in, event_if, stopped_at, without}
-use Rattle.acc_follow.specs.Moves.{Answers, fails_in, is_journalled, tried_if, tried, stepped_unless, down_skip, begin_skip, recover_skip, slowing_skip, message_skip, deliver_skip, dropped_unless, kept_if, count_of, reopened, restarted_if, Drains, stops, delivers, IsNext}
+use Rattle.acc_follow.specs.Situations.{Stopped, Situation, whole, receiver_in, stopped_at, without}
+use Rattle.acc_follow.specs.Moves.{Answers, fails_in, is_journalled, tried_if, tried, stepped_unless, down_skip, begin_skip, recover_skip, slowing_skip, message_skip, deliver_skip, dropped_unless, kept_if, entered, entered_all, with_kept, reopened, restarted_if, Drains, stops, delivers, IsNext}
 use Rattle.acc_follow.specs.Schedules.{Follows, cluster_of}
+use Rattle.acc_follow.proofs.OneStop.{StopsOne, one_stopped, one_reopened}
 use Rattle.acc_report_line.specs.Forms.{IsActor, IsCount}
 use Rattle.acc_report_laws.specs.Fits.{SkipFits, EventFits}
 use Rattle.acc_report_runs.specs.Numbers.{NumbersMessage}
@@ -50,9 +51,8 @@ ItemIsPlaced names (Down actor) = IsActor actor
 
 -- ---- events
 
-abbrev IsPlain : Option Event → Type 0
-IsPlain None = Unit {0}
-IsPlain (Some event) = is_restart_event event ≡ false
+abbrev IsPlain : List Event → Type 0
+IsPlain events = AllByRecursion (λ (event : Event). is_restart_event event ≡ false) events
 
 plain_event : (a : Actor) (event : Event) → is_restart_event event ≡ false → EventFits a event
 plain_event a (BeginEvent txn) h = tt
@@ -68,17 +68,23 @@ stopped_plain : (a : Actor) (stopped : List Stopped) → ArePlain stopped → Is
 stopped_plain a [] h = tt
 stopped_plain a (one ∷ others) h = by (same_actor one.actor a) (stopped_plain a others h.1)
   where
-    by : (same : Bool) → IsPlain (stopped_at a others) → IsPlain (event_if same one (stopped_at a others))
-    by true rest = h.0
+    mine : List Stopped
+    mine = filter (λ (other : Stopped). same_actor other.actor a) others
+
+    by : (same : Bool) → IsPlain (stopped_at a others) → IsPlain (map (λ (other : Stopped). other.event) (cond same (one ∷ mine) mine))
+    by true rest = (h.0, rest)
     by false rest = rest
 
 kept_plain : (b : Bool) (a : Actor) (s : Situation) → ArePlain s.stopped → IsPlain (kept_if b a s)
 kept_plain true a s h = stopped_plain a s.stopped h
 kept_plain false a s h = tt
 
-kept_few : (kept : Option Event) → IsCount (count_of kept)
-kept_few None = omega arith
-kept_few (Some event) = omega arith
+kept_few : (b : Bool) (a : Actor) (s : Situation) → StopsOne s → IsCount (length (kept_if b a s))
+kept_few true a s one = short (one a)
+  where
+    short : {n : ℕ} → n ≤ 1 → n < 2 ^ 64
+    short h = omega arith
+kept_few false a s one = omega arith
 
 -- ---- what grows
 
@@ -101,13 +107,15 @@ module _ (cluster : Cluster) (answers : Answers) where
   dropped_grows (Some cause) number s message = one_more _ s.own
   dropped_grows None number s message = Whole s.own
 
+  all_grow : (s : Situation) (a : Actor) (events : List Event) → IsPast s.own (entered_all cluster s a events true).own
+  all_grow s a [] = Whole s.own
+  all_grow s a (event ∷ events) =
+      let next : Situation = entered cluster s a event true in
+      IsPast-trans s.own next.own (entered_all cluster next a events true).own (one_more _ s.own) (all_grow next a events)
+
   restarted_grows : (b : Bool) (s : Situation) (a : Actor) → IsPast s.own (restarted_if b cluster answers s a).own
   restarted_grows true s a = one_more _ s.own
-  restarted_grows false s a = by (kept_if (answers.keeps (length s.own)) a s)
-    where
-      by : (kept : Option Event) → IsPast s.own (reopened cluster s a kept).own
-      by None = one_more _ s.own
-      by (Some event) = Behind _ s.own _ (one_more _ s.own)
+  restarted_grows false s a = Behind _ s.own _ (all_grow s a (kept_if (answers.keeps (length s.own)) a s))
 
   drains_grow : (last s : Situation) → Drains cluster answers last s → IsPast s.own last.own
   drains_grow last s (stops _ none is) = subst (λ (t : Situation). IsPast s.own t.own) (sym is) (Whole s.own)
@@ -141,6 +149,7 @@ there_is xs i less = ⊎_elim (λ found. (found.0, found.2)) (λ past. absurd (b
 pub record Placed (names : List (List ℕ)) (s : Situation) : Type 0 where
   pub items : AllByRecursion (ItemIsPlaced names) s.own
   pub stopped : ArePlain s.stopped
+  pub one : StopsOne s
 
 module _ (plan : Content) (answers : Answers) (h : IsPlan plan) (last : List Item) (standing : IsStanding (cluster_of plan) last) (few : length (sent_of last) < 2 ^ 64) where
   abbrev cluster : Cluster
@@ -224,29 +233,36 @@ module _ (plan : Content) (answers : Answers) (h : IsPlan plan) (last : List Ite
           record {
             items = (actor, fine.items);
             stopped = (plain, each_filter (λ (one : Stopped). is_restart_event one.event ≡ false) _ s.stopped fine.stopped);
+            one = one_stopped s a event fine.one;
           }
-      by false = record { items = (plain_event a event plain, fine.items); stopped = fine.stopped }
+      by false = record { items = (plain_event a event plain, fine.items); stopped = fine.stopped; one = fine.one }
 
   stepped_placed : (o : Option Skip) (number : ℕ) (s : Situation) (a : Actor) (event : Event) → SkipsFine o → IsCount number
       → (o ≡ None → IsActor a) → is_restart_event event ≡ false → IsFine s → IsFine (stepped_unless o cluster answers number s a event)
-  stepped_placed (Some cause) number s a event skip count actor plain fine = record { items = ((count, skip), fine.items); stopped = fine.stopped }
+  stepped_placed (Some cause) number s a event skip count actor plain fine = record { items = ((count, skip), fine.items); stopped = fine.stopped; one = fine.one }
   stepped_placed None number s a event skip count actor plain fine = tried_placed s a event (actor refl) plain fine
 
   dropped_placed : (o : Option Skip) (number : ℕ) (s : Situation) (message : ℕ) → SkipsFine o → IsCount number → IsFine s → IsFine (dropped_unless o number s message)
-  dropped_placed (Some cause) number s message skip count fine = record { items = ((count, skip), fine.items); stopped = fine.stopped }
-  dropped_placed None number s message skip count fine = record { items = fine.items; stopped = fine.stopped }
+  dropped_placed (Some cause) number s message skip count fine = record { items = ((count, skip), fine.items); stopped = fine.stopped; one = fine.one }
+  dropped_placed None number s message skip count fine = record { items = fine.items; stopped = fine.stopped; one = fine.one }
+
+  all_placed : (s : Situation) (a : Actor) (events : List Event) → IsPlain events → AllByRecursion (ItemIsPlaced plan.names) s.own
+      → AllByRecursion (ItemIsPlaced plan.names) (entered_all cluster s a events true).own
+  all_placed s a [] plain items = items
+  all_placed s a (event ∷ events) plain items =
+      all_placed (entered cluster s a event true) a events plain.1 (plain_event a event plain.0, items)
 
   restarted_placed : (b : Bool) (s : Situation) (a : Actor) → IsActor a → IsFine s → IsFine (restarted_if b cluster answers s a)
-  restarted_placed true s a actor fine = record { items = (actor, fine.items); stopped = fine.stopped }
+  restarted_placed true s a actor fine = record { items = (actor, fine.items); stopped = fine.stopped; one = fine.one }
   restarted_placed false s a actor fine =
-      by (kept_if (answers.keeps (length s.own)) a s) (kept_plain (answers.keeps (length s.own)) a s fine.stopped)
+      record {
+        items = ((actor, kept_few keeps a s fine.one), all_placed s a (kept_if keeps a s) (kept_plain keeps a s fine.stopped) fine.items);
+        stopped = each_filter (λ (one : Stopped). is_restart_event one.event ≡ false) _ s.stopped fine.stopped;
+        one = one_reopened cluster s a (kept_if keeps a s) fine.one;
+      }
     where
-      left : ArePlain (without a s.stopped)
-      left = each_filter (λ (one : Stopped). is_restart_event one.event ≡ false) _ s.stopped fine.stopped
-
-      by : (kept : Option Event) → IsPlain kept → IsFine (reopened cluster s a kept)
-      by None plain = record { items = ((actor, kept_few None), fine.items); stopped = left }
-      by (Some event) plain = record { items = ((actor, kept_few (Some event)), (plain_event a event plain, fine.items)); stopped = left }
+      keeps : Bool
+      keeps = answers.keeps (length s.own)
 
   drained_placed : (next s : Situation) → IsPast next.own last → Drains cluster answers next s → IsFine s → IsFine next
   drained_placed next s before (stops _ none is) fine = subst IsFine (sym is) fine

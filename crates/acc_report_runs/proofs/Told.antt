@@ -22,6 +22,7 @@ use Rattle.acc_safety.proofs.PlaceOrder.{StandsAt-IsIn, each_at, IsIn-append_lef
 use Rattle.acc_follow.specs.Moves.{Answers}
 use Rattle.acc_follow.specs.Schedules.{cluster_of, Obeys}
 use Rattle.acc_follow.specs.Situations.{opened}
+use Rattle.acc_follow.proofs.OneStop.{none_stopped}
 use Rattle.acc_limits.specs.Limits.{IsWithin}
 use Rattle.acc_bounds.specs.Heights.{most_h}
 use Rattle.acc_bounds.proofs.Begun.{begun_of}
@@ -62,7 +63,7 @@ module _ (plan : Content) (answers : Answers) (items : List Item) (h : IsPlan pl
   all_placed =
       let placed : Placed plan.names obeys.last =
       steps_placed plan answers h items standing few_sent 0 plan.steps (opened []) obeys.last h.steps_known numbered.messages (omega (arith, h.few_steps))
-      (subst (IsPast obeys.last.own) (sym obeys.items_are) (Whole obeys.last.own)) obeys.follows (record { items = tt; stopped = tt }) in
+      (subst (IsPast obeys.last.own) (sym obeys.items_are) (Whole obeys.last.own)) obeys.follows (record { items = tt; stopped = tt; one = none_stopped [] }) in
       subst (AllByRecursion (ItemIsPlaced plan.names)) (sym obeys.items_are) placed.items
 
   -- ---- notes
