@@ -1,7 +1,8 @@
 -- What a cluster that was opened behind nothing enters stands as it is among its items.
-use Rattle.std.proofs.Common.{◌≡◌, ◌+◌, Bool, false, List, [], ◌∷◌, length, None, refl, ◌∙◌, ap, subst, arith}
+use Rattle.std.proofs.Common.{◌≡◌, ◌+◌, Bool, false, List, [], ◌∷◌, length, refl, ◌∙◌, ap, subst, arith}
 use Rattle.acc_stamp.specs.declared.actors.Actor.{Actor}
 use Rattle.acc_message.specs.declared.entry.Emitted.{Emitted}
+use Rattle.acc_message.specs.declared.entry.Entry.{Entry}
 use Rattle.acc_message.specs.declared.entry.Event.{Event}
 use Rattle.acc_message.specs.declared.entry.Event.TheVariants.{Begin, Recover, Slow, Message as TakesMessage, Restart}
 use Rattle.acc_message.specs.declared.item.Item.{Item}
@@ -15,6 +16,11 @@ use Rattle.acc_follow.specs.Moves.{event_in, entry_of, entered, reopened}
 use Rattle.acc_entering.specs.Entries.{emitted_for, entering, MayTake}
 use Rattle.acc_entering.proofs.Situations.{joined_alone, whole_alone}
 use Rattle.acc_served.specs.FreeRun.{alone}
+
+-- the entry that a situation gives
+abbrev pub made : Cluster → Situation → Actor → Event → Bool → Entry
+made cluster s a event lost =
+    record { actor = a; event = event; emitted = emits_if cluster (whole s) a (act_of cluster (whole s) (event_in s event)); lost = lost }
 
 unraised : (event : Event) → raised_event 0 event ≡ event
 unraised (Begin txn) = refl
@@ -53,6 +59,6 @@ module _ (cluster : Cluster) (items : List Item) (stopped : List Stopped) where
   alone_entered a event lost = ap (λ (item : Item). alone (item ∷ items) stopped) (entry_is cluster (alone items stopped) refl a event lost)
 
   pub alone_reopened : (a : Actor)
-      → reopened cluster (alone items stopped) a None ≡ alone (entering cluster items a (Restart 0) false ∷ items) (without a stopped)
+      → reopened cluster (alone items stopped) a [] ≡ alone (entering cluster items a (Restart 0) false ∷ items) (without a stopped)
   alone_reopened a =
       ap (λ (item : Item). alone (item ∷ items) (without a stopped)) (entry_is cluster (alone items stopped) refl a (Restart 0) false)

@@ -1,21 +1,24 @@
 -- Items of others that come between what an actor has seen and what it made by that.
-use Rattle.std.proofs.Common.{◌≡◌, ◌+◌, Bool, true, ◌&&◌, List, [], ◌∷◌, ◌++◌, refl, sym, ◌∙◌, ap}
+use Rattle.std.proofs.Common.{◌≡◌, ◌+◌, Bool, true, ◌&&◌, List, [], ◌∷◌, ◌++◌, Some, refl, sym, ◌∙◌, ap}
+use Rattle.std.specs.List.{AllByRecursion}
 use Rattle.acc_stamp.specs.declared.actors.Actor.{Actor}
+use Rattle.acc_stamp.proofs.Rising.{each_weaker}
 use Rattle.acc_message.specs.declared.entry.Entry.{Entry}
 use Rattle.acc_message.specs.declared.entry.Event.{Event}
 use Rattle.acc_message.specs.declared.item.Item.{Item}
 use Rattle.acc_message.specs.declared.item.Item.TheVariants.{Down}
 use Rattle.acc_message.specs.Items.{same_actor}
 use Rattle.acc_message.specs.NodeRules.{Act, Deed}
-use Rattle.acc_message.specs.Run.{Cluster}
+use Rattle.acc_message.specs.Run.{Cluster, act_of}
 use Rattle.acc_safety.proofs.Bridge.{same_itself}
 use Rattle.acc_payloads.specs.Items.{payload_by, payloads_in}
 use Rattle.acc_entering.specs.Entries.{emitted_for, entering, MayTake}
 use Rattle.acc_entering.specs.Pasts.{IsUntouched, WentDown}
-use Rattle.acc_entering.specs.Stopped.{IsSameStep}
+use Rattle.acc_entering.specs.Stopped.{IsSameStep, AreSameSteps}
 use Rattle.acc_entering.proofs.Deeds.{deeds_more, down_own}
 use Rattle.acc_entering.proofs.Pasts.{went_down}
 use Rattle.acc_entering.proofs.Payloads.{payloads_more, ends_own}
+use Rattle.acc_entering.proofs.Stops.{same_steps}
 use Rattle.acc_served.specs.FreeRun.{AreOthers}
 use Rattle.acc_served.proofs.Others.{untouched_by, act_over, no_entries, payload_over, same_over}
 
@@ -34,6 +37,15 @@ module _ (cluster : Cluster) (seen others : List Item) (a : Actor) (apart : AreO
         down = other.down ∙ sym one.down;
         ends = other.ends ∙ sym one.ends;
       }
+
+  -- the steps that a fault stopped, each behind those before it
+  pub stops_between : (events : List Event) (lost : Bool) → AllByRecursion (λ (event : Event). (act : Act) × MayTake cluster seen a event act) events
+      → AreSameSteps cluster (Down a ∷ seen) (Down a ∷ others ++ seen) a events lost
+  stops_between events lost may =
+      same_steps cluster (Down a ∷ seen) (Down a ∷ others ++ seen) a events lost down_between.deeds
+      (each_weaker (λ (event : Event). (act : Act) × MayTake cluster seen a event act)
+      (λ (event : Event). (act : Act) × (act_of cluster (Down a ∷ seen) event ≡ Some act) × (act_of cluster (Down a ∷ others ++ seen) event ≡ Some act)) events
+      (λ event h. (h.0, act_over cluster seen a event h.0 (Down a ∷ []) h.1.act_is, act_over cluster seen a event h.0 (Down a ∷ others) h.1.act_is)) may)
 
   module _ (event : Event) (act : Act) (may : MayTake cluster seen a event act) where
     -- the step that a fault stopped, with its down

@@ -1,26 +1,24 @@
 -- A free run stays one with what its actors enter.
-use Rattle.std.proofs.Common.{◌≡◌, true, false, List, [], ◌∷◌, Contains, refl, sym, ◌∙◌}
+use Rattle.std.proofs.Common.{◌≡◌, ℕ, ◌≤◌, true, false, IsTrue, List, [], ◌∷◌, Contains, refl, sym, ◌∙◌, ap, subst, arith}
+use Rattle.std.specs.List.{AllByRecursion, list_all}
 use Rattle.std.proofs.lemmas.Bool.{true≢false, and_from}
 use Rattle.acc_stamp.specs.declared.actors.Actor.{Actor}
 use Rattle.acc_message.specs.declared.entry.Entry.{Entry}
 use Rattle.acc_message.specs.declared.entry.Event.{Event}
 use Rattle.acc_message.specs.declared.entry.Event.TheVariants.{Begin, Recover, Slow, Message as TakesMessage, Restart}
 use Rattle.acc_message.specs.declared.item.Item.{Item}
-use Rattle.acc_message.specs.declared.item.Item.TheVariants.{Down}
+use Rattle.acc_message.specs.declared.item.Item.TheVariants.{Step, Down}
 use Rattle.acc_message.specs.NodeRules.{Act}
-use Rattle.acc_message.specs.Run.{kept_of, is_down}
+use Rattle.acc_message.specs.Run.{kept_of, is_down, IsRun}
 use Rattle.acc_safe_runs.proofs.AskFacts.{nothing_is_run}
-use Rattle.acc_safe_runs.proofs.LostFacts.{down_is_run, restart_is_run}
+use Rattle.acc_safe_runs.proofs.LostFacts.{down_is_run}
 use Rattle.acc_schedule.specs.Actors.{actors}
 use Rattle.acc_schedule.specs.Content.{Content}
 use Rattle.acc_follow.specs.Moves.{is_journalled}
 use Rattle.acc_follow.specs.Schedules.{cluster_of}
-use Rattle.acc_entering.specs.Entries.{emitted_for, entering, MayTake}
-use Rattle.acc_entering.specs.Stopped.{CanGoOn}
-use Rattle.acc_entering.proofs.Downs.{ends_is_down}
+use Rattle.acc_entering.specs.Entries.{entering, MayTake}
 use Rattle.acc_entering.proofs.Standing.{entry_run}
-use Rattle.acc_entering.proofs.Stops.{comes_back}
-use Rattle.acc_served.specs.FreeRun.{is_plain_event, IsUntaken, IsFreeRun}
+use Rattle.acc_served.specs.FreeRun.{is_plain_event, is_plain, AreKnown, IsUntaken, TakenOnce, LostBehindDowns, KeepsSixteen, IsFreeRun}
 
 pub plain_if_journalled : (a : Actor) (event : Event) → is_journalled a event ≡ true → is_plain_event event ≡ true
 plain_if_journalled a (Begin txn) journalled = refl
@@ -29,9 +27,19 @@ plain_if_journalled a (Slow txn) journalled = absurd (true≢false (sym journall
 plain_if_journalled a (TakesMessage number) journalled = refl
 plain_if_journalled a (Restart kept) journalled = refl
 
+pub kept_if_journalled : (a : Actor) (event : Event) → is_journalled a event ≡ true → kept_of event ≡ 0
+kept_if_journalled a (Begin txn) journalled = refl
+kept_if_journalled a (Recover txn) journalled = refl
+kept_if_journalled a (Slow txn) journalled = refl
+kept_if_journalled a (TakesMessage number) journalled = refl
+kept_if_journalled a (Restart kept) journalled = absurd (true≢false (sym journalled))
+
+few_if_none : (count : ℕ) → count ≡ 0 → count ≤ 16
+few_if_none count none = omega (arith, none)
+
 module _ (plan : Content) where
   pub nothing_fits : IsFreeRun plan []
-  nothing_fits = record { run = (nothing_is_run (cluster_of plan)).run; plain = refl; known = tt; once = tt; behind = tt }
+  nothing_fits = record { run = (nothing_is_run (cluster_of plan)).run; plain = refl; known = tt; once = tt; behind = tt; kept = tt }
 
   module _ (items : List Item) (a : Actor) (there : Contains (actors plan.topology) a) (h : IsFreeRun plan items) where
     -- an entry that isn't lost, of an actor that is up
@@ -44,6 +52,7 @@ module _ (plan : Content) where
           known = (there, h.known);
           once = (untaken, h.once);
           behind = (λ lost. absurd (true≢false (sym lost)), h.behind);
+          kept = (few_if_none (kept_of event) none, h.kept);
         }
 
     pub down_fits : IsFreeRun plan (Down a ∷ items)
@@ -54,33 +63,43 @@ module _ (plan : Content) where
           known = (there, h.known);
           once = (tt, h.once);
           behind = (tt, h.behind);
+          kept = (tt, h.kept);
         }
 
-    -- a restart that kept nothing
-    pub restart_fits : IsFreeRun plan (entering (cluster_of plan) items a (Restart 0) false ∷ items)
-    restart_fits =
+-- what a free run has beside that it is a run
+pub record IsFree (plan : Content) (items : List Item) : Type 0 where
+  pub plain : IsTrue (list_all is_plain items)
+  pub known : AreKnown plan.topology items
+  pub once : TakenOnce items
+  pub behind : LostBehindDowns items
+  pub kept : AllByRecursion KeepsSixteen items
+
+module _ (plan : Content) where
+  pub free_part : (items : List Item) → IsFreeRun plan items → IsFree plan items
+  free_part items h = record { plain = h.plain; known = h.known; once = h.once; behind = h.behind; kept = h.kept }
+
+  pub free_whole : (items : List Item) → IsRun (cluster_of plan) items → IsFree plan items → IsFreeRun plan items
+  free_whole items run h = record { run = run; plain = h.plain; known = h.known; once = h.once; behind = h.behind; kept = h.kept }
+
+  module _ (items : List Item) (e : Entry) (there : Contains (actors plan.topology) e.actor) (h : IsFree plan items) where
+    -- a step that was kept, of an actor that is down
+    pub lost_fits : is_journalled e.actor e.event ≡ true → is_down e.actor items ≡ true → IsUntaken items e.event → IsFree plan (Step e ∷ items)
+    lost_fits journalled down untaken =
         record {
-          run = restart_is_run (cluster_of plan) a items [] h.run tt;
-          plain = h.plain;
+          plain = and_from (is_plain_event e.event) _ (plain_if_journalled e.actor e.event journalled) h.plain;
           known = (there, h.known);
-          once = (tt, h.once);
-          behind = (λ lost. absurd (true≢false (sym lost)), h.behind);
+          once = (untaken, h.once);
+          behind = (λ lost. down, h.behind);
+          kept = (few_if_none (kept_of e.event) (kept_if_journalled e.actor e.event journalled), h.kept);
         }
 
-    -- one that kept the step that was stopped
-    pub kept_fits : (event : Event) → CanGoOn (cluster_of plan) items a event → IsUntaken items event
-        → IsFreeRun plan
-        (entering (cluster_of plan) (entering (cluster_of plan) items a event true ∷ items) a (Restart 1) false
-        ∷ entering (cluster_of plan) items a event true
-        ∷ items)
-    kept_fits event can untaken =
+    -- a restart
+    pub restart_fits : (count : ℕ) → e.event ≡ Restart count → e.lost ≡ false → count ≤ 16 → IsFree plan (Step e ∷ items)
+    restart_fits count event_is kept few =
         record {
-          run = restart_is_run (cluster_of plan) a items (lost ∷ []) h.run (comes_back (cluster_of plan) items a event can, tt);
-          plain = and_from (is_plain_event event) _ (plain_if_journalled a event can.journalled) h.plain;
-          known = (there, (there, h.known));
-          once = (tt, (untaken, h.once));
-          behind = (λ lost. absurd (true≢false (sym lost)), (λ lost. ends_is_down (cluster_of plan) items a h.run ∙ can.down, h.behind));
+          plain = and_from (is_plain_event e.event) _ (ap is_plain_event event_is) h.plain;
+          known = (there, h.known);
+          once = (subst (IsUntaken items) (sym event_is) tt, h.once);
+          behind = (λ lost. absurd (true≢false (sym lost ∙ kept)), h.behind);
+          kept = (subst (λ event. kept_of event ≤ 16) (sym event_is) few, h.kept);
         }
-      where
-        lost : Entry
-        lost = record { actor = a; event = event; emitted = emitted_for (cluster_of plan) items a event; lost = true }

@@ -11,5 +11,4 @@ pub mod Commands
 pub mod Steps
 pub mod Quiet
 pub mod Begun
-pub mod KeptOne
 pub mod Answered

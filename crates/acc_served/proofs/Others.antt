@@ -1,9 +1,10 @@
 -- Items of other actors change nothing for an actor.
 use Rattle.std.proofs.Common.{◌≡◌, ℕ, Bool, true, false, not, cond, ◌||◌, List, [], ◌∷◌, ◌++◌, Option, None, Some, refl, sym, ◌∙◌, ap, subst}
 use Rattle.std.specs.Option.{option_map}
-use Rattle.std.specs.List.{list_any}
+use Rattle.std.specs.List.{AllByRecursion, list_any}
 use Rattle.std.proofs.lemmas.Bool.{true≢false, eqb-true, not-true}
 use Rattle.acc_stamp.specs.declared.actors.Actor.{Actor}
+use Rattle.acc_stamp.proofs.Rising.{each_weaker}
 use Rattle.acc_message.specs.declared.message.Message.{Message}
 use Rattle.acc_message.specs.declared.note.Note.{Note}
 use Rattle.acc_message.specs.declared.entry.Emitted.{Emitted}
@@ -24,10 +25,10 @@ use Rattle.acc_safe_runs.specs.Asks.{emits_if}
 use Rattle.acc_payloads.specs.Items.{message_payload, payload_by, is_item_of}
 use Rattle.acc_entering.specs.Entries.{emitted_for, entering, MayTake}
 use Rattle.acc_entering.specs.Pasts.{IsUntouched}
-use Rattle.acc_entering.specs.Stopped.{is_other, IsSameStep}
+use Rattle.acc_entering.specs.Stopped.{is_other, IsSameStep, AreSameSteps}
 use Rattle.acc_entering.proofs.Deeds.{deeds_same}
 use Rattle.acc_entering.proofs.Pasts.{nothing_new, untouched_on, untouched}
-use Rattle.acc_entering.proofs.Stops.{act_still, message_still, may_still}
+use Rattle.acc_entering.proofs.Stops.{act_still, message_still, may_still, same_steps}
 use Rattle.acc_served.specs.FreeRun.{is_plain_event, IsUntaken, AreOthers}
 
 pub other_is : (a : Actor) (item : Item) → is_item_of a item ≡ false → is_other a item ≡ true
@@ -183,3 +184,12 @@ module _ (cluster : Cluster) (seen others : List Item) (a : Actor) (event : Even
 
   pub entering_over : (lost : Bool) → entering cluster (others ++ seen) a event lost ≡ entering cluster seen a event lost
   entering_over lost = ap (λ (m : Emitted). Step (record { actor = a; event = event; emitted = m; lost = lost })) emitted_over
+
+-- those of more events, each behind those before it
+pub all_over : (cluster : Cluster) (seen others : List Item) (a : Actor) (events : List Event) (lost : Bool) → AreOthers a others
+    → AllByRecursion (λ (event : Event). (act : Act) × MayTake cluster seen a event act) events → AreSameSteps cluster seen (others ++ seen) a events lost
+all_over cluster seen others a events lost apart may =
+    same_steps cluster seen (others ++ seen) a events lost (untouched_by cluster seen a others apart).deeds
+    (each_weaker (λ (event : Event). (act : Act) × MayTake cluster seen a event act)
+    (λ (event : Event). (act : Act) × (act_of cluster seen event ≡ Some act) × (act_of cluster (others ++ seen) event ≡ Some act)) events
+    (λ event h. (h.0, h.1.act_is, act_over cluster seen a event h.0 others h.1.act_is)) may)

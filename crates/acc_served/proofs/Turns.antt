@@ -1,7 +1,9 @@
 -- A whole turn of an actor: it stepped by what it had seen, and then its item came behind others' items.
-use Rattle.std.proofs.Common.{◌≡◌, true, false, List, ◌∷◌, ◌++◌, None, Contains, refl, sym, ◌∙◌, ap, subst}
+use Rattle.std.proofs.Common.{◌≡◌, ◌≤◌, true, false, List, [], ◌∷◌, ◌++◌, length, Contains, refl, sym, ◌∙◌, ap, subst}
+use Rattle.std.specs.List.{AllByRecursion}
 use Rattle.std.proofs.lemmas.Bool.{true≢false}
 use Rattle.acc_stamp.specs.declared.actors.Actor.{Actor}
+use Rattle.acc_stamp.proofs.Rising.{each_weaker}
 use Rattle.acc_message.specs.declared.entry.Event.{Event}
 use Rattle.acc_message.specs.declared.entry.Event.TheVariants.{Restart as RestartEvent}
 use Rattle.acc_message.specs.declared.item.Item.{Item}
@@ -11,16 +13,18 @@ use Rattle.acc_message.specs.Run.{Cluster, kept_of, is_down}
 use Rattle.acc_schedule.specs.Actors.{actors}
 use Rattle.acc_schedule.specs.Content.{Content}
 use Rattle.acc_schedule.specs.declared.plan.Step.{Step}
-use Rattle.acc_follow.specs.Situations.{Stopped, Situation, whole, without}
+use Rattle.acc_follow.specs.Situations.{Stopped, Situation, whole, without, stops_of}
 use Rattle.acc_follow.specs.Moves.{event_in, entered, is_journalled, reopened}
 use Rattle.acc_follow.specs.Schedules.{cluster_of}
 use Rattle.acc_entering.specs.Entries.{entering, MayTake}
 use Rattle.acc_entering.specs.Pasts.{IsUntouched}
+use Rattle.acc_entering.specs.Stopped.{AreDifferent}
 use Rattle.acc_served.specs.Commands.{is_restart, is_event_of, is_message}
 use Rattle.acc_served.specs.FreeRun.{is_plain_event, IsUntaken, AreOthers, IsFreeRun, alone}
-use Rattle.acc_served.specs.Serving.{IsServing, HasGone, AreStopsOf}
+use Rattle.acc_served.specs.Serving.{IsServing, MayStop, HasGone, AreStopsOf}
 use Rattle.acc_served.proofs.Alone.{alone_whole, alone_event, alone_entered, alone_reopened}
-use Rattle.acc_served.proofs.Going.{command_went, message_went, reopened_went, stayed_down}
+use Rattle.acc_served.proofs.Going.{command_went, messages_stopped, message_went, reopened_went, stayed_down}
+use Rattle.acc_served.proofs.Fitting.{plain_if_journalled}
 use Rattle.acc_served.proofs.Others.{untouched_by, may_over, no_entries, untaken_over, entering_over}
 use Rattle.acc_served.proofs.Over.{gone_over, serving_over}
 use Rattle.acc_served.proofs.Serving.{serving_entered, serving_stopped, serving_down, serving_restarted}
@@ -68,16 +72,17 @@ module _ (plan : Content) (seen others : List Item) (a : Actor) (stopped : List 
 
   pub command_stopped : (event : Event) (command : Step) (left : List Step) → is_event_of command event ≡ true → is_restart command ≡ false
       → is_down a seen ≡ false → HasGone plan (alone seen stopped) a (command ∷ left)
-      → HasGone plan (alone (Down a ∷ items) (record { actor = a; event = event } ∷ without a stopped)) a left
+      → HasGone plan (alone (Down a ∷ items) (stops_of a (event ∷ []) ++ without a stopped)) a left
   command_stopped event command left is other up gone =
       command_went plan found a event true command left is other (λ _. still_up up) (gone_over plan seen others a stopped (command ∷ left) apart gone)
 
-  pub message_stopped : (event : Event) (left : List Step) → is_message event ≡ true → is_down a seen ≡ false → HasGone plan (alone seen stopped) a left
-      → HasGone plan (alone (Down a ∷ items) (record { actor = a; event = event } ∷ without a stopped)) a left
-  message_stopped event left is up gone =
-      message_went plan found a event true left is (λ _. still_up up) (gone_over plan seen others a stopped left apart gone)
+  pub message_stopped : (events : List Event) (left : List Step) → AllByRecursion (λ (event : Event). is_message event ≡ true) events
+      → is_down a seen ≡ false → HasGone plan (alone seen stopped) a left
+      → HasGone plan (alone (Down a ∷ items) (stops_of a events ++ without a stopped)) a left
+  message_stopped events left are up gone =
+      messages_stopped plan found a events left are (still_up up) (gone_over plan seen others a stopped left apart gone)
 
-  restarted_is : reopened cluster found a None ≡ alone (entering cluster seen a (RestartEvent 0) false ∷ items) (without a stopped)
+  restarted_is : reopened cluster found a [] ≡ alone (entering cluster seen a (RestartEvent 0) false ∷ items) (without a stopped)
   restarted_is =
       alone_reopened cluster items stopped a
       ∙ ap (λ (item : Item). alone (item ∷ items) (without a stopped))
@@ -120,9 +125,16 @@ module _ (plan : Content) (seen others : List Item) (a : Actor) (stopped : List 
           (serving_entered plan found over a there event act may_whole plain none
           (ap (is_down a) (alone_whole items stopped) ∙ past.down ∙ up) untaken_now)
 
-      pub stop_serves : is_journalled a event ≡ true
-          → IsServing plan (alone (Down a ∷ items) (record { actor = a; event = event } ∷ without a stopped))
-      stop_serves journalled = serving_stopped plan found over a there event act may_whole journalled untaken_now
+    pub stop_serves : (events : List Event) → AllByRecursion (MayStop cluster seen a) events → AreDifferent events → length events ≤ 16
+        → IsServing plan (alone (Down a ∷ items) (stops_of a events ++ without a stopped))
+    stop_serves events may different few =
+        serving_stopped plan found over a there events
+        (each_weaker (MayStop cluster seen a)
+        (λ (event : Event). (act : Act) × MayTake cluster (whole found) a (event_in found event) act × (is_journalled a event ≡ true)) events
+        (λ event h. (h.act, may_whole event h.act h.may h.untaken (plain_if_journalled a event h.journalled), h.journalled)) may)
+        different
+        (each_weaker (MayStop cluster seen a) (IsUntaken items) events
+        (λ event h. untaken_now event h.act h.may h.untaken (plain_if_journalled a event h.journalled)) may) few
 
     pub restart_serves : IsServing plan (alone (entering cluster seen a (RestartEvent 0) false ∷ items) (without a stopped))
     restart_serves = subst (IsServing plan) restarted_is (serving_restarted plan found over a there false)

@@ -1,15 +1,15 @@
 -- What holds of the items of actors that step freely, at every moment.
-use Rattle.std.specs.Prelude.{◌≡◌, Bool, true, false, IsTrue, List, [], ◌∷◌, Contains}
-use Rattle.std.specs.List.{list_any, list_all}
+use Rattle.std.specs.Prelude.{◌≡◌, ◌≤◌, Bool, true, false, IsTrue, List, [], ◌∷◌, Contains}
+use Rattle.std.specs.List.{AllByRecursion, list_any, list_all}
 use Rattle.acc_stamp.specs.declared.actors.Actor.{Actor}
 use Rattle.acc_topology.specs.Layout.{Layout}
 use Rattle.acc_message.specs.declared.entry.Event.{Event}
 use Rattle.acc_message.specs.declared.entry.Event.TheVariants.{Slow, Message as MessageEvent}
 use Rattle.acc_message.specs.declared.item.Item.{Item}
 use Rattle.acc_message.specs.declared.item.Item.TheVariants.{Step, Skipped, Down}
-use Rattle.acc_message.specs.Run.{IsRun}
+use Rattle.acc_message.specs.Run.{kept_of, is_down, IsRun}
 use Rattle.acc_safety.specs.Calm.{item_takes}
-use Rattle.acc_payloads.specs.Items.{is_item_of, ends_down}
+use Rattle.acc_payloads.specs.Items.{is_item_of}
 use Rattle.acc_schedule.specs.Actors.{actors}
 use Rattle.acc_schedule.specs.Content.{Content}
 use Rattle.acc_follow.specs.Schedules.{cluster_of}
@@ -51,14 +51,19 @@ abbrev pub TakenOnce : List Item → Type 0
 TakenOnce [] = Unit {0}
 TakenOnce (item ∷ earlier) = IsUntakenBefore earlier item × TakenOnce earlier
 
--- a lost entry stands directly behind a down, among the items of its actor
+-- a lost entry stands behind a down of its actor, with nothing but lost entries of it between
 abbrev pub IsBehindDown : List Item → Item → Type 0
-IsBehindDown earlier (Step e) = e.lost ≡ true → ends_down e.actor earlier ≡ true
+IsBehindDown earlier (Step e) = e.lost ≡ true → is_down e.actor earlier ≡ true
 IsBehindDown earlier _ = Unit {0}
 
 abbrev pub LostBehindDowns : List Item → Type 0
 LostBehindDowns [] = Unit {0}
 LostBehindDowns (item ∷ earlier) = IsBehindDown earlier item × LostBehindDowns earlier
+
+-- a restart kept sixteen steps at most
+abbrev pub KeepsSixteen : Item → Type 0
+KeepsSixteen (Step e) = kept_of e.event ≤ 16
+KeepsSixteen _ = Unit {0}
 
 -- none is the actor's
 abbrev pub AreOthers : Actor → List Item → Type 0
@@ -74,6 +79,7 @@ pub record IsFreeRun (plan : Content) (items : List Item) : Type 0 where
   pub known : AreKnown plan.topology items
   pub once : TakenOnce items
   pub behind : LostBehindDowns items
+  pub kept : AllByRecursion KeepsSixteen items
 
 -- a cluster that was opened behind nothing, with these items and these stopped steps
 abbrev pub alone : List Item → List Stopped → Situation

@@ -1,12 +1,11 @@
 -- When the items of actors that step freely are complete: every command had its turn but those behind a recover of what isn't begun,
 -- and every message is taken but those of actors that are down.
-use Rattle.std.specs.Prelude.{◌≡◌, ◌≤◌, Bool, true, false, not, IsTrue, List, [], ◌++◌, reverse, Contains, Option}
+use Rattle.std.specs.Prelude.{◌≡◌, Bool, true, false, not, IsTrue, List, [], ◌++◌, reverse, Contains, Option}
 use Rattle.std.specs.List.{list_all}
 use Rattle.acc_stamp.specs.declared.actors.Actor.{Actor}
 use Rattle.acc_message.specs.declared.item.Item.{Item}
 use Rattle.acc_message.specs.declared.item.Item.TheVariants.{Step as StepItem, Skipped, Down}
 use Rattle.acc_message.specs.Items.{is_begun}
-use Rattle.acc_message.specs.Run.{kept_of}
 use Rattle.acc_safety.specs.Calm.{is_calm_event}
 use Rattle.acc_schedule.specs.Actors.{actors}
 use Rattle.acc_schedule.specs.Content.{Content}
@@ -55,8 +54,3 @@ HasNoRecover steps = IsTrue (list_all (λ step. not (is_recover step)) steps)
 abbrev pub IsBegunIn : List Item → Step → Type 0
 IsBegunIn items (Begin txn) = is_begun items txn ≡ true
 IsBegunIn items _ = Unit {0}
-
--- a restart kept one step at most
-abbrev pub KeepsOne : Item → Type 0
-KeepsOne (StepItem e) = kept_of e.event ≤ 1
-KeepsOne _ = Unit {0}

@@ -1,5 +1,5 @@
 //! What holds of actors that step freely. Each law is the contract of a function that does nothing, or only calls another law.
-ghost use Rattle.std.specs.Prelude.{◌≡◌, ℕ, ◌+◌, ◌≤◌, Bool, true, false, List, [], ◌∷◌, ◌++◌, Option, None, Some, Contains, count_by, length};
+ghost use Rattle.std.specs.Prelude.{◌≡◌, ℕ, ◌+◌, ◌≤◌, Bool, true, false, List, [], ◌∷◌, ◌++◌, Option, Contains, count_by, length};
 ghost use Rattle.std.specs.List.{AllByRecursion};
 ghost use Rattle.acc_stamp.specs.declared.actors.Actor.{Actor};
 ghost use Rattle.acc_message.specs.declared.entry.Event.{Event};
@@ -18,18 +18,18 @@ ghost use Rattle.acc_schedule.specs.Actors.{actors};
 ghost use Rattle.acc_schedule.specs.Content.{Content};
 ghost use Rattle.acc_schedule.specs.Plan.{IsPlan};
 ghost use Rattle.acc_schedule.specs.declared.plan.Step.{Step};
-ghost use Rattle.acc_follow.specs.Situations.{Stopped, Situation, whole, stopped_at, without, receiver_in, waits, NothingWaits};
+ghost use Rattle.acc_follow.specs.Situations.{Stopped, Situation, whole, stopped_at, without, stops_of, receiver_in, waits, NothingWaits};
 ghost use Rattle.acc_follow.specs.Moves.{Answers, with_item, event_in, entered, is_journalled, stopped_by, tried_if, tried, kept_if, reopened, Drains, IsNext};
 ghost use Rattle.acc_follow.specs.Schedules.{cluster_of};
 ghost use Rattle.acc_follow.specs.Laws.{NobodyIsDown};
 ghost use Rattle.acc_entering.specs.Entries.{entering, MayTake};
 ghost use Rattle.acc_entering.specs.Pasts.{IsUntouched};
-ghost use Rattle.acc_entering.specs.Stopped.{IsSameStep};
+ghost use Rattle.acc_entering.specs.Stopped.{AreDifferent, IsSameStep, AreSameSteps};
 ghost use Rattle.acc_served.specs.Commands.{commands_of, is_restart, is_event_of, is_message, IsPassed, IsReady, IsHeld};
 ghost use Rattle.acc_served.specs.Turns.{Went};
-ghost use Rattle.acc_served.specs.FreeRun.{is_plain_event, IsUntaken, AreOthers, IsFreeRun, alone};
-ghost use Rattle.acc_served.specs.Serving.{IsServing, HasGone, AreStopsOf};
-ghost use Rattle.acc_served.specs.Served.{IsServed, IsQuiet, HasNoRecover, IsBegunIn, KeepsOne};
+ghost use Rattle.acc_served.specs.FreeRun.{is_plain_event, IsUntaken, KeepsSixteen, AreOthers, IsFreeRun, alone};
+ghost use Rattle.acc_served.specs.Serving.{IsServing, MayStop, HasGone, AreStopsOf};
+ghost use Rattle.acc_served.specs.Served.{IsServed, IsQuiet, HasNoRecover, IsBegunIn};
 
 use acc_calm::laws::calm;
 use acc_plan_laws::laws::plans_are_valid;
@@ -54,6 +54,9 @@ pub fn others_change_nothing()
         MayTake cluster (others ++ seen) a event act }
     ensures same { (cluster : Cluster) (seen others : List Item) (a : Actor) (event : Event) (act : Act) → AreOthers a others →
         MayTake cluster seen a event act → IsSameStep cluster seen (others ++ seen) a event }
+    ensures all { (cluster : Cluster) (seen others : List Item) (a : Actor) (events : List Event) (lost : Bool) → AreOthers a others →
+        AllByRecursion (λ event. (act : Act) × MayTake cluster seen a event act) events →
+        AreSameSteps cluster seen (others ++ seen) a events lost }
     ensures entering { (cluster : Cluster) (seen others : List Item) (a : Actor) (event : Event) (act : Act) (lost : Bool) → AreOthers a others →
         MayTake cluster seen a event act → entering cluster (others ++ seen) a event lost ≡ entering cluster seen a event lost }
     ensures untaken { (cluster : Cluster) (seen others : List Item) (a : Actor) (event : Event) (act : Act) → AreOthers a others →
@@ -71,7 +74,7 @@ pub fn turns_stay_fitting()
 {}
 
 /// Further items of others that come between what an actor has seen and what it made by that change nothing for it either, nor for its
-/// stopped step.
+/// stopped steps.
 pub fn others_come_between()
     ensures entry { (cluster : Cluster) (seen others : List Item) (a : Actor) (event : Event) (act : Act) (lost : Bool) → AreOthers a others →
         MayTake cluster seen a event act →
@@ -80,6 +83,9 @@ pub fn others_come_between()
         IsUntouched cluster (Item.Down a ∷ seen) (Item.Down a ∷ others ++ seen) a }
     ensures stop { (cluster : Cluster) (seen others : List Item) (a : Actor) (event : Event) (act : Act) → AreOthers a others →
         MayTake cluster seen a event act → IsSameStep cluster (Item.Down a ∷ seen) (Item.Down a ∷ others ++ seen) a event }
+    ensures stops { (cluster : Cluster) (seen others : List Item) (a : Actor) (events : List Event) (lost : Bool) → AreOthers a others →
+        AllByRecursion (λ event. (act : Act) × MayTake cluster seen a event act) events →
+        AreSameSteps cluster (Item.Down a ∷ seen) (Item.Down a ∷ others ++ seen) a events lost }
 {}
 
 /// What holds of the items that an actor has seen goes on holding with others' items, and so does what holds of all actors together.
@@ -92,8 +98,8 @@ pub fn turns_go_by()
     ensures gone { (plan : Content) (seen others : List Item) (a : Actor) (stopped : List Stopped) (left : List Step) → AreOthers a others →
         HasGone plan (alone seen stopped) a left → HasGone plan (alone (others ++ seen) stopped) a left }
     ensures together { (plan : Content) (items : List Item) (stopped : List Stopped) → IsPlan plan → IsFreeRun plan items →
-        ((a : Actor) (event : Event) → stopped_at a stopped ≡ Some event →
-        (one : List Stopped) × (stopped_at a one ≡ Some event) × IsServing plan (alone items one)) → IsServing plan (alone items stopped) }
+        ((a : Actor) (event : Event) (events : List Event) → stopped_at a stopped ≡ event ∷ events →
+        (one : List Stopped) × (stopped_at a one ≡ event ∷ events) × IsServing plan (alone items one)) → IsServing plan (alone items stopped) }
     ensures each { (plan : Content) (items : List Item) (stopped other : List Stopped) (a : Actor) (left : List Step) →
         stopped_at a other ≡ stopped_at a stopped → HasGone plan (alone items stopped) a left → HasGone plan (alone items other) a left }
 {
@@ -106,27 +112,26 @@ pub fn alone_are_entered()
     ensures event { (items : List Item) (stopped : List Stopped) (event : Event) → event_in (alone items stopped) event ≡ event }
     ensures entered { (cluster : Cluster) (items : List Item) (stopped : List Stopped) (a : Actor) (event : Event) (lost : Bool) →
         entered cluster (alone items stopped) a event lost ≡ alone (entering cluster items a event lost ∷ items) stopped }
-    ensures stopped { (items : List Item) (stopped : List Stopped) (a : Actor) (event : Event) →
-        stopped_by a event (alone items stopped)
-        ≡ alone (Item.Down a ∷ items) (record { actor = a; event = event } ∷ without a stopped) }
+    ensures stopped { (items : List Item) (stopped : List Stopped) (a : Actor) (events : List Event) →
+        stopped_by a events (alone items stopped) ≡ alone (Item.Down a ∷ items) (stops_of a events ++ without a stopped) }
     ensures reopened { (cluster : Cluster) (items : List Item) (stopped : List Stopped) (a : Actor) →
-        reopened cluster (alone items stopped) a None
+        reopened cluster (alone items stopped) a []
         ≡ alone (entering cluster items a (Event.Restart 0) false ∷ items) (without a stopped) }
 {}
 
-/// A whole turn of an actor serves: it stepped by what it had seen, and its item came behind items of others. It is an entry, the down of a
-/// step that its disk stopped, a restart that kept nothing, or the down of a restart whose disk failed.
+/// A whole turn of an actor serves: it stepped by what it had seen, and its item came behind items of others. It is an entry, the down of
+/// steps that its disk stopped, a restart that kept nothing, or the down of a restart whose disk failed.
 pub fn turns_serve()
     ensures entry { (plan : Content) (seen others : List Item) (a : Actor) (stopped : List Stopped) (event : Event) (act : Act) →
         Contains (actors plan.topology) a → AreOthers a others → AreStopsOf a stopped → MayTake (cluster_of plan) seen a event act →
         is_plain_event event ≡ true → kept_of event ≡ 0 → is_down a seen ≡ false → IsUntaken seen event → IsFreeRun plan (others ++ seen) →
         IsServing plan (alone seen stopped) →
         IsServing plan (alone (entering (cluster_of plan) seen a event false ∷ others ++ seen) stopped) }
-    ensures stop { (plan : Content) (seen others : List Item) (a : Actor) (stopped : List Stopped) (event : Event) (act : Act) →
-        Contains (actors plan.topology) a → AreOthers a others → AreStopsOf a stopped → MayTake (cluster_of plan) seen a event act →
-        is_plain_event event ≡ true → is_journalled a event ≡ true → IsUntaken seen event → IsFreeRun plan (others ++ seen) →
-        IsServing plan (alone seen stopped) →
-        IsServing plan (alone (Item.Down a ∷ others ++ seen) (record { actor = a; event = event } ∷ without a stopped)) }
+    ensures stop { (plan : Content) (seen others : List Item) (a : Actor) (stopped : List Stopped) (events : List Event) →
+        Contains (actors plan.topology) a → AreOthers a others → AreStopsOf a stopped →
+        AllByRecursion (MayStop (cluster_of plan) seen a) events → AreDifferent events → length events ≤ 16 →
+        IsFreeRun plan (others ++ seen) → IsServing plan (alone seen stopped) →
+        IsServing plan (alone (Item.Down a ∷ others ++ seen) (stops_of a events ++ without a stopped)) }
     ensures restart { (plan : Content) (seen others : List Item) (a : Actor) (stopped : List Stopped) → Contains (actors plan.topology) a →
         AreOthers a others → AreStopsOf a stopped → IsFreeRun plan (others ++ seen) → IsServing plan (alone seen stopped) →
         IsServing plan (alone (entering (cluster_of plan) seen a (Event.Restart 0) false ∷ others ++ seen) (without a stopped)) }
@@ -135,7 +140,7 @@ pub fn turns_serve()
         IsServing plan (alone (Item.Down a ∷ others ++ seen) stopped) }
 {}
 
-/// Such a turn is that of the actor's next command, or of a message.
+/// Such a turn is that of the actor's next command, or of messages.
 pub fn commands_go_by()
     ensures entry { (plan : Content) (seen others : List Item) (a : Actor) (stopped : List Stopped) (event : Event) (act : Act) (command : Step)
         (left : List Step) → AreOthers a others → MayTake (cluster_of plan) seen a event act → is_event_of command event ≡ true →
@@ -148,10 +153,11 @@ pub fn commands_go_by()
     ensures stop { (plan : Content) (seen others : List Item) (a : Actor) (stopped : List Stopped) (event : Event) (command : Step)
         (left : List Step) → AreOthers a others → is_event_of command event ≡ true → is_restart command ≡ false →
         is_down a seen ≡ false → HasGone plan (alone seen stopped) a (command ∷ left) →
-        HasGone plan (alone (Item.Down a ∷ others ++ seen) (record { actor = a; event = event } ∷ without a stopped)) a left }
-    ensures message_stop { (plan : Content) (seen others : List Item) (a : Actor) (stopped : List Stopped) (event : Event) (left : List Step) →
-        AreOthers a others → is_message event ≡ true → is_down a seen ≡ false → HasGone plan (alone seen stopped) a left →
-        HasGone plan (alone (Item.Down a ∷ others ++ seen) (record { actor = a; event = event } ∷ without a stopped)) a left }
+        HasGone plan (alone (Item.Down a ∷ others ++ seen) (stops_of a (event ∷ []) ++ without a stopped)) a left }
+    ensures message_stop { (plan : Content) (seen others : List Item) (a : Actor) (stopped : List Stopped) (events : List Event)
+        (left : List Step) → AreOthers a others → AllByRecursion (λ event. is_message event ≡ true) events → is_down a seen ≡ false →
+        HasGone plan (alone seen stopped) a left →
+        HasGone plan (alone (Item.Down a ∷ others ++ seen) (stops_of a events ++ without a stopped)) a left }
     ensures restart { (plan : Content) (seen others : List Item) (a : Actor) (stopped : List Stopped) (command : Step) (left : List Step) →
         AreOthers a others → is_restart command ≡ true → HasGone plan (alone seen stopped) a (command ∷ left) →
         HasGone plan (alone (entering (cluster_of plan) seen a (Event.Restart 0) false ∷ others ++ seen) (without a stopped)) a left }
@@ -176,7 +182,7 @@ pub fn steps_serve()
         HasGone plan s b left → HasGone plan (tried_if fails (cluster_of plan) s a event) b left }
 {}
 
-/// A restart keeps the items a free run, whether its disk fails or not, and whether it keeps the stopped step or not. It is the turn of a
+/// A restart keeps the items a free run, whether its disk fails or not, and whether it keeps the stopped steps or not. It is the turn of a
 /// command, and no turn of any other actor.
 pub fn restarts_serve()
     ensures serving { (plan : Content) (s : Situation) (a : Actor) (keeps : Bool) → Contains (actors plan.topology) a → IsServing plan s →
@@ -184,7 +190,7 @@ pub fn restarts_serve()
     ensures command { (plan : Content) (s : Situation) (a : Actor) (keeps : Bool) (command : Step) (left : List Step) →
         is_restart command ≡ true → HasGone plan s a (command ∷ left) →
         HasGone plan (reopened (cluster_of plan) s a (kept_if keeps a s)) a left }
-    ensures others { (plan : Content) (s : Situation) (a b : Actor) (kept : Option Event) (left : List Step) → same_actor a b ≡ false →
+    ensures others { (plan : Content) (s : Situation) (a b : Actor) (kept : List Event) (left : List Step) → same_actor a b ≡ false →
         HasGone plan s b left → HasGone plan (reopened (cluster_of plan) s a kept) b left }
     ensures serving_down { (plan : Content) (s : Situation) (a : Actor) → Contains (actors plan.topology) a → IsServing plan s →
         IsServing plan (with_item (Item.Down a) s) }
@@ -237,9 +243,9 @@ pub fn downs_are_few()
         downs_in a s.own + length left ≤ length (commands_of plan a) + 1 }
 {}
 
-/// In a free run each restart kept one step at most, that of the down in front of it.
-pub fn restarts_keep_one()
-    ensures { (plan : Content) (items : List Item) → IsFreeRun plan items → AllByRecursion KeepsOne items }
+/// In a free run each restart kept sixteen steps at most, those of the down in front of it.
+pub fn restarts_keep_sixteen()
+    ensures { (plan : Content) (items : List Item) → IsFreeRun plan items → AllByRecursion KeepsSixteen items }
 {}
 
 /// Served items without a restart, a recover or a down answer each transaction that they begin, and their report says that none is open.

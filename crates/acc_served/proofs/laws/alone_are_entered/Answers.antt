@@ -12,7 +12,7 @@ pub returns-clause-entered : goal.returns-clause-entered
 returns-clause-entered c = alone_entered
 
 pub returns-clause-stopped : goal.returns-clause-stopped
-returns-clause-stopped c = λ items stopped a event. refl
+returns-clause-stopped c = λ items stopped a events. refl
 
 pub returns-clause-reopened : goal.returns-clause-reopened
 returns-clause-reopened c = alone_reopened

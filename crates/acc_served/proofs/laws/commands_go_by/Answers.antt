@@ -14,8 +14,8 @@ returns-clause-stop c = λ plan seen others a stopped event command left apart i
     command_stopped plan seen others a stopped apart event command left is other up gone
 
 pub returns-clause-message_stop : goal.returns-clause-message_stop
-returns-clause-message_stop c = λ plan seen others a stopped event left apart is up gone.
-    message_stopped plan seen others a stopped apart event left is up gone
+returns-clause-message_stop c = λ plan seen others a stopped events left apart are up gone.
+    message_stopped plan seen others a stopped apart events left are up gone
 
 pub returns-clause-restart : goal.returns-clause-restart
 returns-clause-restart c = λ plan seen others a stopped command left apart is gone. restart_entered plan seen others a stopped apart command left is gone

@@ -1,4 +1,4 @@
-use Rattle.acc_served.proofs.Others.{untouched_by, may_over, untaken_over, no_entries, same_over, entering_over}
+use Rattle.acc_served.proofs.Others.{untouched_by, may_over, untaken_over, no_entries, same_over, all_over, entering_over}
 use Rattle.acc_served.proofs.laws.others_change_nothing.Goals as goal
 
 pub returns-clause-untouched : goal.returns-clause-untouched
@@ -9,6 +9,9 @@ returns-clause-may c = λ cluster seen others a event act apart stands plain may
 
 pub returns-clause-same : goal.returns-clause-same
 returns-clause-same c = λ cluster seen others a event act apart may. same_over cluster seen others a event act (no_entries a others apart) may.act_is
+
+pub returns-clause-all : goal.returns-clause-all
+returns-clause-all c = all_over
 
 pub returns-clause-entering : goal.returns-clause-entering
 returns-clause-entering c = λ cluster seen others a event act lost apart may.

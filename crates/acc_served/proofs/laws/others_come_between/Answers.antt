@@ -1,4 +1,4 @@
-use Rattle.acc_served.proofs.Between.{down_between, stop_between, entry_between}
+use Rattle.acc_served.proofs.Between.{down_between, stop_between, stops_between, entry_between}
 use Rattle.acc_served.proofs.laws.others_come_between.Goals as goal
 
 pub returns-clause-entry : goal.returns-clause-entry
@@ -9,3 +9,6 @@ returns-clause-down c = down_between
 
 pub returns-clause-stop : goal.returns-clause-stop
 returns-clause-stop c = λ cluster seen others a event act apart may. stop_between cluster seen others a apart event act may
+
+pub returns-clause-stops : goal.returns-clause-stops
+returns-clause-stops c = λ cluster seen others a events lost apart may. stops_between cluster seen others a apart events lost may

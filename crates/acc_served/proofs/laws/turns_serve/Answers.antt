@@ -6,8 +6,8 @@ returns-clause-entry c = λ plan seen others a stopped event act there apart sto
     entry_serves plan seen others a stopped apart there stops free h event act may untaken plain none up
 
 pub returns-clause-stop : goal.returns-clause-stop
-returns-clause-stop c = λ plan seen others a stopped event act there apart stops may plain journalled untaken free h.
-    stop_serves plan seen others a stopped apart there stops free h event act may untaken plain journalled
+returns-clause-stop c = λ plan seen others a stopped events there apart stops may different few free h.
+    stop_serves plan seen others a stopped apart there stops free h events may different few
 
 pub returns-clause-restart : goal.returns-clause-restart
 returns-clause-restart c = λ plan seen others a stopped there apart stops free h. restart_serves plan seen others a stopped apart there stops free h
