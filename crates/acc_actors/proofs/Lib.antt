@@ -6,5 +6,6 @@ pub mod NodeSteps
 pub mod Nodes
 pub mod StoreRestarts
 pub mod StoreSteps
+pub mod StoreTakes
 pub mod Stores
 pub mod Weighed

@@ -53,10 +53,13 @@ of_group : (b : Bool) (payload : List ℕ) → bytes_eq payload mark_bytes ≡ f
 of_group true payload e = alone payload e
 of_group false payload e = alone payload e
 
+pub without_joined : (before behind : List (List ℕ)) → without_marks (before ++ behind) ≡ without_marks before ++ without_marks behind
+without_joined before behind = filter-append is_other before behind
+
 pub held_with : (before : List (List ℕ)) (version : ℕ) (marked : Bool) (payload : List ℕ) → bytes_eq payload mark_bytes ≡ false
     → without_marks (before ++ appended version marked payload) ≡ without_marks before ++ payload ∷ []
 held_with before version marked payload e =
-    filter-append is_other before (appended version marked payload) ∙ ap (λ (l : List (List ℕ)). without_marks before ++ l) (of_group (may_mark version marked) payload e)
+    without_joined before (appended version marked payload) ∙ ap (λ (l : List (List ℕ)). without_marks before ++ l) (of_group (may_mark version marked) payload e)
 
 -- ---- counts
 

@@ -1,6 +1,7 @@
 -- A restart of a node: what the reopened journal tells.
-use Rattle.std.proofs.Common.{◌≡◌, inl, inr, ℕ, ◌-◌, ◌^◌, ◌<◌, Bool, true, false, ltb, List, ◌∷◌, Option, None, Some, is_none, Result, Ok, Err, refl, sym, ap, subst, ◌∙◌}
+use Rattle.std.proofs.Common.{◌≡◌, inl, inr, ℕ, ◌-◌, ◌^◌, ◌<◌, Bool, true, false, ltb, List, [], ◌∷◌, Option, None, Some, is_none, Vec, Result, Ok, Err, refl, sym, ap, subst, ◌∙◌}
 use Rattle.std.specs.Prelude.{IsTrue, IfOk, OnOk}
+use Rattle.std.specs.declared.alloc.Global.{Global}
 use Rattle.acc_base.specs.declared.memory.OutOfMemory.{OutOfMemory as NoMemory}
 use Rattle.acc_topology.specs.Layout.{Layout}
 use Rattle.acc_ports.specs.Strict.{Ranges, LeftByChoice}
@@ -19,7 +20,7 @@ use Rattle.acc_actors.specs.declared.node.NodeState.TheVariants.{Open, Shut}
 use Rattle.acc_actors.specs.declared.node.NodeActor.{NodeActor}
 use Rattle.acc_actors.specs.Stops.{Past, count_of, with_act, kept_if, ReadsAs, ReadsIf, IsLeft, IsUnsent, told, TellsByChoice, KeepsByChoice}
 use Rattle.acc_actors.specs.Node.{disk_in, disk_of, is_shut, is_down, emits_next, IsJournal, IsUp, IsUpIn, StandsFor, IsFound, KeptIn, past_after, IsStrictAt}
-use Rattle.acc_actors.proofs.Left.{if_all, not_both, none_after, none_kept, more_is, tells, left_up, kept_is, told_past, told_some}
+use Rattle.acc_actors.proofs.Left.{if_all, not_both, none_after, none_kept, more_is, tells, left_up, kept_is, told_past, told_some, none_unsent}
 use Rattle.acc_actors.proofs.Nodes.{by_own, journal_up, kept_up}
 
 -- ---- the reopened node
@@ -71,59 +72,60 @@ found_down images layout number start version past content disk left only = reco
 
 -- ---- the restart
 
-none_up : {D : Type 0} (layout : Layout) (number start version : ℕ) (past : Past Act) (state : NodeState D) → IsUpIn layout number start version past state → past.stopped ≡ None
+none_up : {D : Type 0} (layout : Layout) (number start version : ℕ) (past : Past Act) (state : NodeState D) → IsUpIn layout number start version past state → past.stopped ≡ []
 none_up layout number start version past (Open n) is_up = is_up.none_stopped
 none_up layout number start version past (Shut disk) is_up = absurd is_up
 
 module _ {D : Type 0} (images : D → List ℕ → Type 0) (layout : Layout) (old : NodeActor D) (number start version : ℕ) (past : Past Act) (stands : StandsFor images layout number start version past old) (state : NodeState D) (kept : ℕ) where
-  abbrev new : Option Unsent → NodeActor D
-  new stopped = record old { state = state; stopped = stopped; kept = kept }
+  abbrev new : Vec Unsent Global → NodeActor D
+  new items = record old { state = state; stopped = items; kept = kept }
 
-  module _ (p : Past Act) (none : p.stopped ≡ None) (shut : is_shut state ≡ false)
+  module _ (p : Past Act) (none : p.stopped ≡ []) (shut : is_shut state ≡ false) (v : Vec Unsent Global) (empty : v.items ≡ [])
       (left : (image : List ℕ) → images (disk_in state) image → IsLeft (IsJournal layout number start version) p image) (up : is_shut state ≡ false → IsUpIn layout number start version p state) where
-    up_stands : StandsFor images layout number start version p (new None)
+    up_stands : StandsFor images layout number start version p (new v)
     up_stands = record {
       number_is = stands.number_is;
       start_is = stands.start_is;
       version_is = stands.version_is;
       left = left;
-      unsent = subst (λ (s : Option _). IsUnsent (emits_next layout number start p) s None) (sym none) tt;
+      unsent = none_unsent (emits_next layout number start) p p.stopped v.items none empty;
       up = up;
       kept_is = λ broken. absurd (not_both (is_shut state) broken shut);
     }
 
-  found_stands : (more : Bool) → is_shut state ≡ false → IsFound images layout number start version past (Some more) state → StandsFor images layout number start version (with_act Restarts (kept_if more past)) (new None)
-  found_stands more shut f = up_stands (with_act Restarts (kept_if more past)) (none_after more past) shut f.left f.up
+  found_stands : (more : Bool) → is_shut state ≡ false → IsFound images layout number start version past (Some more) state → (v : Vec Unsent Global) → v.items ≡ []
+      → StandsFor images layout number start version (with_act Restarts (kept_if more past)) (new v)
+  found_stands more shut f v empty = up_stands (with_act Restarts (kept_if more past)) (none_after more past) shut v empty f.left f.up
 
-  pub restarts_ok : (found : Result (Option Bool) NoMemory) → IfOk found (λ f. is_shut state ≡ is_none f) → IfOk found (λ f. IsFound images layout number start version past f state) → kept ≡ count_of past
-      → IfOk (told found old.stopped).0 (λ q. KeptIn layout number start past q × StandsFor images layout number start version (past_after q past) (new (told found old.stopped).1))
-  restarts_ok (Ok (Some true)) shut f count = (
-    kept_is (emits_next layout number start past) past.stopped old.stopped stands.unsent,
-    subst (λ (p : Past Act). StandsFor images layout number start version (with_act Restarts p) (new None)) (told_past (emits_next layout number start past) past old.stopped stands.unsent) (found_stands true shut f),
+  pub restarts_ok : (found : Result (Option Bool) NoMemory) (v : Vec Unsent Global) → v.items ≡ (told found old.stopped.items).1 → IfOk found (λ f. is_shut state ≡ is_none f) → IfOk found (λ f. IsFound images layout number start version past f state) → kept ≡ count_of past
+      → IfOk (told found old.stopped.items).0 (λ q. KeptIn layout number start past q × StandsFor images layout number start version (past_after q past) (new v))
+  restarts_ok (Ok (Some true)) v v_is shut f count = (
+    kept_is (emits_next layout number start) past old.stopped.items stands.unsent,
+    subst (λ (p : Past Act). StandsFor images layout number start version (with_act Restarts p) (new v)) (told_past (emits_next layout number start) past old.stopped.items stands.unsent) (found_stands true shut f v v_is),
   )
-  restarts_ok (Ok (Some false)) shut f count = (tt, found_stands false shut f)
-  restarts_ok (Ok None) shut f count = (
+  restarts_ok (Ok (Some false)) v v_is shut f count = (tt, found_stands false shut f v v_is)
+  restarts_ok (Ok None) v v_is shut f count = (
     tt,
     record {
       number_is = stands.number_is;
       start_is = stands.start_is;
       version_is = stands.version_is;
       left = f.left;
-      unsent = stands.unsent;
+      unsent = subst (IsUnsent (emits_next layout number start) past past.stopped) (sym v_is) stands.unsent;
       up = λ sound. absurd (not_both (is_shut state) shut sound);
       kept_is = λ _. count;
     },
   )
-  restarts_ok (Err e) shut f count = tt
+  restarts_ok (Err e) v v_is shut f count = tt
 
   -- with what the reopening tells
-  pub restarted : (found : Result (Option Bool) NoMemory) (disk : D) → disk ≡ disk_of old → kept ≡ count_of past → IfOk found (λ f. is_shut state ≡ is_none f)
+  pub restarted : (found : Result (Option Bool) NoMemory) (v : Vec Unsent Global) (disk : D) → v.items ≡ (told found old.stopped.items).1 → disk ≡ disk_of old → kept ≡ count_of past → IfOk found (λ f. is_shut state ≡ is_none f)
       → IfOk found (λ f. (l : Layout) (p : Past Act) → ((image : List ℕ) → images disk image → IsLeft (IsJournal l old.name.number old.name.start old.name.version) p image) → kept ≡ count_of p → IsFound images l old.name.number old.name.start old.name.version p f state)
-      → IfOk (told found old.stopped).0 (λ q. KeptIn layout number start past q × StandsFor images layout number start version (past_after q past) (new (told found old.stopped).1))
-  restarted found disk same count shut finds =
+      → IfOk (told found old.stopped.items).0 (λ q. KeptIn layout number start past q × StandsFor images layout number start version (past_after q past) (new v))
+  restarted found v disk v_is same count shut finds =
       let left : (image : List ℕ) → images disk image → IsLeft (IsJournal layout old.name.number old.name.start old.name.version) past image = λ image i.
       by_own (λ a b c. IsLeft (IsJournal layout a b c) past image) number start version old.name.number old.name.start old.name.version (sym stands.number_is) (sym stands.start_is) (sym stands.version_is) (stands.left image (subst (λ (d : D). images d image) same i)) in
-      restarts_ok found shut
+      restarts_ok found v v_is shut
       (if_all found _ _ (λ f found_by. by_own (λ a b c. IsFound images layout a b c past f state) old.name.number old.name.start old.name.version number start version stands.number_is stands.start_is stands.version_is (found_by layout past left count)) finds) count
 
   -- over a strict disk
@@ -134,7 +136,7 @@ module _ {D : Type 0} (images : D → List ℕ → Type 0) (layout : Layout) (ol
         → ReadsIf (IsJournal layout number start version) past (keeps_group passed choice) bytes
     by_choice bytes i by = of (is_down old) refl
       where
-        same : past.stopped ≡ None → IsLeft (IsJournal layout number start version) past bytes → ReadsIf (IsJournal layout number start version) past (keeps_group passed choice) bytes
+        same : past.stopped ≡ [] → IsLeft (IsJournal layout number start version) past bytes → ReadsIf (IsJournal layout number start version) past (keeps_group passed choice) bytes
         same e (inl r) = subst (λ (p : Past Act). ReadsAs (IsJournal layout number start version) p.acts p.held bytes) (none_kept false (keeps_group passed choice) past e) r
         same e (inr r) = subst (λ (p : Past Act). ReadsAs (IsJournal layout number start version) p.acts p.held bytes) (none_kept true (keeps_group passed choice) past e) r
 
@@ -142,36 +144,36 @@ module _ {D : Type 0} (images : D → List ℕ → Type 0) (layout : Layout) (ol
         of true e = at.left e choice bytes by
         of false e = same (none_up layout number start version past old.state (stands.up e)) (stands.left bytes i)
 
-    strict_now : (p : Past Act) → is_shut state ≡ false → strict (disk_in state) ≡ strict (disk_of old) → armed_of (disk_in state) ≡ None
-        → IsStrictAt strict armed_of content synced written layout number start version None None p (new None)
-    strict_now p shut kind unarmed = record {
+    strict_now : (v : Vec Unsent Global) (p : Past Act) → is_shut state ≡ false → strict (disk_in state) ≡ strict (disk_of old) → armed_of (disk_in state) ≡ None
+        → IsStrictAt strict armed_of content synced written layout number start version None None p (new v)
+    strict_now v p shut kind unarmed = record {
       is_strict = subst IsTrue (sym kind) at.is_strict;
       armed_is = λ _. unarmed;
       left = λ broken. absurd (not_both (is_shut state) broken shut);
     }
 
-    pub restarts_strictly : (found : Result (Option Bool) NoMemory) → IfOk found (λ f. is_shut state ≡ is_none f) → strict (disk_in state) ≡ strict (disk_of old)
+    pub restarts_strictly : (found : Result (Option Bool) NoMemory) (v : Vec Unsent Global) → IfOk found (λ f. is_shut state ≡ is_none f) → strict (disk_in state) ≡ strict (disk_of old)
         → OnOk found (armed_of (disk_in state) ≡ None) → IfOk found (TellsByChoice (keeps_group passed choice) past.stopped)
-        → IfOk (told found old.stopped).0 (λ q. KeepsByChoice passed choice past.stopped q
-        × IsStrictAt strict armed_of content synced written layout number start version None None (past_after q past) (new (told found old.stopped).1))
-    restarts_strictly (Ok (Some true)) shut kind unarmed by = (told_some (emits_next layout number start past) past.stopped old.stopped stands.unsent ∙ by, strict_now (past_after (Up old.stopped) past) shut kind unarmed)
-    restarts_strictly (Ok (Some false)) shut kind unarmed by = (by, strict_now (past_after (Up None) past) shut kind unarmed)
-    restarts_strictly (Ok None) shut kind unarmed by = absurd by
-    restarts_strictly (Err e) shut kind unarmed by = tt
+        → IfOk (told found old.stopped.items).0 (λ q. KeepsByChoice passed choice past.stopped q
+        × IsStrictAt strict armed_of content synced written layout number start version None None (past_after q past) (new v))
+    restarts_strictly (Ok (Some true)) v shut kind unarmed by = (told_some (emits_next layout number start) past past.stopped old.stopped.items stands.unsent ∙ by, strict_now v (past_after (Up old.stopped.items) past) shut kind unarmed)
+    restarts_strictly (Ok (Some false)) v shut kind unarmed by = (by, strict_now v (past_after (Up []) past) shut kind unarmed)
+    restarts_strictly (Ok None) v shut kind unarmed by = absurd by
+    restarts_strictly (Err e) v shut kind unarmed by = tt
 
     -- with what the reopening tells
-    pub restarted_strictly : (found : Result (Option Bool) NoMemory) (disk : D) → disk ≡ disk_of old → kept ≡ count_of past → IfOk found (λ f. is_shut state ≡ is_none f) → strict (disk_in state) ≡ strict disk
+    pub restarted_strictly : (found : Result (Option Bool) NoMemory) (v : Vec Unsent Global) (disk : D) → disk ≡ disk_of old → kept ≡ count_of past → IfOk found (λ f. is_shut state ≡ is_none f) → strict (disk_in state) ≡ strict disk
         → (IsTrue (strict disk) → OnOk found (armed_of (disk_in state) ≡ None))
         → (IsTrue (strict disk) → (l : Layout) (p : Past Act) (keeps : Bool) → ((bytes : List ℕ) → images disk bytes → LeftByChoice choice (content disk) (synced disk) (written disk) bytes
         → ReadsIf (IsJournal l old.name.number old.name.start old.name.version) p keeps bytes) → kept ≡ count_of p → IfOk found (TellsByChoice keeps p.stopped))
-        → IfOk (told found old.stopped).0 (λ q. KeepsByChoice passed choice past.stopped q
-        × IsStrictAt strict armed_of content synced written layout number start version None None (past_after q past) (new (told found old.stopped).1))
-    restarted_strictly found disk same count shut kind unarmed tells_by =
+        → IfOk (told found old.stopped.items).0 (λ q. KeepsByChoice passed choice past.stopped q
+        × IsStrictAt strict armed_of content synced written layout number start version None None (past_after q past) (new v))
+    restarted_strictly found v disk same count shut kind unarmed tells_by =
         let is_strict : IsTrue (strict disk) = subst (λ (d : D). IsTrue (strict d)) (sym same) at.is_strict in
         let by : (bytes : List ℕ) → images disk bytes → LeftByChoice choice (content disk) (synced disk) (written disk) bytes → ReadsIf (IsJournal layout old.name.number old.name.start old.name.version) past (keeps_group passed choice) bytes = λ bytes i chosen.
         by_own (λ a b c. ReadsIf (IsJournal layout a b c) past (keeps_group passed choice) bytes) number start version old.name.number old.name.start old.name.version (sym stands.number_is) (sym stands.start_is) (sym stands.version_is)
         (by_choice bytes (subst (λ (d : D). images d bytes) same i) (subst (λ (d : D). LeftByChoice choice (content d) (synced d) (written d) bytes) same chosen)) in
-        restarts_strictly found shut (kind ∙ ap strict same) (unarmed is_strict) (tells_by is_strict layout past (keeps_group passed choice) by count)
+        restarts_strictly found v shut (kind ∙ ap strict same) (unarmed is_strict) (tells_by is_strict layout past (keeps_group passed choice) by count)
 
 -- for every past
 pub for_all : {D : Type 0} (images : D → List ℕ → Type 0) (old new : NodeActor D) (result : Result Restarted NoMemory)

@@ -1,5 +1,6 @@
 -- A step of a node that is journalled: what it gives, and what a fault leaves.
-use Rattle.std.proofs.Common.{◌≡◌, ℕ, Bool, true, false, List, [], ◌∷◌, ◌++◌, Option, None, Some, is_none, Result, Ok, Err, refl, sym, ap, subst, ◌∙◌}
+use Rattle.std.proofs.Common.{◌≡◌, ℕ, Bool, true, false, List, [], ◌∷◌, ◌++◌, Vec, Option, None, Some, is_none, Result, Ok, Err, refl, sym, ap, subst, ◌∙◌}
+use Rattle.std.specs.declared.alloc.Global.{Global}
 use Rattle.std.specs.Prelude.{IsTrue, IfOk, IfErr, OnOk, OnErr, IsErr}
 use Rattle.acc_base.specs.declared.memory.OutOfMemory.{OutOfMemory as NoMemory}
 use Rattle.acc_topology.specs.Layout.{Layout}
@@ -18,18 +19,21 @@ use Rattle.acc_durable.specs.Node as durable
 use Rattle.acc_actors.specs.declared.stops.Unsent.{Unsent}
 use Rattle.acc_actors.specs.declared.node.NodeState.TheVariants.{Open}
 use Rattle.acc_actors.specs.declared.node.NodeActor.{NodeActor}
-use Rattle.acc_actors.specs.Stops.{Stop, Past, with_step, with_stop, after_step}
+use Rattle.acc_actors.specs.Stops.{Stop, Past, with_step, with_stops, after_step, IsUnsent}
 use Rattle.acc_actors.specs.Node.{disk_in, disk_of, is_shut, emits_next, IsJournal, IsUp, StandsFor, Steps, IsSettled, IsStrictAt}
-use Rattle.acc_actors.proofs.Left.{if_err, on_err, not_err, not_both, reads_if, left_with, left_up, none_unsent, passes, fails, passed_is}
+use Rattle.acc_actors.proofs.Left.{if_err, on_err, not_err, not_both, reads_if, left_with, left_up, none_items, none_unsent, passes, fails, passed_is}
 use Rattle.acc_actors.proofs.Nodes.{by_own, journal_up, kept_up, up_in}
 
 module _ {D : Type 0} (images : D → List ℕ → Type 0) (layout : Layout) (old : NodeActor D) (n after : DurableNode D) (is : old.state ≡ Open n) (sound : n.journal.broken ≡ false) (number start version : ℕ) (past : Past Act)
-    (stands : StandsFor images layout number start version past old) where
+    (stands : StandsFor images layout number start version past old) (room : Vec Unsent Global) (room_is : room.items ≡ old.stopped.items) where
   up : IsUp layout number start version past n
   up = up_in layout number start version past old.state n is (stands.up (ap is_shut is ∙ sound))
 
+  none_yet : room.items ≡ []
+  none_yet = room_is ∙ none_items (emits_next layout number start) past past.stopped old.stopped.items up.none_stopped stands.unsent
+
   abbrev mid : NodeActor D
-  mid = record old { state = Open after }
+  mid = record old { state = Open after; stopped = room }
 
   module _ (stop : Stop Act) (group : List (List ℕ)) (longer : IsJournal layout number start version (n.journal.payloads ++ group) (stop.act ∷ past.acts))
       (held_more : without_marks (n.journal.payloads ++ group) ≡ past.held ++ stop.payload ∷ []) (same : durable.IsSameActor n after) where
@@ -41,7 +45,7 @@ module _ {D : Type 0} (images : D → List ℕ → Type 0) (layout : Layout) (ol
       version_is = stands.version_is;
       left = λ image i. left_up (IsJournal layout number start version) (with_step past stop) after.journal.payloads image (lasts image i)
           (subst (λ (l : List (List ℕ)). IsJournal layout number start version l (stop.act ∷ past.acts)) (sym appended) longer) (ap without_marks appended ∙ held_more);
-      unsent = none_unsent (emits_next layout number start past) (emits_next layout number start (with_step past stop)) past.stopped None old.stopped up.none_stopped refl stands.unsent;
+      unsent = none_unsent (emits_next layout number start) (with_step past stop) [] room.items refl none_yet;
       up = λ _. record {
         stands = d;
         number_is = same.0 ∙ up.number_is;
@@ -53,15 +57,16 @@ module _ {D : Type 0} (images : D → List ℕ → Type 0) (layout : Layout) (ol
       kept_is = λ broken. absurd (not_both after.journal.broken broken d.sound);
     }
 
-    stopped_stands : (unsent : Emitted) (kept : ℕ) → after.journal.broken ≡ true → ((image : List ℕ) → images after.journal.disk image → ReadsAsEither n.journal.payloads group image)
+    stopped_stands : (unsent : Emitted) (stopped : Vec Unsent Global) (kept : ℕ) → stopped.items ≡ room.items ++ record { event = stop.event; emitted = unsent } ∷ [] → after.journal.broken ≡ true → ((image : List ℕ) → images after.journal.disk image → ReadsAsEither n.journal.payloads group image)
         → unsent ≡ emits_next layout number start past stop.act → kept ≡ n.kept
-        → StandsFor images layout number start version (with_stop past stop) (record mid { stopped = Some (record { event = stop.event; emitted = unsent }); kept = kept })
-    stopped_stands unsent kept broken either e k = record {
+        → StandsFor images layout number start version (with_stops past (stop ∷ [])) (record mid { stopped = stopped; kept = kept })
+    stopped_stands unsent stopped kept more broken either e k = record {
       number_is = stands.number_is;
       start_is = stands.start_is;
       version_is = stands.version_is;
-      left = λ image i. left_with (IsJournal layout number start version) past stop n.journal.payloads group (journal_up layout number start version past n up) up.held_are longer held_more image (either image i);
-      unsent = (refl, e);
+      left = λ image i. left_with (IsJournal layout number start version) past (stop ∷ []) n.journal.payloads group (journal_up layout number start version past n up) up.held_are longer held_more image (either image i);
+      unsent = subst (IsUnsent (emits_next layout number start) (with_stops past (stop ∷ [])) (stop ∷ []))
+          (sym (more ∙ ap (λ (l : List Unsent). l ++ record { event = stop.event; emitted = unsent } ∷ []) none_yet)) (refl, e, tt);
       up = λ sound. absurd (not_both after.journal.broken broken sound);
       kept_is = λ _. k ∙ kept_up layout number start version past n up;
     }
@@ -86,7 +91,7 @@ module _ {D : Type 0} (images : D → List ℕ → Type 0) (layout : Layout) (ol
     steps kept (Err (DiskFault unsent)) new result k settled ok err appended lasts either =
         subst (λ (q : Result (Option Emitted) NoMemory). IfOk q (λ given. Steps images layout number start version past stop new given)) (sym settled.0)
         (subst (λ (a : NodeActor D). Steps images layout number start version past stop a None) (sym settled.1)
-        (record { emits = tt; stands = stopped_stands unsent kept err.0 either (own_emits unsent (err.1 past.acts up.stands)) k }))
+        (record { emits = tt; stands = stopped_stands unsent new.stopped kept settled.2 err.0 either (own_emits unsent (err.1 past.acts up.stands)) k }))
     steps kept (Err OutOfMemory) new result k settled ok err appended lasts either = if_err result _ settled.0
 
     -- over a strict disk
@@ -115,14 +120,14 @@ module _ {D : Type 0} (images : D → List ℕ → Type 0) (layout : Layout) (ol
         left = λ broken. absurd (not_both after.journal.broken broken sound_now);
       }
 
-      stopped_strictly : (unsent : Option Unsent) (kept : ℕ) → after.journal.broken ≡ true → strict after.journal.disk ≡ strict n.journal.disk → ((FailsWithin 4 armed → ⊥) → ⊥)
+      stopped_strictly : (unsent : Vec Unsent Global) (kept : ℕ) → after.journal.broken ≡ true → strict after.journal.disk ≡ strict n.journal.disk → ((FailsWithin 4 armed → ⊥) → ⊥)
           → ((choice : ℕ) (left : List ℕ) → LeftByChoice choice (content after.journal.disk) (synced after.journal.disk) (written after.journal.disk) left → Reads left (left_by_choice (armed_of n.journal.disk) choice n.journal.payloads group))
           → IsStrictNow None (record mid { stopped = unsent; kept = kept })
       stopped_strictly unsent kept broken kind never failed = record {
         is_strict = still_strict kind;
         armed_is = λ sound_now. absurd (not_both after.journal.broken broken sound_now);
         left = λ _ choice bytes by.
-            reads_if (IsJournal layout number start version) past stop n.journal.payloads group (journal_up layout number start version past n up) up.held_are longer held_more (keeps_group (passed_in armed) choice) bytes
+            reads_if (IsJournal layout number start version) past (stop ∷ []) n.journal.payloads group (journal_up layout number start version past n up) up.held_are longer held_more (keeps_group (passed_in armed) choice) bytes
             (subst (λ (o : Option ℕ). Reads bytes (left_by_choice o choice n.journal.payloads group)) (armed_is ∙ sym (passed_is armed never)) (failed choice bytes by));
       }
 
@@ -146,7 +151,7 @@ module _ {D : Type 0} (images : D → List ℕ → Type 0) (layout : Layout) (ol
       strictly kept (Err (DiskFault unsent)) new result settled ok err kind counts early late failed =
           let never : (FailsWithin 4 armed → ⊥) → ⊥ = λ not. late is_strict (λ within. not (subst (FailsWithin 4) armed_is within)) tt in
           subst (λ (q : Result (Option Emitted) NoMemory). IfOk q (λ given. (is_none given ≡ fails_append armed) × IsStrictNow given new)) (sym settled.0)
-          (fails armed never, subst (IsStrictNow None) (sym settled.1) (stopped_strictly (Some (record { event = stop.event; emitted = unsent })) kept err.0 kind never (failed is_strict tt)))
+          (fails armed never, subst (IsStrictNow None) (sym settled.1) (stopped_strictly new.stopped kept err.0 kind never (failed is_strict tt)))
       strictly kept (Err OutOfMemory) new result settled ok err kind counts early late failed = if_err result _ settled.0
 
 -- whatever it answered, the disk is that of the durable node

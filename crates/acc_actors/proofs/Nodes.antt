@@ -11,7 +11,6 @@ use Rattle.acc_message.specs.declared.entry.Emitted.{Emitted}
 use Rattle.acc_message.specs.declared.message.Message.{Message}
 use Rattle.acc_message.specs.NodeRules.{Act, Begins, Recovers, Slows, Takes as TakesMessage, Restarts, Deed, clock_of, begun_id, attempt_of, node_emits, node_replay}
 use Rattle.acc_node.specs.Stands.{is_first_voting, has_majority}
-use Rattle.acc_journal.specs.Layout.{Reads}
 use Rattle.acc_journal.specs.Journal.{JournalState}
 use Rattle.acc_payloads.specs.declared.draw.Purpose.{Purpose}
 use Rattle.acc_payloads.specs.declared.draw.Purpose.TheVariants.{Begin, Recover}
@@ -25,13 +24,13 @@ use Rattle.acc_durable.specs.Node as durable
 use Rattle.acc_durable.proofs.Standing.{begin_in_doubt, recover_in_doubt}
 use Rattle.acc_durable.proofs.Journals.{stands_tells}
 use Rattle.acc_actors.specs.declared.node.NodeState.{NodeState}
-use Rattle.acc_actors.specs.declared.node.NodeState.TheVariants.{Open, Shut}
+use Rattle.acc_actors.specs.declared.node.NodeState.TheVariants.{Open}
 use Rattle.acc_actors.specs.declared.node.NodeActor.{NodeActor}
-use Rattle.acc_actors.specs.Stops.{Past, count_of, with_act, IsLeft, IsUnsent}
-use Rattle.acc_actors.specs.Node.{disk_in, disk_of, is_shut, is_down, done, emits_next, draw_payload, IsJournal, IsUp, IsUpIn, StandsFor, Takes, HasSlowed, MayBegin, MayRecover}
+use Rattle.acc_actors.specs.Stops.{Past, count_of, with_act, IsLeft}
+use Rattle.acc_actors.specs.Node.{disk_in, disk_of, is_down, done, emits_next, draw_payload, IsJournal, IsUp, IsUpIn, StandsFor, Takes, HasSlowed, MayBegin, MayRecover}
 use Rattle.acc_actors.proofs.Marks.{draw_no_mark, held_with, count_is}
 use Rattle.acc_actors.proofs.Marked.{node_marked}
-use Rattle.acc_actors.proofs.Left.{left_up, left_on, none_unsent, not_both}
+use Rattle.acc_actors.proofs.Left.{left_on, none_items, none_unsent, not_both}
 
 -- ---- the journal
 
@@ -71,28 +70,6 @@ module _ {D : Type 0} (layout : Layout) (number start version : ℕ) (past : Pas
 pub up_in : {D : Type 0} (layout : Layout) (number start version : ℕ) (past : Past Act) (state : NodeState D) (n : DurableNode D) → state ≡ Open n → IsUpIn layout number start version past state → IsUp layout number start version past n
 up_in layout number start version past state n e up = subst (IsUpIn layout number start version past) e up
 
--- ---- a node that was opened
-
-module _ {D : Type 0} (images : D → List ℕ → Type 0) (layout : Layout) (number start version : ℕ) (acts : List Act) (actor : NodeActor D) (n : DurableNode D) (state_is : actor.state ≡ Open n)
-    (given : (n.number ≡ number) × (n.start ≡ start) × (n.version ≡ version)) (d : durable.StandsFor layout n acts) (lasts : (image : List ℕ) → images n.journal.disk image → Reads image n.journal.payloads) where
-  abbrev past_opened : Past Act
-  past_opened = record { acts = acts; held = without_marks n.journal.payloads; stopped = None }
-
-  up_opened : IsUp layout number start version past_opened n
-  up_opened = record { stands = d; number_is = given.0; start_is = given.1; version_is = given.2; held_are = refl; none_stopped = refl }
-
-  pub opened_stands : actor.name.number ≡ number → actor.name.start ≡ start → actor.name.version ≡ version → actor.stopped ≡ None → StandsFor images layout number start version past_opened actor
-  opened_stands number_is start_is version_is none = record {
-    number_is = number_is;
-    start_is = start_is;
-    version_is = version_is;
-    left = λ image i. left_up (IsJournal layout number start version) past_opened n.journal.payloads image (lasts image (subst (λ (s : NodeState D). images (disk_in s) image) state_is i))
-        (journal_up layout number start version past_opened n up_opened) refl;
-    unsent = subst (IsUnsent (emits_next layout number start past_opened) None) (sym none) tt;
-    up = λ _. subst (IsUpIn layout number start version past_opened) (sym state_is) up_opened;
-    kept_is = λ broken. absurd (not_both n.journal.broken (ap is_shut (sym state_is) ∙ broken) d.sound);
-  }
-
 -- ---- a step that isn't journalled
 
 -- what draws nothing
@@ -121,7 +98,7 @@ module _ {D : Type 0} (images : D → List ℕ → Type 0) (layout : Layout) (ol
   abbrev later : NodeActor D
   later = record old { state = Open after }
 
-  module _ (p : Past Act) (none : p.stopped ≡ None) (held : p.held ≡ past.held) (left : (image : List ℕ) → images (disk_of old) image → IsLeft (IsJournal layout number start version) p image)
+  module _ (p : Past Act) (none : p.stopped ≡ []) (held : p.held ≡ past.held) (left : (image : List ℕ) → images (disk_of old) image → IsLeft (IsJournal layout number start version) p image)
       (d : durable.StandsFor layout after p.acts) where
     pub later_stands : StandsFor images layout number start version p later
     later_stands = record {
@@ -129,7 +106,8 @@ module _ {D : Type 0} (images : D → List ℕ → Type 0) (layout : Layout) (ol
       start_is = stands.start_is;
       version_is = stands.version_is;
       left = λ image i. left image (subst (λ (disk : D). images disk image) disk_is i);
-      unsent = none_unsent (emits_next layout number start past) (emits_next layout number start p) past.stopped p.stopped old.stopped up_now.none_stopped none stands.unsent;
+      unsent = none_unsent (emits_next layout number start) p p.stopped old.stopped.items none
+          (none_items (emits_next layout number start) past past.stopped old.stopped.items up_now.none_stopped stands.unsent);
       up = λ _. record {
         stands = d;
         number_is = same.0 ∙ up_now.number_is;
@@ -152,42 +130,6 @@ module _ {D : Type 0} (images : D → List ℕ → Type 0) (layout : Layout) (ol
   -- it is as before
   pub as_before : durable.StandsFor layout after past.acts → StandsFor images layout number start version past later
   as_before d = later_stands past up_now.none_stopped refl stands.left d
-
--- ---- another call is armed
-
-module _ {D : Type 0} (images : D → List ℕ → Type 0) (layout : Layout) (old : NodeActor D) (number start version : ℕ) (past : Past Act) (stands : StandsFor images layout number start version past old) where
-  pub open_armed : (n after : DurableNode D) → old.state ≡ Open n → ((acts : List Act) → durable.StandsFor layout n acts → durable.StandsFor layout after acts) → durable.IsSameActor n after
-      → after.journal.payloads ≡ n.journal.payloads → after.journal.broken ≡ n.journal.broken → ((image : List ℕ) → images after.journal.disk image → images n.journal.disk image)
-      → StandsFor images layout number start version past (record old { state = Open after })
-  open_armed n after is on same payloads broken fewer = record {
-    number_is = stands.number_is;
-    start_is = stands.start_is;
-    version_is = stands.version_is;
-    left = λ image i. stands.left image (subst (λ (s : NodeState D). images (disk_in s) image) (sym is) (fewer image i));
-    unsent = stands.unsent;
-    up = λ sound.
-        let up : IsUp layout number start version past n = up_in layout number start version past old.state n is (stands.up (ap is_shut is ∙ sym broken ∙ sound)) in
-        record {
-          stands = on past.acts up.stands;
-          number_is = same.0 ∙ up.number_is;
-          start_is = same.1 ∙ up.start_is;
-          version_is = same.2 ∙ up.version_is;
-          held_are = ap without_marks payloads ∙ up.held_are;
-          none_stopped = up.none_stopped;
-        };
-    kept_is = λ down. stands.kept_is (ap is_shut is ∙ sym broken ∙ down);
-  }
-
-  pub shut_armed : (disk after : D) → old.state ≡ Shut disk → ((image : List ℕ) → images after image → images disk image) → StandsFor images layout number start version past (record old { state = Shut after })
-  shut_armed disk after is fewer = record {
-    number_is = stands.number_is;
-    start_is = stands.start_is;
-    version_is = stands.version_is;
-    left = λ image i. stands.left image (subst (λ (s : NodeState D). images (disk_in s) image) (sym is) (fewer image i));
-    unsent = stands.unsent;
-    up = λ sound. absurd (let e : true ≡ false = sound in cc);
-    kept_is = λ down. stands.kept_is (ap is_shut is);
-  }
 
 -- ---- what a call needs
 

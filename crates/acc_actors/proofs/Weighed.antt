@@ -19,7 +19,7 @@ use Rattle.acc_actors.specs.declared.node.NodeState.TheVariants.{Open}
 use Rattle.acc_actors.specs.declared.node.NodeActor.{NodeActor}
 use Rattle.acc_actors.specs.declared.store.StoreState.TheVariants.{Open as OpenStore}
 use Rattle.acc_actors.specs.declared.store.StoreActor.{StoreActor}
-use Rattle.acc_actors.specs.Stops.{Past}
+use Rattle.acc_actors.specs.Stops.{Stop, Past, kept_with}
 use Rattle.acc_actors.specs.Node as node
 use Rattle.acc_actors.specs.Store as store_actor
 use Rattle.acc_actors.specs.Weighing.{NodeMayWeigh, StoreMayWeigh}
@@ -67,30 +67,30 @@ module _ {D : Type 0} (images : D → List ℕ → Type 0) (layout : Layout) (ac
 -- ---- a store
 
 module _ {D : Type 0} (images : D → List ℕ → Type 0) (layout : Layout) (actor : StoreActor D) (s : DurableStore D) (is : actor.state ≡ OpenStore s) (sound : store_actor.is_down actor ≡ false) where
-  store_here : (own : Actor) (version : ℕ) (past : Past Message) → store_actor.StandsFor images layout own version past actor → store_actor.IsUp layout own version past s
-  store_here own version past stands = stores.up_in layout own version past actor.state s is (stands.up sound)
+  store_here : (own : Actor) (version : ℕ) (past : Past Message) (staged : List (Stop Message)) → store_actor.IsStaging images layout own version past staged actor → store_actor.IsUp layout own version past staged s
+  store_here own version past staged stands = stores.up_in layout own version past staged actor.state s is (stands.up sound)
 
   pub store_can : (m : Message) → StoreMayWeigh images layout actor m → stores.CanTake s m
   store_can m may = stores.can_take images layout actor s m is sound may.may
 
   pub store_sends_short : (m : Message) → StoreMayWeigh images layout actor m → store_weighing.SendsShort layout s.store m
   store_sends_short m may =
-      let up : store_actor.IsUp layout may.own may.version may.past s = store_here may.own may.version may.past may.stands in
+      let up : store_actor.IsUp layout may.own may.version may.past may.staged s = store_here may.own may.version may.past may.staged may.stands in
       record {
-        messages = may.past.acts;
+        messages = (kept_with may.staged may.past).acts;
         stands = up.stands.stands;
         short =
-            subst (λ (own : Actor). All IsShortMessage (store_answer layout own (replay layout own may.past.acts) m)) (sym up.own_is) may.short;
+            subst (λ (own : Actor). All IsShortMessage (store_answer layout own (replay layout own (kept_with may.staged may.past).acts) m)) (sym up.own_is) may.short;
         fits =
-            subst (λ (own : Actor). weight_of_all (store_answer layout own (replay layout own may.past.acts) m) < 2 ^ 64) (sym up.own_is) may.fits;
+            subst (λ (own : Actor). weight_of_all (store_answer layout own (replay layout own (kept_with may.staged may.past).acts) m) < 2 ^ 64) (sym up.own_is) may.fits;
       }
 
   pub store_weighs : {E : Type 0} (m : Message) (r : Result ℕ E)
       → IfOk r (λ weight. (messages : List Message) → durable_store.StandsFor layout s messages
       → weight ≡ weight_of_all (store_answer layout (durable_store.actor_in s) (replay layout (durable_store.actor_in s) messages) m))
-      → IfOk r (λ weight. (own : Actor) (version : ℕ) (past : Past Message) → store_actor.StandsFor images layout own version past actor
-      → weight ≡ weight_of_all (store_actor.emits_next layout own past m).out)
-  store_weighs m (Ok weight) is_weight = λ own version past stands.
-      let up : store_actor.IsUp layout own version past s = store_here own version past stands in
-      subst (λ (a : Actor). weight ≡ weight_of_all (store_answer layout a (replay layout a past.acts) m)) up.own_is (is_weight past.acts up.stands)
+      → IfOk r (λ weight. (own : Actor) (version : ℕ) (past : Past Message) (staged : List (Stop Message)) → store_actor.IsStaging images layout own version past staged actor
+      → weight ≡ weight_of_all (store_actor.emits_next layout own (kept_with staged past) m).out)
+  store_weighs m (Ok weight) is_weight = λ own version past staged stands.
+      let up : store_actor.IsUp layout own version past staged s = store_here own version past staged stands in
+      subst (λ (a : Actor). weight ≡ weight_of_all (store_answer layout a (replay layout a (kept_with staged past).acts) m)) up.own_is (is_weight (kept_with staged past).acts up.stands)
   store_weighs m (Err e) is_weight = tt

@@ -1,7 +1,7 @@
 -- When a node with its disk stands for its past.
 --     StandsFor images layout number start version past actor      the actor has this number, start and version, and this past
 --     IsStrictAt ..      it does over a strict disk, on which this call is armed
-use Rattle.std.specs.Prelude.{◌≡◌, ℕ, Bool, true, false, IsTrue, List, Option, None, Some, IfSome, Result, Ok, Err, IsErr}
+use Rattle.std.specs.Prelude.{◌≡◌, ℕ, Bool, true, false, IsTrue, List, [], ◌∷◌, ◌++◌, Option, None, Some, IfSome, Result, Ok, Err, IsErr}
 use Rattle.acc_stamp.specs.declared.stamps.TxnId.{TxnId}
 use Rattle.acc_base.specs.declared.memory.OutOfMemory.{OutOfMemory}
 use Rattle.acc_topology.specs.Layout.{Layout}
@@ -78,7 +78,7 @@ pub record IsUp {D : Type 0} (layout : Layout) (number start version : ℕ) (pas
   pub start_is : n.start ≡ start
   pub version_is : n.version ≡ version
   pub held_are : without_marks n.journal.payloads ≡ past.held
-  pub none_stopped : past.stopped ≡ None
+  pub none_stopped : past.stopped ≡ []
 
 abbrev pub IsUpIn : {D : Type 0} → Layout → ℕ → ℕ → ℕ → Past Act → NodeState D → Type 0
 IsUpIn layout number start version past (Open n) = IsUp layout number start version past n
@@ -89,7 +89,7 @@ pub record StandsFor {D : Type 0} (images : D → List ℕ → Type 0) (layout :
   pub start_is : actor.name.start ≡ start
   pub version_is : actor.name.version ≡ version
   pub left : (image : List ℕ) → images (disk_of actor) image → IsLeft (IsJournal layout number start version) past image
-  pub unsent : IsUnsent (emits_next layout number start past) past.stopped actor.stopped
+  pub unsent : IsUnsent (emits_next layout number start) past past.stopped actor.stopped.items
   pub up : is_down actor ≡ false → IsUpIn layout number start version past actor.state
   pub kept_is : is_down actor ≡ true → actor.kept ≡ count_of past
 
@@ -149,7 +149,7 @@ past_after (Up kept) past = with_act Restarts (past_with kept past)
 past_after Down past = past
 
 abbrev pub KeptIn : Layout → ℕ → ℕ → Past Act → Restarted → Type 0
-KeptIn layout number start past (Up kept) = IsKept (emits_next layout number start past) past.stopped kept
+KeptIn layout number start past (Up kept) = IsKept (emits_next layout number start) past kept
 KeptIn layout number start past Down = Unit {0}
 
 -- a durable node answered a step that began with so many draws in the journal
@@ -157,7 +157,8 @@ abbrev pub IsSettled : {D : Type 0} → Event → ℕ → Result Emitted Durable
 IsSettled event kept (Ok emitted) old new result = (result ≡ Ok (Some emitted)) × (new ≡ old)
 IsSettled event kept (Err Begun) old new result = IsErr result × (new ≡ old)
 IsSettled event kept (Err (DiskFault unsent)) old new result =
-    (result ≡ Ok None) × (new ≡ record old { stopped = Some (record { event = event; emitted = unsent }); kept = kept })
+    (result ≡ Ok None) × (new ≡ record old { stopped = new.stopped; kept = kept })
+    × (new.stopped.items ≡ old.stopped.items ++ record { event = event; emitted = unsent } ∷ [])
 IsSettled event kept (Err errors.OutOfMemory) old new result = IsErr result × (new ≡ old)
 
 -- ---- strict disks

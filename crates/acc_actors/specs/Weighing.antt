@@ -9,7 +9,7 @@ use Rattle.acc_message_code.specs.Short.{IsShortMessage}
 use Rattle.acc_message_code.specs.Weight.{weight_of_all}
 use Rattle.acc_actors.specs.declared.node.NodeActor.{NodeActor}
 use Rattle.acc_actors.specs.declared.store.StoreActor.{StoreActor}
-use Rattle.acc_actors.specs.Stops.{Past}
+use Rattle.acc_actors.specs.Stops.{Stop, Past, kept_with}
 use Rattle.acc_actors.specs.Node as node
 use Rattle.acc_actors.specs.Store as store
 
@@ -23,10 +23,11 @@ pub record NodeMayWeigh {D : Type 0} (images : D → List ℕ → Type 0) (layou
   pub fits : weight_of_all (node.emits_next layout number start past (Takes m)).out < 2 ^ 64
 
 pub record StoreMayWeigh {D : Type 0} (images : D → List ℕ → Type 0) (layout : Layout) (actor : StoreActor D) (m : Message) : Type 0 where
-  pub may : store.MayTake images layout actor m
+  pub may : store.MayStage images layout actor m
   pub own : Actor
   pub version : ℕ
   pub past : Past Message
-  pub stands : store.StandsFor images layout own version past actor
-  pub short : All IsShortMessage (store.emits_next layout own past m).out
-  pub fits : weight_of_all (store.emits_next layout own past m).out < 2 ^ 64
+  pub staged : List (Stop Message)
+  pub stands : store.IsStaging images layout own version past staged actor
+  pub short : All IsShortMessage (store.emits_next layout own (kept_with staged past) m).out
+  pub fits : weight_of_all (store.emits_next layout own (kept_with staged past) m).out < 2 ^ 64

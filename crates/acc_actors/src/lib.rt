@@ -11,5 +11,5 @@ mod store;
 mod weighing;
 
 pub use node::NodeActor;
-pub use stops::{Restarted, Unsent};
+pub use stops::{Restarted, Unsent, Unsents};
 pub use store::StoreActor;

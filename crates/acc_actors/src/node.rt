@@ -1,5 +1,5 @@
 //! A node with its disk.
-ghost use Rattle.std.specs.Prelude.{◌≡◌, ◌≢◌, ◌^◌, ◌<◌, ◌≤◌, ◌↔◌, IsTrue, Bool, true, false, not, List, ℕ, Option as Maybe, None, Some, Ok, Err, IfOk, IfErr, OnOk, OnErr, is_none};
+ghost use Rattle.std.specs.Prelude.{◌≡◌, ◌≢◌, ◌^◌, ◌<◌, ◌≤◌, ◌↔◌, IsTrue, vec_len, vec_capacity, Bool, true, false, not, List, [], ℕ, Option as Maybe, None, Some, Ok, Err, IfOk, IfErr, OnOk, OnErr, is_none};
 ghost use Rattle.acc_topology.specs.Layout.{Layout};
 ghost use Rattle.acc_ports.specs.Faults.{Rose};
 ghost use Rattle.acc_message.specs.Fields.{top_of};
@@ -12,7 +12,7 @@ ghost use Rattle.acc_actors.specs.Stops.{Past, count_of, IsLeft, ReadsIf, TellsB
 ghost use Rattle.acc_actors.specs.Node.{IsJournal, IsFound, disk_in, is_shut};
 
 use crate::name::NodeName;
-use crate::stops::told;
+use crate::stops::{put, told};
 use crate::{Restarted, Unsent};
 use acc_base::OutOfMemory;
 use acc_durable::{DurableError, DurableNode};
@@ -31,8 +31,8 @@ pub struct NodeActor<D: Rig> {
     alloc: Global,
     name: NodeName,
     pub(crate) state: NodeState<D>,
-    /// The step that was stopped, where the node is down by one.
-    stopped: Option<Unsent>,
+    /// The step that was stopped, where the node is down by one. There is never a second one.
+    stopped: Vec<Unsent>,
     /// How many draws the journal has besides, where the node is down.
     kept: u64,
 }
@@ -65,7 +65,7 @@ impl<D: Rig> NodeActor<D> {
         requires sound { node.journal.broken ≡ false }
         requires given { (node.number ≡ number) × (node.start ≡ start) × (node.version ≡ version) }
         ensures stands { (layout : Layout) (acts : List Act) → Durable layout node acts
-            → StandsFor D.is_image layout number start version (record { acts = acts; held = without_marks node.journal.payloads; stopped = None }) result }
+            → StandsFor D.is_image layout number start version (record { acts = acts; held = without_marks node.journal.payloads; stopped = [] }) result }
         ensures up { is_down result ≡ false }
         ensures disk { disk_of result ≡ node.journal.disk }
         ensures strict { IsTrue (D.strict node.journal.disk) → (layout : Layout) (passed : Maybe ℕ) (past : Past Act)
@@ -80,7 +80,7 @@ impl<D: Rig> NodeActor<D> {
                 version,
             },
             state: NodeState::Open(node),
-            stopped: None,
+            stopped: Vec::new(alloc),
             kept: 0,
         }
     }
@@ -108,6 +108,7 @@ impl<D: Rig> NodeActor<D> {
             × IsStrictAt D.strict D.armed D.content D.synced D.written topology.now number start version (after_append armed) (passed_in armed)
             (after_step given past (begin_stop topology.now number start past txn body.now)) self.new) }
     {
+        self.stopped.reserve(1)?;
         let NodeState::Open(node) = &mut self.state else {
             unreachable!()
         };
@@ -140,6 +141,7 @@ impl<D: Rig> NodeActor<D> {
             × IsStrictAt D.strict D.armed D.content D.synced D.written topology.now number start version (after_append armed) (passed_in armed)
             (after_step given past (recover_stop topology.now number start past txn id body.now)) self.new) }
     {
+        self.stopped.reserve(1)?;
         let NodeState::Open(node) = &mut self.state else {
             unreachable!()
         };
@@ -216,7 +218,7 @@ impl<D: Rig> NodeActor<D> {
             kept: _,
         } = self;
         let (state, found) = reopened(alloc, name, kept, choice, state.into_disk());
-        let (found, stopped) = told(found, stopped);
+        let (found, stopped) = told(alloc, found, stopped);
         let actor = NodeActor {
             alloc,
             name,
@@ -273,22 +275,22 @@ impl<D: Rig> NodeActor<D> {
 impl<D: Rig> NodeActor<D> {
     ghost use Rattle.acc_actors.specs.Node.{StandsFor, IsSettled};
 
-    // What the durable node answered, as a step of the actor. The journal had so many draws before it.
+    // What the durable node answered, as a step of the actor. The journal had so many draws before it. There is room for a step that was
+    // stopped.
     fn settle(
         &mut self,
         event: Event,
         kept: u64,
         given: Result<Emitted, DurableError>,
     ) -> Result<Option<Emitted>, OutOfMemory>
+        requires { vec_len self.old.stopped < vec_capacity self.old.stopped }
         ensures { IsSettled event kept given self.old self.new result }
     {
         match given {
             Ok(emitted) => Ok(Some(emitted)),
             Err(DurableError::DiskFault { unsent }) => {
-                self.stopped = Some(Unsent {
-                    event,
-                    emitted: unsent,
-                });
+                let emitted = unsent;
+                put(&mut self.stopped, Unsent { event, emitted });
                 self.kept = kept;
                 Ok(None)
             }

@@ -1,16 +1,16 @@
 //! A store with its disk.
-ghost use Rattle.std.specs.Prelude.{◌≡◌, ◌≤◌, IsTrue, Bool, true, false, not, List, [], ℕ, Option as Maybe, None, Some, Ok, IfOk, OnOk, OnErr, IfSome, is_none};
+ghost use Rattle.std.specs.Prelude.{◌≡◌, ◌≤◌, IsTrue, Bool, true, false, not, List, [], ◌∷◌, ◌++◌, ◌≢◌, ℕ, Option as Maybe, None, Some, Ok, IfOk, OnOk, OnErr, IfSome, is_none};
 ghost use Rattle.acc_topology.specs.Layout.{Layout};
 ghost use Rattle.acc_stamp.specs.declared.actors.Actor.{Actor as Name};
 ghost use Rattle.acc_ports.specs.Faults.{Rose};
 ghost use Rattle.acc_ports.specs.Strict.{LeftByChoice};
 ghost use Rattle.acc_message.specs.declared.message.Message.{Message as Told};
 ghost use Rattle.acc_strict.specs.Disks.{fails_append, after_append, passed_in};
-ghost use Rattle.acc_actors.specs.Stops.{Past, count_of, IsLeft, ReadsIf, TellsByChoice};
+ghost use Rattle.acc_actors.specs.Stops.{Stop, Past, count_of, IsLeft, ReadsIf, TellsByChoice};
 ghost use Rattle.acc_actors.specs.Store.{IsJournal, IsFound, disk_in, is_shut, sends};
 
-use crate::stops::told;
-use crate::{Restarted, Unsent};
+use crate::stops::{put, take_all, told};
+use crate::{Restarted, Unsent, Unsents};
 use acc_base::OutOfMemory;
 use acc_durable::{DurableStore, StepError};
 use acc_journal::JournalError;
@@ -28,8 +28,8 @@ pub struct StoreActor<D: Rig> {
     actor: Actor,
     version: u8,
     pub(crate) state: StoreState<D>,
-    /// The message that was stopped, where the store is down by one.
-    stopped: Option<Unsent>,
+    /// What is staged, or what was stopped where the store is down by it: the oldest first.
+    unsent: Vec<Unsent>,
     /// How many messages the journal has besides, where the store is down.
     kept: u64,
 }
@@ -48,15 +48,15 @@ impl<D: Rig> StoreActor<D> {
     ghost use Rattle.acc_message.specs.StoreRules.{replay};
     ghost use Rattle.acc_store.specs.Stands.{StandsFor as Stands, actor_of};
     ghost use Rattle.acc_durable.specs.Store.{StandsFor as Durable, actor_in};
-    ghost use Rattle.acc_actors.specs.Stops.{after_step, is_up, KeepsByChoice, HoldsPayloads};
-    ghost use Rattle.acc_actors.specs.Store.{StandsFor, IsStrictAt, MayTake, Steps, KeptIn, message_stop, past_after, disk_of, is_down};
+    ghost use Rattle.acc_actors.specs.Stops.{after_step, kept_with, after_group, is_up, KeepsByChoice, HoldsPayloads};
+    ghost use Rattle.acc_actors.specs.Store.{IsStaging, StandsFor, IsStrictAt, MayTake, MayStage, MaySettle, Steps, Settles, KeptIn, message_stop, past_after, disk_of, is_down};
 
     /// A durable store of this actor, which has this version and nothing staged.
     pub fn opened(alloc: Global, actor: Actor, version: u8, store: DurableStore<D>) -> StoreActor<D>
         requires sound { store.journal.broken ≡ false }
         requires given { (actor_in store ≡ actor) × (store.version ≡ version) × (store.journal.group ≡ []) }
         ensures stands { (layout : Layout) (messages : List Told) → Durable layout store messages
-            → StandsFor D.is_image layout actor version (record { acts = messages; held = without_marks store.journal.payloads; stopped = None }) result }
+            → StandsFor D.is_image layout actor version (record { acts = messages; held = without_marks store.journal.payloads; stopped = [] }) result }
         ensures up { is_down result ≡ false }
         ensures disk { disk_of result ≡ store.journal.disk }
         ensures strict { IsTrue (D.strict store.journal.disk) → (layout : Layout) (passed : Maybe ℕ) (past : Past Told)
@@ -68,12 +68,12 @@ impl<D: Rig> StoreActor<D> {
             actor,
             version,
             state: StoreState::Open(store),
-            stopped: None,
+            unsent: Vec::new(alloc),
             kept: 0,
         }
     }
 
-    /// Takes the message that has this number. `None` says that its disk failed, and it is down.
+    /// Takes the message that has this number: it is staged and settled. `None` says that its disk failed, and it is down.
     pub fn take(
         &mut self,
         topology: &Topology,
@@ -81,7 +81,7 @@ impl<D: Rig> StoreActor<D> {
         m: &Message,
     ) -> Result<Option<Emitted>, OutOfMemory>
         requires up { is_down self.old ≡ false }
-        requires may { MayTake D.is_image topology.now self.old m.now }
+        requires may { MayTake D.is_image topology.now self.old [] m.now }
 
         ensures ok { IfOk result (λ given. (own : Name) (version : ℕ) (past : Past Told) → StandsFor D.is_image topology.now own version past self.old
             → Steps D.is_image topology.now own version past (message_stop number m.now) self.new given) }
@@ -96,12 +96,82 @@ impl<D: Rig> StoreActor<D> {
             × IsStrictAt D.strict D.armed D.content D.synced D.written topology.now own version (after_append armed) (passed_in armed)
             (after_step given past (message_stop number m.now)) self.new) }
     {
+        self.stage(topology, number, m)?;
+        let Some(settled) = self.settle()? else {
+            return Ok(None);
+        };
+        self.unsent = settled.into_vec();
+        match self.unsent.pop() {
+            Some(Unsent { event: _, emitted }) => Ok(Some(emitted)),
+            None => unreachable!(),
+        }
+    }
+
+    /// Takes the message that has this number, behind what is staged. It isn't on the disk before `settle`, which gives what the store
+    /// sends for it. After an error all is as before. It makes no call of the disk.
+    pub fn stage(
+        &mut self,
+        topology: &Topology,
+        number: u64,
+        m: &Message,
+    ) -> Result<(), OutOfMemory>
+        requires up { is_down self.old ≡ false }
+        requires may { MayStage D.is_image topology.now self.old m.now }
+
+        ensures ok { OnOk result ((own : Name) (version : ℕ) (past : Past Told) (staged : List (Stop Told)) → IsStaging D.is_image topology.now own version past staged self.old
+            → IsStaging D.is_image topology.now own version past (staged ++ message_stop number m.now ∷ []) self.new) }
+        ensures err { OnErr result ((own : Name) (version : ℕ) (past : Past Told) (staged : List (Stop Told)) → IsStaging D.is_image topology.now own version past staged self.old
+            → IsStaging D.is_image topology.now own version past staged self.new) }
+
+        ensures up { is_down self.new ≡ false }
+        ensures disk { disk_of self.new ≡ disk_of self.old }
+        ensures strict { (own : Name) (version : ℕ) (armed passed : Maybe ℕ) (past other : Past Told)
+            → IsStrictAt D.strict D.armed D.content D.synced D.written topology.now own version armed passed past self.old
+            → IsStrictAt D.strict D.armed D.content D.synced D.written topology.now own version armed passed other self.new }
+    {
+        self.unsent.reserve(1)?;
+        let StoreState::Open(store) = &mut self.state else {
+            unreachable!()
+        };
+        let out = store.stage(topology, m)?;
+        let emitted = self.emitted(out);
+        let event = Event::Message { number };
+        put(&mut self.unsent, Unsent { event, emitted });
+        Ok(())
+    }
+
+    /// Appends all that is staged as one group, and gives it: it may go out now. `None` says that the disk failed, and the store is down;
+    /// what was staged is kept for a restart, which finds all of it on the disk or nothing.
+    pub fn settle(&mut self) -> Result<Option<Unsents>, OutOfMemory>
+        requires up { is_down self.old ≡ false }
+        requires may { MaySettle D.is_image self.old }
+
+        ensures ok { IfOk result (λ given. (layout : Layout) (own : Name) (version : ℕ) (past : Past Told) (staged : List (Stop Told)) → IsStaging D.is_image layout own version past staged self.old
+            → Settles D.is_image layout own version past staged self.new given) }
+        ensures down { IfOk result (λ given. is_down self.new ≡ is_none given) }
+        ensures counted { D.faults (disk_of self.old) ≤ D.faults (disk_of self.new) }
+        ensures cause { result ≡ Ok None → Rose (D.faults (disk_of self.old)) (D.faults (disk_of self.new)) }
+        ensures unfailed { OnErr result (D.faults (disk_of self.new) ≡ D.faults (disk_of self.old)) }
+
+        // However much is staged, it is one append.
+        ensures strict { (layout : Layout) (own : Name) (version : ℕ) (armed passed : Maybe ℕ) (past : Past Told) (staged : List (Stop Told)) → IsStaging D.is_image layout own version past staged self.old
+            → IsStrictAt D.strict D.armed D.content D.synced D.written layout own version armed passed past self.old → staged ≢ []
+            → IfOk result (λ given. (is_none given ≡ fails_append armed)
+            × IsStrictAt D.strict D.armed D.content D.synced D.written layout own version (after_append armed) (passed_in armed)
+            (after_group given past staged) self.new) }
+    {
         let StoreState::Open(store) = &mut self.state else {
             unreachable!()
         };
         let kept = store.kept();
-        let given = store.step(topology, m);
-        self.settle(Event::Message { number }, kept, given)
+        match store.settle() {
+            Ok(()) => Ok(Some(take_all(self.alloc, &mut self.unsent))),
+            Err(StepError::DiskFault { .. }) => {
+                self.kept = kept;
+                Ok(None)
+            }
+            Err(StepError::OutOfMemory) => Err(OutOfMemory),
+        }
     }
 
     /// Crashes the disk, so that one of its images is left, and reopens the store from it. An honest journal is refused only by the disk.
@@ -127,7 +197,7 @@ impl<D: Rig> StoreActor<D> {
             actor,
             version,
             state,
-            stopped,
+            unsent,
             kept: _,
         } = self;
         let (state, found) = reopened(
@@ -139,13 +209,13 @@ impl<D: Rig> StoreActor<D> {
             choice,
             state.into_disk(),
         );
-        let (found, stopped) = told(found, stopped);
+        let (found, unsent) = told(alloc, found, unsent);
         let actor = StoreActor {
             alloc,
             actor,
             version,
             state,
-            stopped,
+            unsent,
             kept,
         };
         (actor, found)
@@ -153,8 +223,8 @@ impl<D: Rig> StoreActor<D> {
 
     /// Arms a call of the disk: so many more pass, and the next one fails.
     pub fn arm(&mut self, calls: u64)
-        ensures stands { (layout : Layout) (own : Name) (version : ℕ) (past : Past Told) → StandsFor D.is_image layout own version past self.old
-            → StandsFor D.is_image layout own version past self.new }
+        ensures stands { (layout : Layout) (own : Name) (version : ℕ) (past : Past Told) (staged : List (Stop Told)) → IsStaging D.is_image layout own version past staged self.old
+            → IsStaging D.is_image layout own version past staged self.new }
         ensures down { is_down self.new ≡ is_down self.old }
         ensures faults { D.faults (disk_of self.new) ≡ D.faults (disk_of self.old) }
         ensures strict { (layout : Layout) (own : Name) (version : ℕ) (armed passed : Maybe ℕ) (past : Past Told)
@@ -177,11 +247,11 @@ impl<D: Rig> StoreActor<D> {
         }
     }
 
-    /// The store, where it is up.
+    /// The store, where it is up: it has taken what is staged too.
     pub fn store(&self) -> Option<&Store>
         ensures some { is_none result ≡ is_down self.now }
-        ensures stands { IfSome result (λ store. (layout : Layout) (own : Name) (version : ℕ) (past : Past Told) → StandsFor D.is_image layout own version past self.now
-            → (actor_of store.now ≡ own) × Stands layout store.now (replay layout own past.acts)) }
+        ensures stands { IfSome result (λ store. (layout : Layout) (own : Name) (version : ℕ) (past : Past Told) (staged : List (Stop Told)) → IsStaging D.is_image layout own version past staged self.now
+            → (actor_of store.now ≡ own) × Stands layout store.now (replay layout own (kept_with staged past).acts)) }
     {
         match &self.state {
             StoreState::Open(store) if !store.is_broken() => Some(store.store()),
@@ -189,10 +259,10 @@ impl<D: Rig> StoreActor<D> {
         }
     }
 
-    /// Its disk. Each of its images holds the payloads of the past, and breaks no rule on marks.
+    /// Its disk. Each of its images holds the payloads of the past, without what is staged, and breaks no rule on marks.
     pub fn into_disk(self) -> D
         ensures disk { result ≡ disk_of self }
-        ensures holds { (layout : Layout) (own : Name) (version : ℕ) (past : Past Told) → StandsFor D.is_image layout own version past self
+        ensures holds { (layout : Layout) (own : Name) (version : ℕ) (past : Past Told) (staged : List (Stop Told)) → IsStaging D.is_image layout own version past staged self
             → (image : List ℕ) → D.is_image result image → HoldsPayloads version past image }
     {
         let StoreActor {
@@ -200,7 +270,7 @@ impl<D: Rig> StoreActor<D> {
             actor: _,
             version: _,
             state,
-            stopped: _,
+            unsent: _,
             kept: _,
         } = self;
         state.into_disk()
@@ -208,30 +278,7 @@ impl<D: Rig> StoreActor<D> {
 }
 
 impl<D: Rig> StoreActor<D> {
-    ghost use Rattle.acc_actors.specs.Store.{StandsFor, IsSettled};
-
-    // What the durable store answered, as a step of the actor. The journal had so many messages before it.
-    fn settle(
-        &mut self,
-        event: Event,
-        kept: u64,
-        given: Result<Messages, StepError>,
-    ) -> Result<Option<Emitted>, OutOfMemory>
-        ensures { IsSettled event kept given self.old self.new result }
-    {
-        match given {
-            Ok(sent) => Ok(Some(self.emitted(sent))),
-            Err(StepError::DiskFault { unsent }) => {
-                self.stopped = Some(Unsent {
-                    event,
-                    emitted: self.emitted(unsent),
-                });
-                self.kept = kept;
-                Ok(None)
-            }
-            Err(_) => Err(OutOfMemory),
-        }
-    }
+    ghost use Rattle.acc_actors.specs.Store.{StandsFor};
 
     // A store notes nothing.
     fn emitted(&self, out: Messages) -> Emitted

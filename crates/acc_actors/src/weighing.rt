@@ -1,10 +1,10 @@
 //! How much an actor that is up would send. Nothing here makes a call of a disk.
-ghost use Rattle.std.specs.Prelude.{◌≡◌, false, ℕ, IfOk};
+ghost use Rattle.std.specs.Prelude.{◌≡◌, false, ℕ, List, IfOk};
 ghost use Rattle.acc_stamp.specs.declared.actors.Actor.{Actor as Name};
 ghost use Rattle.acc_message.specs.declared.message.Message.{Message as Told};
 ghost use Rattle.acc_message.specs.NodeRules.{Act, Begins, Recovers, Takes};
 ghost use Rattle.acc_message_code.specs.Weight.{weight_of_all};
-ghost use Rattle.acc_actors.specs.Stops.{Past};
+ghost use Rattle.acc_actors.specs.Stops.{Stop, Past, kept_with};
 
 use crate::node::{NodeActor, NodeState};
 use crate::store::{StoreActor, StoreState};
@@ -70,15 +70,15 @@ impl<D: Rig> NodeActor<D> {
 }
 
 impl<D: Rig> StoreActor<D> {
-    ghost use Rattle.acc_actors.specs.Store.{StandsFor, emits_next, is_down};
+    ghost use Rattle.acc_actors.specs.Store.{IsStaging, emits_next, is_down};
     ghost use Rattle.acc_actors.specs.Weighing.{StoreMayWeigh};
 
-    /// How many bytes of encoded messages the store would send now for a message that it may take.
+    /// How many bytes of encoded messages the store would send now for a message that it may take behind what is staged.
     pub fn weigh(&self, topology: &Topology, m: &Message) -> Result<u64, OutOfMemory>
         requires up { is_down self.now ≡ false }
         requires may { StoreMayWeigh D.is_image topology.now self.now m.now }
-        ensures { IfOk result (λ weight. (own : Name) (version : ℕ) (past : Past Told) → StandsFor D.is_image topology.now own version past self.now
-            → weight ≡ weight_of_all (emits_next topology.now own past m.now).out) }
+        ensures { IfOk result (λ weight. (own : Name) (version : ℕ) (past : Past Told) (staged : List (Stop Told)) → IsStaging D.is_image topology.now own version past staged self.now
+            → weight ≡ weight_of_all (emits_next topology.now own (kept_with staged past) m.now).out) }
     {
         let StoreState::Open(store) = &self.state else {
             unreachable!()

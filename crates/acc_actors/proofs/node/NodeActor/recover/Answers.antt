@@ -16,7 +16,7 @@ returns-clause-ok g c =
     let can = can_recover g.D.Disk.is_image c.args.topology.now c.args.self.now c.in-Open.node c.in-Open.is c.requires.up c.requires.may in
     for_all g.D.Disk.is_image c.args.topology.now c.args.self.now c.settle.new.self (λ number start past. recover_stop c.args.topology.now number start past c.args.txn c.args.id c.args.body.now) c.settle.result
     (λ number start version past stands.
-    steps g.D.Disk.is_image c.args.topology.now c.args.self.now c.in-Open.node c.recover-given.new.self c.in-Open.is sound number start version past stands
+    steps g.D.Disk.is_image c.args.topology.now c.args.self.now c.in-Open.node c.recover-given.new.self c.in-Open.is sound number start version past stands c.reserve.new.self c.reserve.ensures.items
     (recover_stop c.args.topology.now number start past c.args.txn c.args.id c.args.body.now) (draw_group c.in-Open.node Recover c.args.txn)
     (recover_longer g.D.Disk.is_image c.args.topology.now c.args.self.now c.in-Open.node c.in-Open.is c.requires.up c.args.txn small number start version past stands c.args.id c.args.body.now can)
     (held_longer g.D.Disk.is_image c.args.topology.now c.args.self.now c.in-Open.node c.in-Open.is c.requires.up c.args.txn small number start version past stands Recover) c.recover-given.ensures.same
@@ -40,7 +40,7 @@ returns-clause-strict g c =
     let sound : c.in-Open.node.journal.broken ≡ false = ap is_shut (sym c.in-Open.is) ∙ c.requires.up in
     let can = can_recover g.D.Disk.is_image c.args.topology.now c.args.self.now c.in-Open.node c.in-Open.is c.requires.up c.requires.may in
     λ number start version armed passed past stands at.
-    strictly g.D.Disk.is_image c.args.topology.now c.args.self.now c.in-Open.node c.recover-given.new.self c.in-Open.is sound number start version past stands
+    strictly g.D.Disk.is_image c.args.topology.now c.args.self.now c.in-Open.node c.recover-given.new.self c.in-Open.is sound number start version past stands c.reserve.new.self c.reserve.ensures.items
     (recover_stop c.args.topology.now number start past c.args.txn c.args.id c.args.body.now) (draw_group c.in-Open.node Recover c.args.txn)
     (recover_longer g.D.Disk.is_image c.args.topology.now c.args.self.now c.in-Open.node c.in-Open.is c.requires.up c.args.txn small number start version past stands c.args.id c.args.body.now can)
     (held_longer g.D.Disk.is_image c.args.topology.now c.args.self.now c.in-Open.node c.in-Open.is c.requires.up c.args.txn small number start version past stands Recover) c.recover-given.ensures.same

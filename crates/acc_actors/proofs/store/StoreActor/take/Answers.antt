@@ -1,40 +1,60 @@
--- The journal with the message is one of the store, whether the append passed or failed.
-use Rattle.std.proofs.Common.{◌≡◌, ◌≤◌, false, sym, ap, subst, ◌∙◌}
-use Rattle.acc_actors.specs.declared.store.StoreState.{StoreState}
-use Rattle.acc_actors.specs.Store.{disk_in, disk_of, is_shut, message_stop}
-use Rattle.acc_actors.proofs.Stores.{can_take, longer}
-use Rattle.acc_actors.proofs.StoreSteps.{steps, strictly, disk_settled, unfailed, for_all}
+-- One message is staged, and what is settled is what it alone sends.
+use Rattle.std.proofs.Common.{◌≡◌, List, [], ◌∷◌, Option, None, Some, is_none, sym, subst, ◌∙◌}
+use Rattle.acc_strict.specs.Disks.{fails_append, after_append, passed_in}
+use Rattle.acc_actors.specs.declared.stops.Unsent.{Unsent}
+use Rattle.acc_actors.specs.Stops.{after_group}
+use Rattle.acc_actors.specs.Store.{message_stop, Settles, IsStrictAt}
+use Rattle.acc_actors.proofs.StoreTakes.{none_left, one_there, one_given, took, took_strictly}
 use Rattle.acc_actors.proofs.store.StoreActor.take.Goals as goal
 
+pub settle-requires-clause-may : goal.settle-requires-clause-may
+settle-requires-clause-may g c =
+    let may = c.requires.may in
+    record {
+      layout = c.args.topology.now;
+      own = may.own;
+      version = may.version;
+      past = may.past;
+      staged = message_stop c.args.number c.args.m.now ∷ [];
+      stands = c.in_ok-stage.ensures.ok may.own may.version may.past [] may.stands;
+    }
+
 pub returns-clause-ok : goal.returns-clause-ok
-returns-clause-ok g c =
-    let sound : c.in-Open.store.journal.broken ≡ false = ap is_shut (sym c.in-Open.is) ∙ c.requires.up in
-    let can = can_take g.D.Disk.is_image c.args.topology.now c.args.self.now c.in-Open.store c.args.m.now c.in-Open.is c.requires.up c.requires.may in
-    for_all g.D.Disk.is_image c.args.topology.now c.args.self.now c.settle.new.self (message_stop c.args.number c.args.m.now) c.settle.result
-    (λ own version past stands.
-    steps g.D.Disk.is_image c.args.topology.now c.args.self.now c.in-Open.store c.step-given.new.self c.in-Open.is sound own version past stands c.args.number c.args.m.now c.step-given.ensures.same
-    c.kept-kept.result c.step-given.result c.settle.new.self c.settle.result c.kept-kept.ensures c.settle.ensures
-    (longer g.D.Disk.is_image c.args.topology.now c.args.self.now c.in-Open.store c.args.m.now c.in-Open.is c.requires.up can own version past stands)
-    c.step-given.ensures.ok c.step-given.ensures.err c.step-given.ensures.none_staged c.step-given.ensures.fits c.step-given.ensures.fault_fits c.step-given.ensures.appended c.step-given.ensures.lasts c.step-given.ensures.either)
-
-pub returns-clause-counted : goal.returns-clause-counted
-returns-clause-counted g c =
-    let settled = disk_settled _ _ _ _ _ _ c.settle.ensures in
-    subst (λ (d : g.row.D.Denot). g.D.Disk.faults d ≤ g.D.Disk.faults (disk_of c.settle.new.self)) (ap disk_in (sym c.in-Open.is))
-    (subst (λ (d : g.row.D.Denot). g.D.Disk.faults c.in-Open.store.journal.disk ≤ g.D.Disk.faults d) (sym settled) c.step-given.ensures.counted)
-
-pub returns-clause-unfailed : goal.returns-clause-unfailed
-returns-clause-unfailed g c =
-    unfailed g.D.Disk.faults (g.D.Disk.faults (disk_of c.args.self.now)) _ _ c.step-given.result _ _ _ c.settle.ensures
-    (λ none. c.step-given.ensures.unfailed none ∙ ap (λ (s : StoreState g.row.D.Denot). g.D.Disk.faults (disk_in s)) (sym c.in-Open.is))
+returns-clause-ok g c = λ own version past stands.
+    let settles = c.in_ok-settled.ensures.ok c.args.topology.now own version past (message_stop c.args.number c.args.m.now ∷ []) (c.in_ok-stage.ensures.ok own version past [] stands) in
+    took c.args.topology.now own past c.args.number c.args.m.now g.D.Disk.is_image version c.settle.new.self c.in-Some.settled
+    (subst (λ (given : Option (List Unsent)). Settles g.D.Disk.is_image c.args.topology.now own version past (message_stop c.args.number c.args.m.now ∷ []) c.settle.new.self given) c.in-Some.is settles)
+    c.pop.new.self c.in-Some-pop.field-0 (sym c.into_vec.ensures ∙ c.in-Some-pop.ensures.items)
 
 pub returns-clause-strict : goal.returns-clause-strict
-returns-clause-strict g c =
-    let sound : c.in-Open.store.journal.broken ≡ false = ap is_shut (sym c.in-Open.is) ∙ c.requires.up in
-    let can = can_take g.D.Disk.is_image c.args.topology.now c.args.self.now c.in-Open.store c.args.m.now c.in-Open.is c.requires.up c.requires.may in
-    λ own version armed passed past stands at.
-    strictly g.D.Disk.is_image c.args.topology.now c.args.self.now c.in-Open.store c.step-given.new.self c.in-Open.is sound own version past stands c.args.number c.args.m.now c.step-given.ensures.same
-    g.D.Disk.strict g.D.Disk.armed g.D.Disk.content g.D.Disk.synced g.D.Disk.written armed passed at
-    c.kept-kept.result c.step-given.result c.settle.new.self c.settle.result c.settle.ensures
-    (longer g.D.Disk.is_image c.args.topology.now c.args.self.now c.in-Open.store c.args.m.now c.in-Open.is c.requires.up can own version past stands)
-    c.step-given.ensures.ok c.step-given.ensures.err c.step-given.ensures.fault_fits c.step-given.ensures.kind c.step-given.ensures.counts c.step-given.ensures.early c.step-given.ensures.late c.step-given.ensures.failed
+returns-clause-strict g c = λ own version armed passed past stands at.
+    let strictly = c.in_ok-settled.ensures.strict c.args.topology.now own version armed passed past (message_stop c.args.number c.args.m.now ∷ []) (c.in_ok-stage.ensures.ok own version past [] stands)
+    (c.in_ok-stage.ensures.strict own version armed passed past past at) (one_there (message_stop c.args.number c.args.m.now)) in
+    let told = subst (λ (given : Option (List Unsent)). (is_none given ≡ fails_append armed)
+    × IsStrictAt g.D.Disk.strict g.D.Disk.armed g.D.Disk.content g.D.Disk.synced g.D.Disk.written c.args.topology.now own version (after_append armed) (passed_in armed)
+    (after_group given past (message_stop c.args.number c.args.m.now ∷ [])) c.settle.new.self) c.in-Some.is strictly in (
+      told.0,
+      took_strictly g.D.Disk.strict g.D.Disk.armed g.D.Disk.content g.D.Disk.synced g.D.Disk.written c.args.topology.now own version (after_append armed) (passed_in armed) _ c.settle.new.self c.pop.new.self told.1,
+    )
+
+pub returns-in_default-clause-ok : goal.returns-in_default-clause-ok
+returns-in_default-clause-ok g c = λ own version past stands.
+    let settles = c.in_ok-settled.ensures.ok c.args.topology.now own version past (message_stop c.args.number c.args.m.now ∷ []) (c.in_ok-stage.ensures.ok own version past [] stands) in
+    let told = subst (λ (given : Option (List Unsent)). Settles g.D.Disk.is_image c.args.topology.now own version past (message_stop c.args.number c.args.m.now ∷ []) c.settle.new.self given) c.in_default.is settles in
+    record { emits = tt; stands = told.stands }
+
+pub returns-in_default-clause-strict : goal.returns-in_default-clause-strict
+returns-in_default-clause-strict g c = λ own version armed passed past stands at.
+    let strictly = c.in_ok-settled.ensures.strict c.args.topology.now own version armed passed past (message_stop c.args.number c.args.m.now ∷ []) (c.in_ok-stage.ensures.ok own version past [] stands)
+    (c.in_ok-stage.ensures.strict own version armed passed past past at) (one_there (message_stop c.args.number c.args.m.now)) in
+    subst (λ (given : Option (List Unsent)). (is_none given ≡ fails_append armed)
+    × IsStrictAt g.D.Disk.strict g.D.Disk.armed g.D.Disk.content g.D.Disk.synced g.D.Disk.written c.args.topology.now own version (after_append armed) (passed_in armed)
+    (after_group given past (message_stop c.args.number c.args.m.now ∷ [])) c.settle.new.self) c.in_default.is strictly
+
+pub unreachable-requires : goal.unreachable-requires
+unreachable-requires g c =
+    let may = c.requires.may in
+    let settles = c.in_ok-settled.ensures.ok c.args.topology.now may.own may.version may.past (message_stop c.args.number c.args.m.now ∷ []) (c.in_ok-stage.ensures.ok may.own may.version may.past [] may.stands) in
+    let told = subst (λ (given : Option (List Unsent)). Settles g.D.Disk.is_image c.args.topology.now may.own may.version may.past (message_stop c.args.number c.args.m.now ∷ []) c.settle.new.self given) c.in-Some.is settles in
+    one_given c.args.topology.now may.own may.past c.args.number c.args.m.now c.in-Some.settled told.emits
+    (sym c.into_vec.ensures ∙ none_left c.into_vec.result.items c.pop.new.self.items c.into_vec.result.len c.in-None.ensures.items c.in-None.ensures.rest c.in-None.ensures.cases.0)
