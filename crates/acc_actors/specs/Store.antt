@@ -3,7 +3,7 @@
 --                                                               are staged
 --     StandsFor images layout own version past actor             the same with nothing staged
 --     IsStrictAt ..      it does over a strict disk, on which this call is armed
-use Rattle.std.specs.Prelude.{◌≡◌, ℕ, ◌^◌, ◌<◌, Bool, true, false, IsTrue, List, [], ◌∷◌, ◌++◌, Option, None, Some, IfSome}
+use Rattle.std.specs.Prelude.{◌≡◌, ℕ, ◌^◌, ◌<◌, Bool, true, false, IsTrue, List, [], ◌++◌, Option, None, Some, IfSome}
 use Rattle.acc_stamp.specs.declared.actors.Actor.{Actor}
 use Rattle.acc_topology.specs.Layout.{Layout}
 use Rattle.acc_ports.specs.Strict.{Ranges, LeftByChoice}

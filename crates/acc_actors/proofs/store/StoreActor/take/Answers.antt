@@ -1,5 +1,5 @@
 -- One message is staged, and what is settled is what it alone sends.
-use Rattle.std.proofs.Common.{◌≡◌, List, [], ◌∷◌, Option, None, Some, is_none, sym, subst, ◌∙◌}
+use Rattle.std.proofs.Common.{◌≡◌, List, [], ◌∷◌, Option, is_none, sym, subst, ◌∙◌}
 use Rattle.acc_strict.specs.Disks.{fails_append, after_append, passed_in}
 use Rattle.acc_actors.specs.declared.stops.Unsent.{Unsent}
 use Rattle.acc_actors.specs.Stops.{after_group}
