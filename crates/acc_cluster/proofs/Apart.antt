@@ -1,6 +1,7 @@
 -- What items of one actor leave of another.
-use Rattle.std.proofs.Common.{◌≡◌, ℕ, ◌+◌, Bool, true, false, not, cond, List, ◌∷◌, Option, None, Some, length, refl, sym, ◌∙◌, ap}
+use Rattle.std.proofs.Common.{◌≡◌, ℕ, ◌+◌, Bool, true, false, not, cond, List, [], ◌∷◌, ◌++◌, length, refl, sym, ◌∙◌, ap}
 use Rattle.acc_stamp.specs.declared.actors.Actor.{Actor}
+use Rattle.acc_stamp.proofs.Rising.{each_weaker}
 use Rattle.acc_message.specs.declared.entry.Event.{Event}
 use Rattle.acc_message.specs.declared.entry.Event.TheVariants.{Restart}
 use Rattle.acc_message.specs.declared.item.Skip.{Skip}
@@ -15,20 +16,21 @@ use Rattle.acc_safety.specs.RunLaws.{acts_done}
 use Rattle.acc_payloads.specs.Items.{is_item_of, downs_in}
 use Rattle.acc_entering.specs.Entries.{MayTake}
 use Rattle.acc_entering.specs.Pasts.{IsUntouched}
-use Rattle.acc_entering.specs.Stopped.{CanGoOn, IsSound, is_other}
+use Rattle.acc_entering.specs.Stopped.{CanGoOn, CanAllGoOn, IsSound, is_other}
 use Rattle.acc_entering.proofs.Pasts.{untouched, untouched_on}
 use Rattle.acc_entering.proofs.Standing.{entry_stands, restart_may}
-use Rattle.acc_entering.proofs.Situations.{without_other, stopped_other}
-use Rattle.acc_entering.proofs.Stops.{still, same_step}
-use Rattle.acc_follow.specs.Situations.{Stopped, Situation, raised, whole, stopped_at, without}
-use Rattle.acc_follow.specs.Moves.{with_item, with_stopped, event_in, entry_of, entered, stopped_by, tried_if, with_kept, count_of, reopened}
-use Rattle.acc_cluster.specs.Pasts.{stop_in, stop_at, store_stop, node_past, store_past}
-use Rattle.acc_cluster.proofs.Pasts.{same_past, stop_still}
+use Rattle.acc_entering.proofs.Sound.{others_go_on}
+use Rattle.acc_entering.proofs.Stops.{still}
+use Rattle.acc_follow.proofs.StopLists.{without_other, stopped_other, all_stopped}
+use Rattle.acc_follow.specs.Situations.{Stopped, Situation, raised, whole, stopped_at, without, stops_of}
+use Rattle.acc_follow.specs.Moves.{with_item, with_stopped, event_in, entry_of, entered, stopped_by, tried_if, with_kept, reopened}
+use Rattle.acc_cluster.specs.Pasts.{stops_in, stops_at, store_stops, node_past, store_past}
+use Rattle.acc_cluster.proofs.Pasts.{same_past, stops_same, stops_alike, known_on, acts_known}
 
 -- nothing of the actor has changed
 pub record IsApart (cluster : Cluster) (s next : Situation) (b : Actor) : Type 0 where
   pub untouched : IsUntouched cluster (whole s) (whole next) b
-  pub stop : stop_at cluster next b ≡ stop_at cluster s b
+  pub stop : stops_at cluster next b ≡ stops_at cluster s b
   pub downs : downs_in b next.own ≡ downs_in b s.own
 
 pub apart_itself : (cluster : Cluster) (s : Situation) (b : Actor) → IsApart cluster s s b
@@ -42,9 +44,9 @@ apart_on cluster s between next b one two =
       downs = two.downs ∙ one.downs;
     }
 
--- its stopped step can go on
+-- its stopped steps can go on
 abbrev pub GoesOn : Cluster → Situation → Actor → Type 0
-GoesOn cluster s b = (event : Event) → stopped_at b s.stopped ≡ Some event → CanGoOn cluster (whole s) b (event_in s event)
+GoesOn cluster s b = CanAllGoOn cluster s b (stopped_at b s.stopped)
 
 item_apart : (by : ℕ) (b : Actor) (item : Item) → is_item_of b item ≡ false → is_item_of b (raised by item) ≡ false
 item_apart by b (Step e) apart = apart
@@ -67,21 +69,24 @@ module _ (cluster : Cluster) (s : Situation) (item : Item) (b : Actor) (apart : 
   by = length (sent_of s.earlier)
 
   pub goes_item : GoesOn cluster (with_item item s) b
-  goes_item event is = still cluster (whole s) (raised by item) b (event_in s event) stands (other_is by b item apart) (goes event is)
+  goes_item = (
+    each_weaker _ (λ (event : Event). CanGoOn cluster (whole (with_item item s)) b (event_in s event)) (stopped_at b s.stopped)
+        (λ event can. still cluster (whole s) (raised by item) b (event_in s event) stands (other_is by b item apart) can) goes.0,
+    goes.1,
+  )
 
-  stop_item : stop_at cluster (with_item item s) b ≡ stop_at cluster s b
-  stop_item = find (stopped_at b s.stopped) refl
-    where
-      find : (o : Option Event) → stopped_at b s.stopped ≡ o → stop_in cluster (with_item item s) b o ≡ stop_in cluster s b o
-      find None is = refl
-      find (Some event) is =
-          let can : CanGoOn cluster (whole s) b (event_in s event) = goes event is in
-          stop_still cluster s item b event (same_step cluster (whole s) (raised by item) b (event_in s event) can.act (other_is by b item apart) can.may)
+  still_untouched : IsUntouched cluster (whole s) (whole (with_item item s)) b
+  still_untouched = untouched cluster (whole s) (raised by item) b (item_apart by b item apart)
+
+  stop_item : stops_at cluster (with_item item s) b ≡ stops_at cluster s b
+  stop_item =
+      stops_alike cluster b (stopped_at b s.stopped) s (item ∷ s.own) s.dropped s.stopped true true still_untouched.deeds
+      (known_on cluster s item (stopped_at b s.stopped) (acts_known cluster s b (stopped_at b s.stopped) goes))
 
   pub apart_item : IsApart cluster s (with_item item s) b
   apart_item =
       record {
-        untouched = untouched cluster (whole s) (raised by item) b (item_apart by b item apart);
+        untouched = still_untouched;
         stop = stop_item;
         downs = downs_apart b s.own item apart;
       }
@@ -92,7 +97,7 @@ pub apart_stopped : (cluster : Cluster) (s : Situation) (stopped : List Stopped)
 apart_stopped cluster s stopped b is =
     record {
       untouched = record { deeds = refl; payloads = refl; downs = refl; down = refl; ends = refl };
-      stop = ap (stop_in cluster s b) is;
+      stop = stops_same cluster b (stopped_at b stopped) s s.dropped stopped true ∙ ap (λ events. stops_in cluster s b events true) is;
       downs = refl;
     }
 
@@ -100,7 +105,7 @@ apart_stopped cluster s stopped b is =
 
 module _ (cluster : Cluster) (s : Situation) (sound : IsSound cluster s) where
   abbrev goes_on : (b : Actor) → GoesOn cluster s b
-  goes_on b = λ event is. sound.stopped b event is
+  goes_on b = sound.stopped b
 
   pub apart_skip : (number : ℕ) (cause : Skip) (b : Actor) → IsApart cluster s (with_item (Skipped number cause) s) b
   apart_skip number cause b = apart_item cluster s (Skipped number cause) b refl (goes_on b) tt
@@ -111,8 +116,8 @@ module _ (cluster : Cluster) (s : Situation) (sound : IsSound cluster s) where
   pub apart_tried : (fails : Bool) (a b : Actor) (event : Event) (act : Act) → same_actor a b ≡ false → MayTake cluster (whole s) a (event_in s event) act
       → IsApart cluster s (tried_if fails cluster s a event) b
   apart_tried true a b event act apart may =
-      apart_on cluster s (with_item (Down a) s) (stopped_by a event s) b (apart_down a b apart)
-      (apart_stopped cluster (with_item (Down a) s) (record { actor = a; event = event } ∷ without a s.stopped) b (stopped_other a b event s apart))
+      apart_on cluster s (with_item (Down a) s) (stopped_by a (event ∷ []) s) b (apart_down a b apart)
+      (apart_stopped cluster (with_item (Down a) s) (stops_of a (event ∷ []) ++ without a s.stopped) b (stopped_other a b (event ∷ []) s.stopped apart))
   apart_tried false a b event act apart may =
       apart_item cluster s (entry_of cluster s a event false) b apart (goes_on b) (entry_stands cluster (whole s) a (event_in s event) act may false)
 
@@ -123,34 +128,32 @@ module _ (cluster : Cluster) (s : Situation) (sound : IsSound cluster s) where
       apart_item cluster between (entry_of cluster between a (Restart kept) false) b apart goes
       (entry_stands cluster (whole between) a (Restart kept) Restarts (restart_may cluster (whole between) a kept) false)
 
-  pub apart_reopened : (a b : Actor) (kept : Option Event) → same_actor a b ≡ false → ((event : Event) → kept ≡ Some event → stopped_at a s.stopped ≡ Some event)
-      → IsApart cluster s (reopened cluster s a kept) b
-  apart_reopened a b kept apart was =
+  -- behind steps that come back
+  kept_apart : (a b : Actor) (kept : List Event) (s : Situation) → same_actor a b ≡ false → CanAllGoOn cluster s a kept → GoesOn cluster s b
+      → IsApart cluster s (with_kept cluster s a kept) b × GoesOn cluster (with_kept cluster s a kept) b
+  kept_apart a b [] s apart can goes = (apart_itself cluster s b, goes)
+  kept_apart a b (event ∷ kept) s apart can goes =
+      let first : CanGoOn cluster (whole s) a (event_in s event) = can.0.0 in
+      let stands = entry_stands cluster (whole s) a (event_in s event) first.act first.may true in
+      let next : Situation = entered cluster s a event true in
+      let rest = kept_apart a b kept next apart (others_go_on cluster s a event kept can) (goes_item cluster s (entry_of cluster s a event true) b apart goes stands) in (
+        apart_on cluster s next (with_kept cluster next a kept) b (apart_item cluster s (entry_of cluster s a event true) b apart goes stands) rest.0,
+        rest.1,
+      )
+
+  pub apart_reopened : (a b : Actor) (kept : List Event) → same_actor a b ≡ false → CanAllGoOn cluster s a kept → IsApart cluster s (reopened cluster s a kept) b
+  apart_reopened a b kept apart can =
       apart_on cluster s between (reopened cluster s a kept) b first.0
-      (apart_on cluster between (entered cluster between a (Restart (count_of kept)) false) (reopened cluster s a kept) b
-      (restarted_apart between (count_of kept) a b apart first.1)
-      (apart_stopped cluster (entered cluster between a (Restart (count_of kept)) false) (without a s.stopped) b
-      (without_other b a apart s.stopped ∙ sym (ap (stopped_at b) (same_stopped kept)))))
+      (apart_on cluster between (entered cluster between a (Restart (length kept)) false) (reopened cluster s a kept) b
+      (restarted_apart between (length kept) a b apart first.1)
+      (apart_stopped cluster (entered cluster between a (Restart (length kept)) false) (without a s.stopped) b
+      (without_other b a apart s.stopped ∙ sym (ap (stopped_at b) (all_stopped cluster a true s kept)))))
     where
       between : Situation
       between = with_kept cluster s a kept
 
-      same_stopped : (kept : Option Event) → (with_kept cluster s a kept).stopped ≡ s.stopped
-      same_stopped None = refl
-      same_stopped (Some event) = refl
-
-      by : (kept : Option Event) → ((event : Event) → kept ≡ Some event → stopped_at a s.stopped ≡ Some event)
-          → IsApart cluster s (with_kept cluster s a kept) b × GoesOn cluster (with_kept cluster s a kept) b
-      by None was = (apart_itself cluster s b, goes_on b)
-      by (Some event) was =
-          let can : CanGoOn cluster (whole s) a (event_in s event) = sound.stopped a event (was event refl) in
-          let stands = entry_stands cluster (whole s) a (event_in s event) can.act can.may true in (
-            apart_item cluster s (entry_of cluster s a event true) b apart (goes_on b) stands,
-            goes_item cluster s (entry_of cluster s a event true) b apart (goes_on b) stands,
-          )
-
       first : IsApart cluster s between b × GoesOn cluster between b
-      first = by kept was
+      first = kept_apart a b kept s apart can (goes_on b)
 
 -- ---- pasts
 
@@ -159,4 +162,4 @@ node_apart cluster s next b is = same_past _ _ _ _ _ _ (ap acts_done is.untouche
 
 pub store_apart : (cluster : Cluster) (s next : Situation) (b : Actor) → IsApart cluster s next b → store_past cluster next b ≡ store_past cluster s b
 store_apart cluster s next b is =
-    same_past _ _ _ _ _ _ (ap (λ deeds. messages_taken (taken_from deeds)) is.untouched.deeds) is.untouched.payloads (ap store_stop is.stop)
+    same_past _ _ _ _ _ _ (ap (λ deeds. messages_taken (taken_from deeds)) is.untouched.deeds) is.untouched.payloads (ap store_stops is.stop)

@@ -1,5 +1,5 @@
 -- A call of an actor's disk is armed.
-use Rattle.std.proofs.Common.{◌≡◌, ℕ, ◌≤◌, Bool, List, Option, Some, sym, ◌∙◌, subst}
+use Rattle.std.proofs.Common.{◌≡◌, ℕ, ◌≤◌, Bool, List, [], Option, Some, sym, ◌∙◌, subst}
 use Rattle.acc_stamp.specs.declared.actors.Actor.{Actor}
 use Rattle.acc_stamp.specs.Actor.{node_of}
 use Rattle.acc_topology.specs.Layout.{Layout}
@@ -8,7 +8,7 @@ use Rattle.acc_message.specs.declared.message.Message.{Message}
 use Rattle.acc_message.specs.NodeRules.{Act}
 use Rattle.acc_message.specs.Run.{clock_start}
 use Rattle.acc_payloads.specs.Items.{downs_in}
-use Rattle.acc_actors.specs.Stops.{Past}
+use Rattle.acc_actors.specs.Stops.{Stop, Past}
 use Rattle.acc_actors.specs.Node as node
 use Rattle.acc_actors.specs.Store as store
 use Rattle.acc_actors.specs.declared.node.NodeActor.{NodeActor}
@@ -37,13 +37,14 @@ module _ {D : Type 0} (images : D → List ℕ → Type 0) (faults : D → ℕ) 
       }
 
   pub store_armed : (t new : StoreActor D) → slot ≡ Store t
-      → ((layout : Layout) (own : Actor) (version : ℕ) (past : Past Message) → store.StandsFor images layout own version past t → store.StandsFor images layout own version past new)
+      → ((layout : Layout) (own : Actor) (version : ℕ) (past : Past Message) (staged : List (Stop Message)) → store.IsStaging images layout own version past staged t
+      → store.IsStaging images layout own version past staged new)
       → store.is_down new ≡ store.is_down t → faults (store.disk_of new) ≡ faults (store.disk_of t) → SlotStands images faults plan s a slot → SlotStands images faults plan s a (Store new)
   store_armed t new is stands down same h =
       let here : StoreStands images faults plan s a t = subst (λ (x : Slot D). SlotStands images faults plan s a x) is h in
       record {
         kind = here.kind;
-        stands = stands plan.topology a plan.version (store_past (cluster_of plan) s a) here.stands;
+        stands = stands plan.topology a plan.version (store_past (cluster_of plan) s a) [] here.stands;
         down = down ∙ here.down;
         counted = subst (λ count. downs_in a s.own ≤ count) (sym same) here.counted;
       }

@@ -1,5 +1,5 @@
 -- A message is dropped, or the step is passed over.
-use Rattle.std.proofs.Common.{◌≡◌, ℕ, ◌<◌, ◌≤◌, nat_lt, Bool, true, false, List, Option, None, Some, Result, IfErr, IsErrAnd, length, refl, sym, ◌∙◌, ap, subst, inl, arith}
+use Rattle.std.proofs.Common.{◌≡◌, ℕ, ◌<◌, ◌≤◌, nat_lt, Bool, true, false, List, ◌∷◌, Option, None, Some, Result, IfErr, IsErrAnd, length, refl, sym, ◌∙◌, ap, subst, inl, arith}
 use Rattle.std.proofs.lemmas.Bool.Decides.{nat_tests}
 use Rattle.acc_stamp.specs.declared.actors.Actor.{Actor}
 use Rattle.acc_ports.specs.Strict.{Ranges}
@@ -19,7 +19,7 @@ use Rattle.acc_actor_laws.proofs.Standing.{not_none}
 use Rattle.acc_entering.proofs.Standing.{message_there}
 use Rattle.acc_entering.proofs.Skips.{message_skip_is, deliver_skip_is}
 use Rattle.acc_entering.proofs.Sound.{sound_dropped}
-use Rattle.acc_follow.specs.Situations.{Situation, whole, receiver_in}
+use Rattle.acc_follow.specs.Situations.{Situation, whole, receiver_in, stopped_at}
 use Rattle.acc_follow.specs.Moves.{message_skip, deliver_skip, dropped_unless}
 use Rattle.acc_follow.specs.Schedules.{cluster_of}
 use Rattle.acc_limits.specs.Limits.{EndsAt, most_items}
@@ -31,6 +31,7 @@ use Rattle.acc_cluster.specs.Steps.{IfLimit}
 use Rattle.acc_cluster.specs.Tried.{HasStepped, HasChanged}
 use Rattle.acc_cluster.proofs.Apart.{IsApart}
 use Rattle.acc_cluster.proofs.Hits.{exit_is, full_at}
+use Rattle.acc_cluster.proofs.Pasts.{stops_same}
 use Rattle.acc_cluster.proofs.Written.{actors_same, strict_same}
 
 pub less_is : (n k : ℕ) → n < k → nat_lt n k ≡ true
@@ -79,7 +80,7 @@ module _ {D : Type 0} (images : D → List ℕ → Type 0) (faults : D → ℕ) 
       })
     where
       apart : (b : Actor) → IsApart (cluster_of plan) s (history.with_dropped message s) b
-      apart b = record { untouched = record { deeds = refl; payloads = refl; downs = refl; down = refl; ends = refl }; stop = refl; downs = refl }
+      apart b = record { untouched = record { deeds = refl; payloads = refl; downs = refl; down = refl; ends = refl }; stop = stops_same (cluster_of plan) b (stopped_at b s.stopped) s (message ∷ s.dropped) s.stopped true; downs = refl }
 
   pub changed_skipped : (cause : Skip) (a : Actor) (event : Event) → message_skip s message ≡ Some cause
       → HasStepped images faults strict armed content synced written plan (Some cause) number a event old new s

@@ -11,6 +11,7 @@ use Rattle.acc_safety.proofs.Bridge.{same_itself}
 use Rattle.acc_follow.specs.Situations.{Situation, joined, whole}
 use Rattle.acc_strict.specs.Disks.{Disks, with_entry, after_append, passed_in, after_step}
 use Rattle.acc_limits.specs.Limits.{most_items}
+use Rattle.acc_cluster.specs.Entering.{HasRoom, HasPlace}
 use Rattle.acc_cluster.specs.Asked.{IsFew}
 
 length_joined : (earlier own : List Item) → length (joined earlier own) ≡ length earlier + length own
@@ -22,6 +23,13 @@ few_sum e o room low = omega (arith, room, low)
 
 pub few_whole : (s : Situation) → IsFew s → AreFew (whole s)
 few_whole s few = subst (λ n. n < 2 ^ 31) (sym (length_joined s.earlier s.own)) (few_sum (length s.earlier) (length s.own) few.0 few.1)
+
+-- with a place for one more
+pub few_placed : (s : Situation) → HasRoom s → HasPlace s → IsFew s
+few_placed s room place = (room, lower (length s.own) place)
+  where
+    lower : (n : ℕ) → n < most_items → n ≤ most_items
+    lower n low = omega (arith, low)
 
 -- ---- downs
 

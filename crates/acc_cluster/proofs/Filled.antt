@@ -97,7 +97,7 @@ record TookAt {D : Type 0} (plan : Content) (earlier : List Item) (t : DurableSt
 module _ {D : Type 0} (images : D → List ℕ → Type 0) (faults : D → ℕ) (plan : Content) where
   pub node_opens : (number start version : ℕ) (n : DurableNode D) (actor : NodeActor D) → n.number ≡ number → start ≡ clock_start plan.starts number → version ≡ plan.version
       → ((acts : List Act) → durable_node.StandsFor plan.topology n acts
-      → node.StandsFor images plan.topology number start version (record { acts = acts; held = without_marks n.journal.payloads; stopped = None }) actor)
+      → node.StandsFor images plan.topology number start version (record { acts = acts; held = without_marks n.journal.payloads; stopped = [] }) actor)
       → node.is_down actor ≡ false → (earlier : List Item) → ((b : Actor) → is_down b earlier ≡ false) → HasDone plan earlier n
       → NodeStands images faults plan (opened earlier) (actor_of number 0) actor
   node_opens number start version n actor numbered started versioned stands up earlier all_up did =
@@ -107,7 +107,7 @@ module _ {D : Type 0} (images : D → List ℕ → Type 0) (faults : D → ℕ) 
             subst (λ (m : ℕ). node.StandsFor images plan.topology m (clock_start plan.starts m) plan.version (node_past (cluster_of plan) (opened earlier) (actor_of number 0)) actor) (sym (node_is number))
             (subst (λ (x : ℕ). node.StandsFor images plan.topology number x plan.version (node_past (cluster_of plan) (opened earlier) (actor_of number 0)) actor) started
             (subst (λ (x : ℕ). node.StandsFor images plan.topology number start x (node_past (cluster_of plan) (opened earlier) (actor_of number 0)) actor) versioned
-            (subst (λ (held : List (List ℕ)). node.StandsFor images plan.topology number start version (record { acts = acts_done (deeds_of (cluster_of plan) (actor_of number 0) earlier); held = held; stopped = None }) actor)
+            (subst (λ (held : List (List ℕ)). node.StandsFor images plan.topology number start version (record { acts = acts_done (deeds_of (cluster_of plan) (actor_of number 0) earlier); held = held; stopped = [] }) actor)
             here.held
             (stands (acts_done (deeds_of (cluster_of plan) (actor_of number 0) earlier)) here.stands))));
         down = up ∙ sym (all_up (actor_of number 0));
@@ -119,7 +119,7 @@ module _ {D : Type 0} (images : D → List ℕ → Type 0) (faults : D → ℕ) 
 
   pub store_opens : (version : ℕ) (t : DurableStore D) (own : Actor) (actor : StoreActor D) → durable_store.actor_in t ≡ own → is_node own ≡ false → version ≡ plan.version
       → ((messages : List Message) → durable_store.StandsFor plan.topology t messages
-      → store.StandsFor images plan.topology own version (record { acts = messages; held = without_marks t.journal.payloads; stopped = None }) actor)
+      → store.StandsFor images plan.topology own version (record { acts = messages; held = without_marks t.journal.payloads; stopped = [] }) actor)
       → store.is_down actor ≡ false → (earlier : List Item) → ((b : Actor) → is_down b earlier ≡ false) → HasTaken plan earlier t
       → StoreStands images faults plan (opened earlier) own actor
   store_opens version t own actor owned kind versioned stands up earlier all_up did =
@@ -127,7 +127,7 @@ module _ {D : Type 0} (images : D → List ℕ → Type 0) (faults : D → ℕ) 
         kind = kind;
         stands =
             subst (λ (x : ℕ). store.StandsFor images plan.topology own x (store_past (cluster_of plan) (opened earlier) own) actor) versioned
-            (subst (λ (held : List (List ℕ)). store.StandsFor images plan.topology own version (record { acts = messages_taken (taken_of (cluster_of plan) own earlier); held = held; stopped = None }) actor)
+            (subst (λ (held : List (List ℕ)). store.StandsFor images plan.topology own version (record { acts = messages_taken (taken_of (cluster_of plan) own earlier); held = held; stopped = [] }) actor)
             here.held
             (stands (messages_taken (taken_of (cluster_of plan) own earlier)) here.stands));
         down = up ∙ sym (all_up own);

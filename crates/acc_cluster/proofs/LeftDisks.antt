@@ -1,28 +1,30 @@
 -- The disks of a cluster's slots: they rise, there is one of each actor of the plan, and each keeps its actor.
-use Rattle.std.proofs.Common.{◌≡◌, ℕ, zero, suc, ◌+◌, ◌≤◌, Bool, true, false, List, [], ◌∷◌, ◌++◌, map, length, Contains, Option, None, Some, refl, sym, ◌∙◌, ap, subst, arith}
+use Rattle.std.proofs.Common.{◌≡◌, ℕ, zero, suc, ◌+◌, ◌≤◌, Bool, true, false, List, [], ◌∷◌, ◌++◌, map, length, Contains, refl, sym, ◌∙◌, ap, subst, arith}
 use Rattle.std.proofs.lemmas.List.{append-nil}
 use Rattle.std.proofs.lemmas.Bool.{true≢false}
 use Rattle.std.specs.List.{AllByRecursion, slice_index_or}
-use Rattle.std.specs.Option.{is_some}
 use Rattle.acc_stamp.specs.declared.actors.Actor.{Actor}
+use Rattle.acc_topology.specs.Layout.{Layout}
+use Rattle.acc_message.specs.declared.message.Message.{Message}
 use Rattle.acc_message.specs.declared.entry.Event.{Event}
 use Rattle.acc_message.specs.declared.item.Item.{Item}
 use Rattle.acc_message.specs.NodeRules.{Act}
 use Rattle.acc_message.specs.Run.{is_down}
 use Rattle.acc_payloads.specs.Items.{Keeps, KeepsImage, AreKept, ends_down, payloads_in}
-use Rattle.acc_actors.specs.Stops.{Stop, HoldsPayloads}
+use Rattle.acc_actors.specs.declared.store.StoreActor.{StoreActor}
+use Rattle.acc_actors.specs.Stops.{Stop, Past, some, HoldsPayloads}
 use Rattle.acc_actors.specs.Node as node
 use Rattle.acc_actors.specs.Store as store
 use Rattle.acc_schedule.specs.Actors.{actors}
 use Rattle.acc_schedule.specs.Content.{Content}
-use Rattle.acc_entering.specs.Stopped.{IsSound}
+use Rattle.acc_entering.specs.Stopped.{CanAllGoOn, IsSound}
 use Rattle.acc_entering.proofs.Downs.{ends_is_down}
 use Rattle.acc_entering.proofs.Situations.{whole_alone}
 use Rattle.acc_follow.specs.Situations.{Situation, whole, stopped_at}
 use Rattle.acc_follow.specs.Schedules.{cluster_of}
 use Rattle.acc_cluster.specs.declared.slot.Slot.{Slot}
 use Rattle.acc_cluster.specs.declared.slot.Slot.TheVariants.{Empty, Node, Store}
-use Rattle.acc_cluster.specs.Pasts.{stop_at, stop_in, store_stop, node_past, store_past}
+use Rattle.acc_cluster.specs.Pasts.{stops_at, stops_in, store_stops, node_past, store_past}
 use Rattle.acc_cluster.specs.Slots.{SlotStands, NodeStands, StoreStands, IsTaken}
 use Rattle.acc_cluster.specs.Stands.{AreActors, slot_at}
 use Rattle.acc_cluster.specs.Ends.{entry_of, disks_from, LeavesHeld, Rises, AreDisksOf}
@@ -121,18 +123,27 @@ loosen true false payloads kept implied h = absurd (true≢false (sym (implied r
 loosen false true payloads kept implied h = ([], h ∙ sym (append-nil payloads))
 loosen false false payloads kept implied h = h
 
-some_stop : (o : Option (Stop Act)) → is_some (store_stop o) ≡ true → is_some o ≡ true
-some_stop None h = h
-some_stop (Some stop) h = refl
+some_stop : (stops : List (Stop Act)) → some (store_stops stops) ≡ true → some stops ≡ true
+some_stop [] h = h
+some_stop (stop ∷ stops) h = refl
+
+-- what a store's disk holds, as it is given back
+pub store_left : {D : Type 0} (images : D → List ℕ → Type 0) (faults : D → ℕ) (slot : Slot D) (t : StoreActor D) (disk : D) → slot ≡ Store t → disk ≡ store.disk_of t
+    → ((layout : Layout) (own : Actor) (version : ℕ) (past : Past Message) (staged : List (Stop Message)) → store.IsStaging images layout own version past staged t
+    → (image : List ℕ) → images disk image → HoldsPayloads version past image)
+    → LeavesHeld images faults slot
+store_left {D} images faults slot t disk is disk_is holds =
+    subst (λ (x : Slot D). LeavesHeld images faults x) (sym is)
+    (λ plan s a stands image left. holds plan.topology a plan.version (store_past (cluster_of plan) s a) [] stands.stands image (subst (λ (d : D). images d image) (sym disk_is) left))
 
 module _ (plan : Content) (s : Situation) (sound : IsSound (cluster_of plan) s) where
-  -- an actor whose step was stopped is down
-  stopped_down : (a : Actor) → is_some (stop_at (cluster_of plan) s a) ≡ true → is_down a (whole s) ≡ true
-  stopped_down a h = by (stopped_at a s.stopped) refl h
+  -- an actor of which steps were stopped is down
+  stopped_down : (a : Actor) → some (stops_at (cluster_of plan) s a) ≡ true → is_down a (whole s) ≡ true
+  stopped_down a h = by (stopped_at a s.stopped) (sound.stopped a) h
     where
-      by : (o : Option Event) → stopped_at a s.stopped ≡ o → is_some (stop_in (cluster_of plan) s a o) ≡ true → is_down a (whole s) ≡ true
-      by None is h = absurd (true≢false (sym h))
-      by (Some event) is h = (sound.stopped a event is).down
+      by : (events : List Event) → CanAllGoOn (cluster_of plan) s a events → some (stops_in (cluster_of plan) s a events true) ≡ true → is_down a (whole s) ≡ true
+      by [] can h = absurd (true≢false (sym h))
+      by (event ∷ events) can h = can.0.0.down
 
   kept_own : (a : Actor) (b : Bool) (kept : List (List ℕ)) → s.earlier ≡ [] → (b ≡ true → is_down a (whole s) ≡ true) → AreKept b (payloads_in a (whole s)) kept
       → AreKept (ends_down a s.own) (payloads_in a s.own) kept
@@ -148,7 +159,7 @@ module _ (plan : Content) (s : Situation) (sound : IsSound (cluster_of plan) s) 
           payloads = h.payloads;
           reads = h.reads;
           marks = h.marks;
-          kept = kept_own a (is_some (stop_at (cluster_of plan) s a)) _ alone (stopped_down a) h.kept;
+          kept = kept_own a (some (stops_at (cluster_of plan) s a)) _ alone (stopped_down a) h.kept;
         }
 
     store_image : (a : Actor) (image : List ℕ) → s.earlier ≡ [] → HoldsPayloads plan.version (store_past (cluster_of plan) s a) image → KeepsImage plan.version a s.own image
@@ -158,8 +169,8 @@ module _ (plan : Content) (s : Situation) (sound : IsSound (cluster_of plan) s) 
           reads = h.reads;
           marks = h.marks;
           kept =
-              kept_own a (is_some (store_stop (stop_at (cluster_of plan) s a))) _ alone
-              (λ is. stopped_down a (some_stop (stop_at (cluster_of plan) s a) is)) h.kept;
+              kept_own a (some (store_stops (stops_at (cluster_of plan) s a))) _ alone
+              (λ is. stopped_down a (some_stop (stops_at (cluster_of plan) s a) is)) h.kept;
         }
 
     abbrev IsKept : Actor → D → Type 0

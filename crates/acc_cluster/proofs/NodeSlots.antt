@@ -19,7 +19,7 @@ use Rattle.acc_payloads.specs.Spelling.{draw_bytes}
 use Rattle.acc_payloads.specs.Items.{payload_by, downs_in}
 use Rattle.acc_bounds.specs.Calls.{NodeMeets}
 use Rattle.acc_bounds.proofs.Sendable.{node_meets}
-use Rattle.acc_actors.specs.Stops.{Stop, Past, with_step, with_stop, with_act, after_step}
+use Rattle.acc_actors.specs.Stops.{Stop, Past, with_step, with_stops, with_act, after_step}
 use Rattle.acc_actors.specs.Node as node
 use Rattle.acc_actors.specs.declared.node.NodeActor.{NodeActor}
 use Rattle.acc_schedule.specs.Content.{Content}
@@ -36,7 +36,7 @@ use Rattle.acc_follow.specs.Moves.{event_in, entered, is_journalled, tried_if}
 use Rattle.acc_follow.specs.Schedules.{cluster_of}
 use Rattle.acc_strict.specs.Disks.{Disks, fails_append, after_append, passed_in}
 use Rattle.acc_strict.specs.Disks as strict_disks
-use Rattle.acc_cluster.specs.Pasts.{first_of, stop_in, node_past}
+use Rattle.acc_cluster.specs.Pasts.{first_of, stops_in, node_past}
 use Rattle.acc_cluster.specs.Slots.{SlotStands, IsStrictSlot}
 use Rattle.acc_cluster.specs.Asked.{IsAsked, IsEmitted, HasTried, HasTriedStrictly}
 use Rattle.acc_cluster.specs.declared.slot.Slot.TheVariants.{Node}
@@ -88,10 +88,10 @@ module _ {D : Type 0} (images : D → List ℕ → Type 0) (faults : D → ℕ) 
   module _ (event : Event) (act : Act) (stop : Stop Act) (journalled : is_journalled a event ≡ true) (stop_is : stop ≡ stop_for event act)
       (sound : IsSound cluster s) (up : is_down a (whole s) ≡ false) (may : MayTake cluster (whole s) a (event_in s event) act) where
     past_tried : (given : Option Emitted) → node_past cluster (tried_if (is_none given) cluster s a event) a ≡ after_step given past stop
-    past_tried None = node_stopped cluster s a event act may sound journalled ∙ ap (with_stop past) (sym stop_is)
+    past_tried None = node_stopped cluster s a event act may sound ∙ ap (λ one. with_stops past (one ∷ [])) (sym stop_is)
     past_tried (Some emitted) =
         node_entered cluster s a event act may sound up
-        ∙ ap (λ ps. past_of (act ∷ past.acts) (past.held ++ ps) None) (one_payload cluster (whole s) a (event_in s event) act journalled_in may)
+        ∙ ap (λ ps. past_of (act ∷ past.acts) (past.held ++ ps) []) (one_payload cluster (whole s) a (event_in s event) act journalled_in may)
         ∙ ap (with_step past) (sym stop_is)
       where
         journalled_in : is_journalled a (event_in s event) ≡ true
@@ -168,9 +168,9 @@ module _ {D : Type 0} (images : D → List ℕ → Type 0) (faults : D → ℕ) 
     past_took : node_past cluster (entered cluster s a event false) a ≡ with_act act past
     past_took =
         node_entered cluster s a event act may sound up
-        ∙ ap (λ ps. past_of (act ∷ past.acts) (past.held ++ ps) None) none
-        ∙ ap (λ ps. past_of (act ∷ past.acts) ps None) (append-nil past.held)
-        ∙ ap (past_of (act ∷ past.acts) past.held) (sym (ap (stop_in cluster s a) (none_stopped cluster s a sound up)))
+        ∙ ap (λ ps. past_of (act ∷ past.acts) (past.held ++ ps) []) none
+        ∙ ap (λ ps. past_of (act ∷ past.acts) ps []) (append-nil past.held)
+        ∙ ap (past_of (act ∷ past.acts) past.held) (sym (ap (λ events. stops_in cluster s a events true) (none_stopped cluster s a sound up)))
 
     pub took : (n new : NodeActor D) (emitted : Emitted) → is_node a ≡ true → SlotStands images faults plan s a (Node n)
         → node.Takes images plan.topology (node_of a) start plan.version past act new emitted → node.is_down new ≡ false → node.disk_of new ≡ node.disk_of n

@@ -1,7 +1,7 @@
 -- The cluster behind a restart.
-use Rattle.std.proofs.Common.{◌≡◌, ℕ, suc, ◌<◌, ◌≤◌, Bool, true, false, List, [], ◌∷◌, Option, None, Some, Contains, is_some, IfSome, length, Result, Ok, Err, OnOk, IfOk, IfErr, IsErrAnd, refl, sym, ◌∙◌, ap, subst, inl, inr, arith}
+use Rattle.std.proofs.Common.{◌≡◌, ℕ, suc, ◌+◌, ◌^◌, ◌<◌, ◌≤◌, Bool, true, false, List, [], ◌∷◌, ◌++◌, Option, None, Contains, length, Result, Ok, Err, OnOk, IfOk, IfErr, IsErrAnd, refl, sym, ◌∙◌, ap, subst, inl, inr, arith}
 use Rattle.std.proofs.Math.ListN.{set}
-use Rattle.std.proofs.lemmas.List.{length-set}
+use Rattle.std.proofs.lemmas.List.{length-set, append_assoc}
 use Rattle.std.proofs.lemmas.Result.{on_ok_weaker, IfErr-weaker}
 use Rattle.acc_base.specs.declared.memory.OutOfMemory.{OutOfMemory as NoMemory}
 use Rattle.acc_stamp.specs.declared.actors.Actor.{Actor}
@@ -13,17 +13,20 @@ use Rattle.acc_message.specs.declared.error.Which.{Which}
 use Rattle.acc_message.specs.declared.error.Which.TheVariants.{Items}
 use Rattle.acc_message.specs.declared.error.RunError.{RunError}
 use Rattle.acc_message.specs.declared.error.RunError.TheVariants.{Limit}
+use Rattle.acc_message.specs.declared.item.Item.{Item}
 use Rattle.acc_message.specs.declared.item.Item.TheVariants.{Down as WentDown}
 use Rattle.acc_message.specs.Items.{same_actor}
+use Rattle.acc_actors.specs.Stops.{some}
 use Rattle.acc_actors.specs.declared.stops.Unsent.{Unsent}
 use Rattle.acc_actors.specs.declared.stops.Restarted.{Restarted}
 use Rattle.acc_actors.specs.declared.stops.Restarted.TheVariants.{Up, Down}
 use Rattle.acc_schedule.specs.Actors.{actors}
 use Rattle.acc_schedule.specs.Content.{Content}
 use Rattle.acc_entering.specs.Stopped.{IsSound}
-use Rattle.acc_entering.proofs.Sound.{sound_down, sound_reopened, sound_kept}
-use Rattle.acc_follow.specs.Situations.{Situation, stopped_at}
-use Rattle.acc_follow.specs.Moves.{with_item, entry_of, entered, kept_if, reopened}
+use Rattle.acc_entering.proofs.Sound.{sound_down, sound_restarted}
+use Rattle.acc_follow.specs.Situations.{Situation}
+use Rattle.acc_follow.specs.Moves.{with_item, entry_of, entered, kept_if, with_kept, reopened}
+use Rattle.acc_follow.proofs.StopLists.{all_earlier}
 use Rattle.acc_follow.specs.Schedules.{cluster_of}
 use Rattle.acc_strict.specs.Disks.{Disks, after_restart}
 use Rattle.acc_limits.specs.Limits.{IsWithin, EndsAt, most_items}
@@ -33,24 +36,22 @@ use Rattle.acc_cluster.specs.declared.slot.Slot.{Slot}
 use Rattle.acc_cluster.specs.declared.slot.Slot.TheVariants.{Empty}
 use Rattle.acc_cluster.specs.Slots.{SlotStands, IsStrictSlot, faults_in}
 use Rattle.acc_cluster.specs.Asked.{IsFew, HasRestartedAt, HasRestartedStrictlyAt}
-use Rattle.acc_bounds.specs.Sends.{AreSendable}
 use Rattle.acc_history.specs.declared.history.History.{History}
 use Rattle.acc_history.specs.Stands as history
 use Rattle.acc_cluster.specs.Entering.{HasRoom, HasPlace, IsPastOf}
 use Rattle.acc_cluster.specs.Stands.{slot_at, StandsFor}
 use Rattle.acc_cluster.specs.Steps.{IfLimit}
 use Rattle.acc_cluster.specs.Tried.{HasRestarted, HitsLimitInRestart}
-use Rattle.acc_cluster.specs.Restarting.{HasReopened, come_up, EndsInRestart}
+use Rattle.acc_cluster.specs.Restarting.{AreSendableBehind, CanComeBack, HasReopened, come_up, EndsInRestart}
 use Rattle.acc_cluster.proofs.Apart.{apart_down, apart_reopened}
-use Rattle.acc_cluster.proofs.Few.{entry_other}
-use Rattle.acc_cluster.proofs.RestartItems.{kept_sendable, limit_weaker, on_err, Enters, Ends}
-use Rattle.acc_cluster.proofs.RestartPasts.{was_stopped, downs_reopened}
+use Rattle.acc_cluster.proofs.Few.{few_placed, entry_other}
+use Rattle.acc_cluster.proofs.RestartItems.{kept_sent, kept_sendable, limit_weaker, on_err, Enters, Ends}
+use Rattle.acc_cluster.proofs.RestartPasts.{kept_can, downs_reopened}
 use Rattle.acc_cluster.proofs.Stepped.{turned}
 use Rattle.acc_cluster.proofs.Written.{IsWritten, write_is, AllApart, actors_written, strict_written, rose_written}
 
-room_reopened : (plan : Content) (s : Situation) (a : Actor) (kept : Option Event) → HasRoom s → HasRoom (reopened (cluster_of plan) s a kept)
-room_reopened plan s a None room = room
-room_reopened plan s a (Some event) room = room
+room_reopened : (plan : Content) (s : Situation) (a : Actor) (kept : List Event) → HasRoom s → HasRoom (reopened (cluster_of plan) s a kept)
+room_reopened plan s a kept room = subst (λ (earlier : List Item). length earlier + most_items < 2 ^ 31) (sym (all_earlier (cluster_of plan) a true s kept)) room
 
 module _ {D : Type 0} (images : D → List ℕ → Type 0) (faults : D → ℕ) (strict : D → Bool) (armed : D → Option ℕ) (content synced : D → List ℕ) (written_of : D → Ranges)
     (plan : Content) (a : Actor) (choice : ℕ) (old new : Cluster D) (s : Situation) (h : StandsFor images faults plan old s) (known : Contains (actors plan.topology) a) where
@@ -58,27 +59,23 @@ module _ {D : Type 0} (images : D → List ℕ → Type 0) (faults : D → ℕ) 
   others_disks : (disks : Disks) (b : Actor) → same_actor a b ≡ false → ((after_restart a disks).armed b ≡ disks.armed b) × ((after_restart a disks).passed b ≡ disks.passed b)
   others_disks disks b e = (entry_other a b None disks.armed (turned a b e), entry_other a b None disks.passed (turned a b e))
 
-  sound_up : (kept : Option Event) → ((event : Event) → kept ≡ Some event → stopped_at a s.stopped ≡ Some event) → IsSound (cluster_of plan) (reopened (cluster_of plan) s a kept)
-  sound_up None was = sound_reopened (cluster_of plan) s a h.sound
-  sound_up (Some event) was = sound_kept (cluster_of plan) s a event (was event refl) h.sound
-
-  pub has_come_up : (kept : Option Unsent)
+  pub has_come_up : (kept : List Unsent)
       → HasReopened images faults strict armed content synced written_of plan a choice old.slots.items new.slots.items (Up kept) s
       → IsPastOf new.history (come_up (cluster_of plan) s a kept)
       → HasRestarted images faults strict armed content synced written_of plan a choice old new s
   has_come_up kept found past =
       record {
         fails = false;
-        keeps = is_some kept;
+        keeps = some kept;
         stands = record {
-          sound = sound_up (kept_if (is_some kept) a s) (was_stopped (cluster_of plan) s a (is_some kept));
-          room = room_reopened plan s a (kept_if (is_some kept) a s) h.room;
+          sound = sound_restarted (cluster_of plan) (some kept) s a h.sound;
+          room = room_reopened plan s a (kept_if (some kept) a s) h.room;
           past = past;
           actors = actors_written plan old.slots.items new.slots.items s next a (slot_at new.slots.items a) written known apart images faults h.actors found.restarted.1;
         };
         rose = λ b there.
             rose_written plan old.slots.items new.slots.items s next a (slot_at new.slots.items a) written known apart faults
-            (inl (downs_reopened (cluster_of plan) s a (kept_if (is_some kept) a s))) b;
+            (inl (downs_reopened (cluster_of plan) s a (kept_if (some kept) a s))) b;
         strictly = λ disks are.
             let told = found.strictly disks (are a known) in (
               refl,
@@ -95,7 +92,7 @@ module _ {D : Type 0} (images : D → List ℕ → Type 0) (faults : D → ℕ) 
       written = record { here = refl; there = found.others }
 
       apart : AllApart plan s next a
-      apart b e = apart_reopened (cluster_of plan) s h.sound a b (kept_if (is_some kept) a s) e (was_stopped (cluster_of plan) s a (is_some kept))
+      apart b e = apart_reopened (cluster_of plan) s h.sound a b (kept_if (some kept) a s) e (kept_can (cluster_of plan) s a (some kept) h.sound)
 
   pub has_stayed_down : HasReopened images faults strict armed content synced written_of plan a choice old.slots.items new.slots.items Down s
       → IsPastOf new.history (with_item (WentDown a) s)
@@ -129,16 +126,20 @@ module _ {D : Type 0} (images : D → List ℕ → Type 0) (faults : D → ℕ) 
   above : (n : ℕ) → most_items ≤ n → most_items < suc n
   above n high = omega (arith, high)
 
-  ends_first : IsWithin s.own → most_items ≤ length s.own → (kept : Option Event) → EndsAt (λ front. Begins front (reopened (cluster_of plan) s a kept).own) s.own Items most_items
-  ends_first within full None =
-      record { next = entry_of (cluster_of plan) s a (Restart 0) false; front = record { later = []; items_are = refl }; within = within; passed = (refl, above (length s.own) full) }
-  ends_first within full (Some event) =
-      record {
-        next = entry_of (cluster_of plan) s a event true;
-        front = record { later = entry_of (cluster_of plan) (entered (cluster_of plan) s a event true) a (Restart 1) false ∷ []; items_are = refl };
-        within = within;
-        passed = (refl, above (length s.own) full);
-      }
+  -- what comes first of it
+  first_of : (events : List Event) (s : Situation) (next : Item)
+      → (first : Item) × (later : List Item) × (next ∷ (with_kept (cluster_of plan) s a events).own ≡ later ++ first ∷ s.own)
+  first_of [] s next = (next, [], refl)
+  first_of (event ∷ events) s next =
+      let entry : Item = entry_of (cluster_of plan) s a event true in
+      let rest = first_of events (entered (cluster_of plan) s a event true) next in
+      (entry, rest.1 ++ rest.0 ∷ [], rest.2 ∙ sym (append_assoc rest.1 (rest.0 ∷ []) (entry ∷ s.own)))
+
+  ends_first : IsWithin s.own → most_items ≤ length s.own → (kept : List Event) → EndsAt (λ front. Begins front (reopened (cluster_of plan) s a kept).own) s.own Items most_items
+  ends_first within full kept =
+      let between : Situation = with_kept (cluster_of plan) s a kept in
+      let found = first_of kept s (entry_of (cluster_of plan) between a (Restart (length kept)) false) in
+      record { next = found.0; front = record { later = found.1; items_are = found.2 }; within = within; passed = (refl, above (length s.own) full) }
 
   -- no place for anything
   pub refused_first : (e : RunError) → e ≡ Limit Items most_items → most_items ≤ length s.own
@@ -148,11 +149,11 @@ module _ {D : Type 0} (images : D → List ℕ → Type 0) (faults : D → ℕ) 
       (record { items = s.own; ends = inl (λ keeps. ends_first h.past.within full (kept_if keeps a s)) })
 
   -- behind the crash
-  pub refused_up : (kept : Option Unsent)
+  pub refused_up : (kept : List Unsent)
       → HasReopened images faults strict armed content synced written_of plan a choice old.slots.items new.slots.items (Up kept) s
       → (which : Which) (limit : ℕ) → EndsInRestart (cluster_of plan) s a kept which limit → HitsLimitInRestart strict armed content synced written_of plan a choice old s which limit
   refused_up kept found which limit ends =
-      record { items = ends.items; ends = inr (is_some kept, ends.ends, λ disks are. (found.strictly disks (are a known)).0) }
+      record { items = ends.items; ends = inr (some kept, ends.ends, λ disks are. (found.strictly disks (are a known)).0) }
 
 -- ---- the slot is taken out, and put back
 
@@ -178,12 +179,6 @@ module _ {D : Type 0} (images : D → List ℕ → Type 0) (faults : D → ℕ) 
       put = write_is (set before place Empty) now a place slot at (subst (λ n. place < n) (sym (length-set before place Empty)) within) is
 
 -- ---- from what the calls ensure
-
-few_of : (s : Situation) → HasRoom s → HasPlace s → IsFew s
-few_of s room place = (room, lower (length s.own) place)
-  where
-    lower : (n : ℕ) → n < most_items → n ≤ most_items
-    lower n low = omega (arith, low)
 
 module _ {D : Type 0} (images : D → List ℕ → Type 0) (faults : D → ℕ) (strict : D → Bool) (armed : D → Option ℕ) (content synced : D → List ℕ) (written_of : D → Ranges)
     (plan : Content) (a : Actor) (choice : ℕ) (old : Cluster D) (known : Contains (actors plan.topology) a) where
@@ -222,13 +217,16 @@ module _ {D : Type 0} (images : D → List ℕ → Type 0) (faults : D → ℕ) 
         has_stayed_down images faults strict armed content synced written_of plan a choice old (with_history now) s h known (opened_as Down is s h)
         (told s (past_middle s h) (place s h.past.stands)))
 
-    module _ (kept : Option Unsent) (is : found ≡ Up kept) where
+    module _ (kept : List Unsent) (is : found ≡ Up kept) where
       abbrev reopened_up : (s : Situation) → StandsFor images faults plan old s
           → HasReopened images faults strict armed content synced written_of plan a choice old.slots.items middle.slots.items (Up kept) s
       reopened_up s h = opened_as (Up kept) is s h
 
-      pub up_sendable : (s : Situation) → StandsFor images faults plan old s → IfSome kept (λ unsent. AreSendable unsent.emitted.out)
-      up_sendable s h = kept_sendable (cluster_of plan) s a h.sound (few_of s h.room (place s h.past.stands)) kept (reopened_up s h).restarted.0
+      pub up_back : (s : Situation) → StandsFor images faults plan old s → CanComeBack middle.history a kept s × AreSendableBehind a kept s
+      up_back s h = (
+        record { past = past_middle s h; place = place s h.past.stands; taken = kept_sent (cluster_of plan) s a h.sound kept (reopened_up s h).restarted.0 },
+        kept_sendable (cluster_of plan) s a h.sound kept (reopened_up s h).restarted.0 h.room,
+      )
 
       pub up_enters : {T : Type 0} (r : Result T RunError) (now : History) → OnOk r (Enters middle.history now a kept)
           → OnOk r ((s : Situation) → StandsFor images faults plan old s
@@ -260,6 +258,6 @@ module _ {D : Type 0} (images : D → List ℕ → Type 0) (faults : D → ℕ) 
   slot_reopened (Ok found) within left_is taken_is ok strictly cause = λ s h place.
       let stands : SlotStands images faults plan s a taken = subst (λ (x : Slot D). SlotStands images faults plan s a x) (sym taken_is) (h.actors.each a known) in
       has_reopened images faults strict armed content synced written_of plan a choice old.slots.items (set (set old.slots.items a.0 left) a.0 slot) a.0 slot refl within
-      (ap (λ (x : Slot D). set (set old.slots.items a.0 x) a.0 slot) left_is) s found (ok s h.sound (few_of s h.room place) stands)
+      (ap (λ (x : Slot D). set (set old.slots.items a.0 x) a.0 slot) left_is) s found (ok s h.sound (few_placed s h.room place) stands)
       (λ disks are. strictly s disks h.sound stands (subst (λ (x : Slot D). IsStrictSlot strict armed content synced written_of plan s disks a x) (sym taken_is) are))
       (λ down. subst (λ (x : Slot D). Rose (faults_in faults x) (faults_in faults slot)) taken_is (cause (ap Ok down)))

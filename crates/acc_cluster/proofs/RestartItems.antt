@@ -1,9 +1,12 @@
 -- What a restart enters, and the limits that end it.
-use Rattle.std.proofs.Common.{◌≡◌, ℕ, suc, ◌<◌, ◌≤◌, true, false, List, [], ◌∷◌, Option, None, Some, IfSome, length, Result, Ok, Err, OnOk, IfErr, IsErrAnd, refl, sym, ◌∙◌, ap, subst, arith}
+use Rattle.std.proofs.Common.{◌≡◌, ℕ, suc, ◌<◌, ◌≤◌, true, false, List, [], ◌∷◌, ◌++◌, length, length-append, Option, None, Some, Result, Ok, Err, OnOk, IfErr, IsErrAnd, refl, sym, ◌∙◌, ap, subst, arith}
+use Rattle.std.proofs.lemmas.List.{append_assoc}
 use Rattle.std.proofs.lemmas.Option.{slice_get_within}
 use Rattle.std.proofs.lemmas.Result.{on_ok_weaker, IfErr-weaker}
+use Rattle.std.specs.List.{AllByRecursion}
 use Rattle.std.specs.Option.{option_map}
 use Rattle.acc_stamp.specs.declared.actors.Actor.{Actor}
+use Rattle.acc_stamp.proofs.Rising.{each_weaker}
 use Rattle.acc_message.specs.declared.message.Message.{Message}
 use Rattle.acc_message.specs.declared.entry.Emitted.{Emitted}
 use Rattle.acc_message.specs.declared.entry.Event.{Event}
@@ -13,7 +16,7 @@ use Rattle.acc_message.specs.declared.error.Which.TheVariants.{Items}
 use Rattle.acc_message.specs.declared.error.RunError.{RunError}
 use Rattle.acc_message.specs.declared.error.RunError.TheVariants.{Limit, OutOfMemory}
 use Rattle.acc_message.specs.declared.item.Item.{Item}
-use Rattle.acc_message.specs.Items.{sent_of, message_at}
+use Rattle.acc_message.specs.Items.{sent_of, sent_in, message_at}
 use Rattle.acc_message.specs.NodeRules.{Act, Takes}
 use Rattle.acc_message.specs.Run.{Cluster, act_of}
 use Rattle.acc_message.specs.Coordinator.{silence}
@@ -21,27 +24,32 @@ use Rattle.acc_actor_laws.proofs.Standing.{not_none}
 use Rattle.acc_bounds.specs.Sends.{AreSendable}
 use Rattle.acc_bounds.proofs.Everywhere.{all_from}
 use Rattle.acc_message_code.specs.Short.{IsShortMessage}
+use Rattle.acc_safety.specs.Valid.{IsStanding}
 use Rattle.acc_safety.proofs.PlaceOrder.{none_is_in}
 use Rattle.acc_bounds.proofs.Sendable.{next_sendable}
 use Rattle.acc_safe_runs.specs.Asks.{emits_if}
+use Rattle.acc_actors.specs.Stops.{some}
 use Rattle.acc_actors.specs.declared.stops.Unsent.{Unsent}
-use Rattle.acc_entering.specs.Stopped.{CanGoOn, IsSound}
+use Rattle.acc_entering.specs.Stopped.{CanGoOn, CanAllGoOn, IsSound}
 use Rattle.acc_entering.proofs.Situations.{message_whole}
 use Rattle.acc_entering.proofs.Standing.{may_do}
 use Rattle.acc_entering.proofs.Replayed.{restart_emits}
 use Rattle.acc_entering.proofs.Sound.{sound_standing}
-use Rattle.acc_follow.specs.Situations.{Situation, whole, stopped_at, without}
-use Rattle.acc_follow.specs.Moves.{with_item, with_stopped, event_in, entry_of, entered, reopened}
+use Rattle.acc_follow.specs.Situations.{Situation, whole, without}
+use Rattle.acc_follow.specs.Moves.{with_item, with_stopped, event_in, entry_of, entered, kept_if, with_kept}
 use Rattle.acc_limits.specs.Limits.{IsWithin, EndsAt, most_items}
+use Rattle.acc_limits.specs.Fronts.{Begins}
 use Rattle.acc_history.specs.declared.history.History.{History}
 use Rattle.acc_history.specs.Stands.{EventTakesSent}
 use Rattle.acc_history.specs.Stands as history
 use Rattle.acc_history.proofs.Stopped.{stands_stopped}
-use Rattle.acc_cluster.specs.Entering.{HasPlace, IsPastOf, step_item}
+use Rattle.acc_cluster.specs.Entering.{HasRoom, HasPlace, IsPastOf, step_item}
 use Rattle.acc_cluster.specs.Steps.{IfLimit}
-use Rattle.acc_cluster.specs.Asked.{IsFew, IsKeptStep}
-use Rattle.acc_cluster.specs.Restarting.{come_up, EndsInRestart}
-use Rattle.acc_cluster.proofs.Few.{few_whole}
+use Rattle.acc_cluster.specs.Asked.{AreSteps, AreKeptSteps}
+use Rattle.acc_cluster.specs.Restarting.{lost_item, with_lost, AreSendableBehind, CanComeBack, EndsInLost, come_up, EndsInRestart}
+use Rattle.acc_cluster.proofs.Few.{few_whole, few_placed}
+use Rattle.acc_cluster.proofs.Filled.{all_seam}
+use Rattle.acc_cluster.proofs.RestartPasts.{AllMay, all_may, standing_on, kept_can, kept_steps}
 
 -- ---- the restart itself
 
@@ -81,82 +89,186 @@ took_sent cluster s (TakesMessage number) act is = by (message_at s.own number) 
     by (Some m) found = slice_get_within (sent_of s.own) number m found
 took_sent cluster s (Restart kept) act is = tt
 
-module _ (cluster : Cluster) (s : Situation) (a : Actor) (sound : IsSound cluster s) where
-  pub takes_sent : (event : Event) → stopped_at a s.stopped ≡ Some event → EventTakesSent s event
-  takes_sent event is =
-      let can : CanGoOn cluster (whole s) a (event_in s event) = sound.stopped a event is in
-      took_sent cluster s event can.act can.may.act_is
+-- all of them
+all_sent : (cluster : Cluster) (s : Situation) (a : Actor) (events : List Event) → CanAllGoOn cluster s a events → AllByRecursion (λ (event : Event). EventTakesSent s event) events
+all_sent cluster s a events can = each_weaker _ _ events (λ event (h : CanGoOn cluster (whole s) a (event_in s event)). took_sent cluster s event h.act h.may.act_is) can.0
 
-  pub kept_sendable : IsFew s → (kept : Option Unsent) → IsKeptStep cluster s a kept → IfSome kept (λ unsent. AreSendable unsent.emitted.out)
-  kept_sendable few None h = tt
-  kept_sendable few (Some unsent) h =
-      let can : CanGoOn cluster (whole s) a (event_in s unsent.event) = sound.stopped a unsent.event h.0 in
-      subst (λ (e : Emitted). AreSendable e.out) (sym (h.1 ∙ ap (emits_if cluster (whole s) a) can.may.act_is))
-      (next_sendable cluster (whole s) a can.act (sound_standing cluster s sound) (may_do cluster (whole s) a (event_in s unsent.event) can.act can.may) (few_whole s few))
+steps_sent : (cluster : Cluster) (s : Situation) (a : Actor) (events : List Event) (behind : Situation) (kept : List Unsent) → AreSteps cluster behind a events true kept
+    → AllByRecursion (λ (event : Event). EventTakesSent s event) events → AllByRecursion (λ (unsent : Unsent). EventTakesSent s unsent.event) kept
+steps_sent cluster s a [] behind [] steps sent = tt
+steps_sent cluster s a [] behind (unsent ∷ others) steps sent = absurd steps
+steps_sent cluster s a (event ∷ events) behind [] steps sent = tt
+steps_sent cluster s a (event ∷ events) behind (unsent ∷ others) steps sent = (
+  subst (λ (e : Event). EventTakesSent s e) (sym steps.0) sent.0,
+  steps_sent cluster s a events (entered cluster behind a event true) others steps.2 sent.1,
+)
 
-  -- nothing was kept
-  pub past_up_none : (h : History) → IsPastOf h (entered cluster s a (Restart 0) false) → IsPastOf h (come_up cluster s a None)
-  past_up_none h past = record { stands = stands_stopped past.stands (without a s.stopped); weighed = past.weighed; within = past.within }
+lost_is : (cluster : Cluster) (s : Situation) (a : Actor) (event : Event) (unsent : Unsent) → unsent.event ≡ event
+    → unsent.emitted ≡ emits_if cluster (whole s) a (act_of cluster (whole s) (event_in s event)) → lost_item a unsent ≡ entry_of cluster s a event true
+lost_is cluster s a event unsent same emits = ap (λ (e : Event). step_item a e unsent.emitted true) same ∙ ap (λ (m : Emitted). step_item a event m true) emits
 
-  pub ends_up_none : (which : Which) (limit : ℕ) → EndsAt (λ front. front ≡ (entered cluster s a (Restart 0) false).own) s.own which limit → EndsInRestart cluster s a None which limit
-  ends_up_none which limit ends =
-      record { items = s.own; ends = record { next = ends.next; front = record { later = []; items_are = sym ends.front }; within = ends.within; passed = ends.passed } }
+-- what was kept, entered as lost, is what comes back
+lost_all : (cluster : Cluster) (a : Actor) (events : List Event) (s : Situation) (kept : List Unsent) → AreSteps cluster s a events true kept
+    → (with_lost a kept s ≡ with_kept cluster s a events) × (length kept ≡ length events)
+lost_all cluster a [] s [] steps = (refl, refl)
+lost_all cluster a [] s (unsent ∷ others) steps = absurd steps
+lost_all cluster a (event ∷ events) s [] steps = absurd steps
+lost_all cluster a (event ∷ events) s (unsent ∷ others) steps =
+    let rest = lost_all cluster a events (entered cluster s a event true) others steps.2 in (
+      ap (λ (item : Item). with_lost a others (with_item item s)) (lost_is cluster s a event unsent steps.0 steps.1) ∙ rest.0,
+      ap suc rest.1,
+    )
 
-  -- a step was kept
-  module _ (unsent : Unsent) (kept : IsKeptStep cluster s a (Some unsent)) where
-    abbrev lost : Item
-    lost = step_item a unsent.event unsent.emitted true
+steps_sendable : (cluster : Cluster) (a : Actor) (events : List Event) (s : Situation) (kept : List Unsent) → HasRoom s → IsStanding cluster (whole s) → AllMay cluster s a events true
+    → AreSteps cluster s a events true kept → AreSendableBehind a kept s
+steps_sendable cluster a [] s [] room standing may steps = tt
+steps_sendable cluster a [] s (unsent ∷ others) room standing may steps = absurd steps
+steps_sendable cluster a (event ∷ events) s [] room standing may steps = tt
+steps_sendable cluster a (event ∷ events) s (unsent ∷ others) room standing may steps = (
+  λ place. subst (λ (e : Emitted). AreSendable e.out) (sym (steps.1 ∙ ap (emits_if cluster (whole s) a) may.0.1.act_is))
+      (next_sendable cluster (whole s) a may.0.0 standing (may_do cluster (whole s) a (event_in s event) may.0.0 may.0.1) (few_whole s (few_placed s room place))),
+  subst (λ (item : Item). AreSendableBehind a others (with_item item s)) (sym (lost_is cluster s a event unsent steps.0 steps.1))
+      (steps_sendable cluster a events (entered cluster s a event true) others room (standing_on cluster a s event may.0.0 true may.0.1 standing) may.1 steps.2),
+)
 
-    abbrev between : Situation
-    between = with_item lost s
+module _ (cluster : Cluster) (s : Situation) (a : Actor) (sound : IsSound cluster s) (kept : List Unsent) (are : AreKeptSteps cluster s a kept) where
+  abbrev events : List Event
+  events = kept_if (some kept) a s
 
-    lost_is : lost ≡ entry_of cluster s a unsent.event true
-    lost_is = ap (λ (e : Emitted). step_item a unsent.event e true) kept.1
+  steps : AreSteps cluster s a events true kept
+  steps = kept_steps cluster s a kept are
 
-    -- the situation behind the restart
-    abbrev behind : Situation
-    behind = entered cluster between a (Restart 1) false
+  can : CanAllGoOn cluster s a events
+  can = kept_can cluster s a (some kept) sound
 
-    reopened_is : with_stopped (without a s.stopped) behind ≡ come_up cluster s a (Some unsent)
-    reopened_is =
-        ap (λ item. with_stopped (without a s.stopped) (entered cluster (with_item item s) a (Restart 1) false)) lost_is
-        ∙ ap (λ (o : Option Event). reopened cluster s a o) (sym kept.0)
+  pub kept_sent : AllByRecursion (λ (unsent : Unsent). EventTakesSent s unsent.event) kept
+  kept_sent = steps_sent cluster s a events s kept steps (all_sent cluster s a events can)
 
-    pub past_up : (h : History) → IsPastOf h behind → IsPastOf h (come_up cluster s a (Some unsent))
-    past_up h past =
-        subst (λ (x : Situation). IsPastOf h x) reopened_is
-        (record { stands = stands_stopped past.stands (without a s.stopped); weighed = past.weighed; within = past.within })
+  pub kept_sendable : HasRoom s → AreSendableBehind a kept s
+  kept_sendable room = steps_sendable cluster a events s kept room (sound_standing cluster s sound) (all_may cluster a events s can) steps
 
-    own_is : behind.own ≡ (come_up cluster s a (Some unsent)).own
-    own_is = ap (λ (x : Situation). x.own) reopened_is
+  -- ---- the situation behind the restart
 
-    -- a limit ends it before the entry that is lost
-    pub ends_lost : (which : Which) (limit : ℕ) → EndsAt (λ front. front ≡ lost ∷ s.own) s.own which limit → EndsInRestart cluster s a (Some unsent) which limit
-    ends_lost which limit ends =
+  abbrev between : Situation
+  between = with_lost a kept s
+
+  abbrev behind : Situation
+  behind = entered cluster between a (Restart (length kept)) false
+
+  reopened_is : with_stopped (without a s.stopped) behind ≡ come_up cluster s a kept
+  reopened_is =
+      let all = lost_all cluster a events s kept steps in
+      ap (λ (x : Situation). with_stopped (without a s.stopped) (entered cluster x a (Restart (length kept)) false)) all.0
+      ∙ ap (λ n. with_stopped (without a s.stopped) (entered cluster (with_kept cluster s a events) a (Restart n) false)) all.1
+
+  pub past_up : (h : History) → IsPastOf h behind → IsPastOf h (come_up cluster s a kept)
+  past_up h past =
+      subst (λ (x : Situation). IsPastOf h x) reopened_is
+      (record { stands = stands_stopped past.stands (without a s.stopped); weighed = past.weighed; within = past.within })
+
+  own_is : behind.own ≡ (come_up cluster s a kept).own
+  own_is = ap (λ (x : Situation). x.own) reopened_is
+
+  -- a limit ends it before an entry that is lost, or before the restart
+  pub ends_kept : (which : Which) (limit : ℕ) → EndsInLost s a kept which limit → EndsInRestart cluster s a kept which limit
+  ends_kept which limit told =
+      let found = told (entry_of cluster between a (Restart (length kept)) false) in record {
+        items = found.0;
+        ends = subst (λ (own : List Item). EndsAt (λ front. Begins front own) found.0 which limit) own_is found.1;
+      }
+
+  pub ends_up : (which : Which) (limit : ℕ) → EndsAt (λ front. front ≡ behind.own) between.own which limit → EndsInRestart cluster s a kept which limit
+  ends_up which limit ends =
+      record {
+        items = between.own;
+        ends = record { next = ends.next; front = record { later = []; items_are = sym own_is ∙ sym ends.front }; within = ends.within; passed = ends.passed };
+      }
+
+-- ---- one entry that is lost
+
+above : (n : ℕ) → most_items ≤ n → most_items < suc n
+above n high = omega (arith, high)
+
+module _ (s : Situation) (a : Actor) (unsent : Unsent) where
+  ends_before : (which : Which) (limit : ℕ) → EndsAt (λ front. front ≡ lost_item a unsent ∷ s.own) s.own which limit → EndsInLost s a (unsent ∷ []) which limit
+  ends_before which limit ends = λ next. (
+    s.own,
+    record { next = ends.next; front = record { later = next ∷ []; items_are = ap (λ (l : List Item). next ∷ l) (sym ends.front) }; within = ends.within; passed = ends.passed },
+  )
+
+  ends_full : IsWithin (lost_item a unsent ∷ s.own) → most_items ≤ length (lost_item a unsent ∷ s.own) → EndsInLost s a (unsent ∷ []) Items most_items
+  ends_full within full = λ next. (
+    lost_item a unsent ∷ s.own,
+    record { next = next; front = record { later = []; items_are = refl }; within = within; passed = (refl, above (length (lost_item a unsent ∷ s.own)) full) },
+  )
+
+-- ---- one behind another
+
+module _ (a : Actor) where
+  lost_on : (before after : List Unsent) (s : Situation) → with_lost a (before ++ after) s ≡ with_lost a after (with_lost a before s)
+  lost_on [] after s = refl
+  lost_on (unsent ∷ before) after s = lost_on before after (with_item (lost_item a unsent) s)
+
+  -- what comes behind them, down to the first of it
+  abbrev LaterItems : List Unsent → Situation → Item → Type 0
+  LaterItems others s next = (first : Item) × (later : List Item) × (next ∷ (with_lost a others s).own ≡ later ++ first ∷ s.own)
+
+  later_items : (others : List Unsent) (s : Situation) (next : Item) → LaterItems others s next
+  later_items [] s next = (next, [], refl)
+  later_items (unsent ∷ others) s next =
+      let rest = later_items others (with_item (lost_item a unsent) s) next in
+      (lost_item a unsent, rest.1 ++ rest.0 ∷ [], rest.2 ∙ sym (append_assoc rest.1 (rest.0 ∷ []) (lost_item a unsent ∷ s.own)))
+
+  pub ends_among : (before : List Unsent) (unsent : Unsent) (others : List Unsent) (s : Situation) (which : Which) (limit : ℕ)
+      → EndsInLost (with_lost a before s) a (unsent ∷ []) which limit → EndsInLost s a (before ++ unsent ∷ others) which limit
+  ends_among before unsent others s which limit told next =
+      let here : Situation = with_item (lost_item a unsent) (with_lost a before s) in
+      let rest = later_items others here next in
+      let found = told rest.0 in
+      let front = found.1.front in (
+        found.0,
         record {
-          items = s.own;
-          ends = record {
-            next = ends.next;
-            front = record { later = entry_of cluster between a (Restart 1) false ∷ []; items_are = sym own_is ∙ ap (λ (l : List Item). entry_of cluster between a (Restart 1) false ∷ l) (sym ends.front) };
-            within = ends.within;
-            passed = ends.passed;
+          next = found.1.next;
+          front = record {
+            later = rest.1 ++ front.later;
+            items_are =
+                ap (λ (x : Situation). next ∷ x.own) (lost_on before (unsent ∷ others) s) ∙ rest.2
+                ∙ ap (λ (l : List Item). rest.1 ++ l) front.items_are
+                ∙ sym (append_assoc rest.1 front.later (found.1.next ∷ found.0));
           };
-        }
+          within = found.1.within;
+          passed = found.1.passed;
+        },
+      )
 
-    -- or before the restart
-    pub ends_up : (which : Which) (limit : ℕ) → EndsAt (λ front. front ≡ behind.own) between.own which limit → EndsInRestart cluster s a (Some unsent) which limit
-    ends_up which limit ends =
-        record {
-          items = between.own;
-          ends = record { next = ends.next; front = record { later = []; items_are = sym own_is ∙ sym ends.front }; within = ends.within; passed = ends.passed };
-        }
+  sent_more : (s : Situation) (item : Item) (event : Event) → EventTakesSent s event → EventTakesSent (with_item item s) event
+  sent_more s item (Begin txn) h = tt
+  sent_more s item (Recover txn) h = tt
+  sent_more s item (Slow txn) h = tt
+  sent_more s item (TakesMessage number) h = let more = length-append (sent_of s.own) (sent_in item) in omega (arith, h, more)
+  sent_more s item (Restart kept) h = tt
 
-    above : (n : ℕ) → most_items ≤ n → most_items < suc n
-    above n high = omega (arith, high)
+  sent_behind : (before : List Unsent) (s : Situation) (event : Event) → EventTakesSent s event → EventTakesSent (with_lost a before s) event
+  sent_behind [] s event h = h
+  sent_behind (unsent ∷ before) s event h = sent_behind before (with_item (lost_item a unsent) s) event (sent_more s (lost_item a unsent) event h)
 
-    pub ends_full : IsWithin between.own → most_items ≤ length between.own → EndsInRestart cluster s a (Some unsent) Items most_items
-    ends_full within full =
-        ends_up Items most_items (record { next = entry_of cluster between a (Restart 1) false; front = refl; within = within; passed = (refl, above (length between.own) full) })
+  pub sendable_at : (before : List Unsent) (unsent : Unsent) (after : List Unsent) (s : Situation) → AreSendableBehind a (before ++ unsent ∷ after) s
+      → HasPlace (with_lost a before s) → AreSendable unsent.emitted.out
+  sendable_at [] unsent after s h = h.0
+  sendable_at (first ∷ before) unsent after s h = sendable_at before unsent after (with_item (lost_item a first) s) h.1
+
+  -- with one more
+  pub lost_more : (before : List Unsent) (unsent : Unsent) (after : List Unsent) (s : Situation) (old middle now : History)
+      → CanComeBack old a (before ++ unsent ∷ after) s → IsPastOf middle (with_lost a before s) × HasPlace (with_lost a before s)
+      → ((s : Situation) → IsPastOf middle s → HasPlace s → EventTakesSent s unsent.event → IsPastOf now (with_item (lost_item a unsent) s) × HasPlace (with_item (lost_item a unsent) s))
+      → IsPastOf now (with_lost a (before ++ unsent ∷ []) s) × HasPlace (with_lost a (before ++ unsent ∷ []) s)
+  lost_more before unsent after s old middle now come was enters =
+      subst (λ (x : Situation). IsPastOf now x × HasPlace x) (sym (lost_on before (unsent ∷ []) s))
+      (enters (with_lost a before s) was.0 was.1 (sent_behind before s unsent.event (all_seam (λ (u : Unsent). EventTakesSent s u.event) before unsent after come.taken)))
+
+  pub sent_at : (before : List Unsent) (unsent : Unsent) (after : List Unsent) (s : Situation) (old : History) → CanComeBack old a (before ++ unsent ∷ after) s
+      → EventTakesSent (with_lost a before s) unsent.event
+  sent_at before unsent after s old come = sent_behind before s unsent.event (all_seam (λ (u : Unsent). EventTakesSent s u.event) before unsent after come.taken)
 
 -- ---- from what the calls ensure
 
@@ -169,14 +281,85 @@ pub on_err : {T : Type 0} (r : Result T RunError) (e : RunError) (P : RunError �
 on_err (Ok x) e P is h = absurd is
 on_err (Err y) e P is h = subst P (sym is) h
 
--- the history stands for what comes, where this was kept
-abbrev pub Enters : History → History → Actor → Option Unsent → Type 0
-Enters before now a kept =
-    (cluster : Cluster) (s : Situation) → IsSound cluster s → IsPastOf before s → HasPlace s → IsKeptStep cluster s a kept → IsPastOf now (come_up cluster s a kept)
+-- ---- one entry
 
-abbrev pub Ends : History → Actor → Option Unsent → Which → ℕ → Type 0
+abbrev pub EntersLost : History → History → Actor → Unsent → Type 0
+EntersLost before now a unsent =
+    (s : Situation) → IsPastOf before s → HasPlace s → EventTakesSent s unsent.event → IsPastOf now (with_item (lost_item a unsent) s) × HasPlace (with_item (lost_item a unsent) s)
+
+abbrev pub EndsLost : History → Actor → List Unsent → Unsent → Which → ℕ → Type 0
+EndsLost before a kept unsent which limit = (s : Situation) → IsPastOf before s → HasPlace s → EventTakesSent s unsent.event → EndsInLost s a kept which limit
+
+module _ {T : Type 0} (r : Result T RunError) (before middle : History) (a : Actor) (unsent : Unsent) where
+  -- no place for what is lost
+  pub lost_ends : (e : RunError) → IsErrAnd r (λ y. y ≡ e)
+      → IfLimit (λ which limit. (s : Situation) → IsPastOf before s → HasPlace s → EndsAt (λ front. front ≡ step_item a unsent.event unsent.emitted true ∷ s.own) s.own which limit) e
+      → IfErr r (IfLimit (EndsLost before a (unsent ∷ []) unsent))
+  lost_ends e is told =
+      on_err r e (IfLimit (EndsLost before a (unsent ∷ []) unsent)) is
+      (limit_weaker _ (EndsLost before a (unsent ∷ []) unsent) e (λ which limit h. λ s past place sent. ends_before s a unsent which limit (h s past place)) told)
+
+  module _ (enters : (s : Situation) → IsPastOf before s → HasPlace s → EventTakesSent s unsent.event → IsPastOf middle (with_item (step_item a unsent.event unsent.emitted true) s)) where
+    -- or none behind it
+    pub full_ends : IfErr r (λ e. (e ≡ Limit Items most_items) × ((s : Situation) → history.StandsFor middle s → most_items ≤ length s.own)) → IfErr r (IfLimit (EndsLost before a (unsent ∷ []) unsent))
+    full_ends =
+        IfErr-weaker r _ (IfLimit (EndsLost before a (unsent ∷ []) unsent))
+        (λ e (told : (e ≡ Limit Items most_items) × ((s : Situation) → history.StandsFor middle s → most_items ≤ length s.own)).
+        subst (IfLimit (EndsLost before a (unsent ∷ []) unsent)) (sym told.0)
+        (λ s past place sent.
+        let mid = enters s past place sent in
+        ends_full s a unsent mid.within (told.1 (with_item (lost_item a unsent) s) mid.stands)))
+
+    pub lost_enters : OnOk r ((s : Situation) → history.StandsFor middle s → HasPlace s) → OnOk r (EntersLost before middle a unsent)
+    lost_enters =
+        on_ok_weaker r
+        (λ placed s past place sent.
+        let mid = enters s past place sent in
+        (mid, placed (with_item (lost_item a unsent) s) mid.stands))
+
+-- ---- one behind another, as a loop makes them
+
+module _ (a : Actor) where
+  abbrev pub HasEntered : List Unsent → List Unsent → History → History → Type 0
+  HasEntered done kept old now = (s : Situation) → CanComeBack old a kept s → IsPastOf now (with_lost a done s) × HasPlace (with_lost a done s)
+
+  pub lost_begins : (kept : List Unsent) (old : History) → HasEntered [] kept old old
+  lost_begins kept old s come = (come.past, come.place)
+
+  pub lost_all_in : (done kept : List Unsent) (old now : History) → done ≡ kept → HasEntered done kept old now → HasEntered kept kept old now
+  lost_all_in done kept old now is entered = subst (λ (all : List Unsent). HasEntered all kept old now) is entered
+
+  module _ (done : List Unsent) (unsent : Unsent) (after kept : List Unsent) (old middle : History) (seam : done ++ unsent ∷ after ≡ kept) (was : HasEntered done kept old middle) where
+    parted : (s : Situation) → CanComeBack old a kept s → CanComeBack old a (done ++ unsent ∷ after) s
+    parted s come = subst (λ (all : List Unsent). CanComeBack old a all s) (sym seam) come
+
+    pub lost_sendable : (s : Situation) × CanComeBack old a kept s × AreSendableBehind a kept s → AreSendable unsent.emitted.out
+    lost_sendable back =
+        sendable_at a done unsent after back.0 (subst (λ (all : List Unsent). AreSendableBehind a all back.0) (sym seam) back.2) (was back.0 back.1).1
+
+    pub lost_goes_on : (now : History) → EntersLost middle now a unsent → HasEntered (done ++ unsent ∷ []) kept old now
+    lost_goes_on now enters s come = lost_more a done unsent after s old middle now (parted s come) (was s come) enters
+
+    pub lost_ends_among : {T : Type 0} (r : Result T RunError) (e : RunError) → IsErrAnd r (λ y. y ≡ e) → IfLimit (EndsLost middle a (unsent ∷ []) unsent) e
+        → IfErr r (IfLimit (λ which limit. (s : Situation) → CanComeBack old a kept s → EndsInLost s a kept which limit))
+    lost_ends_among r e is told =
+        on_err r e (IfLimit (λ which limit. (s : Situation) → CanComeBack old a kept s → EndsInLost s a kept which limit)) is
+        (limit_weaker (EndsLost middle a (unsent ∷ []) unsent) (λ which limit. (s : Situation) → CanComeBack old a kept s → EndsInLost s a kept which limit) e
+        (λ which limit (h : EndsLost middle a (unsent ∷ []) unsent which limit). λ s come.
+        let here = was s come in
+        subst (λ (all : List Unsent). EndsInLost s a all which limit) seam
+        (ends_among a done unsent after s which limit (h (with_lost a done s) here.0 here.1 (sent_at a done unsent after s old (parted s come))))) told)
+
+-- ---- all of them, and the restart
+
+-- the history stands for what comes, where this was kept
+abbrev pub Enters : History → History → Actor → List Unsent → Type 0
+Enters before now a kept =
+    (cluster : Cluster) (s : Situation) → IsSound cluster s → IsPastOf before s → HasPlace s → AreKeptSteps cluster s a kept → IsPastOf now (come_up cluster s a kept)
+
+abbrev pub Ends : History → Actor → List Unsent → Which → ℕ → Type 0
 Ends before a kept which limit =
-    (cluster : Cluster) (s : Situation) → IsSound cluster s → IsPastOf before s → HasPlace s → IsKeptStep cluster s a kept → EndsInRestart cluster s a kept which limit
+    (cluster : Cluster) (s : Situation) → IsSound cluster s → IsPastOf before s → HasPlace s → AreKeptSteps cluster s a kept → EndsInRestart cluster s a kept which limit
 
 abbrev pub EntersRestart : History → History → Actor → ℕ → Type 0
 EntersRestart before now a count = (cluster : Cluster) (s : Situation) → IsPastOf before s → HasPlace s → IsPastOf now (entered cluster s a (Restart count) false)
@@ -185,66 +368,33 @@ abbrev pub EndsRestart : History → Actor → ℕ → Which → ℕ → Type 0
 EndsRestart before a count which limit =
     (cluster : Cluster) (s : Situation) → IsPastOf before s → HasPlace s → EndsAt (λ front. front ≡ (entered cluster s a (Restart count) false).own) s.own which limit
 
-module _ {T : Type 0} (r : Result T RunError) (before now : History) (a : Actor) (kept : Option Unsent) (is : kept ≡ None) where
-  pub none_enters : OnOk r (EntersRestart before now a 0) → OnOk r (Enters before now a kept)
-  none_enters = on_ok_weaker r (λ told. subst (Enters before now a) (sym is) (λ cluster s sound past place h. past_up_none cluster s a sound now (told cluster s past place)))
+module _ {T : Type 0} (r : Result T RunError) (before middle now : History) (a : Actor) (kept : List Unsent) where
+  come_back : (cluster : Cluster) (s : Situation) → IsSound cluster s → IsPastOf before s → HasPlace s → AreKeptSteps cluster s a kept → CanComeBack before a kept s
+  come_back cluster s sound past place are = record { past = past; place = place; taken = kept_sent cluster s a sound kept are }
 
-  pub none_ends : IfErr r (IfLimit (EndsRestart before a 0)) → IfErr r (IfLimit (Ends before a kept))
-  none_ends =
-      IfErr-weaker r (IfLimit (EndsRestart before a 0)) (IfLimit (Ends before a kept))
-      (λ e. limit_weaker (EndsRestart before a 0) (Ends before a kept) e
-      (λ which limit told. subst (λ k. Ends before a k which limit) (sym is) (λ cluster s sound past place h. ends_up_none cluster s a sound which limit (told cluster s past place))))
+  -- no place for one that is lost
+  pub kept_ends : (e : RunError) → IsErrAnd r (λ y. y ≡ e) → IfLimit (λ which limit. (s : Situation) → CanComeBack before a kept s → EndsInLost s a kept which limit) e
+      → IfErr r (IfLimit (Ends before a kept))
+  kept_ends e is told =
+      on_err r e (IfLimit (Ends before a kept)) is
+      (limit_weaker _ (Ends before a kept) e
+      (λ which limit h. λ cluster s sound past place are. ends_kept cluster s a sound kept are which limit (h s (come_back cluster s sound past place are))) told)
 
-module _ {T : Type 0} (r : Result T RunError) (before now : History) (a : Actor) (kept : Option Unsent) (unsent : Unsent) (is : kept ≡ Some unsent) where
-  pub some_enters : OnOk r (Enters before now a (Some unsent)) → OnOk r (Enters before now a kept)
-  some_enters = on_ok_weaker r (subst (Enters before now a) (sym is))
+  module _ (count : ℕ) (count_is : count ≡ length kept)
+      (enters : (s : Situation) → CanComeBack before a kept s → IsPastOf middle (with_lost a kept s) × HasPlace (with_lost a kept s)) where
+    pub up_enters : OnOk r (EntersRestart middle now a count) → OnOk r (Enters before now a kept)
+    up_enters =
+        on_ok_weaker r
+        (λ (told : EntersRestart middle now a count) cluster s sound past place are.
+        let mid = enters s (come_back cluster s sound past place are) in
+        past_up cluster s a sound kept are now (subst (λ n. IsPastOf now (entered cluster (with_lost a kept s) a (Restart n) false)) count_is (told cluster (with_lost a kept s) mid.0 mid.1)))
 
-  pub some_ends : IfErr r (IfLimit (Ends before a (Some unsent))) → IfErr r (IfLimit (Ends before a kept))
-  some_ends =
-      IfErr-weaker r (IfLimit (Ends before a (Some unsent))) (IfLimit (Ends before a kept))
-      (λ e. limit_weaker (Ends before a (Some unsent)) (Ends before a kept) e (λ which limit. subst (λ k. Ends before a k which limit) (sym is)))
-
-module _ {T : Type 0} (r : Result T RunError) (before middle now : History) (a : Actor) (unsent : Unsent) where
-  abbrev EntersLost : Type 0
-  EntersLost = (s : Situation) → IsPastOf before s → HasPlace s → EventTakesSent s unsent.event → IsPastOf middle (with_item (step_item a unsent.event unsent.emitted true) s)
-
-  abbrev EndsLost : Which → ℕ → Type 0
-  EndsLost which limit = (s : Situation) → IsPastOf before s → HasPlace s → EndsAt (λ front. front ≡ step_item a unsent.event unsent.emitted true ∷ s.own) s.own which limit
-
-  -- no place for what is lost
-  pub lost_ends : (e : RunError) → IsErrAnd r (λ y. y ≡ e) → IfLimit EndsLost e → IfErr r (IfLimit (Ends before a (Some unsent)))
-  lost_ends e is told =
-      on_err r e (IfLimit (Ends before a (Some unsent))) is
-      (limit_weaker EndsLost (Ends before a (Some unsent)) e (λ which limit h. λ cluster s sound past place kept. ends_lost cluster s a sound unsent kept which limit (h s past place)) told)
-
-  module _ (enters : EntersLost) where
-    past_between : (cluster : Cluster) (s : Situation) → IsSound cluster s → IsPastOf before s → HasPlace s → IsKeptStep cluster s a (Some unsent)
-        → IsPastOf middle (with_item (step_item a unsent.event unsent.emitted true) s)
-    past_between cluster s sound past place kept = enters s past place (takes_sent cluster s a sound unsent.event kept.0)
-
-    -- no place for the restart behind it
-    pub full_ends : (e : RunError) → IsErrAnd r (λ y. y ≡ e) → (e ≡ Limit Items most_items) × ((s : Situation) → history.StandsFor middle s → most_items ≤ length s.own)
-        → IfErr r (IfLimit (Ends before a (Some unsent)))
-    full_ends e is told =
-        on_err r e (IfLimit (Ends before a (Some unsent))) is
-        (subst (IfLimit (Ends before a (Some unsent))) (sym told.0)
-        (λ cluster s sound past place kept.
-        let mid = past_between cluster s sound past place kept in
-        ends_full cluster s a sound unsent kept mid.within (told.1 (with_item (step_item a unsent.event unsent.emitted true) s) mid.stands)))
-
-    module _ (has_place : (s : Situation) → history.StandsFor middle s → HasPlace s) where
-      pub kept_enters : OnOk r (EntersRestart middle now a 1) → OnOk r (Enters before now a (Some unsent))
-      kept_enters =
-          on_ok_weaker r
-          (λ told cluster s sound past place kept.
-          let mid = past_between cluster s sound past place kept in
-          past_up cluster s a sound unsent kept now (told cluster (with_item (step_item a unsent.event unsent.emitted true) s) mid (has_place (with_item (step_item a unsent.event unsent.emitted true) s) mid.stands)))
-
-      pub kept_ends : IfErr r (IfLimit (EndsRestart middle a 1)) → IfErr r (IfLimit (Ends before a (Some unsent)))
-      kept_ends =
-          IfErr-weaker r (IfLimit (EndsRestart middle a 1)) (IfLimit (Ends before a (Some unsent)))
-          (λ e. limit_weaker (EndsRestart middle a 1) (Ends before a (Some unsent)) e
-          (λ which limit told. λ cluster s sound past place kept.
-          let mid = past_between cluster s sound past place kept in
-          ends_up cluster s a sound unsent kept which limit
-          (told cluster (with_item (step_item a unsent.event unsent.emitted true) s) mid (has_place (with_item (step_item a unsent.event unsent.emitted true) s) mid.stands))))
+    pub up_ends : IfErr r (IfLimit (EndsRestart middle a count)) → IfErr r (IfLimit (Ends before a kept))
+    up_ends =
+        IfErr-weaker r (IfLimit (EndsRestart middle a count)) (IfLimit (Ends before a kept))
+        (λ e. limit_weaker (EndsRestart middle a count) (Ends before a kept) e
+        (λ which limit (told : EndsRestart middle a count which limit). λ cluster s sound past place are.
+        let mid = enters s (come_back cluster s sound past place are) in
+        ends_up cluster s a sound kept are which limit
+        (subst (λ n. EndsAt (λ front. front ≡ (entered cluster (with_lost a kept s) a (Restart n) false).own) (with_lost a kept s).own which limit) count_is
+        (told cluster (with_lost a kept s) mid.0 mid.1))))

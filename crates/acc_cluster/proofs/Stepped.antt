@@ -18,7 +18,7 @@ use Rattle.acc_schedule.specs.Actors.{actors}
 use Rattle.acc_schedule.specs.Content.{Content}
 use Rattle.acc_entering.specs.Entries.{MayTake}
 use Rattle.acc_entering.specs.Stopped.{IsSound}
-use Rattle.acc_entering.proofs.Sound.{sound_entered, sound_stopped, sound_skip}
+use Rattle.acc_entering.proofs.Sound.{sound_entered, sound_stopped_one, sound_skip}
 use Rattle.acc_follow.specs.Situations.{Situation, whole}
 use Rattle.acc_follow.specs.Moves.{with_item, event_in, is_journalled, tried_if}
 use Rattle.acc_follow.specs.Schedules.{cluster_of}
@@ -54,7 +54,7 @@ room_still plan false s a event room = room
 sound_tried : (plan : Content) (fails : Bool) (s : Situation) (a : Actor) (event : Event) (act : Act) → MayTake (cluster_of plan) (whole s) a (event_in s event) act
     → kept_of (event_in s event) ≡ 0 → is_down a (whole s) ≡ false → (fails ≡ true → is_journalled a event ≡ true) → IsSound (cluster_of plan) s
     → IsSound (cluster_of plan) (tried_if fails (cluster_of plan) s a event)
-sound_tried plan true s a event act may none up journalled sound = sound_stopped (cluster_of plan) s a event act may (journalled refl) sound
+sound_tried plan true s a event act may none up journalled sound = sound_stopped_one (cluster_of plan) s a event act may (journalled refl) sound
 sound_tried plan false s a event act may none up journalled sound = sound_entered (cluster_of plan) s a event act may none up sound
 
 module _ {D : Type 0} (images : D → List ℕ → Type 0) (faults : D → ℕ) (strict : D → Bool) (armed : D → Option ℕ) (content synced : D → List ℕ) (written_of : D → Ranges)

@@ -1,5 +1,5 @@
 -- What a store in its slot is after it took a message.
-use Rattle.std.proofs.Common.{◌≡◌, ℕ, ◌+◌, ◌≤◌, Bool, true, false, not, ◌&&◌, List, ◌∷◌, ◌++◌, Option, None, Some, IfSome, is_none, length, refl, sym, ◌∙◌, ap, subst}
+use Rattle.std.proofs.Common.{◌≡◌, ℕ, ◌+◌, ◌≤◌, Bool, true, false, not, ◌&&◌, List, [], ◌∷◌, ◌++◌, Option, None, Some, IfSome, is_none, length, refl, sym, ◌∙◌, ap, subst}
 use Rattle.acc_stamp.specs.declared.actors.Actor.{Actor}
 use Rattle.acc_ports.specs.Faults.{Rose}
 use Rattle.acc_ports.specs.Strict.{Ranges}
@@ -12,7 +12,7 @@ use Rattle.acc_message.specs.NodeRules.{Takes}
 use Rattle.acc_message.specs.Run.{Cluster, emits, is_node, is_down}
 use Rattle.acc_safe_runs.specs.Asks.{emits_if}
 use Rattle.acc_payloads.specs.Items.{downs_in}
-use Rattle.acc_actors.specs.Stops.{Stop, Past, with_step, with_stop, after_step}
+use Rattle.acc_actors.specs.Stops.{Stop, Past, with_step, with_stops, after_step}
 use Rattle.acc_actors.specs.Store as store
 use Rattle.acc_actors.specs.declared.store.StoreActor.{StoreActor}
 use Rattle.acc_schedule.specs.Content.{Content}
@@ -59,10 +59,10 @@ module _ {D : Type 0} (images : D → List ℕ → Type 0) (faults : D → ℕ) 
       (sym (ap first_of (payload_is cluster (whole s) a (event_in s event) (Takes m) may.act_is ∙ store_payload (whole s) a (length (sent_of s.earlier) + number) m (emits cluster (whole s) a (Takes m)).notes kind found)))
 
   past_tried : (given : Option Emitted) → store_past cluster (tried_if (is_none given) cluster s a event) a ≡ after_step given past (store.message_stop number m)
-  past_tried None = store_stopped cluster s a event m may sound journalled ∙ ap (with_stop past) (sym stop_is)
+  past_tried None = store_stopped cluster s a event m may sound ∙ ap (λ stop. with_stops past (stop ∷ [])) (sym stop_is)
   past_tried (Some emitted) =
       store_entered cluster s a event m may sound up
-      ∙ ap (λ ps. past_of (m ∷ past.acts) (past.held ++ ps) None) (one_payload cluster (whole s) a (event_in s event) (Takes m) (journalled_raised s a event ∙ journalled) may)
+      ∙ ap (λ ps. past_of (m ∷ past.acts) (past.held ++ ps) []) (one_payload cluster (whole s) a (event_in s event) (Takes m) (journalled_raised s a event ∙ journalled) may)
       ∙ ap (with_step past) (sym stop_is)
 
   down_tried : (given : Option Emitted) → is_none given ≡ is_down a (whole (tried_if (is_none given) cluster s a event))

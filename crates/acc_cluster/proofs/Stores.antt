@@ -1,5 +1,5 @@
 -- The store that stands at the number of an actor.
-use Rattle.std.proofs.Common.{◌≡◌, ℕ, ◌<◌, ◌≤◌, ◌⊎◌, inl, inr, false, List, Option, None, Some, IfSome, is_none, length, sym, ◌∙◌, ap, subst}
+use Rattle.std.proofs.Common.{◌≡◌, ℕ, ◌<◌, ◌≤◌, ◌⊎◌, inl, inr, false, List, [], Option, None, Some, IfSome, is_none, length, sym, ◌∙◌, ap, subst}
 use Rattle.std.proofs.lemmas.Bool.{true≢false}
 use Rattle.std.proofs.lemmas.List.{get_or_past}
 use Rattle.std.specs.List.{slice_index_or}
@@ -11,7 +11,7 @@ use Rattle.acc_message.specs.Taken.{Taken}
 use Rattle.acc_message.specs.StoreRules.{replay}
 use Rattle.acc_store.specs.declared.store.Store.{Store as OpenStore}
 use Rattle.acc_store.specs.Stands as open_store
-use Rattle.acc_actors.specs.Stops.{Past}
+use Rattle.acc_actors.specs.Stops.{Stop, Past, kept_with}
 use Rattle.acc_actors.specs.Store as store
 use Rattle.acc_actors.specs.declared.store.StoreActor.{StoreActor}
 use Rattle.acc_actors.specs.declared.node.NodeActor.{NodeActor}
@@ -68,19 +68,19 @@ module _ {D : Type 0} (images : D → List ℕ → Type 0) (faults : D → ℕ) 
         let x : StoreStands images faults plan s a t = here plan s a h in
         absurd (true≢false (sym (ap is_none none) ∙ told ∙ x.down ∙ up))
 
-    pub shown_at_store : IfSome o (λ r. (layout : Layout) (own : Actor) (version : ℕ) (past : Past Message) → store.StandsFor images layout own version past t
-        → (open_store.actor_of (view r) ≡ own) × open_store.StandsFor layout (view r) (replay layout own past.acts))
+    pub shown_at_store : IfSome o (λ r. (layout : Layout) (own : Actor) (version : ℕ) (past : Past Message) (staged : List (Stop Message)) → store.IsStaging images layout own version past staged t
+        → (open_store.actor_of (view r) ≡ own) × open_store.StandsFor layout (view r) (replay layout own (kept_with staged past).acts))
         → IfSome o (λ r. Shows images faults slot (view r))
     shown_at_store stands = by o told stands
       where
         by : (o : Option R) → is_none o ≡ store.is_down t
-            → IfSome o (λ r. (layout : Layout) (own : Actor) (version : ℕ) (past : Past Message) → store.StandsFor images layout own version past t
-            → (open_store.actor_of (view r) ≡ own) × open_store.StandsFor layout (view r) (replay layout own past.acts))
+            → IfSome o (λ r. (layout : Layout) (own : Actor) (version : ℕ) (past : Past Message) (staged : List (Stop Message)) → store.IsStaging images layout own version past staged t
+            → (open_store.actor_of (view r) ≡ own) × open_store.StandsFor layout (view r) (replay layout own (kept_with staged past).acts))
             → IfSome o (λ r. Shows images faults slot (view r))
         by None told stands = tt
         by (Some r) told stands = λ plan s a sound h.
             let x : StoreStands images faults plan s a t = here plan s a h in
-            let found = stands plan.topology a plan.version (store_past (cluster_of plan) s a) x.stands in (
+            let found = stands plan.topology a plan.version (store_past (cluster_of plan) s a) [] x.stands in (
               x.kind,
               sym x.down ∙ sym told,
               record {

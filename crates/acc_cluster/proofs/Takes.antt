@@ -1,5 +1,5 @@
 -- From what the calls of actors that take a message ensure to what their slots have tried.
-use Rattle.std.proofs.Common.{◌≡◌, ◌⊎◌, ℕ, ◌+◌, ◌<◌, ◌≤◌, ◌^◌, Bool, true, false, not, List, Option, None, Some, Result, Ok, Err, IfOk, is_none, length, sym, ◌∙◌, ap, subst, arith, inl, inr, ⊎_elim}
+use Rattle.std.proofs.Common.{◌≡◌, ◌⊎◌, ℕ, ◌+◌, ◌<◌, ◌≤◌, ◌^◌, Bool, true, false, not, List, [], Option, None, Some, Result, Ok, Err, IfOk, is_none, length, sym, ◌∙◌, ap, subst, arith, inl, inr, ⊎_elim}
 use Rattle.std.specs.Option.{option_map}
 use Rattle.std.specs.List.{AllByRecursion}
 use Rattle.std.proofs.lemmas.Bool.{true≢false}
@@ -123,14 +123,14 @@ module _ {D : Type 0} (images : D → List ℕ → Type 0) (faults : D → ℕ) 
       there : (s : Situation) → IsAsked images faults plan s a (MessageEvent number) (Takes m) slot → IsAsked images faults plan s a (MessageEvent number) (Takes m) (Store t)
       there s asked = subst (λ (x : Slot D). IsAsked images faults plan s a (MessageEvent number) (Takes m) x) is asked
 
-      pub may_take : NumbersAlone → IsPlan plan → MayAsk images faults plan a (MessageEvent number) (Takes m) slot → store.MayTake images layout t m
+      pub may_take : NumbersAlone → IsPlan plan → MayAsk images faults plan a (MessageEvent number) (Takes m) slot → store.MayTake images layout t [] m
       may_take numbers_alone valid may =
           let s : Situation = may.0 in
           let asked : IsAsked images faults plan s a (MessageEvent number) (Takes m) (Store t) = there s may.1 in
           let told : IsDeliverable (cluster_of plan) (whole s) m = deliverable s (Store t) asked in
           let meets : StoreMeets (cluster_of plan) (whole s) a = store_meets (cluster_of plan) (whole s) a (sound_standing (cluster_of plan) s asked.sound) (few_whole s asked.few) asked.stands.kind in
           let here = same _ a asked.may.place in
-          subst (λ (l : Layout). store.MayTake images l t m) (sym layout_is) (record {
+          subst (λ (l : Layout). store.MayTake images l t [] m) (sym layout_is) (record {
             own = a;
             version = plan.version;
             past = store_past (cluster_of plan) s a;

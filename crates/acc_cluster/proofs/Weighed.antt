@@ -1,5 +1,5 @@
 -- What an actor in its slot would send is what its entry would send.
-use Rattle.std.proofs.Common.{◌≡◌, ℕ, ◌<◌, ◌^◌, false, List, Result, Ok, Err, IfOk, refl, sym, ◌∙◌, ap, subst, arith}
+use Rattle.std.proofs.Common.{◌≡◌, ℕ, ◌<◌, ◌^◌, false, List, [], Result, Ok, Err, IfOk, refl, sym, ◌∙◌, ap, subst, arith}
 use Rattle.acc_stamp.specs.declared.actors.Actor.{Actor}
 use Rattle.acc_stamp.specs.Actor.{node_of}
 use Rattle.acc_topology.specs.Layout.{Layout}
@@ -14,7 +14,7 @@ use Rattle.acc_bounds.specs.Next.{MayDo}
 use Rattle.acc_bounds.specs.Sends.{AreSendable}
 use Rattle.acc_bounds.proofs.Sendable.{node_meets, store_meets}
 use Rattle.acc_safe_runs.specs.Asks.{emits_if}
-use Rattle.acc_actors.specs.Stops.{Past}
+use Rattle.acc_actors.specs.Stops.{Stop, Past, kept_with}
 use Rattle.acc_actors.specs.Node as node
 use Rattle.acc_actors.specs.Store as store
 use Rattle.acc_actors.specs.Weighing.{NodeMayWeigh, StoreMayWeigh}
@@ -101,25 +101,26 @@ module _ {D : Type 0} (images : D → List ℕ → Type 0) (faults : D → ℕ) 
         (store_meets (cluster_of plan) (whole s) a (sound_standing (cluster_of plan) s asked.sound) (few_whole s asked.few) asked.stands.kind).sends
         m (may_do s (MessageEvent number) (Takes m) (Store t) asked) in
         subst (λ (l : Layout). StoreMayWeigh images l t m) (sym layout_is) (record {
-          may = may_take images faults plan a number m slot plan.topology refl t is numbers_alone valid may;
+          may = ([], may_take images faults plan a number m slot plan.topology refl t is numbers_alone valid may);
           own = a;
           version = plan.version;
           past = store_past (cluster_of plan) s a;
+          staged = [];
           stands = asked.stands.stands;
           short = sends.short;
           fits = less_than _ sends.weight;
         })
 
     pub store_weighs : {E : Type 0} (r : Result ℕ E)
-        → IfOk r (λ weight. (own : Actor) (version : ℕ) (past : Past Message) → store.StandsFor images layout own version past t
-        → weight ≡ weight_of_all (store.emits_next layout own past m).out)
+        → IfOk r (λ weight. (own : Actor) (version : ℕ) (past : Past Message) (staged : List (Stop Message)) → store.IsStaging images layout own version past staged t
+        → weight ≡ weight_of_all (store.emits_next layout own (kept_with staged past) m).out)
         → IfOk r (λ weight. (s : Situation) → IsAsked images faults plan s a (MessageEvent number) (Takes m) slot
         → weight ≡ weight_of (entry_of (cluster_of plan) s a (MessageEvent number) false))
     store_weighs (Err e) is_weight = tt
     store_weighs (Ok weight) is_weight = λ s asked.
         let here : IsAsked images faults plan s a (MessageEvent number) (Takes m) (Store t) = store_there s asked in
-        subst (λ (l : Layout). (own : Actor) (version : ℕ) (past : Past Message) → store.StandsFor images l own version past t
-        → weight ≡ weight_of_all (store.emits_next l own past m).out) layout_is is_weight
-        a plan.version (store_past (cluster_of plan) s a) here.stands.stands
+        subst (λ (l : Layout). (own : Actor) (version : ℕ) (past : Past Message) (staged : List (Stop Message)) → store.IsStaging images l own version past staged t
+        → weight ≡ weight_of_all (store.emits_next l own (kept_with staged past) m).out) layout_is is_weight
+        a plan.version (store_past (cluster_of plan) s a) [] here.stands.stands
         ∙ is_entry s (MessageEvent number) (Takes m) (Store t) (store.emits_next plan.topology a (store_past (cluster_of plan) s a) m) here
         (store_emits_next (cluster_of plan) (whole s) a m (sound_standing (cluster_of plan) s here.sound) here.stands.kind)

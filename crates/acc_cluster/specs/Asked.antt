@@ -1,5 +1,5 @@
 -- When an actor may be asked for a step, and what it answers.
-use Rattle.std.specs.Prelude.{◌≡◌, ℕ, ◌≤◌, Bool, true, false, ◌&&◌, List, length, Option, None, Some, is_none, is_some}
+use Rattle.std.specs.Prelude.{◌≡◌, ℕ, ◌≤◌, Bool, true, false, ◌&&◌, List, [], ◌∷◌, length, Option, None, Some, is_none}
 use Rattle.acc_stamp.specs.declared.actors.Actor.{Actor}
 use Rattle.acc_ports.specs.Strict.{Ranges}
 use Rattle.acc_message.specs.declared.entry.Event.{Event}
@@ -13,6 +13,7 @@ use Rattle.acc_message.specs.Run.{Cluster, act_of, is_down, IsHomeOf}
 use Rattle.acc_node.specs.declared.error.NodeError.{NodeError}
 use Rattle.acc_node.specs.declared.error.NodeError.TheVariants.{Begun, Unknown, NoQuorum, OutOfMemory}
 use Rattle.acc_journal.specs.Journal.{keeps_group}
+use Rattle.acc_actors.specs.Stops.{some}
 use Rattle.acc_actors.specs.declared.stops.Unsent.{Unsent}
 use Rattle.acc_actors.specs.declared.stops.Restarted.{Restarted}
 use Rattle.acc_actors.specs.declared.stops.Restarted.TheVariants.{Up, Down as RestartedDown}
@@ -21,7 +22,7 @@ use Rattle.acc_entering.specs.Entries.{MayTake}
 use Rattle.acc_entering.specs.Stopped.{IsSound}
 use Rattle.acc_schedule.specs.Content.{Content}
 use Rattle.acc_follow.specs.Situations.{Situation, whole, stopped_at}
-use Rattle.acc_follow.specs.Moves.{with_item, event_in, is_journalled, tried_if, kept_if, reopened}
+use Rattle.acc_follow.specs.Moves.{with_item, event_in, entered, is_journalled, tried_if, kept_if, reopened}
 use Rattle.acc_follow.specs.Schedules.{cluster_of}
 use Rattle.acc_strict.specs.Disks.{Disks, fails_append, after_step, after_restart}
 use Rattle.acc_limits.specs.Limits.{most_items}
@@ -80,20 +81,28 @@ IsSlowRefused plan s txn OutOfMemory = Unit {0}
 
 -- ---- restarts
 
--- what was kept is the step that was stopped, with what the rules say that it gives
-abbrev pub IsKeptStep : Cluster → Situation → Actor → Option Unsent → Type 0
-IsKeptStep cluster s a None = Unit {0}
-IsKeptStep cluster s a (Some unsent) =
-    (stopped_at a s.stopped ≡ Some unsent.event)
-    × (unsent.emitted ≡ emits_if cluster (whole s) a (act_of cluster (whole s) (event_in s unsent.event)))
+-- These are the steps by the events, in their order, each with what the rules say that it gives behind the entries of those before it.
+abbrev pub AreSteps : Cluster → Situation → Actor → List Event → Bool → List Unsent → Type 0
+AreSteps cluster s a [] lost [] = Unit {0}
+AreSteps cluster s a [] lost (unsent ∷ others) = ⊥
+AreSteps cluster s a (event ∷ events) lost [] = ⊥
+AreSteps cluster s a (event ∷ events) lost (unsent ∷ others) =
+    (unsent.event ≡ event)
+    × (unsent.emitted ≡ emits_if cluster (whole s) a (act_of cluster (whole s) (event_in s event)))
+    × AreSteps cluster (entered cluster s a event lost) a events lost others
+
+-- what was kept is nothing, or all the steps that were stopped
+abbrev pub AreKeptSteps : Cluster → Situation → Actor → List Unsent → Type 0
+AreKeptSteps cluster s a [] = Unit {0}
+AreKeptSteps cluster s a (unsent ∷ others) = AreSteps cluster s a (stopped_at a s.stopped) true (unsent ∷ others)
 
 abbrev pub HasRestartedAt : {D : Type 0} → (D → List ℕ → Type 0) → (D → ℕ) → Content → Situation → Actor → Restarted → Slot D → Type 0
 HasRestartedAt images faults plan s a (Up kept) slot =
-    IsKeptStep (cluster_of plan) s a kept × SlotStands images faults plan (reopened (cluster_of plan) s a (kept_if (is_some kept) a s)) a slot
+    AreKeptSteps (cluster_of plan) s a kept × SlotStands images faults plan (reopened (cluster_of plan) s a (kept_if (some kept) a s)) a slot
 HasRestartedAt images faults plan s a RestartedDown slot = SlotStands images faults plan (with_item (Down a) s) a slot
 
 abbrev pub HasRestartedStrictlyAt : {D : Type 0} → (D → Bool) → (D → Option ℕ) → (D → List ℕ) → (D → List ℕ) → (D → Ranges) → Content → Situation → Disks → Actor → ℕ → Restarted → Slot D → Type 0
 HasRestartedStrictlyAt strict armed content synced written plan s disks a choice (Up kept) slot =
-    (kept_if (is_some kept) a s ≡ kept_if (keeps_group (disks.passed a) choice) a s)
-    × IsStrictSlot strict armed content synced written plan (reopened (cluster_of plan) s a (kept_if (is_some kept) a s)) (after_restart a disks) a slot
+    (kept_if (some kept) a s ≡ kept_if (keeps_group (disks.passed a) choice) a s)
+    × IsStrictSlot strict armed content synced written plan (reopened (cluster_of plan) s a (kept_if (some kept) a s)) (after_restart a disks) a slot
 HasRestartedStrictlyAt strict armed content synced written plan s disks a choice RestartedDown slot = ⊥

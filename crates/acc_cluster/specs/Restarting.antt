@@ -1,5 +1,6 @@
 -- What a restart finds at the actor's number, and what entering it comes to.
-use Rattle.std.specs.Prelude.{◌≡◌, ℕ, Bool, false, List, Option, is_some}
+use Rattle.std.specs.Prelude.{◌≡◌, ℕ, Bool, true, false, List, [], ◌∷◌, Option}
+use Rattle.std.specs.List.{AllByRecursion}
 use Rattle.acc_stamp.specs.declared.actors.Actor.{Actor}
 use Rattle.acc_ports.specs.Faults.{Rose}
 use Rattle.acc_ports.specs.Strict.{Ranges}
@@ -7,16 +8,21 @@ use Rattle.acc_message.specs.declared.error.Which.{Which}
 use Rattle.acc_message.specs.declared.item.Item.{Item}
 use Rattle.acc_message.specs.Items.{same_actor}
 use Rattle.acc_message.specs.Run.{Cluster}
+use Rattle.acc_actors.specs.Stops.{some}
 use Rattle.acc_actors.specs.declared.stops.Unsent.{Unsent}
 use Rattle.acc_actors.specs.declared.stops.Restarted.{Restarted}
 use Rattle.acc_actors.specs.declared.stops.Restarted.TheVariants.{Down}
+use Rattle.acc_bounds.specs.Sends.{AreSendable}
 use Rattle.acc_schedule.specs.Content.{Content}
 use Rattle.acc_follow.specs.Situations.{Situation}
-use Rattle.acc_follow.specs.Moves.{kept_if, reopened}
+use Rattle.acc_follow.specs.Moves.{with_item, kept_if, reopened}
+use Rattle.acc_history.specs.declared.history.History.{History}
+use Rattle.acc_history.specs.Stands.{EventTakesSent}
 use Rattle.acc_strict.specs.Disks.{Disks}
 use Rattle.acc_limits.specs.Limits.{EndsAt}
 use Rattle.acc_limits.specs.Fronts.{Begins}
 use Rattle.acc_cluster.specs.declared.slot.Slot.{Slot}
+use Rattle.acc_cluster.specs.Entering.{HasPlace, IsPastOf, step_item}
 use Rattle.acc_cluster.specs.Slots.{IsStrictSlot, faults_in}
 use Rattle.acc_cluster.specs.Stands.{slot_at}
 use Rattle.acc_cluster.specs.Asked.{HasRestartedAt, HasRestartedStrictlyAt}
@@ -31,10 +37,37 @@ pub record HasReopened {D : Type 0} (images : D → List ℕ → Type 0) (faults
   pub cause : found ≡ Down → Rose (faults_in faults (slot_at before a)) (faults_in faults (slot_at now a))
 
 -- the situation behind a restart that kept this
-abbrev pub come_up : Cluster → Situation → Actor → Option Unsent → Situation
-come_up cluster s a kept = reopened cluster s a (kept_if (is_some kept) a s)
+abbrev pub come_up : Cluster → Situation → Actor → List Unsent → Situation
+come_up cluster s a kept = reopened cluster s a (kept_if (some kept) a s)
 
 -- a limit ends the run behind some items of the restart's
-pub record EndsInRestart (cluster : Cluster) (s : Situation) (a : Actor) (kept : Option Unsent) (which : Which) (limit : ℕ) : Type 0 where
+pub record EndsInRestart (cluster : Cluster) (s : Situation) (a : Actor) (kept : List Unsent) (which : Which) (limit : ℕ) : Type 0 where
   pub items : List Item
   pub ends : EndsAt (λ front. Begins front (come_up cluster s a kept).own) items which limit
+
+-- ---- what was kept, as it is entered
+
+-- the lost entry of a step
+abbrev pub lost_item : Actor → Unsent → Item
+lost_item a unsent = step_item a unsent.event unsent.emitted true
+
+-- one behind another
+abbrev pub with_lost : Actor → List Unsent → Situation → Situation
+with_lost a [] s = s
+with_lost a (unsent ∷ others) s = with_lost a others (with_item (lost_item a unsent) s)
+
+-- as long as there is a place, the messages of each can be sent
+abbrev pub AreSendableBehind : Actor → List Unsent → Situation → Type 0
+AreSendableBehind a [] s = Unit {0}
+AreSendableBehind a (unsent ∷ others) s = (HasPlace s → AreSendable unsent.emitted.out) × AreSendableBehind a others (with_item (lost_item a unsent) s)
+
+-- behind this past each may be entered
+pub record CanComeBack (h : History) (a : Actor) (kept : List Unsent) (s : Situation) : Type 0 where
+  pub past : IsPastOf h s
+  pub place : HasPlace s
+  pub taken : AllByRecursion (λ unsent. EventTakesSent s unsent.event) kept
+
+-- a limit ends it before one of them, or before the item behind them
+abbrev pub EndsInLost : Situation → Actor → List Unsent → Which → ℕ → Type 0
+EndsInLost s a kept which limit =
+    (next : Item) → (items : List Item) × EndsAt (λ front. Begins front (next ∷ (with_lost a kept s).own)) items which limit

@@ -65,13 +65,13 @@ HitsLimit strict armed content synced written plan skip number a event old s whi
 
 -- ---- restarts
 
--- by whether the disk failed, and whether it kept the step that was stopped
+-- by whether the disk failed, and whether it kept the steps that were stopped
 abbrev pub restarted_by : Bool → Bool → RunCluster → Situation → Actor → Situation
 restarted_by true keeps cluster s a = with_item (Down a) s
 restarted_by false keeps cluster s a = reopened cluster s a (kept_if keeps a s)
 
--- what a strict disk keeps of the step that was stopped
-abbrev pub kept_strictly : Disks → ℕ → Actor → Situation → Option Event
+-- what a strict disk keeps of the steps that were stopped
+abbrev pub kept_strictly : Disks → ℕ → Actor → Situation → List Event
 kept_strictly disks choice a s = kept_if (keeps_group (disks.passed a) choice) a s
 
 pub record HasRestarted {D : Type 0} (images : D → List ℕ → Type 0) (faults : D → ℕ) (strict : D → Bool) (armed : D → Option ℕ) (content synced : D → List ℕ) (written : D → Ranges) (plan : Content) (a : Actor) (choice : ℕ) (old new : Cluster D) (s : Situation) : Type 0 where

@@ -1,23 +1,24 @@
 //! Restarts.
-ghost use Rattle.std.specs.Prelude.{◌≡◌, IfOk, IfErr, OnOk, IfSome, Contains, false, Some};
+ghost use Rattle.std.specs.Prelude.{◌≡◌, [], ◌∷◌, length, IfOk, IfErr, OnOk, Contains, false};
 ghost use Rattle.acc_message.specs.declared.entry.Event.{Event as AnEvent};
 ghost use Rattle.acc_message.specs.Run.{Cluster as RunCluster};
 ghost use Rattle.acc_bounds.specs.Sends.{AreSendable};
 ghost use Rattle.acc_schedule.specs.Actors.{actors};
 ghost use Rattle.acc_entering.specs.Stopped.{IsSound};
 ghost use Rattle.acc_follow.specs.Situations.{Situation};
-ghost use Rattle.acc_follow.specs.Moves.{entered};
+ghost use Rattle.acc_follow.specs.Moves.{with_item, entered};
+ghost use Rattle.acc_history.specs.Stands.{EventTakesSent};
 ghost use Rattle.acc_limits.specs.Limits.{EndsAt};
 ghost use Rattle.acc_cluster.specs.Steps.{IfLimit};
 ghost use Rattle.acc_cluster.specs.Entering.{HasPlace, IsPastOf};
-ghost use Rattle.acc_cluster.specs.Asked.{IsKeptStep};
-ghost use Rattle.acc_cluster.specs.Restarting.{EndsInRestart};
+ghost use Rattle.acc_cluster.specs.Asked.{AreKeptSteps};
+ghost use Rattle.acc_cluster.specs.Restarting.{lost_item, with_lost, AreSendableBehind, CanComeBack, EndsInLost, EndsInRestart};
 ghost use Rattle.acc_cluster.specs.Restarting.{come_up as behind_restart};
 
 use crate::cluster::Cluster;
 use crate::entering::{check_place, enter_down, enter_entry};
 use crate::slot::Slot;
-use acc_actors::{Restarted, Unsent};
+use acc_actors::{Restarted, Unsent, Unsents};
 use acc_base::OutOfMemory;
 use acc_history::History;
 use acc_message::{Emitted, Event, Messages, Notes, RunError};
@@ -51,23 +52,37 @@ fn enter_restart(
     )
 }
 
-// Enters what was kept as lost, and the restart.
-fn enter_kept(
-    history: &mut History,
-    alloc: Global,
-    actor: Actor,
-    unsent: Unsent,
-) -> Result<(), RunError>
+// Enters an entry that is lost, and leaves a place behind it.
+fn enter_lost(history: &mut History, actor: Actor, unsent: Unsent) -> Result<(), RunError>
     requires sendable { AreSendable unsent.emitted.out }
-    ensures ok { OnOk result ((cluster : RunCluster) (s : Situation) → IsSound cluster s → IsPastOf history.old s → HasPlace s → IsKeptStep cluster s actor (Some unsent)
-        → IsPastOf history.new (behind_restart cluster s actor (Some unsent))) }
-    ensures limit { IfErr result (IfLimit (λ which most. (cluster : RunCluster) (s : Situation) → IsSound cluster s → IsPastOf history.old s → HasPlace s → IsKeptStep cluster s actor (Some unsent)
-        → EndsInRestart cluster s actor (Some unsent) which most)) }
+    ensures ok { OnOk result ((s : Situation) → IsPastOf history.old s → HasPlace s → EventTakesSent s unsent.event
+        → IsPastOf history.new (with_item (lost_item actor unsent) s) × HasPlace (with_item (lost_item actor unsent) s)) }
+    ensures limit { IfErr result (IfLimit (λ which most. (s : Situation) → IsPastOf history.old s → HasPlace s → EventTakesSent s unsent.event
+        → EndsInLost s actor (unsent ∷ []) which most)) }
 {
     let Unsent { event, emitted } = unsent;
     enter_entry(history, actor, event, emitted, true)?;
-    check_place(history)?;
-    enter_restart(history, alloc, actor, 1)
+    check_place(history)
+}
+
+// Enters what was kept as lost, the oldest first, and leaves a place behind it.
+fn enter_kept(history: &mut History, actor: Actor, kept: Unsents) -> Result<(), RunError>
+    requires back { (s : Situation) × CanComeBack history.old actor kept s × AreSendableBehind actor kept s }
+    ensures ok { OnOk result ((s : Situation) → CanComeBack history.old actor kept s
+        → IsPastOf history.new (with_lost actor kept s) × HasPlace (with_lost actor kept s)) }
+    ensures limit { IfErr result (IfLimit (λ which most. (s : Situation) → CanComeBack history.old actor kept s → EndsInLost s actor kept which most)) }
+{
+    for unsent in kept.into_vec() {
+        enter_lost(history, actor, unsent)?;
+    }
+    Ok(())
+}
+
+// How many were kept. More than 32 bits count are more than memory holds.
+fn count_of(kept: &Unsents) -> Result<u32, OutOfMemory>
+    ensures { IfOk result (λ count. count ≡ length kept.now) }
+{
+    u32::try_from(kept.len()).map_err(|_| OutOfMemory)
 }
 
 // Enters what was kept, if anything, and the restart.
@@ -75,18 +90,17 @@ fn come_up(
     history: &mut History,
     alloc: Global,
     actor: Actor,
-    kept: Option<Unsent>,
+    kept: Unsents,
 ) -> Result<(), RunError>
-    requires sendable { IfSome kept (λ unsent. AreSendable unsent.emitted.out) }
-    ensures ok { OnOk result ((cluster : RunCluster) (s : Situation) → IsSound cluster s → IsPastOf history.old s → HasPlace s → IsKeptStep cluster s actor kept
+    requires back { (s : Situation) × CanComeBack history.old actor kept s × AreSendableBehind actor kept s }
+    ensures ok { OnOk result ((cluster : RunCluster) (s : Situation) → IsSound cluster s → IsPastOf history.old s → HasPlace s → AreKeptSteps cluster s actor kept
         → IsPastOf history.new (behind_restart cluster s actor kept)) }
-    ensures limit { IfErr result (IfLimit (λ which most. (cluster : RunCluster) (s : Situation) → IsSound cluster s → IsPastOf history.old s → HasPlace s → IsKeptStep cluster s actor kept
+    ensures limit { IfErr result (IfLimit (λ which most. (cluster : RunCluster) (s : Situation) → IsSound cluster s → IsPastOf history.old s → HasPlace s → AreKeptSteps cluster s actor kept
         → EndsInRestart cluster s actor kept which most)) }
 {
-    match kept {
-        None => enter_restart(history, alloc, actor, 0),
-        Some(unsent) => enter_kept(history, alloc, actor, unsent),
-    }
+    let count = count_of(&kept)?;
+    enter_kept(history, actor, kept)?;
+    enter_restart(history, alloc, actor, count)
 }
 
 impl<D: Rig + Drop> Cluster<D> {
@@ -94,8 +108,8 @@ impl<D: Rig + Drop> Cluster<D> {
     ghost use Rattle.acc_cluster.specs.Restarting.{HasReopened};
     ghost use Rattle.acc_cluster.specs.Tried.{HasRestarted, HitsLimitInRestart};
 
-    /// An actor's disk crashes, in the way of the choice, and the actor opens it again. What it kept of a step that was stopped is entered as
-    /// lost, and then the restart.
+    /// An actor's disk crashes, in the way of the choice, and the actor opens it again. The steps that were stopped, if it kept them, are
+    /// entered as lost, the oldest first, and then the restart.
     pub(crate) fn restart(&mut self, plan: &Plan, actor: Actor, choice: u8) -> Result<(), RunError>
         requires standing { (s : Situation) × StandsFor D.is_image D.faults plan.now self.old s }
         requires known { Contains (actors plan.now.topology) actor }

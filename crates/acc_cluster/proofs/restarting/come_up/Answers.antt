@@ -1,18 +1,17 @@
-use Rattle.acc_cluster.proofs.RestartItems.{none_enters, none_ends, some_enters, some_ends}
+use Rattle.acc_cluster.proofs.RestartItems.{kept_ends, up_enters, up_ends}
 use Rattle.acc_cluster.proofs.restarting.come_up.Goals as goal
 
-pub returns-in-None-clause-ok : goal.returns-in-None-clause-ok
-returns-in-None-clause-ok c =
-    none_enters c.enter_restart.result c.args.history.now c.enter_restart.new.history c.args.actor c.args.kept c.in-None.is c.enter_restart.ensures.ok
+pub returns-in_err-enter_kept-clause-limit : goal.returns-in_err-enter_kept-clause-limit
+returns-in_err-enter_kept-clause-limit c =
+    kept_ends c.from_residual-in_err-enter_kept.result c.args.history.now c.enter_kept.new.history c.enter_kept.new.history c.args.actor c.args.kept
+    c.in_err-enter_kept.field-0.0 c.from_residual-in_err-enter_kept.ensures.1 c.in_err-enter_kept.ensures.limit
 
-pub returns-in-None-clause-limit : goal.returns-in-None-clause-limit
-returns-in-None-clause-limit c =
-    none_ends c.enter_restart.result c.args.history.now c.enter_restart.new.history c.args.actor c.args.kept c.in-None.is c.enter_restart.ensures.limit
+pub returns-clause-ok : goal.returns-clause-ok
+returns-clause-ok c =
+    up_enters c.enter_restart.result c.args.history.now c.enter_kept.new.history c.enter_restart.new.history c.args.actor c.args.kept
+    c.in_ok-count.count c.in_ok-count.ensures c.in_ok-enter_kept.ensures.ok c.enter_restart.ensures.ok
 
-pub returns-in-Some-clause-ok : goal.returns-in-Some-clause-ok
-returns-in-Some-clause-ok c =
-    some_enters c.enter_kept.result c.args.history.now c.enter_kept.new.history c.args.actor c.args.kept c.in-Some.unsent c.in-Some.is c.enter_kept.ensures.ok
-
-pub returns-in-Some-clause-limit : goal.returns-in-Some-clause-limit
-returns-in-Some-clause-limit c =
-    some_ends c.enter_kept.result c.args.history.now c.enter_kept.new.history c.args.actor c.args.kept c.in-Some.unsent c.in-Some.is c.enter_kept.ensures.limit
+pub returns-clause-limit : goal.returns-clause-limit
+returns-clause-limit c =
+    up_ends c.enter_restart.result c.args.history.now c.enter_kept.new.history c.enter_restart.new.history c.args.actor c.args.kept
+    c.in_ok-count.count c.in_ok-count.ensures c.in_ok-enter_kept.ensures.ok c.enter_restart.ensures.limit

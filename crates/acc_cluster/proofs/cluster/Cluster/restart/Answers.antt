@@ -1,4 +1,4 @@
-use Rattle.acc_cluster.proofs.RestartClusters.{place_ends, down_enters, up_sendable, up_enters, up_ends}
+use Rattle.acc_cluster.proofs.RestartClusters.{place_ends, down_enters, up_back, up_enters, up_ends}
 use Rattle.acc_cluster.proofs.cluster.Cluster.restart.Goals as goal
 
 pub returns-in_err-check_place-clause-limit : goal.returns-in_err-check_place-clause-limit
@@ -9,13 +9,12 @@ returns-in_err-check_place-clause-limit g c =
 
 pub come_up-requires : goal.come_up-requires
 come_up-requires g c =
-    record {
-      sendable =
-          up_sendable g.D.Disk.is_image g.D.Disk.faults g.D.Disk.strict g.D.Disk.armed g.D.Disk.content g.D.Disk.synced g.D.Disk.written
-          c.args.plan.now c.args.actor c.args.choice c.args.self.now c.requires.known
-          c.reopen.new.self c.in_ok-reopen.ensures.history c.in_ok-check_place.ensures.ok c.in_ok-reopen.field-0 c.in_ok-reopen.ensures.ok
-          c.in-Up.kept c.in-Up.is c.requires.standing.0 c.requires.standing.1;
-    }
+    let back =
+    up_back g.D.Disk.is_image g.D.Disk.faults g.D.Disk.strict g.D.Disk.armed g.D.Disk.content g.D.Disk.synced g.D.Disk.written
+    c.args.plan.now c.args.actor c.args.choice c.args.self.now c.requires.known
+    c.reopen.new.self c.in_ok-reopen.ensures.history c.in_ok-check_place.ensures.ok c.in_ok-reopen.field-0 c.in_ok-reopen.ensures.ok
+    c.in-Up.kept c.in-Up.is c.requires.standing.0 c.requires.standing.1 in
+    record { back = (c.requires.standing.0, back.0, back.1) }
 
 pub returns-in-Down-clause-ok : goal.returns-in-Down-clause-ok
 returns-in-Down-clause-ok g c =
