@@ -14,9 +14,15 @@ use Rattle.acc_limits.specs.Limits.{most_items}
 use Rattle.acc_cluster.specs.Entering.{HasRoom, HasPlace}
 use Rattle.acc_cluster.specs.Asked.{IsFew}
 
+pub less_than : (n : ℕ) → n < 2 ^ 63 → n < 2 ^ 64
+less_than n less = omega (arith, less)
+
 length_joined : (earlier own : List Item) → length (joined earlier own) ≡ length earlier + length own
 length_joined earlier [] = omega arith
 length_joined earlier (item ∷ own) = let rest = length_joined earlier own in omega (arith, rest)
+
+pub length_whole : (s : Situation) → length (whole s) ≡ length s.earlier + length s.own
+length_whole s = length_joined s.earlier s.own
 
 few_sum : (e o : ℕ) → e + most_items < 2 ^ 31 → o ≤ most_items → e + o < 2 ^ 31
 few_sum e o room low = omega (arith, room, low)

@@ -38,3 +38,6 @@ pub mod NodeRange
 pub mod Unarmed
 pub mod Weighed
 pub mod OverSlots
+pub mod Groups
+pub mod GroupCalls
+pub mod GroupsOn

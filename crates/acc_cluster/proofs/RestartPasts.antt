@@ -5,7 +5,6 @@ use Rattle.std.proofs.lemmas.Bool.{true≢false}
 use Rattle.std.specs.Option.{option_map}
 use Rattle.acc_stamp.specs.declared.actors.Actor.{Actor}
 use Rattle.acc_stamp.specs.Actor.{actor_of, node_of}
-use Rattle.acc_topology.specs.Layout.{Layout}
 use Rattle.acc_message.specs.declared.message.Message.{Message}
 use Rattle.acc_message.specs.declared.entry.Emitted.{Emitted}
 use Rattle.acc_message.specs.declared.entry.Event.{Event}
@@ -33,7 +32,6 @@ use Rattle.acc_entering.specs.Pasts.{DidMore}
 use Rattle.acc_entering.specs.Stopped.{CanGoOn, CanAllGoOn, IsSound}
 use Rattle.acc_entering.proofs.Pasts.{did_more, acts_more, messages_more, taken_restarted}
 use Rattle.acc_entering.proofs.Replayed.{node_emits_next, store_emits_next}
-use Rattle.acc_entering.proofs.Situations.{journalled_in}
 use Rattle.acc_entering.proofs.Sound.{did_reopen_kept, reopened_own, others_go_on}
 use Rattle.acc_entering.proofs.Standing.{entry_stands}
 use Rattle.acc_follow.specs.Situations.{Situation, whole, stopped_at}
@@ -58,7 +56,7 @@ all_may cluster a (event ∷ events) s can =
       all_may cluster a events (entered cluster s a event true) (others_go_on cluster s a event events can),
     )
 
-no_store : (a : Actor) (node : ℕ) → a ≡ actor_of node 0 → is_node a ≡ false → ⊥
+pub no_store : (a : Actor) (node : ℕ) → a ≡ actor_of node 0 → is_node a ≡ false → ⊥
 no_store a node is store = true≢false (sym (ap is_node is ∙ is_node-node node) ∙ store)
 
 -- a store takes a message
@@ -156,12 +154,12 @@ module _ (cluster : Cluster) (a : Actor) where
   store_step s event m lost stopped may journalled = same_past _ _ _ _ _ _ (sym (messages_one s event m lost may)) (sym (held_one s event (Takes m) lost may journalled)) refl
 
   -- its stop, before the others
-  store_known : (s : Situation) (event : Event) (m : Message) (events : List Event) (lost : Bool) → act_of cluster (whole s) (event_in s event) ≡ Some (Takes m)
+  pub store_known : (s : Situation) (event : Event) (m : Message) (events : List Event) (lost : Bool) → act_of cluster (whole s) (event_in s event) ≡ Some (Takes m)
       → store_stops (stops_in cluster s a (event ∷ events) lost) ≡ stop_of cluster s a event m ∷ store_stops (stops_in cluster (entered cluster s a event lost) a events lost)
   store_known s event m events lost is = ap store_stops (stops_known cluster s a event (Takes m) events lost is)
 
   -- the message of a step
-  message_of : (s : Situation) (event : Event) (act : Act) → is_node a ≡ false → MayTake cluster (whole s) a (event_in s event) act → is_journalled a (event_in s event) ≡ true
+  pub message_of : (s : Situation) (event : Event) (act : Act) → is_node a ≡ false → MayTake cluster (whole s) a (event_in s event) act → is_journalled a (event_in s event) ≡ true
       → (m : Message) × MayTake cluster (whole s) a (event_in s event) (Takes m)
   message_of s event act kind may journalled =
       let takes : (m : Message) × (act ≡ Takes m) = takes_message cluster (whole s) a (event_in s event) act kind journalled may in

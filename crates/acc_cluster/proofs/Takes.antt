@@ -34,16 +34,19 @@ use Rattle.acc_actors.specs.declared.node.NodeActor.{NodeActor}
 use Rattle.acc_actors.specs.declared.store.StoreActor.{StoreActor}
 use Rattle.acc_schedule.specs.Content.{Content}
 use Rattle.acc_schedule.specs.Plan.{IsPlan}
+use Rattle.acc_entering.specs.Entries.{MayTake}
+use Rattle.acc_entering.specs.Stopped.{IsSound}
 use Rattle.acc_entering.proofs.Payloads.{node_payload}
 use Rattle.acc_entering.proofs.Sound.{sound_standing}
 use Rattle.acc_follow.specs.Situations.{Situation, whole}
+use Rattle.acc_follow.specs.Moves.{event_in}
 use Rattle.acc_follow.specs.Schedules.{cluster_of}
 use Rattle.acc_strict.specs.Disks.{Disks, fails_append, after_append, passed_in}
 use Rattle.acc_cluster.specs.declared.slot.Slot.{Slot}
 use Rattle.acc_cluster.specs.declared.slot.Slot.TheVariants.{Node, Store}
 use Rattle.acc_cluster.specs.Pasts.{node_past, store_past}
 use Rattle.acc_cluster.specs.Slots.{IsStrictSlot}
-use Rattle.acc_cluster.specs.Asked.{IsAsked, MayAsk, HasTried, HasTriedStrictly}
+use Rattle.acc_cluster.specs.Asked.{IsFew, IsAsked, MayAsk, HasTried, HasTriedStrictly}
 use Rattle.acc_cluster.proofs.Few.{few_whole}
 use Rattle.acc_cluster.proofs.NodeSlots.{took, took_strictly}
 use Rattle.acc_cluster.proofs.StoreSlots.{store_tried, store_tried_strictly}
@@ -57,7 +60,7 @@ taken_or m (Slows id) = m
 taken_or m (Takes other) = other
 taken_or m Restarts = m
 
-message_found : (m : Message) (o : Option Message) → option_map Takes o ≡ Some (Takes m) → o ≡ Some m
+pub message_found : (m : Message) (o : Option Message) → option_map Takes o ≡ Some (Takes m) → o ≡ Some m
 unfolding taken_or
 message_found m None is = absurd (not_none (Takes m) is)
 message_found m (Some x) is = ap Some (ap (taken_or m) (some_is (Takes x) (Takes m) is))
@@ -66,9 +69,13 @@ module _ {D : Type 0} (images : D → List ℕ → Type 0) (faults : D → ℕ) 
   found : (s : Situation) (slot : Slot D) → IsAsked images faults plan s a (MessageEvent number) (Takes m) slot → message_at (whole s) (length (sent_of s.earlier) + number) ≡ Some m
   found s slot asked = message_found m (message_at (whole s) (length (sent_of s.earlier) + number)) asked.may.act_is
 
+  pub deliverable_at : (s : Situation) → IsSound (cluster_of plan) s → IsFew s → MayTake (cluster_of plan) (whole s) a (event_in s (MessageEvent number)) (Takes m) → IsDeliverable (cluster_of plan) (whole s) m
+  deliverable_at s sound few may =
+      is_deliverable (cluster_of plan) (whole s) (length (sent_of s.earlier) + number) m (sound_standing (cluster_of plan) s sound) (few_whole s few)
+      (message_found m (message_at (whole s) (length (sent_of s.earlier) + number)) may.act_is)
+
   deliverable : (s : Situation) (slot : Slot D) → IsAsked images faults plan s a (MessageEvent number) (Takes m) slot → IsDeliverable (cluster_of plan) (whole s) m
-  deliverable s slot asked =
-      is_deliverable (cluster_of plan) (whole s) (length (sent_of s.earlier) + number) m (sound_standing (cluster_of plan) s asked.sound) (few_whole s asked.few) (found s slot asked)
+  deliverable s slot asked = deliverable_at s asked.sound asked.few asked.may
 
   pub top_low : (slot : Slot D) → MayAsk images faults plan a (MessageEvent number) (Takes m) slot → top_of m < 2 ^ 62
   top_low slot may = (deliverable may.0 slot may.1).top
@@ -82,10 +89,12 @@ module _ {D : Type 0} (images : D → List ℕ → Type 0) (faults : D → ℕ) 
       (cluster : Cluster) (items : List Item) (number : ℕ) (m : Message) → IsStanding cluster items → AllByRecursion (λ body. has_text_value body ≡ false) cluster.bodies
       → message_at items number ≡ Some m → has_text m ≡ false
 
-  text_is : NumbersAlone → (s : Situation) (slot : Slot D) → IsPlan plan → IsAsked images faults plan s a (MessageEvent number) (Takes m) slot → has_text m ≡ true → plan.version ≡ 2
-  text_is numbers_alone s slot valid asked has =
+  pub text_at : NumbersAlone → (s : Situation) → IsSound (cluster_of plan) s → IsPlan plan → MayTake (cluster_of plan) (whole s) a (event_in s (MessageEvent number)) (Takes m) → has_text m ≡ true
+      → plan.version ≡ 2
+  text_at numbers_alone s sound valid may has =
       ⊎_elim
-      (λ one. absurd (true≢false (sym has ∙ numbers_alone (cluster_of plan) (whole s) (length (sent_of s.earlier) + number) m (sound_standing (cluster_of plan) s asked.sound) (valid.numbers_alone one) (found s slot asked))))
+      (λ one. absurd (true≢false (sym has ∙ numbers_alone (cluster_of plan) (whole s) (length (sent_of s.earlier) + number) m (sound_standing (cluster_of plan) s sound) (valid.numbers_alone one)
+      (message_found m (message_at (whole s) (length (sent_of s.earlier) + number)) may.act_is))))
       (λ two. two) (one_or_two plan.version valid.version)
 
   module _ (slot : Slot D) (layout : Layout) (layout_is : layout ≡ plan.topology) where
@@ -139,7 +148,7 @@ module _ {D : Type 0} (images : D → List ℕ → Type 0) (faults : D → ℕ) 
             goes_here = record { goes_to = here; brings = told.brings (ap is_node here ∙ asked.stands.kind) };
             top = told.top;
             greatest = meets.greatest;
-            texts = text_is numbers_alone s (Store t) valid asked;
+            texts = text_at numbers_alone s asked.sound valid asked.may;
           })
 
       pub store_called : (new : StoreActor D) (r : Result (Option Emitted) OutOfMemory)

@@ -1,5 +1,5 @@
 -- What an actor in its slot would send is what its entry would send.
-use Rattle.std.proofs.Common.{◌≡◌, ℕ, ◌<◌, ◌^◌, false, List, [], Result, Ok, Err, IfOk, refl, sym, ◌∙◌, ap, subst, arith}
+use Rattle.std.proofs.Common.{◌≡◌, ℕ, false, List, Result, Ok, Err, IfOk, sym, ◌∙◌, ap, subst}
 use Rattle.acc_stamp.specs.declared.actors.Actor.{Actor}
 use Rattle.acc_stamp.specs.Actor.{node_of}
 use Rattle.acc_topology.specs.Layout.{Layout}
@@ -12,30 +12,23 @@ use Rattle.acc_message.specs.Run.{clock_start, emits}
 use Rattle.acc_message_code.specs.Weight.{weight_of_all, weight_of}
 use Rattle.acc_bounds.specs.Next.{MayDo}
 use Rattle.acc_bounds.specs.Sends.{AreSendable}
-use Rattle.acc_bounds.proofs.Sendable.{node_meets, store_meets}
+use Rattle.acc_bounds.proofs.Sendable.{node_meets}
 use Rattle.acc_safe_runs.specs.Asks.{emits_if}
-use Rattle.acc_actors.specs.Stops.{Stop, Past, kept_with}
+use Rattle.acc_actors.specs.Stops.{Past}
 use Rattle.acc_actors.specs.Node as node
-use Rattle.acc_actors.specs.Store as store
-use Rattle.acc_actors.specs.Weighing.{NodeMayWeigh, StoreMayWeigh}
+use Rattle.acc_actors.specs.Weighing.{NodeMayWeigh}
 use Rattle.acc_actors.specs.declared.node.NodeActor.{NodeActor}
-use Rattle.acc_actors.specs.declared.store.StoreActor.{StoreActor}
 use Rattle.acc_schedule.specs.Content.{Content}
-use Rattle.acc_schedule.specs.Plan.{IsPlan}
-use Rattle.acc_entering.proofs.Replayed.{node_emits_next, store_emits_next}
+use Rattle.acc_entering.proofs.Replayed.{node_emits_next}
 use Rattle.acc_entering.proofs.Sound.{sound_standing}
 use Rattle.acc_follow.specs.Situations.{Situation, whole}
 use Rattle.acc_follow.specs.Moves.{event_in, entry_of}
 use Rattle.acc_follow.specs.Schedules.{cluster_of}
 use Rattle.acc_cluster.specs.declared.slot.Slot.{Slot}
-use Rattle.acc_cluster.specs.declared.slot.Slot.TheVariants.{Node, Store}
-use Rattle.acc_cluster.specs.Pasts.{node_past, store_past}
+use Rattle.acc_cluster.specs.declared.slot.Slot.TheVariants.{Node}
+use Rattle.acc_cluster.specs.Pasts.{node_past}
 use Rattle.acc_cluster.specs.Asked.{IsAsked, MayAsk}
-use Rattle.acc_cluster.proofs.Few.{few_whole}
-use Rattle.acc_cluster.proofs.Takes.{NumbersAlone, may_take}
-
-less_than : (n : ℕ) → n < 2 ^ 63 → n < 2 ^ 64
-less_than n less = omega (arith, less)
+use Rattle.acc_cluster.proofs.Few.{less_than, few_whole}
 
 module _ {D : Type 0} (images : D → List ℕ → Type 0) (faults : D → ℕ) (plan : Content) (a : Actor) (slot : Slot D) (layout : Layout) (layout_is : layout ≡ plan.topology) where
   abbrev start : ℕ
@@ -86,41 +79,3 @@ module _ {D : Type 0} (images : D → List ℕ → Type 0) (faults : D → ℕ) 
         (node_of a) start plan.version (node_past (cluster_of plan) s a) here.stands.stands
         ∙ is_entry s event act (Node n) (node.emits_next plan.topology (node_of a) start (node_past (cluster_of plan) s a) act) here
         (node_emits_next (cluster_of plan) (whole s) a act (sound_standing (cluster_of plan) s here.sound) here.stands.kind)
-
-  -- ---- a store
-
-  module _ (t : StoreActor D) (is : slot ≡ Store t) (number : ℕ) (m : Message) where
-    store_there : (s : Situation) → IsAsked images faults plan s a (MessageEvent number) (Takes m) slot → IsAsked images faults plan s a (MessageEvent number) (Takes m) (Store t)
-    store_there s asked = subst (λ (x : Slot D). IsAsked images faults plan s a (MessageEvent number) (Takes m) x) is asked
-
-    pub store_may_weigh : NumbersAlone images faults plan a number m → IsPlan plan → MayAsk images faults plan a (MessageEvent number) (Takes m) slot → StoreMayWeigh images layout t m
-    store_may_weigh numbers_alone valid may =
-        let s : Situation = may.0 in
-        let asked : IsAsked images faults plan s a (MessageEvent number) (Takes m) (Store t) = store_there s may.1 in
-        let sends : AreSendable (store.emits_next plan.topology a (store_past (cluster_of plan) s a) m).out =
-        (store_meets (cluster_of plan) (whole s) a (sound_standing (cluster_of plan) s asked.sound) (few_whole s asked.few) asked.stands.kind).sends
-        m (may_do s (MessageEvent number) (Takes m) (Store t) asked) in
-        subst (λ (l : Layout). StoreMayWeigh images l t m) (sym layout_is) (record {
-          may = ([], may_take images faults plan a number m slot plan.topology refl t is numbers_alone valid may);
-          own = a;
-          version = plan.version;
-          past = store_past (cluster_of plan) s a;
-          staged = [];
-          stands = asked.stands.stands;
-          short = sends.short;
-          fits = less_than _ sends.weight;
-        })
-
-    pub store_weighs : {E : Type 0} (r : Result ℕ E)
-        → IfOk r (λ weight. (own : Actor) (version : ℕ) (past : Past Message) (staged : List (Stop Message)) → store.IsStaging images layout own version past staged t
-        → weight ≡ weight_of_all (store.emits_next layout own (kept_with staged past) m).out)
-        → IfOk r (λ weight. (s : Situation) → IsAsked images faults plan s a (MessageEvent number) (Takes m) slot
-        → weight ≡ weight_of (entry_of (cluster_of plan) s a (MessageEvent number) false))
-    store_weighs (Err e) is_weight = tt
-    store_weighs (Ok weight) is_weight = λ s asked.
-        let here : IsAsked images faults plan s a (MessageEvent number) (Takes m) (Store t) = store_there s asked in
-        subst (λ (l : Layout). (own : Actor) (version : ℕ) (past : Past Message) (staged : List (Stop Message)) → store.IsStaging images l own version past staged t
-        → weight ≡ weight_of_all (store.emits_next l own (kept_with staged past) m).out) layout_is is_weight
-        a plan.version (store_past (cluster_of plan) s a) [] here.stands.stands
-        ∙ is_entry s (MessageEvent number) (Takes m) (Store t) (store.emits_next plan.topology a (store_past (cluster_of plan) s a) m) here
-        (store_emits_next (cluster_of plan) (whole s) a m (sound_standing (cluster_of plan) s here.sound) here.stands.kind)

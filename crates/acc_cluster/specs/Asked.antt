@@ -1,5 +1,6 @@
 -- When an actor may be asked for a step, and what it answers.
-use Rattle.std.specs.Prelude.{◌≡◌, ℕ, ◌≤◌, Bool, true, false, ◌&&◌, List, [], ◌∷◌, length, Option, None, Some, is_none}
+use Rattle.std.specs.Prelude.{◌≡◌, ℕ, ◌+◌, ◌<◌, ◌≤◌, ◌^◌, Bool, true, false, ◌&&◌, List, [], ◌∷◌, length, Option, None, Some, is_none}
+use Rattle.std.specs.List.{AllByRecursion}
 use Rattle.acc_stamp.specs.declared.actors.Actor.{Actor}
 use Rattle.acc_ports.specs.Strict.{Ranges}
 use Rattle.acc_message.specs.declared.entry.Event.{Event}
@@ -22,11 +23,11 @@ use Rattle.acc_entering.specs.Entries.{MayTake}
 use Rattle.acc_entering.specs.Stopped.{IsSound}
 use Rattle.acc_schedule.specs.Content.{Content}
 use Rattle.acc_follow.specs.Situations.{Situation, whole, stopped_at}
-use Rattle.acc_follow.specs.Moves.{with_item, event_in, entered, is_journalled, tried_if, kept_if, reopened}
+use Rattle.acc_follow.specs.Moves.{with_item, event_in, entered, entered_all, is_journalled, stopped_by, tried_if, kept_if, reopened}
 use Rattle.acc_follow.specs.Schedules.{cluster_of}
 use Rattle.acc_strict.specs.Disks.{Disks, fails_append, after_step, after_restart}
 use Rattle.acc_limits.specs.Limits.{most_items}
-use Rattle.acc_cluster.specs.Slots.{SlotStands, IsStrictSlot}
+use Rattle.acc_cluster.specs.Slots.{SlotStages, SlotStands, IsStrictSlot}
 use Rattle.acc_cluster.specs.Entering.{HasRoom}
 use Rattle.acc_cluster.specs.declared.slot.Slot.{Slot}
 
@@ -60,6 +61,63 @@ pub record HasTriedStrictly {D : Type 0} (strict : D → Bool) (armed : D → Op
 abbrev pub MayAsk : {D : Type 0} → (D → List ℕ → Type 0) → (D → ℕ) → Content → Actor → Event → Act → Slot D → Type 0
 MayAsk images faults plan a event act slot = (s : Situation) × IsAsked images faults plan s a event act slot
 
+-- ---- groups
+
+-- These are the steps by the events, in their order, each with what the rules say that it gives behind the entries of those before it.
+abbrev pub AreSteps : Cluster → Situation → Actor → List Event → Bool → List Unsent → Type 0
+AreSteps cluster s a [] lost [] = Unit {0}
+AreSteps cluster s a [] lost (unsent ∷ others) = ⊥
+AreSteps cluster s a (event ∷ events) lost [] = ⊥
+AreSteps cluster s a (event ∷ events) lost (unsent ∷ others) =
+    (unsent.event ≡ event)
+    × (unsent.emitted ≡ emits_if cluster (whole s) a (act_of cluster (whole s) (event_in s event)))
+    × AreSteps cluster (entered cluster s a event lost) a events lost others
+
+-- few enough with so many entries more
+abbrev pub IsFewBehind : Situation → List Event → Type 0
+IsFewBehind s events = IsFew s × (length s.earlier + length s.own + length events < 2 ^ 31)
+
+-- each of the events may be taken, whatever others enter before, and is journalled
+abbrev pub MayTakeEach : Cluster → Situation → Actor → List Event → Type 0
+MayTakeEach cluster s a events =
+    AllByRecursion (λ (event : Event). (act : Act) × MayTake cluster (whole s) a (event_in s event) act × (is_journalled a event ≡ true)) events
+
+-- the actor in the slot is up, and has taken these events behind its past, in memory alone
+pub record IsStaged {D : Type 0} (images : D → List ℕ → Type 0) (faults : D → ℕ) (plan : Content) (s : Situation) (a : Actor) (staged : List Event) (slot : Slot D) : Type 0 where
+  pub sound : IsSound (cluster_of plan) s
+  pub few : IsFewBehind s staged
+  pub stands : SlotStages images faults plan s a staged slot
+  pub up : is_down a (whole s) ≡ false
+  pub each : MayTakeEach (cluster_of plan) s a staged
+
+-- behind these events it may take one more
+pub record IsAskedBehind {D : Type 0} (images : D → List ℕ → Type 0) (faults : D → ℕ) (plan : Content) (s : Situation) (a : Actor) (staged : List Event) (event : Event) (act : Act) (slot : Slot D) : Type 0 where
+  pub behind : IsStaged images faults plan s a staged slot
+  pub may : MayTake (cluster_of plan) (whole s) a (event_in s event) act
+
+abbrev pub MayAskBehind : {D : Type 0} → (D → List ℕ → Type 0) → (D → ℕ) → Content → Actor → Event → Act → Slot D → Type 0
+MayAskBehind images faults plan a event act slot = (s : Situation) × (staged : List Event) × IsAskedBehind images faults plan s a staged event act slot
+
+-- what a group gives is what the rules say of each event, behind the entries of those before it
+abbrev pub AreGiven : Cluster → Situation → Actor → List Event → Option (List Unsent) → Type 0
+AreGiven cluster s a staged None = Unit {0}
+AreGiven cluster s a staged (Some given) = AreSteps cluster s a staged false given
+
+-- the events are entered, or a fault of the disk stops all of them
+abbrev pub settled_if : Bool → Cluster → Situation → Actor → List Event → Situation
+settled_if true cluster s a events = stopped_by a events s
+settled_if false cluster s a events = entered_all cluster s a events false
+
+-- the slot's actor took all that was staged, or went down by it
+pub record HasSettled {D : Type 0} (images : D → List ℕ → Type 0) (faults : D → ℕ) (plan : Content) (s : Situation) (a : Actor) (staged : List Event) (slot : Slot D) (given : Option (List Unsent)) : Type 0 where
+  pub given_are : AreGiven (cluster_of plan) s a staged given
+  pub stands : SlotStands images faults plan (settled_if (is_none given) (cluster_of plan) s a staged) a slot
+
+-- over a strict disk, which fails just where its armed call is one of the append
+pub record HasSettledStrictly {D : Type 0} (strict : D → Bool) (armed : D → Option ℕ) (content synced : D → List ℕ) (written : D → Ranges) (plan : Content) (s : Situation) (disks : Disks) (a : Actor) (staged : List Event) (slot : Slot D) (given : Option (List Unsent)) : Type 0 where
+  pub fails : is_none given ≡ fails_append (disks.armed a)
+  pub strictly : IsStrictSlot strict armed content synced written plan (settled_if (is_none given) (cluster_of plan) s a staged) (after_step true a disks) a slot
+
 -- ---- slowing
 
 -- the home of the transaction is up
@@ -80,16 +138,6 @@ IsSlowRefused plan s txn Begun = ⊥
 IsSlowRefused plan s txn OutOfMemory = Unit {0}
 
 -- ---- restarts
-
--- These are the steps by the events, in their order, each with what the rules say that it gives behind the entries of those before it.
-abbrev pub AreSteps : Cluster → Situation → Actor → List Event → Bool → List Unsent → Type 0
-AreSteps cluster s a [] lost [] = Unit {0}
-AreSteps cluster s a [] lost (unsent ∷ others) = ⊥
-AreSteps cluster s a (event ∷ events) lost [] = ⊥
-AreSteps cluster s a (event ∷ events) lost (unsent ∷ others) =
-    (unsent.event ≡ event)
-    × (unsent.emitted ≡ emits_if cluster (whole s) a (act_of cluster (whole s) (event_in s event)))
-    × AreSteps cluster (entered cluster s a event lost) a events lost others
 
 -- what was kept is nothing, or all the steps that were stopped
 abbrev pub AreKeptSteps : Cluster → Situation → Actor → List Unsent → Type 0

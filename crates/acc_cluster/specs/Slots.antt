@@ -1,10 +1,12 @@
 -- When the actor at a number stands for a situation.
---     SlotStands      for its past, and its disk has counted its downs
+--     SlotStages      for its past, with these steps staged behind it, and its disk has counted its downs
+--     SlotStands      the same with nothing staged
 --     IsStrictSlot      its disk is strict, and what is armed there is known
-use Rattle.std.specs.Prelude.{◌≡◌, ℕ, ◌≤◌, Bool, true, false, List, Option}
+use Rattle.std.specs.Prelude.{◌≡◌, ℕ, ◌≤◌, Bool, true, false, List, [], ◌∷◌, Option}
 use Rattle.acc_stamp.specs.declared.actors.Actor.{Actor}
 use Rattle.acc_stamp.specs.Actor.{node_of}
 use Rattle.acc_ports.specs.Strict.{Ranges}
+use Rattle.acc_message.specs.declared.entry.Event.{Event}
 use Rattle.acc_message.specs.Run.{clock_start, is_node, is_down}
 use Rattle.acc_payloads.specs.Items.{downs_in}
 use Rattle.acc_actors.specs.declared.node.NodeActor.{NodeActor}
@@ -15,7 +17,7 @@ use Rattle.acc_schedule.specs.Content.{Content}
 use Rattle.acc_follow.specs.Situations.{Situation, whole}
 use Rattle.acc_follow.specs.Schedules.{cluster_of}
 use Rattle.acc_strict.specs.Disks.{Disks}
-use Rattle.acc_cluster.specs.Pasts.{node_past, store_past}
+use Rattle.acc_cluster.specs.Pasts.{stops_in, store_stops, node_past, store_past}
 use Rattle.acc_cluster.specs.declared.slot.Slot.{Slot}
 use Rattle.acc_cluster.specs.declared.slot.Slot.TheVariants.{Empty, Node, Store}
 
@@ -25,16 +27,28 @@ pub record NodeStands {D : Type 0} (images : D → List ℕ → Type 0) (faults 
   pub down : node.is_down n ≡ is_down a (whole s)
   pub counted : downs_in a s.own ≤ faults (node.disk_of n)
 
-pub record StoreStands {D : Type 0} (images : D → List ℕ → Type 0) (faults : D → ℕ) (plan : Content) (s : Situation) (a : Actor) (t : StoreActor D) : Type 0 where
+-- it has taken the messages of the events behind its past, in memory alone
+pub record StoreStages {D : Type 0} (images : D → List ℕ → Type 0) (faults : D → ℕ) (plan : Content) (s : Situation) (a : Actor) (staged : List Event) (t : StoreActor D) : Type 0 where
   pub kind : is_node a ≡ false
-  pub stands : store.StandsFor images plan.topology a plan.version (store_past (cluster_of plan) s a) t
+  pub stands : store.IsStaging images plan.topology a plan.version (store_past (cluster_of plan) s a) (store_stops (stops_in (cluster_of plan) s a staged false)) t
   pub down : store.is_down t ≡ is_down a (whole s)
   pub counted : downs_in a s.own ≤ faults (store.disk_of t)
 
+abbrev pub StoreStands : {D : Type 0} → (D → List ℕ → Type 0) → (D → ℕ) → Content → Situation → Actor → StoreActor D → Type 0
+StoreStands images faults plan s a t = StoreStages images faults plan s a [] t
+
+-- a node stages nothing
+abbrev pub NodeStages : {D : Type 0} → (D → List ℕ → Type 0) → (D → ℕ) → Content → Situation → Actor → List Event → NodeActor D → Type 0
+NodeStages images faults plan s a [] n = NodeStands images faults plan s a n
+NodeStages images faults plan s a (event ∷ events) n = ⊥
+
+abbrev pub SlotStages : {D : Type 0} → (D → List ℕ → Type 0) → (D → ℕ) → Content → Situation → Actor → List Event → Slot D → Type 0
+SlotStages images faults plan s a staged Empty = ⊥
+SlotStages images faults plan s a staged (Node n) = NodeStages images faults plan s a staged n
+SlotStages images faults plan s a staged (Store t) = StoreStages images faults plan s a staged t
+
 abbrev pub SlotStands : {D : Type 0} → (D → List ℕ → Type 0) → (D → ℕ) → Content → Situation → Actor → Slot D → Type 0
-SlotStands images faults plan s a Empty = ⊥
-SlotStands images faults plan s a (Node n) = NodeStands images faults plan s a n
-SlotStands images faults plan s a (Store t) = StoreStands images faults plan s a t
+SlotStands images faults plan s a slot = SlotStages images faults plan s a [] slot
 
 -- the disk of the actor has counted so many faults
 abbrev pub faults_in : {D : Type 0} → (D → ℕ) → Slot D → ℕ

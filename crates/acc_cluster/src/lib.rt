@@ -14,6 +14,7 @@ mod opening;
 mod over;
 mod restarting;
 mod slot;
+mod staging;
 mod stepping;
 mod weighing;
 

@@ -1,10 +1,10 @@
 //! How much an actor in its slot would send. Nothing here makes a call of a disk.
-ghost use Rattle.std.specs.Prelude.{◌≡◌, false, IfOk};
+ghost use Rattle.std.specs.Prelude.{◌≡◌, false, List, IfOk};
 ghost use Rattle.acc_message.specs.declared.entry.Event.{Event as AnEvent};
 ghost use Rattle.acc_message.specs.NodeRules.{Begins, Recovers, Takes};
 ghost use Rattle.acc_message_code.specs.Weight.{weight_of};
 ghost use Rattle.acc_follow.specs.Situations.{Situation};
-ghost use Rattle.acc_follow.specs.Moves.{entry_of};
+ghost use Rattle.acc_follow.specs.Moves.{entry_of, entered_all};
 ghost use Rattle.acc_follow.specs.Schedules.{cluster_of};
 
 use crate::slot::Slot;
@@ -17,7 +17,7 @@ use acc_stamp::{Actor, TxnId};
 use acc_txn::Body;
 
 impl<D: Rig> Slot<D> {
-    ghost use Rattle.acc_cluster.specs.Asked.{IsAsked, MayAsk};
+    ghost use Rattle.acc_cluster.specs.Asked.{IsAsked, MayAsk, IsAskedBehind, MayAskBehind};
 
     /// How many bytes of encoded messages the node would send now if it began a transaction.
     pub fn weigh_begin(
@@ -59,7 +59,7 @@ impl<D: Rig> Slot<D> {
         }
     }
 
-    /// The same of the message with this number.
+    /// The same of the message with this number, behind those that are staged.
     pub fn weigh_take(
         &self,
         plan: &Plan,
@@ -67,9 +67,9 @@ impl<D: Rig> Slot<D> {
         number: u64,
         m: &Message,
     ) -> Result<u64, OutOfMemory>
-        requires { MayAsk D.is_image D.faults plan.now actor (AnEvent.Message number) (Takes m.now) self.now }
-        ensures { IfOk result (λ weight. (s : Situation) → IsAsked D.is_image D.faults plan.now s actor (AnEvent.Message number) (Takes m.now) self.now
-            → weight ≡ weight_of (entry_of (cluster_of plan.now) s actor (AnEvent.Message number) false)) }
+        requires { MayAskBehind D.is_image D.faults plan.now actor (AnEvent.Message number) (Takes m.now) self.now }
+        ensures { IfOk result (λ weight. (s : Situation) (staged : List AnEvent) → IsAskedBehind D.is_image D.faults plan.now s actor staged (AnEvent.Message number) (Takes m.now) self.now
+            → weight ≡ weight_of (entry_of (cluster_of plan.now) (entered_all (cluster_of plan.now) s actor staged false) actor (AnEvent.Message number) false)) }
     {
         messages_have_numbers_alone();
         let _actor = actor;
