@@ -28,9 +28,9 @@ use Rattle.acc_entering.proofs.Standing.{begin_may, recover_may}
 use Rattle.acc_follow.specs.Schedules.{cluster_of}
 use Rattle.acc_cluster.specs.declared.slot.Slot.{Slot}
 use Rattle.acc_served.specs.Commands.{commands_of}
-use Rattle.acc_tape.specs.ItemViews.{addressee, taken_by_item, is_lost_item}
-use Rattle.acc_tape.specs.Messages.{IsOldest}
+use Rattle.acc_tape.specs.ItemViews.{addressee}
 use Rattle.acc_desk.specs.Desks.{IsAt, MayStep, begins_it}
+use Rattle.acc_desk.specs.Groups.{IsOldestHere}
 use Rattle.acc_desk.proofs.Next.{drop_next, own_command, none_gone}
 use Rattle.acc_desk.proofs.Posts.{sent_through, sent_reversed, message_through, untaken_reversed}
 use Rattle.acc_desk.proofs.Unbegun.{unbegun}
@@ -77,14 +77,11 @@ module _ {D : Type 0} (images : D → List ℕ → Type 0) (faults : D → ℕ) 
 
 -- ---- messages
 
-abbrev pub IsOldestHere : List Item → ℕ → Post → Type 0
-IsOldestHere seen actor post = IsOldest taken_by_item (λ item. map addressee (sent_in item)) is_lost_item seen actor 0 post
-
 goes_there : (ms : List Message) (index actor : ℕ) (m : Message) → slice_get ms index ≡ Some m → slice_get (map addressee ms) index ≡ Some actor → (to_of m).0 ≡ actor
 goes_there ms index actor m is to =
     let e : Some (addressee m) ≡ Some actor = sym (slice_get-map addressee ms index ∙ ap (option_map addressee) is) ∙ to in cc
 
-module _ (plan : Content) (a : Actor) (seen : List Item) (post : Post) (oldest : IsOldestHere seen a.0 post) (item : Item) (there : slice_get seen post.place ≡ Some item) (m : Message) (is : slice_get (sent_in item) post.index ≡ Some m) where
+module _ (plan : Content) (a : Actor) (seen : List Item) (from : ℕ) (post : Post) (oldest : IsOldestHere seen a.0 from post) (item : Item) (there : slice_get seen post.place ≡ Some item) (m : Message) (is : slice_get (sent_in item) post.index ≡ Some m) where
   number_is : post.number ≡ sum_by (λ i. length (map addressee (sent_in i))) (take post.place seen) + post.index
   number_is = oldest.stands.3
 

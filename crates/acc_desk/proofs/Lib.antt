@@ -10,3 +10,9 @@ pub mod Asking
 pub mod Begun
 pub mod Opening
 pub mod Closed
+pub mod Entered
+pub mod Gathering
+pub mod Puts
+pub mod Weighing
+pub mod Joining
+pub mod Finding

@@ -97,7 +97,7 @@ module _ {D : Type 0} (images : D → List ℕ → Type 0) (faults : D → ℕ) 
       let cluster = cluster_of plan in
       let st = at.stopped in
       let stands : EachStands cluster (whole (alone (others ++ seen) st)) = subst (EachStands cluster) (sym (alone_whole (others ++ seen) st)) free.run.stands in
-      let over = apart_over cluster seen st a (λ event is. at.serving.sound.stopped a event is) others apart stands in
+      let over = apart_over cluster seen st a (at.serving.sound.stopped a) others apart stands in
       record {
         stopped = st;
         stands = slot_apart plan (alone seen st) (alone (others ++ seen) st) a over.apart images faults slot at.stands;

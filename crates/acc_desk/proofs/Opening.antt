@@ -31,7 +31,7 @@ module _ {D : Type 0} (images : D → List ℕ → Type 0) (faults : D → ℕ) 
 
   at_first : IsServing plan (alone [] []) → SlotStands images faults plan (alone [] []) a slot → StrictFirst → IsAt images faults strict armed content synced written strict_run plan a [] slot (commands_of plan a)
   at_first serving stands strictly =
-      record { stopped = []; stands = stands; serving = serving; stops = λ b event found. absurd (cc); gone = gone_begins plan a; stayed = λ on. record { unarmed = strictly on; none = refl; up = refl } }
+      record { stopped = []; stands = stands; serving = serving; stops = λ b apart. refl; gone = gone_begins plan a; stayed = λ on. record { unarmed = strictly on; none = refl; up = refl } }
 
   -- others entered items while the desk was made
   pub first_desk : IsServing plan (alone [] []) → Contains (actors plan.topology) a → (commands : List Step) → commands ≡ commands_of plan a

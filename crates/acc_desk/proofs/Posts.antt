@@ -33,7 +33,7 @@ pub sent_reversed : (items : List Item) → sent_of (reverse items) ≡ sent_thr
 sent_reversed [] = refl
 sent_reversed (x ∷ xs) = ap sent_of (reverse-append (x ∷ []) xs) ∙ sent_append (reverse xs) (x ∷ []) ∙ ap (λ ms. sent_in x ++ ms) (sent_reversed xs)
 
-get_left : {X : Type 0} (xs ys : List X) (k : ℕ) (x : X) → slice_get xs k ≡ Some x → slice_get (xs ++ ys) k ≡ Some x
+pub get_left : {X : Type 0} (xs ys : List X) (k : ℕ) (x : X) → slice_get xs k ≡ Some x → slice_get (xs ++ ys) k ≡ Some x
 get_left [] ys k x e = absurd (cc)
 get_left (y ∷ xs) ys zero x e = e
 get_left (y ∷ xs) ys (suc k) x e = get_left xs ys k x e

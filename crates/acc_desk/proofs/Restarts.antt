@@ -5,6 +5,7 @@ use Rattle.std.proofs.lemmas.List.{length-reverse}
 use Rattle.acc_stamp.specs.declared.actors.Actor.{Actor}
 use Rattle.acc_ports.specs.Strict.{Ranges}
 use Rattle.acc_message.specs.declared.entry.Event.TheVariants.{Restart as RestartEvent}
+use Rattle.acc_message.specs.declared.entry.Entry.{Entry}
 use Rattle.acc_message.specs.declared.entry.Emitted.{Emitted}
 use Rattle.acc_message.specs.declared.item.Item.{Item}
 use Rattle.acc_message.specs.declared.item.Item.TheVariants.{Step as StepItem}
@@ -16,7 +17,8 @@ use Rattle.acc_message_code.specs.Weight.{weight_of}
 use Rattle.acc_schedule.specs.Actors.{actors}
 use Rattle.acc_schedule.specs.Content.{Content}
 use Rattle.acc_schedule.specs.declared.plan.Step.{Step}
-use Rattle.acc_entering.specs.Entries.{entering}
+use Rattle.acc_safe_runs.proofs.LostFacts.{restart_is_run}
+use Rattle.acc_entering.specs.Entries.{emitted_for, entering}
 use Rattle.acc_entering.specs.Stopped.{IsSound}
 use Rattle.acc_follow.specs.Situations.{Situation, without}
 use Rattle.acc_follow.specs.Moves.{reopened}
@@ -30,7 +32,7 @@ use Rattle.acc_served.specs.Commands.{is_restart}
 use Rattle.acc_served.specs.FreeRun.{IsFreeRun, alone}
 use Rattle.acc_served.specs.Serving.{IsServing, HasGone}
 use Rattle.acc_served.proofs.Alone.{alone_reopened}
-use Rattle.acc_served.proofs.Fitting.{down_fits, restart_fits}
+use Rattle.acc_served.proofs.Fitting.{down_fits, free_part, free_whole, restart_fits}
 use Rattle.acc_served.proofs.Serving.{serving_restarted, serving_down}
 use Rattle.acc_served.proofs.Going.{reopened_went, stayed_down}
 use Rattle.acc_tape.specs.ItemViews.{actor_of_item}
@@ -64,7 +66,11 @@ restart_item plan items a emitted is = ap (λ (e : Emitted). StepItem (record { 
 -- its item fits, and sends nothing
 pub restart_item_fits : (plan : Content) (items : List Item) (a : Actor) → Contains (actors plan.topology) a → IsFreeRun plan items → (given : Option Emitted) → is_silent given → IsFreeRun plan (item_of a (RestartEvent 0) given ∷ items)
 restart_item_fits plan items a known free None is = down_fits plan items a known free
-restart_item_fits plan items a known free (Some emitted) is = subst (λ item. IsFreeRun plan (item ∷ items)) (sym (restart_item plan items a emitted is)) (restart_fits plan items a known free)
+restart_item_fits plan items a known free (Some emitted) is =
+    let e : Entry = record { actor = a; event = RestartEvent 0; emitted = emitted_for (cluster_of plan) items a (RestartEvent 0); lost = false } in
+    subst (λ item. IsFreeRun plan (item ∷ items)) (sym (restart_item plan items a emitted is))
+    (free_whole plan (StepItem e ∷ items) (restart_is_run (cluster_of plan) a items [] free.run tt)
+    (restart_fits plan items e known (free_part plan items free) 0 refl refl (omega arith)))
 
 pub restart_short : (a : Actor) (given : Option Emitted) → is_silent given → All IsShortMessage (sent_in (item_of a (RestartEvent 0) given))
 restart_short a None is = λ k d low. absurd (omega arith)
@@ -103,7 +109,7 @@ module _ {D : Type 0} (images : D → List ℕ → Type 0) (faults : D → ℕ) 
         gone = subst (λ (t : Situation). HasGone plan t a left) (sym e) (reopened_went plan s a false command left restart at.gone);
         stayed = λ on.
             let h = at.stayed on in
-            let next = reopened (cluster_of plan) s a None in
+            let next = reopened (cluster_of plan) s a [] in
             subst (λ (t : Situation). HasStayed strict armed content synced written plan t a new_slot) (sym e) (record {
               unarmed = reopened_fresh strict armed content synced written plan next a new_slot (strictly s fresh_disks at.serving.sound at.stands h.unarmed);
               none = ap (without a) h.none;

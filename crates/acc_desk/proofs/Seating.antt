@@ -68,7 +68,7 @@ module _ (plan : Content) (tape : TapeName) (limits : tape.limits.items ≤ most
       }
 
   -- others' items that came
-  came : (held : List ℕ) (old new : SeatView Item) → IsSeated tape a held old → TurnsOf old new → new.mine ≡ old.mine → Between a old.seen new.seen
+  pub came : (held : List ℕ) (old new : SeatView Item) → IsSeated tape a held old → TurnsOf old new → new.mine ≡ old.mine → Between a old.seen new.seen
   came held old new seated turns same =
       between a old.seen new.seen old.mine (at_actor a old.actor old.seen old.mine seated.actor_is seated.mine_is) turns.seen
       (at_actor a new.actor new.seen old.mine (turns.actor ∙ seated.actor_is) (turns.mine ∙ same))
@@ -78,7 +78,7 @@ module _ (plan : Content) (tape : TapeName) (limits : tape.limits.items ≤ most
       between a seat.seen before seat.mine (at_actor a seat.actor seat.seen seat.mine seated.actor_is seated.mine_is) begins
       (at_actor a seat.actor before seat.mine seated.actor_is mine)
 
-  newest_few : (held : List ℕ) (seat : SeatView Item) → IsSeated tape a held seat → length (newest seat) ≤ most_items
+  pub newest_few : (held : List ℕ) (seat : SeatView Item) → IsSeated tape a held seat → length (newest seat) ≤ most_items
   newest_few held seat seated = let n = length-reverse seat.seen in let f = seated.few in omega arith
 
   module _ {D : Type 0} (images : D → List ℕ → Type 0) (faults : D → ℕ) (strict : D → Bool) (armed : D → Option ℕ) (content synced : D → List ℕ) (written : D → Ranges) (strict_run : Bool) (commands : List Step) (gone : ℕ) (slot : Slot D) where

@@ -1,5 +1,5 @@
 -- A step of the actor of a desk.
-use Rattle.std.proofs.Common.{◌≡◌, ℕ, ◌≤◌, Bool, true, false, List, ◌∷◌, ◌++◌, length, Option, None, Some, Contains, refl, sym, ◌∙◌, ap, subst, arith, inl, inr}
+use Rattle.std.proofs.Common.{◌≡◌, ℕ, ◌≤◌, Bool, true, false, List, [], ◌∷◌, ◌++◌, length, Option, None, Some, Contains, refl, sym, ◌∙◌, ap, subst, arith, inl, inr}
 use Rattle.std.specs.Prelude.{All, is_none}
 use Rattle.std.proofs.Math.Bool.{and-false}
 use Rattle.std.proofs.lemmas.Bool.{true≢false}
@@ -9,7 +9,7 @@ use Rattle.acc_message.specs.declared.entry.Event.{Event}
 use Rattle.acc_message.specs.declared.entry.Emitted.{Emitted}
 use Rattle.acc_message.specs.declared.item.Item.{Item}
 use Rattle.acc_message.specs.declared.item.Item.TheVariants.{Step as StepItem}
-use Rattle.acc_message.specs.Items.{same_actor, sent_in}
+use Rattle.acc_message.specs.Items.{sent_in}
 use Rattle.acc_message.specs.NodeRules.{Act}
 use Rattle.acc_message.specs.Run.{is_down}
 use Rattle.acc_message_code.specs.Short.{IsShortMessage}
@@ -22,10 +22,10 @@ use Rattle.acc_schedule.specs.Content.{Content}
 use Rattle.acc_schedule.specs.declared.plan.Step.{Step}
 use Rattle.acc_entering.specs.Entries.{entering, MayTake}
 use Rattle.acc_entering.proofs.Sound.{sound_standing}
-use Rattle.acc_entering.proofs.Situations.{without_other, stopped_other}
-use Rattle.acc_follow.specs.Situations.{Stopped, Situation, whole, without}
+use Rattle.acc_follow.specs.Situations.{Stopped, Situation, whole, without, stops_of}
 use Rattle.acc_follow.specs.Moves.{event_in, entry_of, tried_if, is_journalled}
 use Rattle.acc_follow.specs.Schedules.{cluster_of}
+use Rattle.acc_follow.proofs.StopLists.{without_other, stopped_other}
 use Rattle.acc_strict.specs.Disks.{Disks, fresh_disks, after_step}
 use Rattle.acc_limits.specs.Limits.{most_items}
 use Rattle.acc_cluster.specs.declared.slot.Slot.{Slot}
@@ -63,19 +63,11 @@ pub few_alone : (items : List Item) (stopped : List Stopped) → length items �
 few_alone items stopped few = (omega arith, few)
 
 -- a stopped step of another isn't there
-stops_tried : (a : Actor) (event : Event) (s : Situation) → AreStopsOf a s.stopped → AreStopsOf a (record { actor = a; event = event } ∷ without a s.stopped)
-stops_tried a event s stops b other found = by (same_actor a b) refl
-  where
-    by : (t : Bool) → same_actor a b ≡ t → same_actor a b ≡ true
-    by true e = e
-    by false e = stops b other (sym (stopped_other a b event s e) ∙ found)
+pub stops_put : (a : Actor) (events : List Event) (stopped : List Stopped) → AreStopsOf a stopped → AreStopsOf a (stops_of a events ++ without a stopped)
+stops_put a events stopped stops b apart = stopped_other a b events stopped apart ∙ stops b apart
 
 pub stops_without : (a : Actor) (stopped : List Stopped) → AreStopsOf a stopped → AreStopsOf a (without a stopped)
-stops_without a stopped stops b other found = by (same_actor a b) refl
-  where
-    by : (t : Bool) → same_actor a b ≡ t → same_actor a b ≡ true
-    by true e = e
-    by false e = stops b other (sym (without_other b a e stopped) ∙ found)
+stops_without a stopped stops b apart = without_other b a apart stopped ∙ stops b apart
 
 module _ {D : Type 0} (images : D → List ℕ → Type 0) (faults : D → ℕ) (strict : D → Bool) (armed : D → Option ℕ) (content synced : D → List ℕ) (written : D → Ranges) (strict_run : Bool) (plan : Content) (a : Actor) (items : List Item) (slot : Slot D) (left later : List Step) (event : Event) (act : Act)
     (known : Contains (actors plan.topology) a) (few : length items ≤ most_items) (at : IsAt images faults strict armed content synced written strict_run plan a items slot left) (may : MayStep plan items a event act left later) where
@@ -164,7 +156,7 @@ module _ {D : Type 0} (images : D → List ℕ → Type 0) (faults : D → ℕ) 
         → (strict_run ≡ true → Stays (tried_if (is_none given) (cluster_of plan) here a event))
         → IsAt images faults strict armed content synced written strict_run plan a (item_of a event given ∷ items) new_slot later
     stepped_by None is stands serves gone stayed =
-        record { stopped = record { actor = a; event = event } ∷ without a at.stopped; stands = stands; serving = serves; stops = stops_tried a event here at.stops; gone = gone; stayed = stayed }
+        record { stopped = stops_of a (event ∷ []) ++ without a at.stopped; stands = stands; serving = serves; stops = stops_put a (event ∷ []) at.stopped at.stops; gone = gone; stayed = stayed }
     stepped_by (Some emitted) is stands serves gone stayed =
         let e : alone (item_of a event (Some emitted) ∷ items) at.stopped ≡ tried_if false (cluster_of plan) here a event = ap (λ (item : Item). alone (item ∷ items) at.stopped) (emitted_is emitted is) in
         record {

@@ -58,8 +58,8 @@ pub record HasStayed {D : Type 0} (strict : D → Bool) (armed : D → Option �
   pub none : s.stopped ≡ []
   pub up : downs_in a s.own ≡ 0
 
--- The actor stands in its slot for what the items have of it, which are a free run. Of its commands these are left, and of the steps that
--- its disk stopped at most one of its own. Where all disks of the run are strict, it stayed up.
+-- The actor stands in its slot for what the items have of it, which are a free run. Of its commands these are left, and the steps that
+-- its disk stopped are its own. Where all disks of the run are strict, it stayed up.
 pub record IsAt {D : Type 0} (images : D → List ℕ → Type 0) (faults : D → ℕ) (strict : D → Bool) (armed : D → Option ℕ) (content synced : D → List ℕ) (written : D → Ranges) (strict_run : Bool) (plan : Content) (a : Actor) (items : List Item) (slot : Slot D) (left : List Step) : Type 0 where
   pub stopped : List Stopped
   pub stands : SlotStands images faults plan (alone items stopped) a slot
@@ -108,13 +108,13 @@ BeginsAs txn id item = (begins_txn txn item ≡ true) × (id_begun txn item ≡ 
 -- It opened its disk again and kept nothing, or its disk failed.
 abbrev pub HasReopened : {D : Type 0} → (D → List ℕ → Type 0) → (D → ℕ) → Content → Situation → Actor → Option Emitted → Slot D → Type 0
 HasReopened images faults plan s a None slot = SlotStands images faults plan (with_item (Down a) s) a slot
-HasReopened images faults plan s a (Some emitted) slot = (emitted ≡ silence) × SlotStands images faults plan (reopened (cluster_of plan) s a None) a slot
+HasReopened images faults plan s a (Some emitted) slot = (emitted ≡ silence) × SlotStands images faults plan (reopened (cluster_of plan) s a []) a slot
 
 -- Over a strict disk, where no step was stopped, it opened.
 abbrev pub HasReopenedStrictly : {D : Type 0} → (D → Bool) → (D → Option ℕ) → (D → List ℕ) → (D → List ℕ) → (D → Ranges) → Content → Situation → Disks → Actor → Option Emitted → Slot D → Type 0
 HasReopenedStrictly strict armed content synced written plan s disks a None slot = ⊥
 HasReopenedStrictly strict armed content synced written plan s disks a (Some emitted) slot =
-    IsStrictSlot strict armed content synced written plan (reopened (cluster_of plan) s a None) (after_restart a disks) a slot
+    IsStrictSlot strict armed content synced written plan (reopened (cluster_of plan) s a []) (after_restart a disks) a slot
 
 -- the item that is entered: what the actor did, or that it went down
 abbrev pub item_of : Actor → Event → Option Emitted → Item

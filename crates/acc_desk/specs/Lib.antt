@@ -1,3 +1,4 @@
 pub mod Asks
 pub mod Desks
 pub mod Fits
+pub mod Groups

@@ -7,7 +7,9 @@
 mod ask;
 mod bell;
 mod desk;
+mod entering;
 mod floor;
+mod group;
 pub mod laws;
 mod looking;
 mod restarting;

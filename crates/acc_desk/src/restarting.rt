@@ -1,6 +1,7 @@
 //! Restarts of the actor of a desk.
 ghost use Rattle.std.specs.Prelude.{◌≡◌, ◌≤◌, ◌+◌, ◌∷◌, [], true, drop, Contains, IfOk, OnOk, OnErr};
 ghost use Rattle.acc_schedule.specs.declared.plan.Step.{Step};
+ghost use Rattle.acc_message.specs.Coordinator.{silence};
 ghost use Rattle.acc_limits.specs.Limits.{most_items};
 ghost use Rattle.acc_served.specs.Commands.{is_restart};
 ghost use Rattle.acc_schedule.specs.Actors.{actors};
@@ -28,6 +29,16 @@ use std::alloc::Global;
 use std::mem;
 use std::sync::Wait;
 
+// What a restart emits.
+fn silent(alloc: Global) -> Emitted
+    ensures { result ≡ silence }
+{
+    Emitted {
+        notes: Notes::new(alloc),
+        out: Messages::new(alloc),
+    }
+}
+
 // The actor opens its disk again in its slot. `None` where the disk failed.
 fn reopen<D: Rig + Drop>(
     alloc: Global,
@@ -47,11 +58,12 @@ fn reopen<D: Rig + Drop>(
     *slot = reopened;
     match found? {
         Restarted::Down => Ok(None),
-        Restarted::Up { kept: None } => Ok(Some(Emitted {
-            notes: Notes::new(alloc),
-            out: Messages::new(alloc),
-        })),
-        Restarted::Up { kept: Some(_) } => Err(OutOfMemory),
+        Restarted::Up { kept } => {
+            if !kept.is_empty() {
+                return Err(OutOfMemory);
+            }
+            Ok(Some(silent(alloc)))
+        }
     }
 }
 

@@ -32,8 +32,8 @@ pub(crate) fn item_for(actor: Actor, event: Event, given: Option<Emitted>) -> It
     }
 }
 
-// Counts what is sent. Answers the bits of the workers that are to be called once it is entered.
-fn count_sent(floor: &Floor, given: &Option<Emitted>) -> u64 {
+/// Counts what is sent. Answers the bits of the workers that are to be called once it is entered.
+pub(crate) fn count_sent(floor: &Floor, given: &Option<Emitted>) -> u64 {
     match given {
         Some(emitted) => floor.send(emitted.out.as_slice()),
         None => 0,

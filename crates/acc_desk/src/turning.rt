@@ -1,12 +1,15 @@
 //! Turns.
-ghost use Rattle.std.specs.Prelude.{◌≡◌, ◌≤◌, ℕ, [], OnOk, OnErr, Some, false};
+ghost use Rattle.std.specs.Prelude.{◌≡◌, ◌≤◌, ℕ, [], OnOk, OnErr, Some, true, false};
 ghost use Rattle.std.specs.Option.{option_copied};
+ghost use Rattle.acc_stamp.specs.declared.actors.Actor.{Actor as AnActor};
 ghost use Rattle.std.specs.List.{slice_get, list_any};
 ghost use Rattle.acc_message.specs.Items.{sent_in};
-ghost use Rattle.acc_message.specs.Run.{is_down};
+ghost use Rattle.acc_message.specs.Run.{is_node, is_down};
 ghost use Rattle.acc_schedule.specs.Content.{Content};
 ghost use Rattle.acc_schedule.specs.declared.plan.Step.{Step as AStep};
+ghost use Rattle.acc_follow.specs.Situations.{Situation};
 ghost use Rattle.acc_limits.specs.Limits.{most_items};
+ghost use Rattle.acc_cluster.specs.Slots.{SlotStands};
 ghost use Rattle.acc_tape.specs.Seats.{TapeName};
 ghost use Rattle.acc_desk.specs.Desks.{newest, IsSeated, IsSound, begins_it};
 
@@ -15,6 +18,7 @@ use crate::desk::Desk;
 use crate::floor::Floor;
 use crate::rules::{PlanTape, Planned};
 use acc_base::OutOfMemory;
+use acc_cluster::Slot;
 use acc_message::{Item, Message};
 use acc_ports::{Gate, Rig};
 use acc_schedule::{Plan, Step};
@@ -43,8 +47,8 @@ fn messages_of(item: &Item) -> &[Message]
     }
 }
 
-// The message with this place among those that an item sent.
-fn message_in(item: &Item, index: u64) -> Option<&Message>
+/// The message with this place among those that an item sent.
+pub(crate) fn message_in(item: &Item, index: u64) -> Option<&Message>
     ensures { option_copied result ≡ slice_get (sent_in item.now) index }
 {
     messages_of(item).get(index as usize)
@@ -91,6 +95,16 @@ fn body_of(plan: &Plan, txn: u32) -> Option<&Body>
     ensures { option_copied result ≡ slice_get plan.now.bodies txn }
 {
     plan.bodies.as_slice().get(txn as usize)
+}
+
+// Whether a store stands in the slot.
+fn is_store<D: Rig>(slot: &Slot<D>) -> bool
+    ensures { result ≡ true → (plan : Content) (s : Situation) (a : AnActor) → SlotStands D.is_image D.faults plan s a slot.now → is_node a ≡ false }
+{
+    match slot {
+        Slot::Store(_) => true,
+        Slot::Empty | Slot::Node(_) => false,
+    }
 }
 
 impl<D: Rig + Drop, J: Planned> Desk<D, J> {
@@ -247,7 +261,7 @@ impl<D: Rig + Drop, J: Planned> Desk<D, J> {
         self.take(rt, plan, floor, tape, gate, turn, ask, self.gone + 1)
     }
 
-    // Takes the oldest message to the actor.
+    // Takes the oldest message to the actor, and a store some more.
     fn message<W: Wait, G: Gate>(
         &mut self,
         rt: &W,
@@ -264,9 +278,36 @@ impl<D: Rig + Drop, J: Planned> Desk<D, J> {
         ensures ok { OnOk result (IsSound D.is_image D.faults D.strict D.armed D.content D.synced D.written J.strict plan.now tape.now self.new.actor self.new.seat self.new.slot self.new.commands self.new.gone) }
         ensures err { OnErr result (IsSeated tape.now self.new.actor [] self.new.seat) }
     {
+        if self.is_down() {
+            return Ok(Turned::Idle);
+        }
         if !self.has_mail(floor) {
             return Ok(Turned::Idle);
         }
+        if is_store(&self.slot) {
+            self.group(rt, plan, floor, tape, gate, turn)
+        } else {
+            self.one_message(rt, plan, floor, tape, gate, turn)
+        }
+    }
+
+    // Takes the oldest message to the actor.
+    fn one_message<W: Wait, G: Gate>(
+        &mut self,
+        rt: &W,
+        plan: &Plan,
+        floor: &Floor,
+        tape: &PlanTape<J>,
+        gate: &G,
+        turn: u64,
+    ) -> Result<Turned, OutOfMemory>
+        requires plan { plan.now ≡ J.plan }
+        requires limits { tape.now.limits.items ≤ most_items }
+        requires desk { IsSound D.is_image D.faults D.strict D.armed D.content D.synced D.written J.strict plan.now tape.now self.old.actor self.old.seat self.old.slot self.old.commands self.old.gone }
+        ensures same { (self.new.actor ≡ self.old.actor) × (self.new.commands ≡ self.old.commands) }
+        ensures ok { OnOk result (IsSound D.is_image D.faults D.strict D.armed D.content D.synced D.written J.strict plan.now tape.now self.new.actor self.new.seat self.new.slot self.new.commands self.new.gone) }
+        ensures err { OnErr result (IsSeated tape.now self.new.actor [] self.new.seat) }
+    {
         let Some((post, sender)) = tape.next_with_item(rt, &mut self.seat, self.actor.0)? else {
             return Ok(Turned::Idle);
         };

@@ -1,21 +1,23 @@
--- From actors that each stand for what all entered, and for the step of their own that a fault stopped, to one situation of them all.
-use Rattle.std.proofs.Common.{◌≡◌, ℕ, Bool, true, false, List, [], ◌∷◌, ◌++◌, map, reverse, Contains, Option, None, Some, refl, sym, ◌∙◌, ap}
+-- From actors that each stand for what all entered, and for the steps of their own that a fault stopped, to one situation of them all.
+use Rattle.std.proofs.Common.{◌≡◌, ℕ, Bool, true, false, List, [], ◌∷◌, ◌++◌, map, reverse, Contains, Option, refl, sym, ◌∙◌, ap, subst}
 use Rattle.std.specs.List.{AllByRecursion, IsDistinct}
-use Rattle.std.proofs.lemmas.Bool.{true≢false}
-use Rattle.std.proofs.lemmas.Option.{none-some}
+use Rattle.std.specs.List.{filter}
+use Rattle.std.proofs.lemmas.List.{append-nil, map-append}
+use Rattle.std.proofs.lemmas.List.Elements.{filter-append}
 use Rattle.acc_stamp.specs.declared.actors.Actor.{Actor}
 use Rattle.acc_ports.specs.Strict.{Ranges}
 use Rattle.acc_message.specs.declared.entry.Event.{Event}
 use Rattle.acc_message.specs.declared.item.Item.{Item}
 use Rattle.acc_message.specs.Items.{same_actor}
 use Rattle.acc_payloads.specs.Items.{downs_in}
+use Rattle.acc_safety.proofs.Bridge.{same}
 use Rattle.acc_safety.proofs.PlaceOrder.{Contains-IsIn, each_at}
 use Rattle.acc_schedule.specs.Actors.{actors}
 use Rattle.acc_schedule.specs.Content.{Content}
 use Rattle.acc_schedule.specs.Plan.{IsPlan}
 use Rattle.acc_schedule.specs.declared.plan.Step.{Step}
 use Rattle.acc_follow.specs.Laws.{NobodyIsDown}
-use Rattle.acc_follow.specs.Situations.{Stopped, stopped_at, event_if}
+use Rattle.acc_follow.specs.Situations.{Stopped, stopped_at}
 use Rattle.acc_follow.specs.Schedules.{cluster_of}
 use Rattle.acc_strict.specs.Disks.{fresh_disks}
 use Rattle.acc_limits.specs.Limits.{IsWithin}
@@ -24,7 +26,7 @@ use Rattle.acc_cluster.specs.Slots.{SlotStands, IsStrictSlot}
 use Rattle.acc_cluster.proofs.Apart.{IsApart, apart_stopped}
 use Rattle.acc_cluster.proofs.Slots.{slot_apart, strict_apart}
 use Rattle.acc_served.specs.FreeRun.{IsFreeRun, alone}
-use Rattle.acc_served.specs.Serving.{IsServing, HasGone, AreStopsOf}
+use Rattle.acc_served.specs.Serving.{IsServing, HasGone}
 use Rattle.acc_desk.specs.Desks.{IsAt}
 use Rattle.acc_free.specs.declared.rest.Rest.{Rest}
 use Rattle.acc_free.specs.Finish.{HaveRested}
@@ -33,35 +35,17 @@ use Rattle.acc_free.proofs.Lists.{apart_sym}
 
 -- ---- stopped steps of two lists
 
-first_none : (a : Actor) (xs ys : List Stopped) → stopped_at a xs ≡ None → stopped_at a (xs ++ ys) ≡ stopped_at a ys
-first_none a [] ys none = refl
-first_none a (x ∷ xs) ys none = by (same_actor x.actor a) none (first_none a xs ys)
-  where
-    by : (test : Bool) → event_if test x (stopped_at a xs) ≡ None → (stopped_at a xs ≡ None → stopped_at a (xs ++ ys) ≡ stopped_at a ys)
-        → event_if test x (stopped_at a (xs ++ ys)) ≡ stopped_at a ys
-    by true none later = absurd (none-some x.event (sym none))
-    by false none later = later none
+-- an actor's steps in both lists, where one of them has none
+both_stopped : (a : Actor) (xs ys : List Stopped) → stopped_at a (xs ++ ys) ≡ stopped_at a xs ++ stopped_at a ys
+both_stopped a xs ys =
+    ap (map (λ (one : Stopped). one.event)) (filter-append (λ (one : Stopped). same_actor one.actor a) xs ys)
+    ∙ map-append (λ (one : Stopped). one.event) (filter (λ (one : Stopped). same_actor one.actor a) xs) (filter (λ (one : Stopped). same_actor one.actor a) ys)
 
-first_some : (a : Actor) (xs ys : List Stopped) (event : Event) → stopped_at a xs ≡ Some event → stopped_at a (xs ++ ys) ≡ Some event
-first_some a [] ys event is = absurd (none-some event is)
-first_some a (x ∷ xs) ys event is = by (same_actor x.actor a) is (first_some a xs ys event)
-  where
-    by : (test : Bool) → event_if test x (stopped_at a xs) ≡ Some event → (stopped_at a xs ≡ Some event → stopped_at a (xs ++ ys) ≡ Some event)
-        → event_if test x (stopped_at a (xs ++ ys)) ≡ Some event
-    by true is later = is
-    by false is later = later is
+first_none : (a : Actor) (xs ys : List Stopped) → stopped_at a xs ≡ [] → stopped_at a (xs ++ ys) ≡ stopped_at a ys
+first_none a xs ys none = both_stopped a xs ys ∙ ap (λ events. events ++ stopped_at a ys) none
 
-second_none : (a : Actor) (xs ys : List Stopped) → stopped_at a ys ≡ None → stopped_at a (xs ++ ys) ≡ stopped_at a xs
-second_none a [] ys none = none
-second_none a (x ∷ xs) ys none = ap (event_if (same_actor x.actor a) x) (second_none a xs ys none)
-
--- an actor's own steps are no other's
-own_none : (a b : Actor) (xs : List Stopped) → AreStopsOf a xs → same_actor a b ≡ false → stopped_at b xs ≡ None
-own_none a b xs own apart = by (stopped_at b xs) refl
-  where
-    by : (found : Option Event) → stopped_at b xs ≡ found → found ≡ None
-    by None is = refl
-    by (Some event) is = absurd (true≢false (sym (own b event is) ∙ apart))
+second_none : (a : Actor) (xs ys : List Stopped) → stopped_at a ys ≡ [] → stopped_at a (xs ++ ys) ≡ stopped_at a xs
+second_none a xs ys none = both_stopped a xs ys ∙ ap (λ events. stopped_at a xs ++ events) none ∙ append-nil (stopped_at a xs)
 
 -- ---- all actors
 
@@ -76,11 +60,11 @@ module _ {D : Type 0} (images : D → List ℕ → Type 0) (faults : D → ℕ) 
   stops_of (rest ∷ rests) all = all.0.stopped ++ stops_of rests all.1
 
   others_none : (b : Actor) (rests : List (Rest D)) (all : AllByRecursion IsEnd rests) → AllByRecursion (λ (a : Actor). same_actor b a ≡ false) (map rest_actor rests)
-      → stopped_at b (stops_of rests all) ≡ None
+      → stopped_at b (stops_of rests all) ≡ []
   unfolding stops_of
   others_none b [] all apart = refl
   others_none b (rest ∷ rests) all apart =
-      first_none b all.0.stopped (stops_of rests all.1) (own_none rest.actor b all.0.stopped all.0.stops (apart_sym b rest.actor apart.0))
+      first_none b all.0.stopped (stops_of rests all.1) (all.0.stops b (apart_sym b rest.actor apart.0))
       ∙ others_none b rests all.1 apart.1
 
   -- where nothing was stopped of each
@@ -89,22 +73,28 @@ module _ {D : Type 0} (images : D → List ℕ → Type 0) (faults : D → ℕ) 
   none_stopped [] all is = refl
   none_stopped (rest ∷ rests) all is = ap (λ (l : List Stopped). l ++ stops_of rests all.1) (all.0.stayed is).none ∙ none_stopped rests all.1 is
 
-  -- whose stopped step it is
-  abbrev FoundIn : Actor → Event → Type 0
-  FoundIn a event = (one : List Stopped) × (stopped_at a one ≡ Some event) × IsServing plan (alone items one)
+  -- whose stopped steps they are
+  abbrev FoundIn : Actor → List Event → Type 0
+  FoundIn a events = (one : List Stopped) × (stopped_at a one ≡ events) × IsServing plan (alone items one)
 
-  found_by : (own rest : List Stopped) (a : Actor) (event : Event) → IsServing plan (alone items own) → (stopped_at a rest ≡ Some event → FoundIn a event)
-      → stopped_at a (own ++ rest) ≡ Some event → FoundIn a event
-  found_by own rest a event serving later is = by (stopped_at a own) refl
+  -- all that was stopped is of one actor, the first or another
+  found_by : (rest : Rest D) (at : IsEnd rest) (others : List Stopped) (a : Actor) (events : List Event)
+      → (same_actor rest.actor a ≡ true → stopped_at a others ≡ []) → (stopped_at a others ≡ events → FoundIn a events)
+      → stopped_at a (at.stopped ++ others) ≡ events → FoundIn a events
+  found_by rest at others a events mine later is = by (same_actor rest.actor a) refl
     where
-      by : (found : Option Event) → stopped_at a own ≡ found → FoundIn a event
-      by None none = later (sym (first_none a own rest none) ∙ is)
-      by (Some other) here = (own, here ∙ sym (first_some a own rest other here) ∙ is, serving)
+      by : (here : Bool) → same_actor rest.actor a ≡ here → FoundIn a events
+      by true here = (at.stopped, sym (second_none a at.stopped others (mine here)) ∙ is, at.serving)
+      by false here = later (sym (first_none a at.stopped others (at.stops a here)) ∙ is)
 
-  whose : (rests : List (Rest D)) (all : AllByRecursion IsEnd rests) (a : Actor) (event : Event) → stopped_at a (stops_of rests all) ≡ Some event → FoundIn a event
-  unfolding stops_of
-  whose [] all a event is = absurd (none-some event is)
-  whose (rest ∷ rests) all a event is = found_by all.0.stopped (stops_of rests all.1) a event all.0.serving (whose rests all.1 a event) is
+  whose : (rests : List (Rest D)) (all : AllByRecursion IsEnd rests) → IsDistinct same_actor (map rest_actor rests) → (a : Actor) (event : Event) (events : List Event)
+      → stopped_at a (stops_of rests all) ≡ event ∷ events → FoundIn a (event ∷ events)
+  unfolding IsDistinct stops_of
+  whose [] all apart a event events is = absurd (cc)
+  whose (rest ∷ rests) all apart a event events is =
+      found_by rest all.0 (stops_of rests all.1) a (event ∷ events)
+      (λ here. subst (λ b. stopped_at b (stops_of rests all.1) ≡ []) (same rest.actor a here) (others_none rest.actor rests all.1 apart.0))
+      (whose rests all.1 apart.1 a event events) is
 
   -- ---- by one list of stopped steps
 
@@ -139,7 +129,7 @@ module _ {D : Type 0} (images : D → List ℕ → Type 0) (faults : D → ℕ) 
         → Agrees (at.stopped ++ other) rests → Agrees other rests
     tail_agrees rest at other [] apart h = tt
     tail_agrees rest at other (one ∷ rests) apart h =
-        (h.0 ∙ first_none one.actor at.stopped other (own_none rest.actor one.actor at.stopped at.stops apart.0), tail_agrees rest at other rests apart.1 h.1)
+        (h.0 ∙ first_none one.actor at.stopped other (at.stops one.actor apart.0), tail_agrees rest at other rests apart.1 h.1)
 
     each_stands : GoneLaw → (rests : List (Rest D)) (all : AllByRecursion IsEnd rests) → IsDistinct same_actor (map rest_actor rests) → Agrees (stops_of rests all) rests
         → AllByRecursion StandsBy rests
@@ -179,7 +169,7 @@ module _ {D : Type 0} (images : D → List ℕ → Type 0) (faults : D → ℕ) 
 abbrev pub TogetherLaw : Type 0
 TogetherLaw =
     (plan : Content) (items : List Item) (stopped : List Stopped) → IsPlan plan → IsFreeRun plan items
-    → ((a : Actor) (event : Event) → stopped_at a stopped ≡ Some event → (one : List Stopped) × (stopped_at a one ≡ Some event) × IsServing plan (alone items one))
+    → ((a : Actor) (event : Event) (events : List Event) → stopped_at a stopped ≡ event ∷ events → (one : List Stopped) × (stopped_at a one ≡ event ∷ events) × IsServing plan (alone items one))
     → IsServing plan (alone items stopped)
 
 abbrev pub EachLaw : Type 0
@@ -198,7 +188,7 @@ pub rested : {D : Type 0} (images : D → List ℕ → Type 0) (faults : D → �
 rested images faults strict armed content synced written strict_run plan valid together each nobody entered free within rests are all =
     let items = reverse entered in
     let stopped = stops_of images faults strict armed content synced written strict_run plan items rests all in
-    let serving = together plan items stopped valid free (whose images faults strict armed content synced written strict_run plan items rests all) in
+    let serving = together plan items stopped valid free (whose images faults strict armed content synced written strict_run plan items rests all are.apart) in
     let stand = each_stands images faults strict armed content synced written strict_run plan items stopped each rests all are.apart
     (itself images faults strict armed content synced written strict_run plan items stopped rests) in
     record {

@@ -1,5 +1,5 @@
 -- Over strict disks on which nothing is armed nobody goes down.
-use Rattle.std.proofs.Common.{◌≡◌, ℕ, Bool, true, false, cond, ◌&&◌, List, Option, None, Some, refl, sym, ◌∙◌, ap, subst}
+use Rattle.std.proofs.Common.{◌≡◌, ℕ, Bool, true, false, cond, ◌&&◌, List, [], ◌∷◌, Option, None, Some, refl, sym, ◌∙◌, ap, subst}
 use Rattle.std.proofs.Math.Bool.{and-false}
 use Rattle.std.proofs.lemmas.Bool.{true≢false, and_from}
 use Rattle.acc_stamp.specs.declared.actors.Actor.{Actor}
@@ -16,7 +16,7 @@ use Rattle.acc_schedule.specs.Plan.{IsPlan}
 use Rattle.acc_schedule.specs.declared.plan.Step.{Step}
 use Rattle.acc_schedule.specs.declared.plan.Step.TheVariants.{Begin, Deliver, Drop, Recover, Slow, Restart, Fail, Drain}
 use Rattle.acc_follow.specs.Situations.{Situation, receiver_in, waits}
-use Rattle.acc_follow.specs.Moves.{Answers, is_journalled, tried_if, tried, begin_skip, recover_skip, kept_if, reopened}
+use Rattle.acc_follow.specs.Moves.{Answers, entered, is_journalled, tried_if, tried, begin_skip, recover_skip, kept_if, with_kept, reopened}
 use Rattle.acc_follow.specs.Schedules.{cluster_of}
 use Rattle.acc_follow.specs.Laws.{NobodyIsDown}
 use Rattle.acc_strict.specs.Disks.{Disks, fails_append, after_append, after_step, step_answers}
@@ -50,9 +50,12 @@ module _ (cluster : RunCluster) where
         (sym (ap (λ armed. is_journalled a event && fails_append armed) (h.unarmed a) ∙ and-false (is_journalled a event))) (and_from true _ refl h.up);
   }
 
-  up_reopened : (s : Situation) (a : Actor) (kept : Option Event) → NobodyIsDown s.own → NobodyIsDown (reopened cluster s a kept).own
-  up_reopened s a None up = and_from true _ refl up
-  up_reopened s a (Some event) up = and_from true _ refl (and_from true _ refl up)
+  up_kept : (s : Situation) (a : Actor) (kept : List Event) → NobodyIsDown s.own → NobodyIsDown (with_kept cluster s a kept).own
+  up_kept s a [] up = up
+  up_kept s a (event ∷ kept) up = up_kept (entered cluster s a event true) a kept (and_from true _ refl up)
+
+  up_reopened : (s : Situation) (a : Actor) (kept : List Event) → NobodyIsDown s.own → NobodyIsDown (reopened cluster s a kept).own
+  up_reopened s a kept up = and_from true _ refl (up_kept s a kept up)
 
   pub up_drained : (last s : StrictSituation) → StrictDrains cluster last s → IsUp s → IsUp last
   up_drained last s (stops _ none is) h = subst IsUp (sym is) h

@@ -1,5 +1,5 @@
 -- A schedule doesn't change the run that stood before it.
-use Rattle.std.proofs.Common.{◌≡◌, ℕ, ◌+◌, Bool, true, false, ◌&&◌, List, [], ◌∷◌, Option, Some, None, refl, ◌∙◌, ap}
+use Rattle.std.proofs.Common.{◌≡◌, ℕ, ◌+◌, Bool, true, false, ◌&&◌, List, [], ◌∷◌, length, Option, Some, None, refl, ◌∙◌, ap}
 use Rattle.acc_stamp.specs.declared.actors.Actor.{Actor}
 use Rattle.acc_stamp.specs.Actor.{actor_of}
 use Rattle.acc_message.specs.declared.entry.Event.{Event}
@@ -13,6 +13,7 @@ use Rattle.acc_schedule.specs.declared.plan.Step.TheVariants.{Begin, Deliver, Dr
 use Rattle.acc_follow.specs.Situations.{Situation, opened, receiver_in}
 use Rattle.acc_follow.specs.Moves.{Answers, fails_in, is_journalled, tried_if, tried, stepped_unless, dropped_unless, begin_skip, recover_skip, slowing_skip, message_skip, deliver_skip, kept_if, reopened, restarted_if, Drains, stops, delivers, IsNext}
 use Rattle.acc_follow.specs.Schedules.{Follows}
+use Rattle.acc_follow.proofs.StopLists.{all_earlier}
 
 module _ (cluster : Cluster) (answers : Answers) where
   tried_same : (fails : Bool) (s : Situation) (a : Actor) (event : Event) → (tried_if fails cluster s a event).earlier ≡ s.earlier
@@ -27,13 +28,12 @@ module _ (cluster : Cluster) (answers : Answers) where
   dropped_same (Some cause) number s message = refl
   dropped_same None number s message = refl
 
-  reopened_same : (s : Situation) (a : Actor) (kept : Option Event) → (reopened cluster s a kept).earlier ≡ s.earlier
-  reopened_same s a (Some event) = refl
-  reopened_same s a None = refl
+  reopened_same : (s : Situation) (a : Actor) (kept : List Event) → (reopened cluster s a kept).earlier ≡ s.earlier
+  reopened_same s a kept = all_earlier cluster a true s kept
 
   restarted_same : (fails : Bool) (s : Situation) (a : Actor) → (restarted_if fails cluster answers s a).earlier ≡ s.earlier
   restarted_same true s a = refl
-  restarted_same false s a = reopened_same s a _
+  restarted_same false s a = reopened_same s a (kept_if (answers.keeps (length s.own)) a s)
 
   drained_same : (last s : Situation) → Drains cluster answers last s → last.earlier ≡ s.earlier
   drained_same last s (stops _ none is) = ap (λ (x : Situation). x.earlier) is

@@ -1,0 +1,36 @@
+-- What an actor is asked for with nothing staged.
+use Rattle.std.proofs.Common.{◌≡◌, ℕ, false, List, [], Result, Ok, Err, IfOk, arith}
+use Rattle.acc_stamp.specs.declared.actors.Actor.{Actor}
+use Rattle.acc_message.specs.declared.entry.Event.{Event}
+use Rattle.acc_message.specs.NodeRules.{Act}
+use Rattle.acc_message_code.specs.Weight.{weight_of}
+use Rattle.acc_schedule.specs.Content.{Content}
+use Rattle.acc_follow.specs.Situations.{Situation}
+use Rattle.acc_follow.specs.Moves.{entry_of, entered_all}
+use Rattle.acc_follow.specs.Schedules.{cluster_of}
+use Rattle.acc_cluster.specs.declared.slot.Slot.{Slot}
+use Rattle.acc_cluster.specs.Asked.{IsAsked, MayAsk, IsAskedBehind, MayAskBehind}
+
+module _ {D : Type 0} (images : D → List ℕ → Type 0) (faults : D → ℕ) (plan : Content) (a : Actor) (event : Event) (act : Act) (slot : Slot D) where
+  asked_behind : (s : Situation) → IsAsked images faults plan s a event act slot → IsAskedBehind images faults plan s a [] event act slot
+  asked_behind s asked =
+      record {
+        behind = record {
+          sound = asked.sound;
+          few = (asked.few, (let room = asked.few.0 in let few = asked.few.1 in omega arith));
+          stands = asked.stands;
+          up = asked.up;
+          each = tt;
+        };
+        may = asked.may;
+      }
+
+  pub may_ask_behind : MayAsk images faults plan a event act slot → MayAskBehind images faults plan a event act slot
+  may_ask_behind may = (may.0, [], asked_behind may.0 may.1)
+
+  pub weighs_alone : {E : Type 0} (r : Result ℕ E)
+      → IfOk r (λ weight. (s : Situation) (staged : List Event) → IsAskedBehind images faults plan s a staged event act slot
+      → weight ≡ weight_of (entry_of (cluster_of plan) (entered_all (cluster_of plan) s a staged false) a event false))
+      → IfOk r (λ weight. (s : Situation) → IsAsked images faults plan s a event act slot → weight ≡ weight_of (entry_of (cluster_of plan) s a event false))
+  weighs_alone (Err e) h = tt
+  weighs_alone (Ok weight) h = λ s asked. h s [] (asked_behind s asked)

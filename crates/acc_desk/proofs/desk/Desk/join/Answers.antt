@@ -1,0 +1,41 @@
+use Rattle.std.proofs.Common.{ℕ, List, [], ◌∷◌, ◌++◌, sym, ◌∙◌, ap, subst}
+use Rattle.acc_message.specs.declared.entry.Event.TheVariants.{Message as MessageEvent}
+use Rattle.acc_message.specs.NodeRules.{Takes}
+use Rattle.acc_message_code.specs.Weight.{weight_of}
+use Rattle.acc_tape.specs.ItemViews.{actor_of_item}
+use Rattle.acc_tape.specs.Seats.{Turns}
+use Rattle.acc_desk.specs.Fits.{fits_plan}
+use Rattle.acc_desk.specs.Groups.{Joining, IsGathering}
+use Rattle.acc_desk.proofs.Joining.{asks_now, no_room, joins}
+use Rattle.acc_desk.proofs.desk.Desk.join.Goals as goal
+
+pub weigh_take-requires : goal.weigh_take-requires
+weigh_take-requires g c =
+    let self = c.args.self.now in
+    let q = c.requires.group in
+    asks_now g.D.Disk.is_image g.D.Disk.faults g.D.Disk.strict g.D.Disk.armed g.D.Disk.content g.D.Disk.synced g.D.Disk.written g.J.Planned.strict c.args.plan.now c.args.tape.now c.requires.limits self.actor self.commands self.gone q.0 self.slot q.1 c.args.weights.now.items self.seat (record { event = MessageEvent c.args.number; act = Takes c.args.message.now }) q.2
+
+pub stage-requires : goal.stage-requires
+stage-requires g c =
+    let self = c.args.self.now in
+    let q = c.requires.group in
+    asks_now g.D.Disk.is_image g.D.Disk.faults g.D.Disk.strict g.D.Disk.armed g.D.Disk.content g.D.Disk.synced g.D.Disk.written g.J.Planned.strict c.args.plan.now c.args.tape.now c.requires.limits self.actor self.commands self.gone q.0 self.slot q.1 c.args.weights.now.items self.seat (record { event = MessageEvent c.args.number; act = Takes c.args.message.now }) q.2
+
+pub returns-in-Err-Full-clause-ok : goal.returns-in-Err-Full-clause-ok
+returns-in-Err-Full-clause-ok g c = λ first joinings can.
+    let self = c.args.self.now in
+    let turns = subst (λ p. Turns actor_of_item weight_of (fits_plan p) self.seat c.reserve-2.new.seat) (sym c.requires.plan) c.reserve-2.ensures.turn in
+    subst (λ (ws : List ℕ). IsGathering g.D.Disk.is_image g.D.Disk.faults g.D.Disk.strict g.D.Disk.armed g.D.Disk.content g.D.Disk.synced g.D.Disk.written g.J.Planned.strict c.args.plan.now c.args.tape.now self.actor c.reserve-2.new.seat first self.slot self.commands self.gone joinings ws) (sym c.reserve.ensures.items)
+    (no_room g.D.Disk.is_image g.D.Disk.faults g.D.Disk.strict g.D.Disk.armed g.D.Disk.content g.D.Disk.synced g.D.Disk.written g.J.Planned.strict c.args.plan.now c.args.tape.now c.requires.limits self.actor self.commands self.gone first self.slot joinings c.args.weights.now.items self.seat (record { event = MessageEvent c.args.number; act = Takes c.args.message.now }) can c.reserve-2.new.seat turns c.reserve-2.ensures.same.0
+    (c.in-Err-Full.ensures.err ∙ can.gathering.desk.seated.held_is))
+
+pub returns-clause-ok : goal.returns-clause-ok
+returns-clause-ok g c = λ first joinings can.
+    let self = c.args.self.now in
+    let weight = c.in_ok-weight.weight in
+    let j : Joining = record { event = MessageEvent c.args.number; act = Takes c.args.message.now } in
+    let turns = subst (λ p. Turns actor_of_item weight_of (fits_plan p) self.seat c.reserve-2.new.seat) (sym c.requires.plan) c.reserve-2.ensures.turn in
+    subst (λ (ws : List ℕ). IsGathering g.D.Disk.is_image g.D.Disk.faults g.D.Disk.strict g.D.Disk.armed g.D.Disk.content g.D.Disk.synced g.D.Disk.written g.J.Planned.strict c.args.plan.now c.args.tape.now self.actor c.reserve-2.new.seat first c.stage.new.self self.commands self.gone (joinings ++ j ∷ []) ws)
+    (sym (c.push_reserved.ensures.items ∙ ap (λ (ws : List ℕ). ws ++ weight ∷ []) c.reserve.ensures.items))
+    (joins g.D.Disk.is_image g.D.Disk.faults g.D.Disk.strict g.D.Disk.armed g.D.Disk.content g.D.Disk.synced g.D.Disk.written g.J.Planned.strict c.args.plan.now c.args.tape.now c.requires.limits self.actor self.commands self.gone first self.slot joinings c.args.weights.now.items self.seat j can c.reserve-2.new.seat turns c.reserve-2.ensures.same.0
+    c.stage.new.self weight (c.in-Ok.ensures.ok ∙ ap (λ h. h ++ weight ∷ []) can.gathering.desk.seated.held_is) c.in_ok-weight.ensures c.in_ok-stage.ensures.ok c.stage.ensures.strict)

@@ -1,0 +1,41 @@
+use Rattle.std.proofs.Common.{◌≢◌, List, [], Option, subst}
+use Rattle.acc_message.specs.declared.entry.Event.{Event}
+use Rattle.acc_actors.specs.declared.stops.Unsent.{Unsent}
+use Rattle.acc_follow.specs.Situations.{Situation}
+use Rattle.acc_strict.specs.Disks.{Disks}
+use Rattle.acc_cluster.specs.Slots.{IsStrictSlot}
+use Rattle.acc_cluster.specs.Asked.{IsStaged, HasSettled, HasSettledStrictly}
+use Rattle.acc_desk.specs.Groups.{events_of}
+use Rattle.acc_desk.proofs.Joining.{settle_asks, settled_none, settled_some}
+use Rattle.acc_desk.proofs.desk.Desk.settle.Goals as goal
+
+pub settle-requires : goal.settle-requires
+settle-requires g c =
+    let self = c.args.self.now in
+    let q = c.requires.group in
+    settle_asks g.D.Disk.is_image g.D.Disk.faults g.D.Disk.strict g.D.Disk.armed g.D.Disk.content g.D.Disk.synced g.D.Disk.written g.J.Planned.strict c.args.plan.now c.args.tape.now c.requires.limits self.actor self.commands self.gone q.0 self.slot q.1 c.args.weights.now self.seat q.3
+
+pub enter_group-requires-clause-group : goal.enter_group-requires-clause-group
+enter_group-requires-clause-group g c =
+    let self = c.args.self.now in
+    let q = c.requires.group in
+    let settled = subst (λ (o : Option (List Unsent)). (s : Situation) (staged : List Event) → IsStaged g.D.Disk.is_image g.D.Disk.faults c.args.plan.now s self.actor staged self.slot → HasSettled g.D.Disk.is_image g.D.Disk.faults c.args.plan.now s self.actor staged c.settle.new.self o) c.in-Some.is c.in-Ok.ensures.ok in
+    let strictly = subst (λ (o : Option (List Unsent)). (s : Situation) (staged : List Event) (disks : Disks) → IsStaged g.D.Disk.is_image g.D.Disk.faults c.args.plan.now s self.actor staged self.slot → staged ≢ []
+    → IsStrictSlot g.D.Disk.strict g.D.Disk.armed g.D.Disk.content g.D.Disk.synced g.D.Disk.written c.args.plan.now s disks self.actor self.slot
+    → HasSettledStrictly g.D.Disk.strict g.D.Disk.armed g.D.Disk.content g.D.Disk.synced g.D.Disk.written c.args.plan.now s disks self.actor staged c.settle.new.self o) c.in-Some.is c.in-Ok.ensures.strict in (
+      events_of q.1,
+      settled_some g.D.Disk.is_image g.D.Disk.faults g.D.Disk.strict g.D.Disk.armed g.D.Disk.content g.D.Disk.synced g.D.Disk.written g.J.Planned.strict c.args.plan.now c.args.tape.now c.requires.limits self.actor self.commands self.gone q.0 self.slot q.1 c.args.weights.now self.seat q.3 c.settle.new.self c.in-Some.unsent settled strictly q.2,
+    )
+
+pub enter_down-requires-clause-group : goal.enter_down-requires-clause-group
+enter_down-requires-clause-group g c =
+    let self = c.args.self.now in
+    let q = c.requires.group in
+    let settled = subst (λ (o : Option (List Unsent)). (s : Situation) (staged : List Event) → IsStaged g.D.Disk.is_image g.D.Disk.faults c.args.plan.now s self.actor staged self.slot → HasSettled g.D.Disk.is_image g.D.Disk.faults c.args.plan.now s self.actor staged c.settle.new.self o) c.in-None.is c.in-Ok.ensures.ok in
+    let strictly = subst (λ (o : Option (List Unsent)). (s : Situation) (staged : List Event) (disks : Disks) → IsStaged g.D.Disk.is_image g.D.Disk.faults c.args.plan.now s self.actor staged self.slot → staged ≢ []
+    → IsStrictSlot g.D.Disk.strict g.D.Disk.armed g.D.Disk.content g.D.Disk.synced g.D.Disk.written c.args.plan.now s disks self.actor self.slot
+    → HasSettledStrictly g.D.Disk.strict g.D.Disk.armed g.D.Disk.content g.D.Disk.synced g.D.Disk.written c.args.plan.now s disks self.actor staged c.settle.new.self o) c.in-None.is c.in-Ok.ensures.strict in (
+      q.0,
+      q.1,
+      settled_none g.D.Disk.is_image g.D.Disk.faults g.D.Disk.strict g.D.Disk.armed g.D.Disk.content g.D.Disk.synced g.D.Disk.written g.J.Planned.strict c.args.plan.now c.args.tape.now c.requires.limits self.actor self.commands self.gone q.0 self.slot q.1 c.args.weights.now self.seat q.3 c.settle.new.self settled strictly q.2,
+    )

@@ -1,0 +1,7 @@
+use Rattle.std.proofs.Common.{subst}
+use Rattle.acc_cluster.specs.Slots.{SlotStands}
+use Rattle.acc_cluster.specs.declared.slot.Slot.{Slot}
+use Rattle.acc_desk.proofs.turning.is_store.Goals as goal
+
+pub returns-in-Store : goal.returns-in-Store
+returns-in-Store g c = λ is plan s a stands. (subst (λ (slot : Slot _). SlotStands g.D.Disk.is_image g.D.Disk.faults plan s a slot) c.in-Store.is stands).kind

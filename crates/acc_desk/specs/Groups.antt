@@ -1,0 +1,171 @@
+-- Messages that a store takes as a group: while they are staged, and while they are entered one behind another.
+use Rattle.std.specs.Prelude.{◌≡◌, ◌≢◌, ℕ, ◌+◌, ◌<◌, ◌≤◌, Bool, true, false, List, [], ◌∷◌, ◌++◌, length, map, drop, Option, None, Some, Contains}
+use Rattle.std.specs.List.{AllByRecursion}
+use Rattle.acc_stamp.specs.declared.actors.Actor.{Actor}
+use Rattle.acc_ports.specs.Strict.{Ranges}
+use Rattle.acc_message.specs.declared.item.Item.{Item}
+use Rattle.acc_message.specs.declared.entry.Event.{Event}
+use Rattle.acc_message.specs.declared.entry.Event.TheVariants.{Message as MessageEvent}
+use Rattle.acc_message.specs.Items.{sent_in}
+use Rattle.acc_message.specs.NodeRules.{Act}
+use Rattle.acc_message.specs.Run.{Cluster, is_node, is_down}
+use Rattle.acc_message_code.specs.Weight.{weight_of}
+use Rattle.acc_payloads.specs.Items.{downs_in}
+use Rattle.acc_actors.specs.declared.stops.Unsent.{Unsent}
+use Rattle.acc_schedule.specs.Actors.{actors}
+use Rattle.acc_schedule.specs.Content.{Content}
+use Rattle.acc_schedule.specs.declared.plan.Step.{Step}
+use Rattle.acc_entering.specs.Entries.{MayTake}
+use Rattle.acc_entering.specs.Pasts.{IsUntouched}
+use Rattle.acc_entering.specs.Stopped.{AreDifferent, IsSound as IsSoundPast}
+use Rattle.acc_follow.specs.Situations.{Stopped, Situation, whole, stopped_at}
+use Rattle.acc_follow.specs.Moves.{event_in, entry_of, entered, entered_all, is_journalled}
+use Rattle.acc_follow.specs.Schedules.{cluster_of}
+use Rattle.acc_strict.specs.Disks.{Disks, fresh_disks}
+use Rattle.acc_cluster.specs.declared.slot.Slot.{Slot}
+use Rattle.acc_cluster.specs.Slots.{SlotStages, SlotStands, IsStrictSlot}
+use Rattle.acc_cluster.specs.Asked.{IsFewBehind, AreSteps, HasSettled, HasSettledStrictly}
+use Rattle.acc_served.specs.Commands.{commands_of, is_message}
+use Rattle.acc_served.specs.FreeRun.{alone}
+use Rattle.acc_served.specs.Serving.{IsServing, HasGone, AreStopsOf}
+use Rattle.acc_posts.specs.declared.posting.Post.{Post}
+use Rattle.acc_tape.specs.ItemViews.{addressee, taken_by_item, is_lost_item}
+use Rattle.acc_tape.specs.Messages.{IsOldest}
+use Rattle.acc_tape.specs.Seats.{TapeName, SeatView}
+use Rattle.acc_desk.specs.Desks.{newest, IsSeated, IsDesk, MayStep}
+
+-- ---- what is staged
+
+-- a message that joins a group
+pub record Joining : Type 0 where
+  pub event : Event
+  pub act : Act
+
+abbrev pub events_of : List Joining → List Event
+events_of joinings = map (λ (j : Joining). j.event) joinings
+
+-- The actor in the slot, before it took any of these messages: it is up, and may take each of them.
+pub record IsReady {D : Type 0} (images : D → List ℕ → Type 0) (faults : D → ℕ) (plan : Content) (s : Situation) (a : Actor) (joinings : List Joining) (slot : Slot D) : Type 0 where
+  pub sound : IsSoundPast (cluster_of plan) s
+  pub few : IsFewBehind s (events_of joinings)
+  pub stands : SlotStands images faults plan s a slot
+  pub up : is_down a (whole s) ≡ false
+  pub each : AllByRecursion (λ (j : Joining). MayTake (cluster_of plan) (whole s) a (event_in s j.event) j.act × (is_journalled a j.event ≡ true)) joinings
+
+-- The first of the weights are those of the entries of the events, each behind the entries of those before it.
+abbrev pub AreWeighed : Cluster → Situation → Actor → List Event → List ℕ → Type 0
+AreWeighed cluster s a [] weights = Unit {0}
+AreWeighed cluster s a (event ∷ events) [] = ⊥
+AreWeighed cluster s a (event ∷ events) (weight ∷ weights) =
+    (weight ≡ weight_of (entry_of cluster s a event false)) × AreWeighed cluster (entered cluster s a event false) a events weights
+
+-- The second slot is the first one with these messages staged, in whatever situation they may be taken.
+pub record HasStaged {D : Type 0} (images : D → List ℕ → Type 0) (faults : D → ℕ) (strict : D → Bool) (armed : D → Option ℕ) (content synced : D → List ℕ) (written : D → Ranges) (plan : Content) (a : Actor) (first slot : Slot D) (joinings : List Joining) (weights : List ℕ) : Type 0 where
+  pub stages : (s : Situation) → IsReady images faults plan s a joinings first → SlotStages images faults plan s a (events_of joinings) slot
+  pub weighed : (s : Situation) → IsReady images faults plan s a joinings first → AreWeighed (cluster_of plan) s a (events_of joinings) weights
+  pub strictly : (s : Situation) (disks : Disks) → IsStrictSlot strict armed content synced written plan s disks a first → IsStrictSlot strict armed content synced written plan s disks a slot
+
+-- It settled what was staged, in whatever situation they may be taken.
+abbrev pub Settles : {D : Type 0} → (D → List ℕ → Type 0) → (D → ℕ) → Content → Actor → Slot D → List Joining → Slot D → Option (List Unsent) → Type 0
+Settles images faults plan a first joinings slot given =
+    (s : Situation) → IsReady images faults plan s a joinings first → HasSettled images faults plan s a (events_of joinings) slot given
+
+abbrev pub SettlesStrictly : {D : Type 0} → (D → List ℕ → Type 0) → (D → ℕ) → (D → Bool) → (D → Option ℕ) → (D → List ℕ) → (D → List ℕ) → (D → Ranges) → Content → Actor → Slot D → List Joining → Slot D → Option (List Unsent) → Type 0
+SettlesStrictly images faults strict armed content synced written plan a first joinings slot given =
+    (s : Situation) (disks : Disks) → IsReady images faults plan s a joinings first → IsStrictSlot strict armed content synced written plan s disks a first
+    → HasSettledStrictly strict armed content synced written plan s disks a (events_of joinings) slot given
+
+-- behind the items the store may take the message, whatever commands are left
+pub record CanJoin (plan : Content) (items : List Item) (a : Actor) (left : List Step) (j : Joining) : Type 0 where
+  pub may : MayStep plan items a j.event j.act left left
+  pub message : is_message j.event ≡ true
+  pub journalled : is_journalled a j.event ≡ true
+
+-- each can be entered, whatever others enter before, and no message is there twice
+pub record CanAllJoin (plan : Content) (items : List Item) (a : Actor) (left : List Step) (joinings : List Joining) : Type 0 where
+  pub each : AllByRecursion (CanJoin plan items a left) joinings
+  pub different : AreDifferent (events_of joinings)
+  pub few : length joinings ≤ 16
+
+-- it has a smaller number
+abbrev pub IsBelow : ℕ → Event → Type 0
+IsBelow bound (MessageEvent number) = number < bound
+IsBelow bound event = ⊥
+
+-- The desk of an actor that stood in the first slot, and holds these reservations: the first of them are for the messages that are staged.
+pub record IsGathering {D : Type 0} (images : D → List ℕ → Type 0) (faults : D → ℕ) (strict : D → Bool) (armed : D → Option ℕ) (content synced : D → List ℕ) (written : D → Ranges) (strict_run : Bool) (plan : Content) (tape : TapeName) (a : Actor) (seat : SeatView Item) (first slot : Slot D) (commands : List Step) (gone : ℕ) (joinings : List Joining) (weights : List ℕ) : Type 0 where
+  pub kind : is_node a ≡ false
+  pub desk : IsDesk images faults strict armed content synced written strict_run plan tape weights a seat first commands gone
+  pub up : is_down a (newest seat) ≡ false
+  pub joined : CanAllJoin plan (newest seat) a (drop gone commands) joinings
+  pub staged : HasStaged images faults strict armed content synced written plan a first slot joinings weights
+
+-- One message more can join: it is none of them, and they are fewer than sixteen.
+pub record CanGather {D : Type 0} (images : D → List ℕ → Type 0) (faults : D → ℕ) (strict : D → Bool) (armed : D → Option ℕ) (content synced : D → List ℕ) (written : D → Ranges) (strict_run : Bool) (plan : Content) (tape : TapeName) (a : Actor) (seat : SeatView Item) (first slot : Slot D) (commands : List Step) (gone : ℕ) (joinings : List Joining) (weights : List ℕ) (j : Joining) : Type 0 where
+  pub gathering : IsGathering images faults strict armed content synced written strict_run plan tape a seat first slot commands gone joinings weights
+  pub long : length weights ≡ length joinings
+  pub can : CanJoin plan (newest seat) a (drop gone commands) j
+  pub another : AllByRecursion (λ (other : Event). other ≢ j.event) (events_of joinings)
+  pub few : length joinings < 16
+
+-- the oldest message that waits for the actor and has a number from this one on
+abbrev pub IsOldestHere : List Item → ℕ → ℕ → Post → Type 0
+IsOldestHere seen actor from post = IsOldest taken_by_item (λ item. map addressee (sent_in item)) is_lost_item seen actor from post
+
+-- behind the greatest number of these
+abbrev pub bound_of : Option ℕ → ℕ
+bound_of None = 0
+bound_of (Some number) = number + 1
+
+-- one message joins, or finds no room
+abbrev pub joined_if : Bool → List Joining → Joining → List Joining
+joined_if true joinings j = joinings
+joined_if false joinings j = joinings ++ j ∷ []
+
+abbrev pub one_unless : Bool → ℕ
+one_unless true = 0
+one_unless false = 1
+
+-- The disk failed when what was staged was settled: the desk of the actor, which stood in the first slot before and is down now.
+pub record IsStopping {D : Type 0} (images : D → List ℕ → Type 0) (faults : D → ℕ) (strict : D → Bool) (armed : D → Option ℕ) (content synced : D → List ℕ) (written : D → Ranges) (strict_run : Bool) (plan : Content) (tape : TapeName) (a : Actor) (seat : SeatView Item) (first slot : Slot D) (commands : List Step) (gone : ℕ) (joinings : List Joining) (weights : List ℕ) : Type 0 where
+  pub desk : IsDesk images faults strict armed content synced written strict_run plan tape weights a seat first commands gone
+  pub up : is_down a (newest seat) ≡ false
+  pub joined : CanAllJoin plan (newest seat) a (drop gone commands) joinings
+  pub settles : Settles images faults plan a first joinings slot None
+  pub strictly : SettlesStrictly images faults strict armed content synced written plan a first joinings slot None
+
+-- ---- what is entered
+
+-- a message that a store may take behind the items, whatever commands are left
+pub record MayJoin (plan : Content) (items : List Item) (a : Actor) (left : List Step) (event : Event) : Type 0 where
+  pub act : Act
+  pub may : MayStep plan items a event act left left
+  pub message : is_message event ≡ true
+
+pub record AreJoined (plan : Content) (items : List Item) (a : Actor) (left : List Step) (events : List Event) : Type 0 where
+  pub each : AllByRecursion (MayJoin plan items a left) events
+  pub different : AreDifferent events
+
+-- The actor settled the messages of the events, of which these are still to be entered. Its slot stands behind all of them, as they come
+-- behind what it had done, which others' items don't change.
+pub record IsEntering {D : Type 0} (images : D → List ℕ → Type 0) (faults : D → ℕ) (strict : D → Bool) (armed : D → Option ℕ) (content synced : D → List ℕ) (written : D → Ranges) (strict_run : Bool) (plan : Content) (a : Actor) (items : List Item) (slot : Slot D) (left : List Step) (events : List Event) (unsent : List Unsent) (weights : List ℕ) : Type 0 where
+  pub stopped : List Stopped
+  pub before : List Item
+  pub untouched : IsUntouched (cluster_of plan) before items a
+  pub none : stopped_at a stopped ≡ []
+  pub stands : SlotStands images faults plan (entered_all (cluster_of plan) (alone before stopped) a events false) a slot
+  pub steps : AreSteps (cluster_of plan) (alone before stopped) a events false unsent
+  pub weighed : AreWeighed (cluster_of plan) (alone before stopped) a events weights
+  pub could : AllByRecursion (λ (event : Event). (act : Act) × MayTake (cluster_of plan) before a event act × MayTake (cluster_of plan) items a event act) events
+  pub joined : AreJoined plan items a left events
+  pub serving : IsServing plan (alone items stopped)
+  pub stops : AreStopsOf a stopped
+  pub gone : HasGone plan (alone items stopped) a left
+  pub stayed : strict_run ≡ true → IsStrictSlot strict armed content synced written plan (entered_all (cluster_of plan) (alone before stopped) a events false) fresh_disks a slot × (stopped ≡ []) × (downs_in a items ≡ 0)
+
+-- the desk of such an actor
+pub record IsEnteringDesk {D : Type 0} (images : D → List ℕ → Type 0) (faults : D → ℕ) (strict : D → Bool) (armed : D → Option ℕ) (content synced : D → List ℕ) (written : D → Ranges) (strict_run : Bool) (plan : Content) (tape : TapeName) (held : List ℕ) (a : Actor) (seat : SeatView Item) (slot : Slot D) (commands : List Step) (gone : ℕ) (events : List Event) (unsent : List Unsent) : Type 0 where
+  pub known : Contains (actors plan.topology) a
+  pub all : commands ≡ commands_of plan a
+  pub seated : IsSeated tape a held seat
+  pub entering : IsEntering images faults strict armed content synced written strict_run plan a (newest seat) slot (drop gone commands) events unsent held
