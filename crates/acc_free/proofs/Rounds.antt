@@ -16,7 +16,7 @@ use Rattle.acc_schedule.specs.Content.{Content}
 use Rattle.acc_schedule.specs.Plan.{IsPlan}
 use Rattle.acc_schedule.specs.declared.plan.Step.{Step}
 use Rattle.acc_schedule.specs.declared.plan.Step.TheVariants.{Drain}
-use Rattle.acc_follow.specs.Situations.{Situation, NothingWaits, receiver_in, waits}
+use Rattle.acc_follow.specs.Situations.{Situation, NothingWaits, receiver_in}
 use Rattle.acc_follow.specs.Moves.{Answers, tried, Drains}
 use Rattle.acc_follow.specs.Schedules.{cluster_of}
 use Rattle.acc_strict.specs.Moves.{StrictSituation}
