@@ -1,5 +1,5 @@
 -- A cluster has taken the steps so far, and takes one more.
-use Rattle.std.proofs.Common.{◌≡◌, ℕ, suc, ◌+◌, ◌<◌, ◌≤◌, Bool, List, [], ◌∷◌, ◌++◌, length, take, drop, get_or, length-take-le, take_all, Result, Err, ◌^◌, Option, refl, sym, ◌∙◌, ap, subst, arith}
+use Rattle.std.proofs.Common.{◌≡◌, ℕ, ◌+◌, ◌<◌, ◌≤◌, Bool, List, [], ◌∷◌, ◌++◌, length, take, drop, get_or, length-take-le, take_all, Result, Err, Option, refl, sym, ◌∙◌, ap, subst, arith}
 use Rattle.std.specs.Prelude.{IfErr, IsErrAnd}
 use Rattle.std.proofs.lemmas.List.{append_assoc, take-append-drop, take_more}
 use Rattle.std.proofs.lemmas.Result.{err_from_is_err_and}
@@ -18,9 +18,8 @@ use Rattle.acc_follow.specs.Laws.{AgreeBelow}
 use Rattle.acc_strict.specs.Moves.{StrictSituation, opened_strictly, IsStrictNext}
 use Rattle.acc_strict.specs.Schedules.{FollowsStrictly}
 use Rattle.acc_strict.specs.Laws.{no_faults}
-use Rattle.acc_limits.specs.Limits.{EndsAt}
-use Rattle.acc_limits.specs.Fronts.{ComesTo, Reaches, Begins, IsFront, LimitEnds}
-use Rattle.acc_limits.specs.StrictFronts.{StrictlyComesTo, StrictlyReaches, IsStrictFront, StrictLimitEnds}
+use Rattle.acc_limits.specs.Fronts.{ComesTo, Reaches, LimitEnds}
+use Rattle.acc_limits.specs.StrictFronts.{StrictlyComesTo, StrictlyReaches, StrictLimitEnds}
 use Rattle.acc_cluster.specs.declared.cluster.Cluster.{Cluster}
 use Rattle.acc_cluster.specs.Stands.{StandsFor, StandsStrictly}
 use Rattle.acc_cluster.specs.Steps.{StepsTo, StepsStrictly, IfLimit, EndsIn, EndsStrictlyIn}

@@ -1,5 +1,5 @@
 -- The items and the disks at the end of a run.
-use Rattle.std.proofs.Common.{◌≡◌, ℕ, Bool, List, [], ◌++◌, reverse, map, Option, Result, refl, sym, ◌∙◌, ap, subst}
+use Rattle.std.proofs.Common.{◌≡◌, ℕ, Bool, List, [], ◌++◌, reverse, map, Option, Result, sym, ◌∙◌, ap, subst}
 use Rattle.std.specs.List.{AllByRecursion}
 use Rattle.std.proofs.lemmas.List.{reverse-reverse}
 use Rattle.acc_stamp.specs.declared.actors.Actor.{Actor}
@@ -18,7 +18,7 @@ use Rattle.acc_follow.specs.Schedules.{cluster_of, Obeys}
 use Rattle.acc_strict.specs.Schedules.{ObeysStrictly}
 use Rattle.acc_cluster.specs.declared.cluster.Cluster.{Cluster}
 use Rattle.acc_cluster.specs.declared.ending.Ended.{Ended}
-use Rattle.acc_cluster.specs.Stands.{StandsFor, StandsStrictly}
+use Rattle.acc_cluster.specs.Stands.{StandsFor}
 use Rattle.acc_cluster.specs.Ends.{IsEndOf}
 use Rattle.acc_run.specs.Taken.{HasTaken, HasTakenStrictly}
 use Rattle.acc_run.specs.Given.{GivesBack, numbered}

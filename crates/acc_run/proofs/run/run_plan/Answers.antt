@@ -1,14 +1,5 @@
-use Rattle.std.proofs.Common.{◌≡◌, ℕ, List, ◌++◌, map, ◌∙◌, ap}
-use Rattle.acc_message.specs.declared.error.Which.{Which}
-use Rattle.acc_message.specs.declared.error.RunError.{RunError as Why}
-use Rattle.acc_message.specs.declared.item.Item.{Item}
-use Rattle.acc_follow.specs.Moves.{Answers}
-use Rattle.acc_follow.specs.Schedules.{Obeys}
-use Rattle.acc_strict.specs.Schedules.{ObeysStrictly}
-use Rattle.acc_limits.specs.Limits.{IsWithin}
-use Rattle.acc_limits.specs.Fronts.{LimitEnds}
-use Rattle.acc_limits.specs.StrictFronts.{StrictLimitEnds}
-use Rattle.acc_run.specs.Given.{GivesBack, numbered}
+use Rattle.std.proofs.Common.{◌++◌, map, ◌∙◌, ap}
+use Rattle.acc_run.specs.Given.{numbered}
 use Rattle.acc_run.proofs.Whole.{obeys, obeys_strictly, gives, limit_told}
 use Rattle.acc_run.proofs.run.run_plan.Goals as goal
 

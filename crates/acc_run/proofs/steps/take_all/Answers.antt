@@ -1,11 +1,10 @@
 -- One step more, or a limit inside it.
-use Rattle.std.proofs.Common.{◌≡◌, ℕ, ◌+◌, List, take, drop, get_or, refl, sym, ◌∙◌, ap, subst, arith}
+use Rattle.std.proofs.Common.{◌+◌, take, drop, get_or, refl, sym, ◌∙◌, ap, subst, arith}
 use Rattle.std.proofs.lemmas.List.{take_more}
 use Rattle.acc_schedule.specs.Content.{Content}
-use Rattle.acc_schedule.specs.declared.plan.Step.{Step}
 use Rattle.acc_schedule.specs.declared.plan.Step.TheVariants.{Begin}
 use Rattle.acc_run.specs.Taken.{HasTaken, HasTakenStrictly}
-use Rattle.acc_run.proofs.Taking.{GoOn, GoOnStrictly, none_taken, one_more, if_limit_ends, none_taken_strictly, one_more_strictly, if_limit_ends_strictly, at_most, place_is, split_at, all_taken, handed_on}
+use Rattle.acc_run.proofs.Taking.{none_taken, one_more, if_limit_ends, none_taken_strictly, one_more_strictly, if_limit_ends_strictly, at_most, place_is, split_at, all_taken, handed_on}
 use Rattle.acc_run.proofs.steps.take_all.Goals as goal
 
 pub loop-step-init : goal.loop-step-init

@@ -1,5 +1,5 @@
 -- The cluster has taken the steps so far.
-use Rattle.std.proofs.Common.{◌≡◌, ℕ, ◌≤◌, [], length, take}
+use Rattle.std.proofs.Common.{◌≡◌, ◌≤◌, [], length, take}
 use Rattle.acc_strict.specs.Moves.{opened_strictly}
 use Rattle.acc_cluster.specs.Stands.{StandsStrictly}
 use Rattle.acc_run.specs.Taken.{HasTaken, HasTakenStrictly}
