@@ -9,7 +9,7 @@ ghost use Rattle.acc_opened_laws.specs.Opened.{executed};
 ghost use Rattle.acc_execute.specs.Executed.{after_turn};
 
 use acc_opening::Turn;
-use acc_record::{Record, Records};
+use acc_record::{KeptRecord, Record, Records};
 use acc_stamp::Ballots;
 
 /// Puts the own record in the place of the one that is kept.
@@ -42,9 +42,17 @@ fn take_turn(records: &mut Records, turn: Turn)
     ensures { (y : TxnId) → record_at records.new y ≡ cond (id_eq turn.id y) (option_map (after_turn turn) (record_at records.old turn.id)) (record_at records.old y) }
 {
     match records.get_mut(&turn.id) {
-        Some(there) => change(there.get_mut(), turn),
+        Some(there) => change_kept(there, turn),
         None => {}
     }
+}
+
+// Such a record is asked for by all that wait for it.
+fn change_kept(there: &mut KeptRecord, turn: Turn)
+    ensures { there.new ≡ after_turn turn there.old }
+{
+    change(there.get_mut(), turn);
+    there.note_over();
 }
 
 fn change(there: &mut Record, turn: Turn)

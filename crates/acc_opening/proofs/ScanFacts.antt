@@ -1,5 +1,5 @@
 -- What a scan sees behind the turns.
-use Rattle.std.proofs.Common.{◌≡◌, Bool, true, false, not, ◌&&◌, ◌||◌, List, [], ◌∷◌, Some, sym, refl, ap, ◌∙◌}
+use Rattle.std.proofs.Common.{◌≡◌, Bool, true, false, not, ◌&&◌, ◌||◌, List, [], ◌∷◌, Option, None, Some, cond, is_some, sym, refl, ap, ◌∙◌}
 use Rattle.std.proofs.lemmas.Bool.{true≢false}
 use Rattle.acc_stamp.specs.declared.stamps.Stamp.{Stamp}
 use Rattle.acc_stamp.specs.declared.stamps.TxnId.{TxnId}
@@ -11,6 +11,7 @@ use Rattle.acc_message.specs.Opening.{is_past}
 use Rattle.acc_record.specs.declared.record.Record.{Record}
 use Rattle.acc_opening_laws.specs.Plan.{Lookup, settled_in, is_applied_in, is_past_behind}
 use Rattle.acc_opening.specs.declared.turns.Turn.{Turn}
+use Rattle.acc_opening.specs.Lookup.{is_over_in}
 use Rattle.acc_opening.specs.Turns.{changes_in, has_key, is_applied_at, HasItsTime, HaveTheirTimes}
 
 some_is : {X : Type 0} (x y : X) → Some x ≡ Some y → x ≡ y
@@ -51,3 +52,19 @@ past_value at turns t y r s there stable h =
     ap (λ o. is_past t (is_applied_in (at y) || applies_in y (changes_in turns)) o) is
     ∙ ap (λ o. not (stamp_lt s.t t) || (is_applied_in o || applies_in y (changes_in turns))) there
     ∙ ap (λ b. not (stamp_lt s.t t) || (r.applied || b)) (applied_by at turns y s is h)
+
+or_true : (b : Bool) → (b || true) ≡ true
+or_true true = refl
+or_true false = refl
+
+over_value : (t : Stamp) (s : Option Settled) (applied more : Bool) → (is_some s && applied) ≡ true → is_past t (applied || more) s ≡ true
+over_value t None a more e = absurd cc
+over_value t (Some s) false more e = absurd cc
+over_value t (Some s) true more e = or_true (not (stamp_lt s.t t))
+
+-- what is stable and applied holds nothing back
+pub past_over : (same : Bool) (own : Record) (kept : Option Record) (t : Stamp) (more : Bool) → (not same && is_over_in kept) ≡ true
+    → is_past t (is_applied_in (cond same (Some own) kept) || more) (settled_in (cond same (Some own) kept)) ≡ true
+past_over true own kept t more e = absurd cc
+past_over false own None t more e = absurd cc
+past_over false own (Some r) t more e = over_value t r.stable r.applied more e

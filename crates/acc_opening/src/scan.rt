@@ -8,7 +8,7 @@ ghost use Rattle.acc_opening.specs.Lookup.{lookup};
 ghost use Rattle.acc_opening.specs.Turns.{turn_lt, changes_in, HaveTheirTimes};
 ghost use Rattle.acc_opening.specs.Scan.{IsNextHeld, AllPastFrom};
 
-use crate::lookup::record_of;
+use crate::lookup::{is_kept_over, record_of};
 use crate::turns::{Turn, is_applied_at};
 use acc_record::{Record, Records};
 use acc_stamp::{Stamp, TxnId};
@@ -19,6 +19,9 @@ pub(crate) fn is_past(records: &Records, own: &Record, turns: &[Turn], t: Stamp,
     requires times { HaveTheirTimes (lookup records.now own.now) turns.now }
     ensures { result ≡ is_past_behind (lookup records.now own.now) (changes_in turns.now) t id }
 {
+    if is_kept_over(records, own, id) {
+        return true;
+    }
     let Some(record) = record_of(records, own, id) else {
         return false;
     };

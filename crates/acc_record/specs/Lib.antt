@@ -1,3 +1,4 @@
+pub mod Over
 pub mod Shelf
 pub mod Waits
 pub mod Stands

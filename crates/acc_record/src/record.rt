@@ -3,6 +3,7 @@ ghost use Rattle.std.specs.Prelude.{◌≡◌, IfOk};
 ghost use Rattle.std.specs.Borrow.{Lends, sem};
 ghost use Rattle.acc_record.specs.contracts.record.KeptRecord.{the_row};
 ghost use Rattle.acc_record.specs.contracts.record.Record.{the_row as record_row};
+ghost use Rattle.acc_record.specs.Over.{is_over};
 
 use acc_base::OutOfMemory;
 use acc_deps::{Accepted, Deps, Settled};
@@ -41,18 +42,25 @@ pub struct Record {
     pub applied: bool,
 }
 
-/// A record in a place of its own, which contracts see as the record.
+/// A record in a place of its own, which contracts see as the record. What may be asked of many records at a time is noted
+/// beside the place, since reading there would take longer.
 #[derive(Debug, Drop)]
 pub struct KeptRecord {
     place: Box<Record>,
+    /// Whether the record was found stable and applied, and wasn't lent to be changed since.
+    over: bool,
 }
 
 impl Model for KeptRecord {
+    ghost use Rattle.std.specs.Prelude.{IsTrue};
     ghost use Rattle.acc_record.specs.declared.record.Record.{Record};
+    ghost use Rattle.acc_record.specs.Over.{is_over};
 
     ghost Value = { Record };
 
     ghost view = { λ k. k.place.value };
+
+    ghost invariant = { λ k. IsTrue k.over → IsTrue (is_over k.place.value) };
 }
 
 impl KeptRecord {
@@ -61,7 +69,7 @@ impl KeptRecord {
         ensures { IfOk result (λ kept. kept ≡ made) }
     {
         let place = Box::new(alloc, made)?;
-        Ok(KeptRecord { place })
+        Ok(KeptRecord { place, over: false })
     }
 
     /// The record.
@@ -76,7 +84,23 @@ impl KeptRecord {
         ensures value { result.now ≡ self.old }
         ensures* writes_back { sem 𝓛 (Lends the_row record_row self.entry result (λ w. w)) }
     {
+        self.over = false;
         self.place.as_mut()
+    }
+
+    /// Whether the record is stable and applied. Where that was noted, the record's own place isn't read.
+    #[inline(always)]
+    pub fn is_over(&self) -> bool
+        ensures { result ≡ is_over self.now }
+    {
+        self.over || (self.place.stable.is_some() && self.place.applied)
+    }
+
+    /// Notes whether the record is stable and applied, for those that ask later.
+    pub fn note_over(&mut self)
+        ensures { self.new ≡ self.old }
+    {
+        self.over = self.place.stable.is_some() && self.place.applied;
     }
 }
 
