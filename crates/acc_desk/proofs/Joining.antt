@@ -33,7 +33,7 @@ use Rattle.acc_desk.specs.Groups.{Joining, events_of, CanJoin, CanGather, IsBelo
 use Rattle.acc_desk.proofs.Asking.{may_take}
 use Rattle.acc_desk.proofs.Stepping.{step_on}
 use Rattle.acc_desk.proofs.Seating.{came, newest_few}
-use Rattle.acc_desk.proofs.Gathering.{joined_more, none_staged, staged_more, staged_now, asks_behind, here, may_at, ready_here, begins_entering}
+use Rattle.acc_desk.proofs.Gathering.{joined_more, none_staged, staged_still, staged_more, staged_now, asks_behind, here, may_at, ready_here, begins_entering}
 use Rattle.acc_desk.proofs.Finding.{Found, turns_both}
 use Rattle.acc_desk.proofs.Puts.{up_moves, joined_moves, desk_moves}
 
@@ -96,6 +96,21 @@ module _ {D : Type 0} (images : D → List ℕ → Type 0) (faults : D → ℕ) 
               (joined_moves images faults strict armed content synced written strict_run plan tape limits a commands gone first slot joinings weights later old new gathering turns same held)
               can_moves can.another can.few;
           staged = staged_more images faults strict armed content synced written plan a first slot joinings weights gathering.staged j next weight can.long weighs stages strictly;
+        }
+
+    -- its staging was refused: its weight is reserved for nothing
+    pub refused : (next : Slot D) (weight : ℕ) → new.held ≡ weights ++ weight ∷ []
+        → ((s : Situation) (events : List Event) → SlotStages images faults plan s a events slot → SlotStages images faults plan s a events next)
+        → ((s : Situation) (disks : Disks) → IsStrictSlot strict armed content synced written plan s disks a slot → IsStrictSlot strict armed content synced written plan s disks a next)
+        → IsGathering images faults strict armed content synced written strict_run plan tape a new first next commands gone joinings (weights ++ weight ∷ [])
+    refused next weight held still strictly =
+        let later = weights ++ weight ∷ [] in
+        record {
+          kind = gathering.kind;
+          desk = desk_moves images faults strict armed content synced written strict_run plan tape limits a commands gone first slot joinings weights later old new gathering turns same held;
+          up = up_moves images faults strict armed content synced written strict_run plan tape limits a commands gone first slot joinings weights later old new gathering turns same held;
+          joined = joined_moves images faults strict armed content synced written strict_run plan tape limits a commands gone first slot joinings weights later old new gathering turns same held;
+          staged = staged_still images faults strict armed content synced written plan a first slot joinings weights gathering.staged next (weight ∷ []) still strictly;
         }
 
 -- ---- the next message
@@ -253,13 +268,13 @@ module _ {D : Type 0} (images : D → List ℕ → Type 0) (faults : D → ℕ) 
         few = few;
       }
 
-  -- nothing joined, so the slot is the one that it was
-  pub none_joined : (first slot : Slot D) (joinings : List Joining) (weights : List ℕ) (seat : SeatView Item) → length weights ≡ length joinings → length weights ≡ 0
+  -- nothing joined, so the slot stands for what the seat has seen
+  pub none_joined : (first slot : Slot D) (joinings : List Joining) (weights : List ℕ) (seat : SeatView Item) → length joinings ≡ 0
       → IsGathering images faults strict armed content synced written strict_run plan tape a seat first slot commands gone joinings weights
-      → IsDesk images faults strict armed content synced written strict_run plan tape [] a seat slot commands gone
-  none_joined first slot [] [] seat long none gathering =
+      → IsDesk images faults strict armed content synced written strict_run plan tape weights a seat slot commands gone
+  none_joined first slot [] weights seat none gathering =
       let at = gathering.desk.at in
-      let few = newest_few plan tape limits a [] seat gathering.desk.seated in
+      let few = newest_few plan tape limits a weights seat gathering.desk.seated in
       let s : Situation = here images faults strict armed content synced written strict_run plan a (newest seat) first (drop gone commands) [] gathering.desk.known few gathering.up at gathering.joined in
       let ready = ready_here images faults strict armed content synced written strict_run plan a (newest seat) first (drop gone commands) [] gathering.desk.known few gathering.up at gathering.joined in
       record {
@@ -275,5 +290,7 @@ module _ {D : Type 0} (images : D → List ℕ → Type 0) (faults : D → ℕ) 
           stayed = λ on. let h = at.stayed on in record { unarmed = gathering.staged.strictly s fresh_disks h.unarmed; none = h.none; up = h.up };
         };
       }
-  none_joined first slot [] (w ∷ weights) seat long none gathering = absurd (omega arith)
-  none_joined first slot (j ∷ joinings) weights seat long none gathering = absurd (omega arith)
+  none_joined first slot (j ∷ joinings) weights seat none gathering = absurd (omega arith)
+
+pub some_joined : (joinings : List Joining) (n : ℕ) → length joinings ≡ n → n ≢ 0 → joinings ≢ []
+some_joined joinings n long some none = some (sym long ∙ ap (λ (l : List Joining). length l) none)

@@ -28,6 +28,14 @@ use std::sync::{Arc, Wait};
 // The most messages of a group.
 const MOST: usize = 16;
 
+// Why a gathering ended: no message waits or there are enough of them, the tape has no room, or memory was refused.
+#[derive(Clone, Copy)]
+enum Ended {
+    Dry,
+    Full,
+    Refused,
+}
+
 // The oldest message to an actor behind the one with this number, and the item that sent it.
 fn find<W: Wait, J: Planned>(
     rt: &W,
@@ -58,7 +66,8 @@ fn find<W: Wait, J: Planned>(
 }
 
 impl<D: Rig + Drop, J: Planned> Desk<D, J> {
-    /// Takes the oldest messages to the store, up to sixteen, with one append.
+    /// Takes the oldest messages to the store, up to sixteen, with one append. Where there is no room or no memory for one more, those that are
+    /// staged are settled and entered before it is told.
     pub(crate) fn group<W: Wait, G: Gate>(
         &mut self,
         rt: &W,
@@ -78,18 +87,42 @@ impl<D: Rig + Drop, J: Planned> Desk<D, J> {
         ensures err { OnErr result (IsSeated tape.now self.new.actor [] self.new.seat) }
     {
         let mut weights = Vec::new(self.alloc);
-        let Ok(full) = self.gather(rt, plan, tape, gate, turn, &mut weights) else {
-            self.release_from(rt, plan, tape, weights.as_slice(), 0);
-            return Err(OutOfMemory);
-        };
-        if weights.is_empty() {
-            return Ok(if full { Turned::Full } else { Turned::Idle });
+        let (staged, ended) = self.gather(rt, plan, tape, gate, turn, &mut weights);
+        let turned = self.finish(rt, plan, floor, tape, weights.as_slice(), staged)?;
+        match ended {
+            Ended::Dry => Ok(turned),
+            Ended::Full => Ok(Turned::Full),
+            Ended::Refused => Err(OutOfMemory),
         }
-        self.settle(rt, plan, floor, tape, weights.as_slice())?;
-        Ok(if full { Turned::Full } else { Turned::Taken })
     }
 
-    // Stages messages, as long as some wait and the tape has room for what the store sends for them. Answers whether it had no room.
+    // Settles so many staged messages and enters them, however the gathering ended.
+    fn finish<W: Wait>(
+        &mut self,
+        rt: &W,
+        plan: &Plan,
+        floor: &Floor,
+        tape: &PlanTape<J>,
+        weights: &[u64],
+        staged: usize,
+    ) -> Result<Turned, OutOfMemory>
+        requires plan { plan.now ≡ J.plan }
+        requires limits { tape.now.limits.items ≤ most_items }
+        requires group { (first : ASlot D) × (joinings : List Joining) × (length joinings ≡ staged)
+            × IsGathering D.is_image D.faults D.strict D.armed D.content D.synced D.written J.strict plan.now tape.now self.old.actor self.old.seat first self.old.slot self.old.commands self.old.gone joinings weights.now }
+        ensures same { (self.new.actor ≡ self.old.actor) × (self.new.commands ≡ self.old.commands) }
+        ensures ok { OnOk result (IsSound D.is_image D.faults D.strict D.armed D.content D.synced D.written J.strict plan.now tape.now self.new.actor self.new.seat self.new.slot self.new.commands self.new.gone) }
+        ensures err { OnErr result (IsSeated tape.now self.new.actor [] self.new.seat) }
+    {
+        if staged == 0 {
+            self.release_from(rt, plan, tape, weights, 0);
+            return Ok(Turned::Idle);
+        }
+        self.settle(rt, plan, floor, tape, weights)?;
+        Ok(Turned::Taken)
+    }
+
+    // Stages messages, as long as some wait and the tape has room for what the store sends for them. Answers how many it staged.
     fn gather<W: Wait, G: Gate>(
         &mut self,
         rt: &W,
@@ -98,7 +131,7 @@ impl<D: Rig + Drop, J: Planned> Desk<D, J> {
         gate: &G,
         turn: u64,
         weights: &mut Vec<u64>,
-    ) -> Result<bool, OutOfMemory>
+    ) -> (usize, Ended)
         requires plan { plan.now ≡ J.plan }
         requires limits { tape.now.limits.items ≤ most_items }
         requires desk { IsSound D.is_image D.faults D.strict D.armed D.content D.synced D.written J.strict plan.now tape.now self.old.actor self.old.seat self.old.slot self.old.commands self.old.gone }
@@ -106,31 +139,37 @@ impl<D: Rig + Drop, J: Planned> Desk<D, J> {
         requires up { is_down self.old.actor (newest self.old.seat) ≡ false }
         requires none { weights.old.items ≡ [] }
         ensures same { (self.new.actor ≡ self.old.actor) × (self.new.commands ≡ self.old.commands) × (self.new.gone ≡ self.old.gone) }
-        ensures ok { OnOk result ((joinings : List Joining) × (length weights.new.items ≡ length joinings)
-            × IsGathering D.is_image D.faults D.strict D.armed D.content D.synced D.written J.strict plan.now tape.now self.new.actor self.new.seat self.old.slot self.new.slot self.new.commands self.new.gone joinings weights.new.items) }
-        ensures err { OnErr result (IsSeated tape.now self.new.actor weights.new.items self.new.seat) }
+        ensures gathering { (joinings : List Joining) × (length joinings ≡ result.0)
+            × IsGathering D.is_image D.faults D.strict D.armed D.content D.synced D.written J.strict plan.now tape.now self.new.actor self.new.seat self.old.slot self.new.slot self.new.commands self.new.gone joinings weights.new.items }
     {
         let mut after = None;
         for place in 0..MOST {
-            let Some((post, sender)) = find(rt, tape, &mut self.seat, self.actor.0, after)? else {
-                return Ok(false);
+            let Ok(found) = find(rt, tape, &mut self.seat, self.actor.0, after) else {
+                return (place, Ended::Refused);
+            };
+            let Some((post, sender)) = found else {
+                return (place, Ended::Dry);
             };
             let Some(message) = message_in(&*sender, post.index) else {
-                return Err(OutOfMemory);
+                return (place, Ended::Refused);
             };
             if place == 0 {
                 gate.enter(self.actor.0, turn);
             }
-            if self.join(rt, plan, tape, weights, post.number, message)? {
-                return Ok(true);
+            let Ok(full) = self.join(rt, plan, tape, weights, post.number, message) else {
+                return (place, Ended::Refused);
+            };
+            if full {
+                return (place, Ended::Full);
             }
             self.taken = self.taken.wrapping_add(1);
             after = Some(post.number);
         }
-        Ok(false)
+        (MOST, Ended::Dry)
     }
 
     // Stages a message behind those that are staged, where the tape has room for what the store sends for it. Answers whether it has none.
+    // After an error there may be one weight more, which is reserved for nothing.
     fn join<W: Wait>(
         &mut self,
         rt: &W,
@@ -147,7 +186,8 @@ impl<D: Rig + Drop, J: Planned> Desk<D, J> {
         ensures ok { IfOk result (λ full. (first : ASlot D) (joinings : List Joining) → CanGather D.is_image D.faults D.strict D.armed D.content D.synced D.written J.strict plan.now tape.now self.old.actor self.old.seat first self.old.slot self.old.commands self.old.gone joinings weights.old.items (record { event = AnEvent.Message number; act = Takes message.now })
             → IsGathering D.is_image D.faults D.strict D.armed D.content D.synced D.written J.strict plan.now tape.now self.new.actor self.new.seat first self.new.slot self.new.commands self.new.gone (joined_if full joinings (record { event = AnEvent.Message number; act = Takes message.now })) weights.new.items) }
         ensures long { IfOk result (λ full. length weights.new.items ≡ length weights.old.items + one_unless full) }
-        ensures err { OnErr result (IsSeated tape.now self.new.actor weights.new.items self.new.seat) }
+        ensures err { OnErr result ((first : ASlot D) (joinings : List Joining) → CanGather D.is_image D.faults D.strict D.armed D.content D.synced D.written J.strict plan.now tape.now self.old.actor self.old.seat first self.old.slot self.old.commands self.old.gone joinings weights.old.items (record { event = AnEvent.Message number; act = Takes message.now })
+            → IsGathering D.is_image D.faults D.strict D.armed D.content D.synced D.written J.strict plan.now tape.now self.new.actor self.new.seat first self.new.slot self.new.commands self.new.gone joinings weights.new.items) }
     {
         weights.reserve(1)?;
         let weight = self.slot.weigh_take(plan, self.actor, number, message)?;

@@ -32,13 +32,29 @@ loop-place-init g c =
       );
     }
 
-pub returns-in_default-clause-ok : goal.returns-in_default-clause-ok
-returns-in_default-clause-ok g c =
+pub returns-in_default-clause-gathering : goal.returns-in_default-clause-gathering
+returns-in_default-clause-gathering g c =
     let self = c.loop-place.self in
     let first = c.args.self.now.slot in
     let group = c.loop-place.invariant.group in
     let turns = subst (λ p. Turns actor_of_item weight_of (fits_plan p) self.seat c.find.new.seat) (sym c.requires.plan) c.find.ensures.turn in
-    (group.0, group.2, gathering_moves g.D.Disk.is_image g.D.Disk.faults g.D.Disk.strict g.D.Disk.armed g.D.Disk.content g.D.Disk.synced g.D.Disk.written g.J.Planned.strict c.args.plan.now c.args.tape.now c.requires.limits self.actor self.commands self.gone first self.slot group.0 c.loop-place.weights.items self.seat c.find.new.seat group.4 turns c.find.ensures.same.0 c.find.ensures.same.1)
+    (group.0, group.1, gathering_moves g.D.Disk.is_image g.D.Disk.faults g.D.Disk.strict g.D.Disk.armed g.D.Disk.content g.D.Disk.synced g.D.Disk.written g.J.Planned.strict c.args.plan.now c.args.tape.now c.requires.limits self.actor self.commands self.gone first self.slot group.0 c.loop-place.weights.items self.seat c.find.new.seat group.4 turns c.find.ensures.same.0 c.find.ensures.same.1)
+
+pub returns-in_default-found-clause-gathering : goal.returns-in_default-found-clause-gathering
+returns-in_default-found-clause-gathering g c =
+    let self = c.loop-place.self in
+    let first = c.args.self.now.slot in
+    let group = c.loop-place.invariant.group in
+    let turns = subst (λ p. Turns actor_of_item weight_of (fits_plan p) self.seat c.find.new.seat) (sym c.requires.plan) c.find.ensures.turn in
+    (group.0, group.1, gathering_moves g.D.Disk.is_image g.D.Disk.faults g.D.Disk.strict g.D.Disk.armed g.D.Disk.content g.D.Disk.synced g.D.Disk.written g.J.Planned.strict c.args.plan.now c.args.tape.now c.requires.limits self.actor self.commands self.gone first self.slot group.0 c.loop-place.weights.items self.seat c.find.new.seat group.4 turns c.find.ensures.same.0 c.find.ensures.same.1)
+
+pub returns-in_default-message_in-clause-gathering : goal.returns-in_default-message_in-clause-gathering
+returns-in_default-message_in-clause-gathering g c =
+    let self = c.loop-place.self in
+    let first = c.args.self.now.slot in
+    let group = c.loop-place.invariant.group in
+    let turns = subst (λ p. Turns actor_of_item weight_of (fits_plan p) self.seat c.find.new.seat) (sym c.requires.plan) c.find.ensures.turn in
+    (group.0, group.1, gathering_moves g.D.Disk.is_image g.D.Disk.faults g.D.Disk.strict g.D.Disk.armed g.D.Disk.content g.D.Disk.synced g.D.Disk.written g.J.Planned.strict c.args.plan.now c.args.tape.now c.requires.limits self.actor self.commands self.gone first self.slot group.0 c.loop-place.weights.items self.seat c.find.new.seat group.4 turns c.find.ensures.same.0 c.find.ensures.same.1)
 
 pub join-requires-clause-group : goal.join-requires-clause-group
 join-requires-clause-group g c =
@@ -47,28 +63,40 @@ join-requires-clause-group g c =
     let group = c.loop-place.invariant.group in
     let number = c.in-Some.post.number in
     let message = c.in-Some-message_in.message.now in
-    let found = some_of (λ pair. Found g.J.Planned.plan self.actor.0 c.loop-place.after self.seat c.find.new.seat pair.0 (arc_value pair.1)) c.in_ok-post.field-0 (c.in-Some.post, c.in-Some.sender) c.in_ok-post.ensures.next c.in-Some.is in
+    let found = some_of (λ pair. Found g.J.Planned.plan self.actor.0 c.loop-place.after self.seat c.find.new.seat pair.0 (arc_value pair.1)) c.in-Ok.found (c.in-Some.post, c.in-Some.sender) c.in-Ok.ensures.next c.in-Some.is in
     let found' = subst (λ p. Found p self.actor.0 c.loop-place.after self.seat c.find.new.seat c.in-Some.post c.deref.result.now) (sym c.requires.plan) (subst (λ i. Found g.J.Planned.plan self.actor.0 c.loop-place.after self.seat c.find.new.seat c.in-Some.post i) (sym c.deref.ensures) found) in
     let can = can_gather g.D.Disk.is_image g.D.Disk.faults g.D.Disk.strict g.D.Disk.armed g.D.Disk.content g.D.Disk.synced g.D.Disk.written g.J.Planned.strict c.args.plan.now c.args.tape.now c.requires.limits self.actor self.commands self.gone first self.slot group.0 c.loop-place.weights.items self.seat c.find.new.seat
     group.4 group.2 (let n = group.1 in let t = c.loop-place-test.true in omega arith) c.loop-place.after group.3 c.find.ensures.same.0 c.find.ensures.same.1 c.in-Some.post c.deref.result.now found' message (sym c.message_in.ensures ∙ ap option_copied c.in-Some-message_in.is) in
     (first, group.0, can)
 
-pub returns-then-branch-clause-ok : goal.returns-then-branch-clause-ok
-returns-then-branch-clause-ok g c =
+pub returns-in_default-join-clause-gathering : goal.returns-in_default-join-clause-gathering
+returns-in_default-join-clause-gathering g c =
     let self = c.loop-place.self in
     let first = c.args.self.now.slot in
     let group = c.loop-place.invariant.group in
     let number = c.in-Some.post.number in
     let message = c.in-Some-message_in.message.now in
-    let found = some_of (λ pair. Found g.J.Planned.plan self.actor.0 c.loop-place.after self.seat c.find.new.seat pair.0 (arc_value pair.1)) c.in_ok-post.field-0 (c.in-Some.post, c.in-Some.sender) c.in_ok-post.ensures.next c.in-Some.is in
+    let found = some_of (λ pair. Found g.J.Planned.plan self.actor.0 c.loop-place.after self.seat c.find.new.seat pair.0 (arc_value pair.1)) c.in-Ok.found (c.in-Some.post, c.in-Some.sender) c.in-Ok.ensures.next c.in-Some.is in
+    let found' = subst (λ p. Found p self.actor.0 c.loop-place.after self.seat c.find.new.seat c.in-Some.post c.deref.result.now) (sym c.requires.plan) (subst (λ i. Found g.J.Planned.plan self.actor.0 c.loop-place.after self.seat c.find.new.seat c.in-Some.post i) (sym c.deref.ensures) found) in
+    let can = can_gather g.D.Disk.is_image g.D.Disk.faults g.D.Disk.strict g.D.Disk.armed g.D.Disk.content g.D.Disk.synced g.D.Disk.written g.J.Planned.strict c.args.plan.now c.args.tape.now c.requires.limits self.actor self.commands self.gone first self.slot group.0 c.loop-place.weights.items self.seat c.find.new.seat
+    group.4 group.2 (let n = group.1 in let t = c.loop-place-test.true in omega arith) c.loop-place.after group.3 c.find.ensures.same.0 c.find.ensures.same.1 c.in-Some.post c.deref.result.now found' message (sym c.message_in.ensures ∙ ap option_copied c.in-Some-message_in.is) in
+    (group.0, group.1, c.in_default-join.ensures.err first group.0 can)
+
+pub returns-then-full-clause-gathering : goal.returns-then-full-clause-gathering
+returns-then-full-clause-gathering g c =
+    let self = c.loop-place.self in
+    let first = c.args.self.now.slot in
+    let group = c.loop-place.invariant.group in
+    let number = c.in-Some.post.number in
+    let message = c.in-Some-message_in.message.now in
+    let found = some_of (λ pair. Found g.J.Planned.plan self.actor.0 c.loop-place.after self.seat c.find.new.seat pair.0 (arc_value pair.1)) c.in-Ok.found (c.in-Some.post, c.in-Some.sender) c.in-Ok.ensures.next c.in-Some.is in
     let found' = subst (λ p. Found p self.actor.0 c.loop-place.after self.seat c.find.new.seat c.in-Some.post c.deref.result.now) (sym c.requires.plan) (subst (λ i. Found g.J.Planned.plan self.actor.0 c.loop-place.after self.seat c.find.new.seat c.in-Some.post i) (sym c.deref.ensures) found) in
     let can = can_gather g.D.Disk.is_image g.D.Disk.faults g.D.Disk.strict g.D.Disk.armed g.D.Disk.content g.D.Disk.synced g.D.Disk.written g.J.Planned.strict c.args.plan.now c.args.tape.now c.requires.limits self.actor self.commands self.gone first self.slot group.0 c.loop-place.weights.items self.seat c.find.new.seat
     group.4 group.2 (let n = group.1 in let t = c.loop-place-test.true in omega arith) c.loop-place.after group.3 c.find.ensures.same.0 c.find.ensures.same.1 c.in-Some.post c.deref.result.now found' message (sym c.message_in.ensures ∙ ap option_copied c.in-Some-message_in.is) in
     let j : Joining = record { event = MessageEvent number; act = Takes message } in
     let new = c.join.new.self in
-    let joined = subst (λ full. IsGathering g.D.Disk.is_image g.D.Disk.faults g.D.Disk.strict g.D.Disk.armed g.D.Disk.content g.D.Disk.synced g.D.Disk.written g.J.Planned.strict c.args.plan.now c.args.tape.now new.actor new.seat first new.slot new.commands new.gone (joined_if full group.0 j) c.join.new.weights.items) c.if-branch.true (c.in_ok-join.ensures.ok first group.0 can) in
-    let long = c.in_ok-join.ensures.long ∙ ap (λ full. length c.loop-place.weights.items + one_unless full) c.if-branch.true in
-    (group.0, (let n = group.2 in omega arith), joined)
+    let joined = subst (λ full. IsGathering g.D.Disk.is_image g.D.Disk.faults g.D.Disk.strict g.D.Disk.armed g.D.Disk.content g.D.Disk.synced g.D.Disk.written g.J.Planned.strict c.args.plan.now c.args.tape.now new.actor new.seat first new.slot new.commands new.gone (joined_if full group.0 j) c.join.new.weights.items) c.if-full.true (c.in-Ok-join.ensures.ok first group.0 can) in
+    (group.0, group.1, joined)
 
 pub loop-place-preserved : goal.loop-place-preserved
 loop-place-preserved g c =
@@ -77,14 +105,14 @@ loop-place-preserved g c =
     let group = c.loop-place.invariant.group in
     let number = c.in-Some.post.number in
     let message = c.in-Some-message_in.message.now in
-    let found = some_of (λ pair. Found g.J.Planned.plan self.actor.0 c.loop-place.after self.seat c.find.new.seat pair.0 (arc_value pair.1)) c.in_ok-post.field-0 (c.in-Some.post, c.in-Some.sender) c.in_ok-post.ensures.next c.in-Some.is in
+    let found = some_of (λ pair. Found g.J.Planned.plan self.actor.0 c.loop-place.after self.seat c.find.new.seat pair.0 (arc_value pair.1)) c.in-Ok.found (c.in-Some.post, c.in-Some.sender) c.in-Ok.ensures.next c.in-Some.is in
     let found' = subst (λ p. Found p self.actor.0 c.loop-place.after self.seat c.find.new.seat c.in-Some.post c.deref.result.now) (sym c.requires.plan) (subst (λ i. Found g.J.Planned.plan self.actor.0 c.loop-place.after self.seat c.find.new.seat c.in-Some.post i) (sym c.deref.ensures) found) in
     let can = can_gather g.D.Disk.is_image g.D.Disk.faults g.D.Disk.strict g.D.Disk.armed g.D.Disk.content g.D.Disk.synced g.D.Disk.written g.J.Planned.strict c.args.plan.now c.args.tape.now c.requires.limits self.actor self.commands self.gone first self.slot group.0 c.loop-place.weights.items self.seat c.find.new.seat
     group.4 group.2 (let n = group.1 in let t = c.loop-place-test.true in omega arith) c.loop-place.after group.3 c.find.ensures.same.0 c.find.ensures.same.1 c.in-Some.post c.deref.result.now found' message (sym c.message_in.ensures ∙ ap option_copied c.in-Some-message_in.is) in
     let j : Joining = record { event = MessageEvent number; act = Takes message } in
     let new = c.join.new.self in
-    let joined = subst (λ full. IsGathering g.D.Disk.is_image g.D.Disk.faults g.D.Disk.strict g.D.Disk.armed g.D.Disk.content g.D.Disk.synced g.D.Disk.written g.J.Planned.strict c.args.plan.now c.args.tape.now new.actor new.seat first new.slot new.commands new.gone (joined_if full group.0 j) c.join.new.weights.items) c.if-branch.false (c.in_ok-join.ensures.ok first group.0 can) in
-    let long = c.in_ok-join.ensures.long ∙ ap (λ full. length c.loop-place.weights.items + one_unless full) c.if-branch.false in
+    let joined = subst (λ full. IsGathering g.D.Disk.is_image g.D.Disk.faults g.D.Disk.strict g.D.Disk.armed g.D.Disk.content g.D.Disk.synced g.D.Disk.written g.J.Planned.strict c.args.plan.now c.args.tape.now new.actor new.seat first new.slot new.commands new.gone (joined_if full group.0 j) c.join.new.weights.items) c.if-full.false (c.in-Ok-join.ensures.ok first group.0 can) in
+    let long = c.in-Ok-join.ensures.long ∙ ap (λ full. length c.loop-place.weights.items + one_unless full) c.if-full.false in
     let same = c.join.ensures.same in
     let was = c.loop-place.invariant.same in
     let more = length-append group.0 (j ∷ []) in
@@ -98,3 +126,8 @@ loop-place-preserved g c =
         joined,
       );
     }
+
+pub returns-clause-gathering : goal.returns-clause-gathering
+returns-clause-gathering g c =
+    let group = c.loop-place.invariant.group in
+    (group.0, (let n = group.1 in let few = group.4.joined.few in let t = c.loop-place-test.false in omega arith), group.4)
