@@ -105,17 +105,30 @@ Lifts layout number start act before after =
     (acts : List Act) → drawn_after layout number start acts ≤ before → seen_after layout number start acts ≤ before
     → (drawn_after layout number start (act ∷ acts) ≤ after) × (seen_after layout number start (act ∷ acts) ≤ after)
 
+-- a draw, and a sight of a number
+draw_lifts : (drawn seen height : ℕ) → drawn ≤ height → seen ≤ height → (1 + max drawn seen ≤ 1 + height) × (seen ≤ 1 + height)
+draw_lifts drawn seen height d s = (omega (arith, d, s), omega (arith, d, s))
+
+sight_lifts : (drawn seen height top : ℕ) → drawn ≤ height → seen ≤ height → (drawn ≤ max height top) × (max seen top ≤ max height top)
+sight_lifts drawn seen height top d s = (omega (arith, d, s), omega (arith, d, s))
+
+further : (drawn height : ℕ) → drawn ≤ height → drawn ≤ 1 + height
+further drawn height d = omega (arith, d)
+
+below : (drawn height : ℕ) → height < 2 ^ 62 → drawn ≤ height → drawn < 2 ^ 62
+below drawn height low d = omega (arith, low, d)
+
 begin_lifts : (layout : Layout) (number start txn height : ℕ) (body : BodyParts) → Lifts layout number start (Begins txn body) height (1 + height)
-begin_lifts layout number start txn height body acts d s = (omega (arith, d, s), omega (arith, d, s))
+begin_lifts layout number start txn height body acts d s = draw_lifts (drawn_after layout number start acts) (seen_after layout number start acts) height d s
 
 recover_lifts : (layout : Layout) (number start height : ℕ) (x : TxnId) (body : BodyParts) → Lifts layout number start (Recovers x body) height (1 + height)
-recover_lifts layout number start height x body acts d s = (omega (arith, d, s), omega (arith, d, s))
+recover_lifts layout number start height x body acts d s = draw_lifts (drawn_after layout number start acts) (seen_after layout number start acts) height d s
 
 slow_lifts : (layout : Layout) (number start height : ℕ) (x : TxnId) → Lifts layout number start (Slows x) height height
 slow_lifts layout number start height x acts d s = (d, s)
 
 take_lifts : (layout : Layout) (number start height : ℕ) (m : Message) → Lifts layout number start (TakesMessage m) height (max height (top_of m))
-take_lifts layout number start height m acts d s = (omega (arith, d, s), omega (arith, d, s))
+take_lifts layout number start height m acts d s = sight_lifts (drawn_after layout number start acts) (seen_after layout number start acts) height (top_of m) d s
 
 module _ (layout : Layout) (old new : DurableNode MemoryDisk) (number start version height : ℕ) (known : Bool) (was : IsOpen layout old number start version height known) (same : IsSameActor old new) where
   given_now : (new.number ≡ number) × (new.start ≡ start) × (new.version ≡ version)
@@ -149,10 +162,10 @@ module _ (layout : Layout) (old new : DurableNode MemoryDisk) (number start vers
     up_old = was.up known_is sound
 
     pub drawn_low : height < 2 ^ 62 → old.node.clock.drawn < 2 ^ 62
-    drawn_low low = let d = up_old.drawn in omega (arith, low, subst (λ (c : ClockState). c.drawn ≤ height) (sym up_old.stands.stands.clock_is) d)
+    drawn_low low = below old.node.clock.drawn height low (subst (λ (c : ClockState). c.drawn ≤ height) (sym up_old.stands.stands.clock_is) up_old.drawn)
 
     pub seen_low : height < 2 ^ 62 → old.node.clock.seen < 2 ^ 62
-    seen_low low = let d = up_old.seen in omega (arith, low, subst (λ (c : ClockState). c.seen ≤ height) (sym up_old.stands.stands.clock_is) d)
+    seen_low low = below old.node.clock.seen height low (subst (λ (c : ClockState). c.seen ≤ height) (sym up_old.stands.stands.clock_is) up_old.seen)
 
     abbrev TakesIt : Act → Emitted → Type 0
     TakesIt act emitted = (acts : List Act) → StandsFor layout old acts → Takes layout old new acts act emitted
@@ -179,7 +192,7 @@ module _ (layout : Layout) (old new : DurableNode MemoryDisk) (number start vers
         acts = up_old.acts;
         reads = reads;
         journal = law layout old up_old.acts up_old.stands;
-        drawn = let d = up_old.drawn in omega (arith, d);
+        drawn = further (drawn_after layout old.number old.start up_old.acts) height up_old.drawn;
       }
       left_of act lifts grown image (inr reads) = record {
         payloads = old.journal.payloads ++ group;

@@ -6,4 +6,4 @@ use Rattle.acc_durable_tables.proofs.node.OpenNode.reopen.Goals as goal
 pub returns-in-Ok : goal.returns-in-Ok
 returns-in-Ok c =
     let s = c.args.self.now in
-    always _ (reopened_open s.topology c.in-Ok.node s.number s.start c.args.version s.height s.known _ c.in-Ok.ensures.given (c.in-Ok.ensures.restarts s.topology) c.requires.left c.in-Ok.ensures.ok.sound)
+    always _ (reopened_open s.topology c.in-Ok.node s.number s.start c.args.version s.height s.known c.args.disk.now.content c.in-Ok.ensures.given (c.in-Ok.ensures.restarts s.topology) c.requires.left c.in-Ok.ensures.ok.sound)
