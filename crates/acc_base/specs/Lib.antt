@@ -1,3 +1,5 @@
 pub mod Faults
 pub mod Numbers
 pub mod Shared
+pub mod Inline
+pub mod Short

@@ -2,11 +2,14 @@
 //! list, and how numbers are written.
 #![tactic(auto)]
 
+mod inline;
 mod memory;
 mod numbers;
 mod sequence;
 mod shared;
+mod short;
 
+pub use inline::InlineText;
 pub use memory::{Duplicate, OutOfMemory};
 pub use numbers::{push_number, push_signed_number};
 pub use sequence::Sequence;

@@ -13,7 +13,7 @@ ghost use Rattle.acc_code.specs.Writing.{Keeps};
 
 use crate::error::CodeError;
 use crate::fields::out_of_range;
-use acc_base::{Bytes, OutOfMemory, Text};
+use acc_base::{Bytes, InlineText, OutOfMemory};
 use acc_txn::{Let, Select, Update, is_free_key_text, is_free_word};
 use acc_value::Key;
 use acc_wire::{Reader, put_text};
@@ -41,8 +41,8 @@ pub(crate) fn take_any_key(alloc: Global, reader: &mut Reader<'_>) -> Result<Key
     let table = reader.take_text()?;
     let key = reader.take_text()?;
     Ok(Key {
-        table: Text::from_slice(alloc, table)?,
-        key: Text::from_slice(alloc, key)?,
+        table: InlineText::from_slice(alloc, table)?,
+        key: InlineText::from_slice(alloc, key)?,
     })
 }
 
@@ -78,8 +78,8 @@ fn take_key(alloc: Global, reader: &mut Reader<'_>) -> Result<Key, CodeError>
     let table = take_word(reader)?;
     let key = take_key_text(reader)?;
     Ok(Key {
-        table: Text::from_slice(alloc, table)?,
-        key: Text::from_slice(alloc, key)?,
+        table: InlineText::from_slice(alloc, table)?,
+        key: InlineText::from_slice(alloc, key)?,
     })
 }
 

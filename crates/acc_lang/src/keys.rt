@@ -8,7 +8,7 @@ use crate::fault::ReadError;
 use crate::judge::{check, standing_of};
 use crate::lexemes::{folded, is_free, is_quoted, letters_of, text_of};
 use crate::take::{take_mark, take_word};
-use acc_base::Text;
+use acc_base::{InlineText, Text};
 use acc_token::Cursor;
 use acc_value::{Footprint, Key};
 use std::alloc::Global;
@@ -43,9 +43,10 @@ fn key_text(
     ensures uses { IfOk result (λ key. uses.new ≡ used uses.old key writes) }
 {
     let shown = cursor.next();
+    let text = text_of(alloc, &shown.lexeme)?;
     let key = Key {
-        table,
-        key: text_of(alloc, &shown.lexeme)?,
+        table: InlineText::from_slice(alloc, table.as_slice())?,
+        key: InlineText::from_slice(alloc, text.as_slice())?,
     };
     uses.add(&key, writes)?;
     let extra = uses.len() > MOST_KEYS;

@@ -3,7 +3,7 @@ ghost use Rattle.std.specs.Prelude.{OnOk};
 ghost use Rattle.acc_store_tables.specs.Pairs.{AreTwins};
 
 use crate::twins::Twins;
-use acc_base::{Bytes, OutOfMemory, Sequence};
+use acc_base::{Bytes, InlineText, OutOfMemory};
 use acc_message_code::decode;
 use acc_stamp::{Ids, Stamp, TxnId};
 use acc_value::{Key, Value as Held};
@@ -125,8 +125,8 @@ fn cell_text(alloc: Global, cell: Option<&Held>) -> Result<String> {
 
 fn key_of(alloc: Global, table: &str, key: &str) -> Result<Key, OutOfMemory> {
     Ok(Key {
-        table: Sequence::from_slice(alloc, table.as_bytes())?,
-        key: Sequence::from_slice(alloc, key.as_bytes())?,
+        table: InlineText::from_slice(alloc, table.as_bytes())?,
+        key: InlineText::from_slice(alloc, key.as_bytes())?,
     })
 }
 

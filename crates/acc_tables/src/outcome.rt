@@ -1,7 +1,7 @@
 //! Outcomes of bodies.
 use crate::text::fault;
 use crate::told::told_outcome;
-use acc_base::{OutOfMemory, Sequence};
+use acc_base::{InlineText, OutOfMemory, Sequence};
 use acc_lang::parse_v2;
 use acc_txn::Outcome;
 use acc_value::{CellList, Key, Value as Held};
@@ -45,8 +45,8 @@ fn parts(cell: &Value) -> Option<(&str, &str, &Value)> {
 
 fn key_of(alloc: Global, table: &str, key: &str) -> Result<Key, OutOfMemory> {
     Ok(Key {
-        table: Sequence::from_slice(alloc, table.as_bytes())?,
-        key: Sequence::from_slice(alloc, key.as_bytes())?,
+        table: InlineText::from_slice(alloc, table.as_bytes())?,
+        key: InlineText::from_slice(alloc, key.as_bytes())?,
     })
 }
 

@@ -39,7 +39,7 @@ impl Shard {
         ensures { result ≡ not (is_below key.now.key self.now.end) }
     {
         match &self.end {
-            Some(end) => !key.key.cmp(end).is_lt(),
+            Some(end) => !key.key.as_slice().cmp(end.as_slice()).is_lt(),
             None => false,
         }
     }

@@ -6,7 +6,7 @@ ghost use Rattle.std.specs.Cmp.Rules.{comparing};
 ghost use Rattle.std.proofs.Common.{rules};
 ghost use Rattle.acc_value.specs.Key.{key_cmp, key_eq};
 
-use acc_base::{Duplicate, OutOfMemory, Text};
+use acc_base::{Duplicate, InlineText, OutOfMemory};
 use std::alloc::AllocError;
 use std::cmp::Ordering;
 
@@ -15,9 +15,9 @@ use std::cmp::Ordering;
 #[derive(Debug, Drop)]
 pub struct Key {
     /// The name of the table.
-    pub table: Text,
+    pub table: InlineText,
     /// The text that names the cell in its table.
-    pub key: Text,
+    pub key: InlineText,
 }
 
 impl Key {

@@ -1,0 +1,13 @@
+use Rattle.std.proofs.Common.{sym}
+use Rattle.acc_base.proofs.ShortOrder.{order_is}
+use Rattle.acc_base.proofs.short.Short.cmp.Goals as goal
+
+pub returns : goal.returns
+returns c =
+    let mine = c.front.ensures in
+    let others = c.front-2.ensures in
+    order_is c.self.inside.bytes c.other.inside.bytes _ _ c.self.inside.len c.other.inside.len _ _ _ _ _ _ _ _ _
+    mine.bytes.0 others.bytes.0 mine.bytes.1 others.bytes.1 c.self.invariant c.other.invariant
+    mine.value others.value c.back.ensures c.back-2.ensures
+    c.cmp-first.ensures c.cmp-last.ensures c.cmp.ensures c.then.ensures c.then-2.ensures
+    (sym c.self.view_is) (sym c.other.view_is)
