@@ -5,7 +5,7 @@ ghost use Rattle.acc_message.specs.declared.message.Message.{Message};
 ghost use Rattle.acc_message.specs.StoreRules.{store_answer, replay};
 ghost use Rattle.acc_record.specs.Shelf.{IsSame, record_at};
 ghost use Rattle.acc_record.specs.Stands.{IsFor, StandsFor, AnswersByRules};
-ghost use Rattle.acc_record.specs.Learning.{known_or_fresh};
+ghost use Rattle.acc_record.specs.Learning.{known_or_fresh, share_at};
 ghost use Rattle.acc_shelf_laws.specs.LearntAs.{IsLearntAs};
 ghost use Rattle.acc_answers.specs.Refusal.{refusal_or};
 ghost use Rattle.acc_accept.specs.Accepting.{is_accept, is_commit, refusal_at, accept_ok, commit_ok, with_accepted, with_committed, IsGrantingBy};
@@ -97,13 +97,12 @@ pub fn on_commit(
             deps,
             ..
         } => {
-            let share = shelf.share(topology, *id, body)?;
             let fixed = Accepted {
                 ballot: *ballot,
                 t: *t,
                 deps: deps.copy()?,
             };
-            commit(shelf, *id, body, &share, fixed, top(m))
+            commit(shelf, topology, *id, body, fixed, top(m))
         }
         _ => unreachable!(),
     }
@@ -187,38 +186,38 @@ fn learn_accepted(
 
 fn commit(
     shelf: &mut Shelf,
+    topology: &Topology,
     id: TxnId,
     body: &Body,
-    share: &Share,
     fixed: Accepted,
     top: u64,
 ) -> Result<Message, OutOfMemory>
     ensures answer { IfOk result (λ answer. answer ≡ refusal_or (refusal_at shelf.old id fixed.ballot) (commit_ok shelf.old id fixed.ballot)) }
-    ensures ok { OnOk result (IsGrantingBy (refusal_at shelf.old id fixed.ballot) (with_committed fixed) shelf.old shelf.new id body.now share.now fixed.t top) }
+    ensures ok { OnOk result (IsGrantingBy (refusal_at shelf.old id fixed.ballot) (with_committed fixed) shelf.old shelf.new id body.now (share_at topology.now shelf.old id body.now) fixed.t top) }
     ensures err { OnErr result (IsSame shelf.old shelf.new) }
 {
     let ballot = fixed.ballot;
     if let Some(refused) = refusal(shelf, id, ballot, ballot)? {
-        shelf.learn(id, body, share, Some(fixed.t), top)?;
+        shelf.learn_body(topology, id, body, Some(fixed.t), top)?;
         return Ok(refused);
     }
     let envelope = answering(shelf, id, ballot);
-    learn_committed(shelf, id, body, share, fixed, top)?;
+    learn_committed(shelf, topology, id, body, fixed, top)?;
     Ok(envelope.commit_ok())
 }
 
 fn learn_committed(
     shelf: &mut Shelf,
+    topology: &Topology,
     id: TxnId,
     body: &Body,
-    share: &Share,
     fixed: Accepted,
     top: u64,
 ) -> Result<(), OutOfMemory>
-    ensures ok { OnOk result (IsLearntAs shelf.old shelf.new id share.now (Some fixed.t) top (with_committed fixed (known_or_fresh (record_at shelf.old.records id) id body.now))) }
+    ensures ok { OnOk result (IsLearntAs shelf.old shelf.new id (share_at topology.now shelf.old id body.now) (Some fixed.t) top (with_committed fixed (known_or_fresh (record_at shelf.old.records id) id body.now))) }
     ensures err { OnErr result (IsSame shelf.old shelf.new) }
 {
-    shelf.learn(id, body, share, Some(fixed.t), top)?;
+    shelf.learn_body(topology, id, body, Some(fixed.t), top)?;
     keep_committed(&mut shelf.records, id, fixed);
     Ok(())
 }

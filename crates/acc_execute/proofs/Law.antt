@@ -20,7 +20,7 @@ use Rattle.acc_record.specs.declared.shelf.Shelf.{Shelf}
 use Rattle.acc_record.specs.Shelf.{record_at, cell_at}
 use Rattle.acc_record.specs.Stands.{StandsFor, AnswersByRules}
 use Rattle.acc_record.specs.Steps.{record_from, record_after, stamps_in, stamps_told, NotesTold, QuietStep}
-use Rattle.acc_record.specs.Learning.{body_of, known_or_fresh, IsLearnt}
+use Rattle.acc_record.specs.Learning.{body_of, known_or_fresh, share_at, IsLearnt}
 use Rattle.acc_actor_laws.proofs.OpeningFacts.{some_is}
 use Rattle.acc_actor_laws.proofs.TakenAlone.{taken_alone}
 use Rattle.acc_shelf_laws.specs.LearntAs.{IsLearntAs}
@@ -73,7 +73,7 @@ pub record Brings (layout : Layout) (old : Shelf) (m : Message) (body : BodyPart
       → first ++ released_by_rules layout old.actor (replay layout old.actor messages) m ≡ store_answer layout old.actor (replay layout old.actor messages) m
 
 module _ (layout : Layout) (old new : Shelf) (m : Message) (body : BodyParts) (share : List (Key × Bool)) (t : Stamp) (top : ℕ) (first sent : List Message)
-    (own : Record) (b : Brings layout old m body share t top first own) (e : IsExecuted layout old new own body share t top first sent) where
+    (own : Record) (b : Brings layout old m body share t top first own) (e : IsExecuted layout old new own body (share_at layout old own.id body) t top first sent) where
   abbrev x : TxnId
   x = id_of m
 
@@ -116,7 +116,9 @@ module _ (layout : Layout) (old new : Shelf) (m : Message) (body : BodyParts) (s
         (tells_time x body (record_at old.records x) t))
 
     learnt : IsLearnt old e.learnt x body share (Some t) top
-    learnt = subst (λ z. IsLearnt old e.learnt z body share (Some t) top) own_id e.learns
+    learnt =
+        subst (λ (s : List (Key × Bool)). IsLearnt old e.learnt x body s (Some t) top) (sym b.shared)
+        (subst (λ z. IsLearnt old e.learnt z body (share_at layout old z body) (Some t) top) own_id e.learns)
 
     quiet : QuietStep layout old e.learnt m []
     quiet =

@@ -24,7 +24,7 @@ use Rattle.acc_record.specs.declared.cells.Cells.{Cells}
 use Rattle.acc_record.specs.declared.shelf.Shelf.{Shelf}
 use Rattle.acc_record.specs.Shelf.{record_at, cell_at, IsSame}
 use Rattle.acc_record.specs.Stands.{StandsFor, AnswersByRules}
-use Rattle.acc_record.specs.Learning.{body_of, known_or_fresh}
+use Rattle.acc_record.specs.Learning.{body_of, known_or_fresh, share_at}
 use Rattle.acc_opening.specs.Known.{IsKnown}
 use Rattle.acc_opening.specs.Turns.{changes_in}
 use Rattle.acc_execute_laws.proofs.Joined.{sends}
@@ -89,7 +89,7 @@ module _ (layout : Layout) (old : Shelf) (m : Message) (body : BodyParts) (share
       ∙ b.answers messages stands
   answered_here (Err e) p h is = tt
 
-  stepped_here : {E : Type 0} (new : Shelf) (result : Result (List Message) E) → IfOk result (IsExecuted layout old new own body share t top first)
+  stepped_here : {E : Type 0} (new : Shelf) (result : Result (List Message) E) → IfOk result (IsExecuted layout old new own body (share_at layout old own.id body) t top first)
       → IfOk result (λ sent. AnswersByRules layout old new m sent)
   stepped_here new (Ok sent) e = answers_by_rules layout old new m body share t top first sent own b e
   stepped_here new (Err e) h = tt
@@ -128,7 +128,7 @@ module _ (layout : Layout) (old : Shelf) (m : Message) (from to : Actor) (x : Tx
         → IfOk result (λ sent. (messages : List Message) → StandsFor layout old (replay layout old.actor messages) → sent ≡ store_answer layout old.actor (replay layout old.actor messages) m)
     stable_answered = answered_here layout old m body share t top first own brings_here
 
-    pub stable_stepped : {E : Type 0} (new : Shelf) (result : Result (List Message) E) → IfOk result (IsExecuted layout old new own body share t top first)
+    pub stable_stepped : {E : Type 0} (new : Shelf) (result : Result (List Message) E) → IfOk result (IsExecuted layout old new own body (share_at layout old own.id body) t top first)
         → IfOk result (λ sent. AnswersByRules layout old new m sent)
     stable_stepped = stepped_here layout old m body share t top first own brings_here
 
@@ -165,6 +165,6 @@ module _ (layout : Layout) (old : Shelf) (m : Message) (from to : Actor) (x : Tx
         → IfOk result (λ sent. (messages : List Message) → StandsFor layout old (replay layout old.actor messages) → sent ≡ store_answer layout old.actor (replay layout old.actor messages) m)
     apply_answered = answered_here layout old m body share t top first own brought_here
 
-    pub apply_stepped : {E : Type 0} (new : Shelf) (result : Result (List Message) E) → IfOk result (IsExecuted layout old new own body share t top first)
+    pub apply_stepped : {E : Type 0} (new : Shelf) (result : Result (List Message) E) → IfOk result (IsExecuted layout old new own body (share_at layout old own.id body) t top first)
         → IfOk result (λ sent. AnswersByRules layout old new m sent)
     apply_stepped = stepped_here layout old m body share t top first own brought_here

@@ -5,7 +5,7 @@ ghost use Rattle.acc_message.specs.declared.message.Message.{Message};
 ghost use Rattle.acc_message.specs.StoreRules.{store_answer, replay};
 ghost use Rattle.acc_record.specs.Shelf.{IsSame, record_at};
 ghost use Rattle.acc_record.specs.Stands.{IsFor, StandsFor, AnswersByRules};
-ghost use Rattle.acc_record.specs.Learning.{known_or_fresh};
+ghost use Rattle.acc_record.specs.Learning.{known_or_fresh, share_at};
 ghost use Rattle.acc_opening.specs.Known.{IsKnown};
 ghost use Rattle.acc_execute.specs.Owned.{is_stable, is_apply, with_settled, with_waiter, with_outcome};
 ghost use Rattle.acc_execute.specs.Executed.{AllFit, Stands, IsPrepared, IsLearntWithRoom, IsCommitted, IsExecuted};
@@ -16,7 +16,6 @@ use crate::present::at_once;
 use crate::waits::{change_lists, make_room};
 use acc_base::OutOfMemory;
 use acc_deps::Deps;
-use acc_index::Share;
 use acc_message::{Message, Messages, top};
 use acc_opening::{Known, Plan, planned};
 use acc_reads::{Released, release};
@@ -40,8 +39,6 @@ pub(crate) struct Prepared {
 pub(crate) struct News<'a> {
     /// The body that the message brings.
     pub body: &'a Body,
-    /// The keys of the shard that the transaction uses.
-    pub share: &'a Share,
     /// Its timestamp.
     pub t: Stamp,
     /// The greatest `h` of the message.
@@ -100,10 +97,8 @@ fn take_stable(shelf: &mut Shelf, topology: &Topology, m: &Message) -> Result<Me
         } => {
             let first = at_once(shelf, topology, *id, *ballot)?;
             let own = own_of_stable(shelf, *id, *ballot, body, *t, deps)?;
-            let share = shelf.share(topology, *id, body)?;
             let news = News {
                 body,
-                share: &share,
                 t: *t,
                 top: top(m),
             };
@@ -130,11 +125,9 @@ fn take_apply(shelf: &mut Shelf, topology: &Topology, m: &Message) -> Result<Mes
             ..
         } => {
             let own = own_of_apply(shelf, *id, body, *t, deps, outcome)?;
-            let share = shelf.share(topology, *id, body)?;
             let first = Messages::new(own.waiters.allocator());
             let news = News {
                 body,
-                share: &share,
                 t: *t,
                 top: top(m),
             };
@@ -295,14 +288,14 @@ fn execute(
 ) -> Result<Messages, OutOfMemory>
     requires known { IsKnown (shard_of shelf.old.actor) shelf.old.records own shelf.old.waits }
     requires written { shelf.old.cells.pending ≡ [] }
-    ensures ok { IfOk result (IsExecuted topology.now shelf.old shelf.new own news.now.body.now news.now.share.now news.now.t news.now.top first) }
+    ensures ok { IfOk result (IsExecuted topology.now shelf.old shelf.new own news.now.body.now (share_at topology.now shelf.old own.id news.now.body.now) news.now.t news.now.top first) }
     ensures err { OnErr result (IsSame shelf.old shelf.new) }
 {
     let prepared = prepare(shelf, topology, &own)?;
     let Prepared { plan, released } = prepared;
     let Released { sent, writes } = released;
     let all = join(first, sent)?;
-    learn_with_room(shelf, own.id, &plan, news)?;
+    learn_with_room(shelf, topology, own.id, &plan, news)?;
     commit(shelf, own, plan, writes);
     Ok(all)
 }
@@ -310,15 +303,16 @@ fn execute(
 // Takes the last memory that the step needs.
 fn learn_with_room(
     shelf: &mut Shelf,
+    topology: &Topology,
     id: TxnId,
     plan: &Plan,
     news: &News<'_>,
 ) -> Result<(), OutOfMemory>
-    ensures ok { OnOk result (IsLearntWithRoom shelf.old shelf.new id plan.now news.now.body.now news.now.share.now news.now.t news.now.top) }
+    ensures ok { OnOk result (IsLearntWithRoom shelf.old shelf.new id plan.now news.now.body.now (share_at topology.now shelf.old id news.now.body.now) news.now.t news.now.top) }
     ensures err { OnErr result (IsSame shelf.old shelf.new) }
 {
     make_room(&mut shelf.waits, &plan.touched)?;
-    shelf.learn(id, news.body, news.share, Some(news.t), news.top)
+    shelf.learn_body(topology, id, news.body, Some(news.t), news.top)
 }
 
 // Changes the shelf as planned. Takes no memory.

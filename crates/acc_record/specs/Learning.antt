@@ -1,6 +1,7 @@
 -- What a shelf answers of a transaction, and what learning of it changes, entry by entry.
 --     vote_at shelf x share top      the vote that is given for it
 --     deps_below shelf x share bound      the known conflicting transactions below a bound, as dependencies
+--     share_at layout shelf x body      the keys of the shard that it uses
 --     IsLearnt old new x body share stamp top      the shelf knows the transaction, a stamp of it and a greatest h
 use Rattle.std.specs.Prelude.{◌≡◌, ℕ, ◌+◌, max, Bool, false, cond, ◌||◌, List, [], ◌∷◌, ◌++◌, Option, None, Some}
 use Rattle.std.specs.List.{list_all}
@@ -12,8 +13,11 @@ use Rattle.acc_deps.specs.declared.shards.ShardDeps.{ShardDeps}
 use Rattle.acc_deps.specs.declared.records.Accepted.{Accepted}
 use Rattle.acc_deps.specs.declared.records.Settled.{Settled}
 use Rattle.acc_deps.specs.Deps.{deps_of}
+use Rattle.acc_topology.specs.Layout.{Layout}
+use Rattle.acc_topology.specs.Keys.{share_of}
 use Rattle.acc_value.specs.declared.key.Key.{Key}
 use Rattle.acc_txn.specs.declared.parts.BodyParts.{BodyParts}
+use Rattle.acc_txn.specs.Uses.{footprint_of}
 use Rattle.acc_index.specs.Noted.{Noted, rival_stamps, rival_ids_below}
 use Rattle.acc_record.specs.declared.record.Record.{Record}
 use Rattle.acc_record.specs.declared.vote.Vote.{Vote}
@@ -59,6 +63,10 @@ vote_at shelf x share top = given (earlier_vote (record_at shelf.records x)) (ne
 abbrev pub body_of : Option Record → BodyParts → BodyParts
 body_of None body = body
 body_of (Some r) body = r.body
+
+-- the keys of the shelf's shard that the body uses which counts
+abbrev pub share_at : Layout → Shelf → TxnId → BodyParts → List (Key × Bool)
+share_at layout shelf x body = share_of layout (footprint_of (body_of (record_at shelf.records x) body)) (shard_of shelf.actor)
 
 -- ---- records
 

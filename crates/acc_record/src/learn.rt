@@ -1,10 +1,10 @@
 //! Learning: what a message makes known of a transaction, before anything else of its record changes.
-ghost use Rattle.std.specs.Prelude.{◌≡◌, ◌++◌, cond, Some, None, is_some, IfOk, OnOk, OnErr};
+ghost use Rattle.std.specs.Prelude.{◌≡◌, ◌++◌, cond, Some, None, is_some, IsTrue, IfOk, OnOk, OnErr};
 ghost use Rattle.acc_stamp.specs.declared.stamps.TxnId.{TxnId};
 ghost use Rattle.acc_stamp.specs.Stamp.{id_eq};
 ghost use Rattle.acc_record.specs.Shelf.{IsSame, record_at};
 ghost use Rattle.acc_record.specs.Steps.{fresh};
-ghost use Rattle.acc_record.specs.Learning.{IsLearnt, is_covered_by, is_below_accepted, is_below_settled, later_of, stamp_to_note, notes_with};
+ghost use Rattle.acc_record.specs.Learning.{IsLearnt, is_covered_by, is_below_accepted, is_below_settled, later_of, share_at, stamp_to_note, notes_with};
 
 use crate::record::{KeptRecord, Record, Records};
 use crate::shelf::Shelf;
@@ -12,6 +12,7 @@ use acc_base::OutOfMemory;
 use acc_deps::{Accepted, Deps, Settled};
 use acc_index::{Index, Share};
 use acc_stamp::{Ballot, Ballots, Stamp, TxnId};
+use acc_topology::Topology;
 use acc_txn::Body;
 
 impl Shelf {
@@ -38,6 +39,36 @@ impl Shelf {
         }
         self.greatest = self.greatest.max(top);
         Ok(())
+    }
+
+    /// Learns as `learn` does, by the keys of this shard that the transaction uses. They are looked for only where a stamp is
+    /// noted, so that a step which brings nothing new doesn't look at them.
+    pub fn learn_body(
+        &mut self,
+        topology: &Topology,
+        id: TxnId,
+        body: &Body,
+        stamp: Option<Stamp>,
+        top: u64,
+    ) -> Result<(), OutOfMemory>
+        ensures ok { OnOk result (IsLearnt self.old self.new id body.now (share_at topology.now self.old id body.now) stamp top) }
+        ensures err { OnErr result (IsSame self.old self.new) }
+    {
+        if self.is_noted(id, stamp) {
+            self.greatest = self.greatest.max(top);
+            return Ok(());
+        }
+        let share = self.share(topology, id, body)?;
+        self.learn(id, body, &share, stamp, top)
+    }
+
+    // Whether a transaction is known, and a step that brings this stamp notes none.
+    fn is_noted(&self, id: TxnId, stamp: Option<Stamp>) -> bool
+        ensures known { IsTrue result → IsTrue (is_some (record_at self.now.records id)) }
+        ensures none { IsTrue result → stamp_to_note (record_at self.now.records id) id stamp ≡ None }
+    {
+        let (is_known, stamp) = self.stamp_to_note(id, stamp);
+        is_known && stamp.is_none()
     }
 
     // Whether a transaction is known, and the stamp of it that is to be noted, where a step brings this one.

@@ -1,3 +1,4 @@
+use Rattle.acc_record.specs.Learning.{share_at}
 use Rattle.acc_execute.proofs.Stepping.{left_at_once, left_roomy, learnt_roomy}
 use Rattle.acc_execute.proofs.step.learn_with_room.Goals as goal
 
@@ -7,8 +8,8 @@ returns-in_err-make_room-clause-err c =
 
 pub returns-clause-ok : goal.returns-clause-ok
 returns-clause-ok c =
-    learnt_roomy c.args.shelf.now c.make_room.new.waits c.make_room.ensures.same c.learn.new.self c.args.id c.args.plan.now c.args.news.now.body.now c.args.news.now.share.now c.args.news.now.t c.args.news.now.top
-    c.learn.result c.in_ok-make_room.ensures.room c.learn.ensures.ok
+    learnt_roomy c.args.shelf.now c.make_room.new.waits c.make_room.ensures.same c.learn_body.new.self c.args.id c.args.plan.now c.args.news.now.body.now (share_at c.args.topology.now c.args.shelf.now c.args.id c.args.news.now.body.now) c.args.news.now.t c.args.news.now.top
+    c.learn_body.result c.in_ok-make_room.ensures.room c.learn_body.ensures.ok
 
 pub returns-clause-err : goal.returns-clause-err
-returns-clause-err c = left_roomy c.args.shelf.now c.make_room.new.waits c.make_room.ensures.same c.learn.new.self c.learn.result c.learn.ensures.err
+returns-clause-err c = left_roomy c.args.shelf.now c.make_room.new.waits c.make_room.ensures.same c.learn_body.new.self c.learn_body.result c.learn_body.ensures.err
