@@ -3,7 +3,7 @@ use Rattle.std.proofs.Common.{◌≡◌, ℕ, ◌+◌, ◌<◌, Bool, true, fals
 use Rattle.std.specs.Bool.{beq}
 use Rattle.std.specs.Cmp.{first_so, second_so}
 use Rattle.std.specs.Ordering.{is_eq}
-use Rattle.std.specs.BTreeMap as tree
+use Rattle.std.specs.HashMap as table
 use Rattle.std.specs.FinMap.Entries.{below_all}
 use Rattle.std.proofs.lemmas.List.{take_more, drop_more}
 use Rattle.std.proofs.lemmas.List.Folds.{list_all-append}
@@ -17,7 +17,7 @@ use Rattle.acc_index.specs.Users.{Map, places_in, places_of, places_at, room_in,
 
 -- the map with these users at a key
 abbrev pub Puts : Map → Map → Key → Users → Type 0
-Puts old new key v = (q : Key) → tree.get key_cmp new q ≡ cond (key_eq key q) (Some v) (tree.get key_cmp old q)
+Puts old new key v = (q : Key) → table.get key_eq new q ≡ cond (key_eq key q) (Some v) (table.get key_eq old q)
 
 places_put : (b : Bool) (v : Users) (o : Option Users) (w : Bool) → places_of (cond b (Some v) o) w ≡ cond b (places_in v w) (places_of o w)
 places_put true v o w = refl
@@ -28,14 +28,14 @@ room_put true v o w = refl
 room_put false v o w = refl
 
 -- what the key itself had
-here : (old : Map) (key k : Key) (o : Option Users) → o ≡ tree.get key_cmp old key → key_eq key k ≡ true → tree.get key_cmp old k ≡ o
-here old key k o is same = ap (tree.get key_cmp old) (sym (key_eq-true key k same)) ∙ sym is
+here : (old : Map) (key k : Key) (o : Option Users) → o ≡ table.get key_eq old key → key_eq key k ≡ true → table.get key_eq old k ≡ o
+here old key k o is same = ap (table.get key_eq old) (sym (key_eq-true key k same)) ∙ sym is
 
-module _ (old new : Map) (key : Key) (v : Users) (o : Option Users) (was : o ≡ tree.get key_cmp old key) (puts : Puts old new key v) where
+module _ (old new : Map) (key : Key) (v : Users) (o : Option Users) (was : o ≡ table.get key_eq old key) (puts : Puts old new key v) where
   -- the places that every key has then
   pub places_then : (f : Bool → List ℕ → List ℕ) → ((w : Bool) → places_in v w ≡ f w (places_of o w)) → (k : Key) (w : Bool) → places_at new k w ≡ cond (key_eq key k) (f w (places_at old k w)) (places_at old k w)
   places_then f is k w =
-      ap (λ p. places_of p w) (puts k) ∙ places_put (key_eq key k) v (tree.get key_cmp old k) w
+      ap (λ p. places_of p w) (puts k) ∙ places_put (key_eq key k) v (table.get key_eq old k) w
       ∙ elim (key_eq key k) as (λ b. key_eq key k ≡ b → cond b (places_in v w) (places_at old k w) ≡ cond b (f w (places_at old k w)) (places_at old k w)) [
         | true ↦ λ same. is w ∙ ap (λ p. f w (places_of p w)) (sym (here old key k o was same))
         | false ↦ λ same. refl
@@ -51,7 +51,7 @@ module _ (old new : Map) (key : Key) (v : Users) (o : Option Users) (was : o ≡
   -- a key has the room that it had, or more
   pub room_kept : ((w : Bool) → IsTrue (room_of o w) → IsTrue (room_in v w)) → (k : Key) (w : Bool) → IsTrue (has_room old k w) → IsTrue (has_room new k w)
   room_kept kept k w had =
-      (ap (λ p. room_of p w) (puts k) ∙ room_put (key_eq key k) v (tree.get key_cmp old k) w)
+      (ap (λ p. room_of p w) (puts k) ∙ room_put (key_eq key k) v (table.get key_eq old k) w)
       ∙ elim (key_eq key k) as (λ b. key_eq key k ≡ b → cond b (room_in v w) (has_room old k w) ≡ true) [
         | true ↦ λ same. kept w (ap (λ p. room_of p w) (sym (here old key k o was same)) ∙ had)
         | false ↦ λ same. had
@@ -60,7 +60,7 @@ module _ (old new : Map) (key : Key) (v : Users) (o : Option Users) (was : o ≡
   -- another key has the room that it had
   pub room_apart : (k : Key) → key_eq key k ≡ false → (w : Bool) → has_room new k w ≡ has_room old k w
   room_apart k apart w =
-      ap (λ p. room_of p w) (puts k) ∙ room_put (key_eq key k) v (tree.get key_cmp old k) w
+      ap (λ p. room_of p w) (puts k) ∙ room_put (key_eq key k) v (table.get key_eq old k) w
       ∙ ap (λ b. cond b (room_in v w) (has_room old k w)) apart
 
 -- a place that is added to one kind

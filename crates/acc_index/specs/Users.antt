@@ -3,14 +3,16 @@ use Rattle.std.specs.Prelude.{ℕ, ◌+◌, Bool, true, false, cond, nat_lt, IsT
 use Rattle.std.specs.Bool.{beq}
 use Rattle.std.specs.List.{list_all}
 use Rattle.std.specs.Vec.{vec_capacity}
-use Rattle.std.specs.BTreeMap as tree
+use Rattle.std.specs.HashMap as table
+use Rattle.std.specs.declared.hash.BuildHasherDefault.{BuildHasherDefault}
+use Rattle.std.specs.declared.hash.FoldHasher.{FoldHasher}
 use Rattle.acc_value.specs.declared.key.Key.{Key}
-use Rattle.acc_value.specs.Key.{key_cmp}
+use Rattle.acc_value.specs.Key.{key_eq}
 use Rattle.acc_value.specs.Pairs.{find}
 use Rattle.acc_index.specs.declared.users.Users.{Users}
 
 abbrev pub Map : Type 0
-Map = tree.BTreeMap Key Users
+Map = table.HashMap Key Users (BuildHasherDefault FoldHasher)
 
 -- ---- the map: the places that write a key, or only read it
 
@@ -23,7 +25,7 @@ places_of None w = []
 places_of (Some u) w = places_in u w
 
 abbrev pub places_at : Map → Key → Bool → List ℕ
-places_at m key w = places_of (tree.get key_cmp m key) w
+places_at m key w = places_of (table.get key_eq m key) w
 
 -- there is room for one more place
 abbrev pub room_in : Users → Bool → Bool
@@ -35,7 +37,7 @@ room_of None w = false
 room_of (Some u) w = room_in u w
 
 abbrev pub has_room : Map → Key → Bool → Bool
-has_room m key w = room_of (tree.get key_cmp m key) w
+has_room m key w = room_of (table.get key_eq m key) w
 
 abbrev pub HasRooms : Map → List (Key × Bool) → Type 0
 HasRooms m uses = IsTrue (list_all (λ u. has_room m u.0 u.1) uses)

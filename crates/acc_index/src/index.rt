@@ -12,7 +12,7 @@ use acc_base::OutOfMemory;
 use acc_stamp::{Ids, Stamp, TxnId};
 use acc_value::Key;
 use std::alloc::Global;
-use std::collections::BTreeMap;
+use std::collections::HashMap;
 use std::marker::Model;
 
 /// What a store has noted: stamps of transactions, each with the transaction and the keys of the shard that it uses, in the
@@ -21,7 +21,7 @@ use std::marker::Model;
 pub struct Index {
     columns: Columns,
     shares: Vec<Share>,
-    users: BTreeMap<Key, Users>,
+    users: HashMap<Key, Users>,
 }
 
 impl Model for Index {
@@ -44,7 +44,7 @@ impl Index {
         Index {
             columns: Columns::new(alloc),
             shares: Vec::new(alloc),
-            users: BTreeMap::new(alloc),
+            users: HashMap::new(alloc),
         }
     }
 

@@ -12,12 +12,12 @@ use acc_base::OutOfMemory;
 use acc_stamp::{Stamp, TxnId};
 use acc_value::Key;
 use std::alloc::Global;
-use std::collections::BTreeMap;
+use std::collections::HashMap;
 
 /// The greatest stamp of another transaction whose use of a key conflicts.
 pub(crate) fn greatest_stamp(
     columns: &Columns,
-    users: &BTreeMap<Key, Users>,
+    users: &HashMap<Key, Users>,
     uses: &[(Key, bool)],
     id: TxnId,
 ) -> Option<Stamp>
@@ -38,7 +38,7 @@ pub(crate) fn greatest_stamp(
 pub(crate) fn all_of(
     alloc: Global,
     columns: &Columns,
-    users: &BTreeMap<Key, Users>,
+    users: &HashMap<Key, Users>,
     uses: &[(Key, bool)],
     id: TxnId,
 ) -> Result<Vec<TxnId>, OutOfMemory>
@@ -59,7 +59,7 @@ pub(crate) fn all_of(
 pub(crate) fn all_below(
     alloc: Global,
     columns: &Columns,
-    users: &BTreeMap<Key, Users>,
+    users: &HashMap<Key, Users>,
     uses: &[(Key, bool)],
     id: TxnId,
     bound: Stamp,

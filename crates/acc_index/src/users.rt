@@ -10,7 +10,7 @@ use crate::columns::put;
 use acc_base::OutOfMemory;
 use acc_value::Key;
 use std::alloc::Global;
-use std::collections::BTreeMap;
+use std::collections::HashMap;
 
 /// The places that use a key, in the order noted: those that write it, and those that only read it.
 #[derive(Debug, Drop)]
@@ -59,7 +59,7 @@ impl Users {
 /// The places whose use of a key conflicts with a use that writes it or only reads it: those that write it, and the others too
 /// where it is written.
 pub(crate) fn users_of<'a>(
-    users: &'a BTreeMap<Key, Users>,
+    users: &'a HashMap<Key, Users>,
     key: &Key,
     writes: bool,
 ) -> (&'a [usize], &'a [usize])
@@ -75,7 +75,7 @@ pub(crate) fn users_of<'a>(
 
 /// Makes room for one more place at each of these keys. The places stay in any case.
 pub(crate) fn reserve_all(
-    users: &mut BTreeMap<Key, Users>,
+    users: &mut HashMap<Key, Users>,
     uses: &[(Key, bool)],
 ) -> Result<(), OutOfMemory>
     ensures same { (k : Key) → (w : Bool) → places_at users.new k w ≡ places_at users.old k w }
@@ -87,7 +87,7 @@ pub(crate) fn reserve_all(
     Ok(())
 }
 
-fn reserve(users: &mut BTreeMap<Key, Users>, key: &Key, writes: bool) -> Result<(), OutOfMemory>
+fn reserve(users: &mut HashMap<Key, Users>, key: &Key, writes: bool) -> Result<(), OutOfMemory>
     ensures same { (k : Key) → (w : Bool) → places_at users.new k w ≡ places_at users.old k w }
     ensures kept { (k : Key) → (w : Bool) → IsTrue (has_room users.old k w) → IsTrue (has_room users.new k w) }
     ensures made { OnOk result (IsTrue (has_room users.new key.now writes)) }
@@ -103,7 +103,7 @@ fn reserve(users: &mut BTreeMap<Key, Users>, key: &Key, writes: bool) -> Result<
 }
 
 /// Adds a place that uses these keys.
-pub(crate) fn add_all(users: &mut BTreeMap<Key, Users>, uses: &[(Key, bool)], place: usize)
+pub(crate) fn add_all(users: &mut HashMap<Key, Users>, uses: &[(Key, bool)], place: usize)
     requires rises { IsRising uses.now }
     requires room { HasRooms users.old uses.now }
     ensures { (k : Key) → (w : Bool) → places_at users.new k w ≡ placed (places_at users.old k w) uses.now k w place }
@@ -113,7 +113,7 @@ pub(crate) fn add_all(users: &mut BTreeMap<Key, Users>, uses: &[(Key, bool)], pl
     }
 }
 
-fn add(users: &mut BTreeMap<Key, Users>, key: &Key, writes: bool, place: usize)
+fn add(users: &mut HashMap<Key, Users>, key: &Key, writes: bool, place: usize)
     requires { IsTrue (has_room users.old key.now writes) }
     ensures set { (k : Key) → (w : Bool) → places_at users.new k w ≡ (if key_eq key.now k && beq writes w then places_at users.old k w ++ place ∷ [] else places_at users.old k w) }
     ensures kept { (k : Key) → key_eq key.now k ≡ false → (w : Bool) → has_room users.new k w ≡ has_room users.old k w }

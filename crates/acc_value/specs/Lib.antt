@@ -1,4 +1,5 @@
 pub mod Key
+pub mod KeyHash
 pub mod Value
 pub mod Pairs
 pub mod Cells

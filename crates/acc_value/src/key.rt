@@ -5,10 +5,12 @@ ghost use Rattle.std.specs.Cmp.{partial_order_from_own_ties};
 ghost use Rattle.std.specs.Cmp.Rules.{comparing};
 ghost use Rattle.std.proofs.Common.{rules};
 ghost use Rattle.acc_value.specs.Key.{key_cmp, key_eq};
+ghost use Rattle.acc_value.specs.KeyHash.{hashed, hashed_alike};
 
 use acc_base::{Duplicate, InlineText, OutOfMemory};
 use std::alloc::AllocError;
 use std::cmp::Ordering;
+use std::hash::{Hash, Hasher};
 
 /// The key of a cell: a table and a text in it. Keys are ordered by their texts and then by their tables, both by
 /// bytes, so that the keys between two texts lie together whatever their tables are.
@@ -62,6 +64,17 @@ impl PartialEq for Key {
 
 impl Eq for Key {
     ghost laws = { Prim.search (comparing, rules) };
+}
+
+impl Hash for Key {
+    ghost hash_input = { hashed };
+
+    ghost respects_eq = { hashed_alike };
+
+    fn hash<H: Hasher>(&self, state: &mut H) {
+        state.write(self.key.as_slice());
+        state.write(self.table.as_slice());
+    }
 }
 
 impl PartialOrd for Key {
