@@ -13,11 +13,10 @@ use Rattle.acc_record.specs.Shelf.{Records, record_at}
 use Rattle.acc_opening_laws.specs.Plan.{Lookup, settled_in}
 use Rattle.acc_opening.specs.declared.turns.Turn.{Turn}
 use Rattle.acc_opening.specs.Lookup.{lookup}
-use Rattle.acc_opening.specs.Touched.{is_same}
 use Rattle.acc_opening.specs.Turns.{key_of, key_lt, HasItsTime}
 use Rattle.acc_opening.specs.State.{IsUnderWay}
 use Rattle.acc_opening.proofs.TurnFacts.{key_lt-irrefl, Contains-first, Contains-later}
-use Rattle.acc_opening.proofs.StateFacts.{is_same-true, some_same, each_contained}
+use Rattle.acc_opening.proofs.StateFacts.{some_same, each_contained}
 
 abbrev pub is_turned : List Turn → TxnId → Bool
 is_turned done x = list_any (λ (a : Turn). id_eq a.id x) done
@@ -60,20 +59,20 @@ one_less done t x e h =
     let q : is_left done x ≡ 1 = ap (λ b. cond b 0 1) was in
     omega arith
 
-entries_less : (done : List Turn) (t : Turn) (es : List (TxnId × Record)) (r : Record) → lookup_in (λ k. is_same t.id k) es ≡ Some r
+entries_less : (done : List Turn) (t : Turn) (es : List (TxnId × Record)) (r : Record) → lookup_in (λ k. id_eq t.id k) es ≡ Some r
     → is_turned done t.id ≡ false → left_in (done ++ t ∷ []) es < left_in done es
 entries_less done t [] r e h = absurd cc
-entries_less done t (e ∷ es) r is h = by (λ rest. entries_less done t es r rest h) (is_same t.id e.0) refl
+entries_less done t (e ∷ es) r is h = by (λ rest. entries_less done t es r rest h) (id_eq t.id e.0) refl
   where
-    by : (lookup_in (λ k. is_same t.id k) es ≡ Some r → left_in (done ++ t ∷ []) es < left_in done es) → (b : Bool) → is_same t.id e.0 ≡ b
+    by : (lookup_in (λ k. id_eq t.id k) es ≡ Some r → left_in (done ++ t ∷ []) es < left_in done es) → (b : Bool) → id_eq t.id e.0 ≡ b
         → left_in (done ++ t ∷ []) (e ∷ es) < left_in done (e ∷ es)
     by later true k =
-        let a = one_less done t e.0 (is_same-true t.id e.0 k) h in
+        let a = one_less done t e.0 ((id_order.decides t.id e.0).0 k) h in
         let b = left_in-less done t es in
         omega arith
     by later false k =
         let a = left-less done t e.0 in
-        let rest : lookup_in (λ k. is_same t.id k) es ≡ Some r = sym (ap (λ b. cond b (Some e.1) (lookup_in (λ k. is_same t.id k) es)) k) ∙ is in
+        let rest : lookup_in (λ k. id_eq t.id k) es ≡ Some r = sym (ap (λ b. cond b (Some e.1) (lookup_in (λ k. id_eq t.id k) es)) k) ∙ is in
         let b = later rest in
         omega arith
 

@@ -1,20 +1,10 @@
 -- The entries of the records, by their transactions.
-use Rattle.std.proofs.Common.{◌≡◌, Bool, true, false, cond, Option, None, Some, refl, sym, ap, ◌∙◌, arith}
-use Rattle.std.specs.Ordering.{is_eq}
-use Rattle.std.proofs.lemmas.Bool.Decides.{nat_tests}
+use Rattle.std.proofs.Common.{◌≡◌, Bool, true, false, cond, Option, None, Some, refl, sym, ap, ◌∙◌}
 use Rattle.acc_stamp.specs.declared.stamps.TxnId.{TxnId}
-use Rattle.acc_stamp.specs.Stamp.{id_cmp, id_eq}
+use Rattle.acc_stamp.specs.Stamp.{id_eq}
 use Rattle.acc_stamp.proofs.Order.{id_order}
 use Rattle.acc_record.specs.declared.record.Record.{Record}
 use Rattle.acc_record.specs.Shelf.{Records, record_at}
-
-pub at_id : (x y : TxnId) → is_eq (id_cmp x y) ≡ id_eq x y
-at_id x y = grind (arith, nat_tests)
-
--- an update of one entry
-pub updated : (old new : Records) (x : TxnId) (w : Option Record) → ((q : TxnId) → record_at new q ≡ cond (is_eq (id_cmp x q)) w (record_at old q))
-    → (q : TxnId) → record_at new q ≡ cond (id_eq x q) w (record_at old q)
-updated old new x w is q = is q ∙ ap (λ b. cond b w (record_at old q)) (at_id x q)
 
 same_at : (records : Records) (x y : TxnId) (b : Bool) → id_eq x y ≡ b → record_at records x ≡ None → cond b None (record_at records y) ≡ record_at records y
 same_at records x y true e none = sym (ap (record_at records) (sym ((id_order.decides x y).0 e)) ∙ none)

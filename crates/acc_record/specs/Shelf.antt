@@ -1,9 +1,12 @@
 -- What a shelf holds, entry by entry.
 use Rattle.std.specs.Prelude.{◌≡◌, List, [], Option, None, Some, Vec}
 use Rattle.std.specs.BTreeMap as tree
+use Rattle.std.specs.HashMap as table
 use Rattle.std.specs.declared.alloc.Global.{Global}
+use Rattle.std.specs.declared.hash.BuildHasherDefault.{BuildHasherDefault}
+use Rattle.std.specs.declared.hash.FoldHasher.{FoldHasher}
 use Rattle.acc_stamp.specs.declared.stamps.TxnId.{TxnId}
-use Rattle.acc_stamp.specs.Stamp.{id_cmp}
+use Rattle.acc_stamp.specs.Stamp.{id_cmp, id_eq}
 use Rattle.acc_value.specs.declared.key.Key.{Key}
 use Rattle.acc_value.specs.declared.value.Value.{Value}
 use Rattle.acc_value.specs.Cells.{cells_of, applied}
@@ -13,14 +16,14 @@ use Rattle.acc_record.specs.declared.shelf.Shelf.{Shelf}
 use Rattle.acc_record.specs.declared.shelf.Watch.{Watch}
 
 abbrev pub Records : Type 0
-Records = tree.BTreeMap TxnId Record
+Records = table.HashMap TxnId Record (BuildHasherDefault FoldHasher)
 
 abbrev pub Waits : Type 0
 Waits = tree.BTreeMap TxnId (Vec Watch Global)
 
 -- the record of a transaction
 abbrev pub record_at : Records → TxnId → Option Record
-record_at records x = tree.get id_cmp records x
+record_at records x = table.get id_eq records x
 
 -- the cell of a key: what the last step wrote, or else what the map has
 abbrev pub cell_at : Cells → Key → Option Value

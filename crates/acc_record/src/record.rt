@@ -10,7 +10,7 @@ use acc_deps::{Accepted, Deps, Settled};
 use acc_stamp::{Ballot, Ballots, Stamp, TxnId};
 use acc_txn::{Body, Outcome};
 use std::alloc::Global;
-use std::collections::BTreeMap;
+use std::collections::HashMap;
 use std::marker::Model;
 
 /// What a store keeps of a transaction that it knows.
@@ -104,5 +104,5 @@ impl KeptRecord {
     }
 }
 
-/// The records of a store, by their transactions. Each has a place of its own, such that the nodes of the tree stay small.
-pub type Records = BTreeMap<TxnId, KeptRecord>;
+/// The records of a store, by their transactions. Each has a place of its own, such that the entries of the table stay small.
+pub type Records = HashMap<TxnId, KeptRecord>;

@@ -18,7 +18,7 @@ use acc_stamp::{Actor, TxnId};
 use acc_topology::Topology;
 use acc_txn::Body;
 use std::alloc::Global;
-use std::collections::BTreeMap;
+use std::collections::{BTreeMap, HashMap};
 
 /// A transaction that waits for a dependency.
 #[derive(Clone, Copy, Debug, PartialEq, Eq)]
@@ -58,7 +58,7 @@ impl Shelf {
     {
         Shelf {
             actor,
-            records: BTreeMap::new(alloc),
+            records: HashMap::new(alloc),
             index: Index::new(alloc),
             cells: Cells::new(alloc),
             waits: BTreeMap::new(alloc),

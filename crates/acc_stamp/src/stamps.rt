@@ -3,7 +3,7 @@ use acc_base::{Duplicate, OutOfMemory};
 use std::alloc::Global;
 
 /// A logical timestamp. Stamps are ordered by `h`, and of equal `h` by `origin`.
-#[derive(Clone, Copy, Debug, PartialEq, Eq, PartialOrd, Ord)]
+#[derive(Clone, Copy, Debug, PartialEq, Eq, PartialOrd, Ord, Hash)]
 pub struct Stamp {
     /// The count of the logical clock that drew it.
     pub h: u64,
@@ -18,7 +18,7 @@ impl Stamp {
 }
 
 /// The name of a transaction, which is the stamp that its node drew at the begin, `t0`.
-#[derive(Clone, Copy, Debug, PartialEq, Eq, PartialOrd, Ord)]
+#[derive(Clone, Copy, Debug, PartialEq, Eq, PartialOrd, Ord, Hash)]
 pub struct TxnId(pub Stamp);
 
 /// The name of an attempt at a transaction: zero for the first one, and for a recovery the stamp that was drawn for it.
