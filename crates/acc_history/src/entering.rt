@@ -24,6 +24,7 @@ pub(crate) fn messages_of(item: &Item) -> &[Message]
 // Makes room for the actors to which messages go.
 fn cover_receivers(waiting: &mut Waiting, messages: &[Message]) -> Result<(), OutOfMemory>
     ensures same { IsAsBefore waiting.old waiting.new }
+    ensures room { waiting.new.room ≡ waiting.old.room }
     ensures covered { OnOk result (AreCovered (length waiting.new.downs) messages.now) }
 {
     for index in 0..messages.len() {
@@ -35,6 +36,7 @@ fn cover_receivers(waiting: &mut Waiting, messages: &[Message]) -> Result<(), Ou
 // Makes room for who stepped and for the actors to which its messages go.
 fn cover_entry(waiting: &mut Waiting, entry: &Entry) -> Result<(), OutOfMemory>
     ensures same { IsAsBefore waiting.old waiting.new }
+    ensures room { waiting.new.room ≡ waiting.old.room }
     ensures actor { OnOk result (entry.now.actor.0 < length waiting.new.downs) }
     ensures receivers { OnOk result (AreCovered (length waiting.new.downs) entry.now.emitted.out) }
 {
@@ -45,6 +47,7 @@ fn cover_entry(waiting: &mut Waiting, entry: &Entry) -> Result<(), OutOfMemory>
 /// Makes room for the actors that an item names. In any case nothing else changes.
 pub(crate) fn cover_all(waiting: &mut Waiting, item: &Item) -> Result<(), OutOfMemory>
     ensures same { IsAsBefore waiting.old waiting.new }
+    ensures room { waiting.new.room ≡ waiting.old.room }
     ensures covered { OnOk result (IsCovered (length waiting.new.downs) item.now) }
 {
     match item {

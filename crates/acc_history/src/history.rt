@@ -42,6 +42,7 @@ fn prepare(waiting: &mut Waiting, begun: &mut Begun, item: &Item) -> Result<(), 
     ensures covered { OnOk result (IsCovered (length waiting.new.downs) item.now) }
     ensures begun { OnOk result ((number : ℕ) → get nat_cmp begun.new number ≡ begun_with (begins_txn number item.now) (id_begun number item.now) (get nat_cmp begun.old number)) }
     ensures err { OnErr result ((number : ℕ) → get nat_cmp begun.new number ≡ get nat_cmp begun.old number) }
+    ensures err_room { OnErr result (waiting.new.room ≡ waiting.old.room) }
 {
     cover_all(waiting, item)?;
     let sent = messages_of(item).len() as u64;
