@@ -90,6 +90,13 @@ abbrev pub FailsToSettle : {D : Type 0} → DurableStore D → StepError → Typ
 FailsToSettle new (DiskFault unsent) = (new.journal.broken ≡ true) × (unsent ≡ [])
 FailsToSettle new OutOfMemory = new.journal.broken ≡ true
 
+-- what was staged is still staged, and nothing of it counts as kept
+pub record IsStillStaged {D : Type 0} (old new : DurableStore D) : Type 0 where
+  pub group : new.journal.group ≡ old.journal.group
+  pub staged : new.staged ≡ old.staged
+  pub kept : new.kept ≡ old.kept
+  pub marked : new.marked ≡ old.marked
+
 abbrev pub IsDiskFault : StepError → Type 0
 IsDiskFault (DiskFault unsent) = Unit {0}
 IsDiskFault OutOfMemory = ⊥

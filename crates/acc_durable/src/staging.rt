@@ -75,7 +75,7 @@ impl<D: Disk> StagedJournal<D> {
     }
 
     /// Appends all that is staged as one group, in four calls of the disk. After an error the journal is broken, and either all of the
-    /// group stands on the disk or nothing of it.
+    /// group stands on the disk or nothing of it; it stays staged.
     pub(crate) fn append(&mut self) -> Result<(), JournalError>
         requires sound { self.old.broken ≡ false }
         requires some { 0 < length self.old.group }
@@ -83,6 +83,7 @@ impl<D: Disk> StagedJournal<D> {
         ensures ok { OnOk result (self.new ≡ record { disk = self.new.disk; payloads = self.old.payloads ++ self.old.group; group = []; broken = false }) }
         ensures lasts { OnOk result ((image : List ℕ) → D.is_image self.new.disk image → Reads image (self.old.payloads ++ self.old.group)) }
         ensures broken { OnErr result (self.new.broken ≡ true) }
+        ensures err_group { OnErr result (self.new.group ≡ self.old.group) }
         ensures error { IfErr result IsOfTheDisk }
         ensures any_moment { LeavesOnly D.clock D.was_image self.old.disk self.new.disk (ReadsAsEither self.old.payloads self.old.group) }
 

@@ -21,7 +21,7 @@ ghost use Rattle.acc_payloads.specs.Texts.{has_text};
 ghost use Rattle.acc_payloads.specs.Items.{without_marks};
 ghost use Rattle.acc_journal.specs.Layout.{Reads};
 ghost use Rattle.acc_journal.specs.Journal.{IsAtRest, ReadsAsEither, IsOfTheDisk, FailsWithin, left_by_choice};
-ghost use Rattle.acc_durable.specs.Store.{actor_in, StandsFor, Takes, IsAsBefore, IsUntouched, IsTheSame, IsReopened, IsRefusedBy, Refuses, FailsToSettle, IsDiskFault};
+ghost use Rattle.acc_durable.specs.Store.{actor_in, StandsFor, Takes, IsAsBefore, IsUntouched, IsTheSame, IsReopened, IsRefusedBy, Refuses, FailsToSettle, IsStillStaged, IsDiskFault};
 
 use crate::StepError;
 use crate::replay::replay;
@@ -209,7 +209,7 @@ impl<D: Disk> DurableStore<D> {
     }
 
     /// Appends all that is staged as one group, in four calls of the disk. With nothing staged it makes none. A fault has nothing
-    /// unsent, since `stage` gave the answers.
+    /// unsent, since `stage` gave the answers. After an error all that was staged still counts as staged.
     pub fn settle(&mut self) -> Result<(), StepError>
         requires sound { self.old.journal.broken ≡ false }
 
@@ -217,6 +217,7 @@ impl<D: Disk> DurableStore<D> {
         ensures none_staged { OnOk result (self.new.journal.group ≡ []) }
         ensures nothing { self.old.journal.group ≡ [] → (result ≡ Ok tt) × (self.new ≡ self.old) }
         ensures err { IfErr result (FailsToSettle self.new) }
+        ensures err_staged { OnErr result (IsStillStaged self.old self.new) }
         ensures store { self.new.store ≡ self.old.store }
         ensures same { IsTheSame self.old self.new }
 
