@@ -18,7 +18,7 @@ use acc_base::OutOfMemory;
 use acc_durable::{DurableError, DurableNode};
 use acc_journal::JournalError;
 use acc_message::{Emitted, Event, Message};
-use acc_node::NodeError;
+use acc_node::{Node, NodeError};
 use acc_ports::Rig;
 use acc_stamp::TxnId;
 use acc_topology::Topology;
@@ -255,11 +255,11 @@ impl<D: Rig> NodeActor<D> {
         }
     }
 
-    /// Its disk. Each of its images holds the payloads of the past, and breaks no rule on marks.
-    pub fn into_disk(self) -> D
-        ensures disk { result ≡ disk_of self }
+    /// Its disk, and the node over it where it is up. Each image of the disk holds the payloads of the past, and breaks no rule on marks.
+    pub fn into_parts(self) -> (D, Option<Node>)
+        ensures disk { result.0 ≡ disk_of self }
         ensures holds { (layout : Layout) (number start version : ℕ) (past : Past Act) → StandsFor D.is_image layout number start version past self
-            → (image : List ℕ) → D.is_image result image → HoldsPayloads version past image }
+            → (image : List ℕ) → D.is_image result.0 image → HoldsPayloads version past image }
     {
         let NodeActor {
             alloc: _,
@@ -268,7 +268,7 @@ impl<D: Rig> NodeActor<D> {
             stopped: _,
             kept: _,
         } = self;
-        state.into_disk()
+        state.into_parts()
     }
 }
 
@@ -317,6 +317,18 @@ impl<D: Rig> NodeState<D> {
         match self {
             NodeState::Open(node) => node.into_disk(),
             NodeState::Shut(disk) => disk,
+        }
+    }
+
+    fn into_parts(self) -> (D, Option<Node>)
+        ensures { result.0 ≡ disk_in self }
+    {
+        match self {
+            NodeState::Open(node) => {
+                let (disk, node) = node.into_parts();
+                (disk, Some(node))
+            }
+            NodeState::Shut(disk) => (disk, None),
         }
     }
 }

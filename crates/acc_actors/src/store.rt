@@ -259,11 +259,11 @@ impl<D: Rig> StoreActor<D> {
         }
     }
 
-    /// Its disk. Each of its images holds the payloads of the past, without what is staged, and breaks no rule on marks.
-    pub fn into_disk(self) -> D
-        ensures disk { result ≡ disk_of self }
+    /// Its disk, and the store over it where it is up. Each image of the disk holds the payloads of the past, without what is staged, and breaks no rule on marks.
+    pub fn into_parts(self) -> (D, Option<Store>)
+        ensures disk { result.0 ≡ disk_of self }
         ensures holds { (layout : Layout) (own : Name) (version : ℕ) (past : Past Told) (staged : List (Stop Told)) → IsStaging D.is_image layout own version past staged self
-            → (image : List ℕ) → D.is_image result image → HoldsPayloads version past image }
+            → (image : List ℕ) → D.is_image result.0 image → HoldsPayloads version past image }
     {
         let StoreActor {
             alloc: _,
@@ -273,7 +273,7 @@ impl<D: Rig> StoreActor<D> {
             unsent: _,
             kept: _,
         } = self;
-        state.into_disk()
+        state.into_parts()
     }
 }
 
@@ -309,6 +309,18 @@ impl<D: Rig> StoreState<D> {
         match self {
             StoreState::Open(store) => store.into_disk(),
             StoreState::Shut(disk) => disk,
+        }
+    }
+
+    fn into_parts(self) -> (D, Option<Store>)
+        ensures { result.0 ≡ disk_in self }
+    {
+        match self {
+            StoreState::Open(store) => {
+                let (disk, store) = store.into_parts();
+                (disk, Some(store))
+            }
+            StoreState::Shut(disk) => (disk, None),
         }
     }
 }

@@ -8,12 +8,46 @@ use crate::cluster::Cluster;
 use crate::slot::Slot;
 use acc_base::OutOfMemory;
 use acc_message::Items;
+use acc_node::Node;
 use acc_ports::Rig;
 use acc_stamp::Actor;
+use acc_store::Store;
 use std::alloc::Global;
 
 /// Disks with their actors.
 pub type Disks<D> = Vec<(Actor, D)>;
+
+/// What the actors of ended clusters knew, and need no longer. To free it piece by piece takes long, so it is handed to whoever ends a
+/// cluster: a program that is done may leave it to the system instead.
+#[derive(Debug, Drop)]
+pub struct Remains {
+    nodes: Vec<Node>,
+    stores: Vec<Store>,
+}
+
+impl Remains {
+    /// Nothing.
+    pub fn new(alloc: Global) -> Remains {
+        Remains {
+            nodes: Vec::new(alloc),
+            stores: Vec::new(alloc),
+        }
+    }
+
+    // Takes a node, or frees it where there is no memory for its place.
+    fn keep_node(&mut self, node: Option<Node>) {
+        if let Some(node) = node {
+            let _kept = self.nodes.push(node);
+        }
+    }
+
+    // Takes a store, or frees it where there is no memory for its place.
+    fn keep_store(&mut self, store: Option<Store>) {
+        if let Some(store) = store {
+            let _kept = self.stores.push(store);
+        }
+    }
+}
 
 /// What is left of a cluster.
 #[derive(Debug, Drop)]
@@ -28,8 +62,8 @@ impl<D: Rig + Drop> Cluster<D> {
     ghost use Rattle.acc_cluster.specs.Stands.{StandsFor};
     ghost use Rattle.acc_cluster.specs.Ends.{IsEndOf};
 
-    /// Gives the items and the disks back.
-    pub fn finish(self) -> Result<Ended<D>, OutOfMemory>
+    /// Gives the items and the disks back, and what its actors knew to `remains`.
+    pub fn finish(self, remains: &mut Remains) -> Result<Ended<D>, OutOfMemory>
         ensures ok { IfOk result (λ ended. (plan : Content) (s : Situation) → StandsFor D.is_image D.faults plan self s → IsEndOf D.is_image D.faults plan s ended) }
     {
         let Cluster {
@@ -39,7 +73,7 @@ impl<D: Rig + Drop> Cluster<D> {
         } = self;
         Ok(Ended {
             items: history.into_items(),
-            disks: disks_of(alloc, slots)?,
+            disks: disks_of(alloc, slots, remains)?,
         })
     }
 }
@@ -47,14 +81,18 @@ impl<D: Rig + Drop> Cluster<D> {
 ghost use Rattle.acc_cluster.specs.Ends.{disks_from, entry_of, LeavesHeld};
 
 // The disks of the slots, each with its number.
-fn disks_of<D: Rig + Drop>(alloc: Global, slots: Vec<Slot<D>>) -> Result<Disks<D>, OutOfMemory>
+fn disks_of<D: Rig + Drop>(
+    alloc: Global,
+    slots: Vec<Slot<D>>,
+    remains: &mut Remains,
+) -> Result<Disks<D>, OutOfMemory>
     ensures disks { IfOk result (λ disks. disks.items ≡ disks_from 0 slots.items) }
     ensures left { OnOk result (AllByRecursion (LeavesHeld D.is_image D.faults) slots.items) }
 {
     let mut disks = Vec::new(alloc);
     let mut number = 0;
     for slot in slots {
-        put_disk(&mut disks, number, slot)?;
+        put_disk(&mut disks, number, slot, remains)?;
         number = next_number(number)?;
     }
     Ok(disks)
@@ -72,14 +110,23 @@ fn put_disk<D: Rig + Drop>(
     disks: &mut Disks<D>,
     number: u32,
     slot: Slot<D>,
+    remains: &mut Remains,
 ) -> Result<(), OutOfMemory>
     ensures disks { OnOk result (disks.new.items ≡ disks.old.items ++ entry_of number slot) }
     ensures left { OnOk result (LeavesHeld D.is_image D.faults slot) }
 {
     match slot {
         Slot::Empty => {}
-        Slot::Node(node) => disks.push((Actor(number), node.into_disk()))?,
-        Slot::Store(store) => disks.push((Actor(number), store.into_disk()))?,
+        Slot::Node(node) => {
+            let (disk, node) = node.into_parts();
+            disks.push((Actor(number), disk))?;
+            remains.keep_node(node);
+        }
+        Slot::Store(store) => {
+            let (disk, store) = store.into_parts();
+            disks.push((Actor(number), disk))?;
+            remains.keep_store(store);
+        }
     }
     Ok(())
 }

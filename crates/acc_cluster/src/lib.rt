@@ -19,6 +19,6 @@ mod stepping;
 mod weighing;
 
 pub use cluster::Cluster;
-pub use ending::{Disks, Ended};
+pub use ending::{Disks, Ended, Remains};
 pub use over::Slots;
 pub use slot::Slot;

@@ -9,6 +9,7 @@ ghost use Rattle.acc_command.specs.Command.{document_limit, Ends, EndsOnGiven, I
 
 use crate::check::check;
 use crate::generate::generate;
+use crate::remains::Remains;
 use crate::reply::{Reply, say};
 use crate::run::run;
 use crate::status::Status;
@@ -25,13 +26,14 @@ const USAGE: &[u8] = b"usage: accord run | check | free --workers W | gen --seed
 /// The line of a document that is too long.
 pub(crate) const LIMIT: &[u8] = b"limit document 16777216\n";
 
-/// Does what a command line says that asks for no threads, as `accord` does, and waits for nobody.
+/// Does what a command line says that asks for no threads, as `accord` does, and waits for nobody. What it needs no longer goes to `remains`.
 pub fn accord_alone<S: Source, K: Sink, M: DiskMaker>(
     alloc: Global,
     words: &[Text],
     source: &mut S,
     sink: &mut K,
     disks: &mut M,
+    remains: &mut Remains,
 ) -> Status
 where
     M::D: Drop,
@@ -60,10 +62,10 @@ where
 {
     match line_of(alloc, words) {
         Ok(Some(Line::Document(Command::Run))) => {
-            answer(alloc, Command::Run, source, sink, disks)
+            answer(alloc, Command::Run, source, sink, disks, remains)
         }
         Ok(Some(Line::Document(Command::Check))) => {
-            answer(alloc, Command::Check, source, sink, disks)
+            answer(alloc, Command::Check, source, sink, disks, remains)
         }
         Ok(Some(Line::Generate(numbers))) => generate(alloc, numbers, sink),
         Ok(None) => say(sink, USAGE, Status::Usage),
@@ -78,6 +80,7 @@ fn answer<S: Source, K: Sink, M: DiskMaker>(
     source: &mut S,
     sink: &mut K,
     disks: &mut M,
+    remains: &mut Remains,
 ) -> Status
 where
     M::D: Drop,
@@ -94,7 +97,7 @@ where
         → IfSome (S.left source.old) (λ bytes. IsAccepted bytes → length bytes ≤ document_limit → IsDone command result) }
 {
     match read_all(alloc, source, DOCUMENT_LIMIT) {
-        Ok(bytes) => respond(alloc, command, bytes.as_slice(), sink, disks),
+        Ok(bytes) => respond(alloc, command, bytes.as_slice(), sink, disks, remains),
         Err(ReadError::TooLong) => say(sink, LIMIT, Status::Limit),
         Err(ReadError::Failed) => Status::ReadFault,
         Err(ReadError::OutOfMemory) => Status::OutOfMemory,
@@ -108,6 +111,7 @@ fn respond<K: Sink, M: DiskMaker>(
     bytes: &[u8],
     sink: &mut K,
     disks: &mut M,
+    remains: &mut Remains,
 ) -> Status
 where
     M::D: Drop,
@@ -118,7 +122,7 @@ where
     ensures still { result ≢ Status.WriteFault → K.faults sink.new ≡ K.faults sink.old }
     ensures reads { result ≢ Status.ReadFault }
 {
-    match reply(alloc, command, bytes, disks) {
+    match reply(alloc, command, bytes, disks, remains) {
         Ok(reply) => say(sink, reply.text.as_slice(), reply.status),
         Err(OutOfMemory) => Status::OutOfMemory,
     }
@@ -130,6 +134,7 @@ fn reply<M: DiskMaker>(
     command: Command,
     bytes: &[u8],
     disks: &mut M,
+    remains: &mut Remains,
 ) -> Result<Reply, OutOfMemory>
 where
     M::D: Drop,
@@ -138,7 +143,7 @@ where
     ensures due { IfOk result (λ reply. IsDue (OverDisks M.D.faults M.D.is_image (M.strict disks.old) (M.given disks.old) (M.given disks.new)) command bytes.now reply.status reply.text) }
 {
     match command {
-        Command::Run => run(alloc, bytes, disks),
+        Command::Run => run(alloc, bytes, disks, remains),
         Command::Check => check(alloc, bytes),
     }
 }

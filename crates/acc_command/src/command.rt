@@ -9,6 +9,7 @@ ghost use Rattle.acc_command.specs.Command.{document_limit, Ends, EndsOnGiven, I
 
 use crate::alone::accord_alone;
 use crate::free::free;
+use crate::remains::Remains;
 use crate::status::Status;
 use crate::words::workers_of;
 use acc_base::{OutOfMemory, Text};
@@ -24,14 +25,22 @@ use std::thread::Threads;
 /// its refusal. A run past a limit gets the line of this limit and nothing else, and its disks may be gone; after any other run `run` and
 /// `free` have given their disks back. `gen` reads nothing and writes the document of its two numbers. Other words get the usage line, and
 /// nothing is read. Each step or restart that an actor takes on a thread of `free` comes through `gate`; what is left once the threads
-/// are done doesn't.
+/// are done doesn't. What a run needs no longer goes to `remains`, so that a program which ends here need not free it.
 pub fn accord<
     R: AllocGlobal + Threads + Wait + Sync,
     S: Source,
     K: Sink,
     M: DiskMaker,
     G: Gate + Sync,
->(rt: &R, words: &[Text], source: &mut S, sink: &mut K, disks: &mut M, gate: &G) -> Status
+>(
+    rt: &R,
+    words: &[Text],
+    source: &mut S,
+    sink: &mut K,
+    disks: &mut M,
+    gate: &G,
+    remains: &mut Remains,
+) -> Status
 where
     M::D: Drop + Send,
     // What is written, what is left of the source, and the status, for every list of words, every document and whatever disks do. What
@@ -62,8 +71,17 @@ where
 {
     let alloc = rt.alloc();
     match workers_of(alloc, words) {
-        Ok(Some(workers)) => free(rt, alloc, workers as u32, source, sink, disks, gate),
-        Ok(None) => accord_alone(alloc, words, source, sink, disks),
+        Ok(Some(workers)) => free(
+            rt,
+            alloc,
+            workers as u32,
+            source,
+            sink,
+            disks,
+            gate,
+            remains,
+        ),
+        Ok(None) => accord_alone(alloc, words, source, sink, disks, remains),
         Err(OutOfMemory) => Status::OutOfMemory,
     }
 }

@@ -7,6 +7,7 @@ ghost use Rattle.acc_command.specs.Command.{document_limit, Ends, EndsOnGiven, I
 
 use crate::alone::{DOCUMENT_LIMIT, LIMIT};
 use crate::lines::{limit_line, refusal_line};
+use crate::remains::Remains;
 use crate::reply::{Reply, say};
 use crate::status::Status;
 use acc_base::{OutOfMemory, Sequence};
@@ -29,6 +30,7 @@ pub(crate) fn free<R: Threads + Wait + Sync, S: Source, K: Sink, M: DiskMaker, G
     sink: &mut K,
     disks: &mut M,
     gate: &G,
+    remains: &mut Remains,
 ) -> Status
 where
     M::D: Drop + Send,
@@ -45,7 +47,16 @@ where
         → IfSome (S.left source.old) (λ bytes. IsAccepted bytes → length bytes ≤ document_limit → IsDone Run result) }
 {
     match read_all(alloc, source, DOCUMENT_LIMIT) {
-        Ok(bytes) => respond(rt, alloc, workers, bytes.as_slice(), sink, disks, gate),
+        Ok(bytes) => respond(
+            rt,
+            alloc,
+            workers,
+            bytes.as_slice(),
+            sink,
+            disks,
+            gate,
+            remains,
+        ),
         Err(ReadError::TooLong) => say(sink, LIMIT, Status::Limit),
         Err(ReadError::Failed) => Status::ReadFault,
         Err(ReadError::OutOfMemory) => Status::OutOfMemory,
@@ -61,6 +72,7 @@ fn respond<R: Threads + Wait + Sync, K: Sink, M: DiskMaker, G: Gate + Sync>(
     sink: &mut K,
     disks: &mut M,
     gate: &G,
+    remains: &mut Remains,
 ) -> Status
 where
     M::D: Drop + Send,
@@ -71,7 +83,7 @@ where
     ensures still { result ≢ Status.WriteFault → K.faults sink.new ≡ K.faults sink.old }
     ensures reads { result ≢ Status.ReadFault }
 {
-    match reply(rt, alloc, workers, bytes, disks, gate) {
+    match reply(rt, alloc, workers, bytes, disks, gate, remains) {
         Ok(reply) => say(sink, reply.text.as_slice(), reply.status),
         Err(OutOfMemory) => Status::OutOfMemory,
     }
@@ -85,6 +97,7 @@ fn reply<R: Threads + Wait + Sync, M: DiskMaker, G: Gate + Sync>(
     bytes: &[u8],
     disks: &mut M,
     gate: &G,
+    remains: &mut Remains,
 ) -> Result<Reply, OutOfMemory>
 where
     M::D: Drop + Send,
@@ -93,7 +106,11 @@ where
     ensures { IfOk result (λ reply. IsDue (OverThreads M.D.faults M.D.is_image (M.strict disks.old) (M.given disks.old) (M.given disks.new)) Run bytes.now reply.status reply.text) }
 {
     match read(alloc, bytes) {
-        Ok(plan) => report(rt, alloc, &plan, workers, disks, gate),
+        Ok(plan) => {
+            let reply = report(rt, alloc, &plan, workers, disks, gate, remains);
+            remains.plan = Some(plan);
+            reply
+        }
         Err(error) => Ok(Reply {
             status: Status::BadInput,
             text: refusal_line(alloc, &error)?,
@@ -109,6 +126,7 @@ fn report<R: Threads + Wait + Sync, M: DiskMaker, G: Gate + Sync>(
     workers: u32,
     disks: &mut M,
     gate: &G,
+    remains: &mut Remains,
 ) -> Result<Reply, OutOfMemory>
 where
     M::D: Drop + Send,
@@ -117,11 +135,15 @@ where
     ensures { IfOk result (λ reply. PlanEnds (OverThreads M.D.faults M.D.is_image (M.strict disks.old) (M.given disks.old) (M.given disks.new)) plan.now reply.status reply.text) }
 {
     free_runs_are_safe();
-    match run_free(rt, alloc, plan, workers, disks, gate) {
-        Ok(items) => Ok(Reply {
-            status: Status::Done,
-            text: text(&items, &Sequence::new(alloc), &plan.names, plan.print)?,
-        }),
+    match run_free(rt, alloc, plan, workers, disks, gate, &mut remains.actors) {
+        Ok(items) => {
+            let text = text(&items, &Sequence::new(alloc), &plan.names, plan.print)?;
+            remains.items = Some(items);
+            Ok(Reply {
+                status: Status::Done,
+                text,
+            })
+        }
         Err(RunError::Limit { which, number }) => Ok(Reply {
             status: Status::Limit,
             text: limit_line(alloc, which, number)?,

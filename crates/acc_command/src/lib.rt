@@ -9,6 +9,7 @@ mod free;
 mod generate;
 pub mod laws;
 mod lines;
+mod remains;
 mod reply;
 mod run;
 mod status;
@@ -16,4 +17,5 @@ mod words;
 
 pub use alone::accord_alone;
 pub use command::accord;
+pub use remains::Remains;
 pub use status::Status;

@@ -5,6 +5,7 @@ ghost use Rattle.acc_command.specs.declared.words.Command.TheVariants.{Run};
 ghost use Rattle.acc_command.specs.Command.{document_limit, IsDue, OverDisks, PlanEnds};
 
 use crate::lines::{limit_line, refusal_line};
+use crate::remains::Remains;
 use crate::reply::Reply;
 use crate::status::Status;
 use acc_base::{OutOfMemory, Sequence};
@@ -22,6 +23,7 @@ pub(crate) fn run<M: DiskMaker>(
     alloc: Global,
     bytes: &[u8],
     disks: &mut M,
+    remains: &mut Remains,
 ) -> Result<Reply, OutOfMemory>
 where
     M::D: Drop,
@@ -29,7 +31,11 @@ where
     ensures { IfOk result (λ reply. IsDue (OverDisks M.D.faults M.D.is_image (M.strict disks.old) (M.given disks.old) (M.given disks.new)) Run bytes.now reply.status reply.text) }
 {
     match read(alloc, bytes) {
-        Ok(plan) => report(alloc, &plan, disks),
+        Ok(plan) => {
+            let reply = report(alloc, &plan, disks, remains);
+            remains.plan = Some(plan);
+            reply
+        }
         Err(error) => Ok(Reply {
             status: Status::BadInput,
             text: refusal_line(alloc, &error)?,
@@ -38,7 +44,12 @@ where
 }
 
 // The report of a plan, or the line of the limit that ends its run.
-fn report<M: DiskMaker>(alloc: Global, plan: &Plan, disks: &mut M) -> Result<Reply, OutOfMemory>
+fn report<M: DiskMaker>(
+    alloc: Global,
+    plan: &Plan,
+    disks: &mut M,
+    remains: &mut Remains,
+) -> Result<Reply, OutOfMemory>
 where
     M::D: Drop,
     requires { IsPlan plan.now }
@@ -46,11 +57,15 @@ where
 {
     plans_run_safely();
     one_limit_over_strict_disks();
-    match run_plan(alloc, plan, disks) {
-        Ok(items) => Ok(Reply {
-            status: Status::Done,
-            text: text(&items, &Sequence::new(alloc), &plan.names, plan.print)?,
-        }),
+    match run_plan(alloc, plan, disks, &mut remains.actors) {
+        Ok(items) => {
+            let text = text(&items, &Sequence::new(alloc), &plan.names, plan.print)?;
+            remains.items = Some(items);
+            Ok(Reply {
+                status: Status::Done,
+                text,
+            })
+        }
         Err(RunError::Limit { which, number }) => Ok(Reply {
             status: Status::Limit,
             text: limit_line(alloc, which, number)?,

@@ -2,7 +2,7 @@
 ghost use Rattle.std.specs.Prelude.{◌<◌};
 
 use crate::case::{Case, Wanted};
-use acc_command::accord;
+use acc_command::{Remains, accord};
 use acc_ports::{MemMaker, MemSink, MemSource, OpenGate};
 use std::alloc::Global;
 use std::sync::Wait;
@@ -26,6 +26,7 @@ pub fn is_wanted<R: AllocGlobal + Threads + Wait + Sync>(
         &mut sink,
         &mut disks,
         &OpenGate,
+        &mut Remains::new(alloc),
     );
     u64::from(status.code()) == case.status && is_text(sink.written(), case.wanted)
 }

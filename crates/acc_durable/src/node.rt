@@ -276,9 +276,18 @@ impl<D: Disk> DurableNode<D> {
     pub fn into_disk(self) -> D
         ensures { result ≡ self.journal.disk }
     {
+        let (disk, _node) = self.into_parts();
+        disk
+    }
+
+    /// The disk under the journal, and the node over it.
+    pub fn into_parts(self) -> (D, Node)
+        ensures disk { result.0 ≡ self.journal.disk }
+        ensures node { result.1 ≡ self.node }
+    {
         let DurableNode {
             alloc: _,
-            node: _,
+            node,
             number: _,
             start: _,
             version: _,
@@ -286,7 +295,7 @@ impl<D: Disk> DurableNode<D> {
             marked: _,
             kept: _,
         } = self;
-        journal.into_disk()
+        (journal.into_disk(), node)
     }
 }
 

@@ -300,16 +300,25 @@ impl<D: Disk> DurableStore<D> {
     pub fn into_disk(self) -> D
         ensures { result ≡ self.journal.disk }
     {
+        let (disk, _store) = self.into_parts();
+        disk
+    }
+
+    /// The disk under the journal, and the store over it.
+    pub fn into_parts(self) -> (D, Store)
+        ensures disk { result.0 ≡ self.journal.disk }
+        ensures store { result.1 ≡ self.store }
+    {
         let DurableStore {
             alloc: _,
-            store: _,
+            store,
             version: _,
             journal,
             marked: _,
             kept: _,
             staged: _,
         } = self;
-        journal.into_disk()
+        (journal.into_disk(), store)
     }
 }
 

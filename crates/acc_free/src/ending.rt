@@ -13,7 +13,7 @@ ghost use Rattle.acc_free.specs.Finish.{AreResting, HasFinished};
 
 use crate::rest::{Rests, parted};
 use crate::round::rounds;
-use acc_cluster::{Cluster, Ended};
+use acc_cluster::{Cluster, Ended, Remains};
 use acc_message::{Items, RunError};
 use acc_ports::Rig;
 use acc_schedule::Plan;
@@ -23,12 +23,13 @@ use std::alloc::Global;
 /// Brings what actors entered by themselves, in the order in which it was entered, to its end, one step after another: each actor in turn
 /// takes the commands that are left, as long as they can be taken, and then all messages are delivered; so it goes round until no command
 /// goes by any more. A begin of a begun transaction is passed over, and so is anything but a restart at an actor that is down; a recover
-/// waits until its transaction is begun. An answer of Limit or want of memory leaves no items, and the disks are gone.
+/// waits until its transaction is begun. What the actors knew goes to `remains` at the end. An answer of Limit or want of memory leaves no items, and the disks are gone.
 pub fn finish<D: Rig + Drop>(
     alloc: Global,
     plan: &Plan,
     rests: Rests<D>,
     entered: Items,
+    remains: &mut Remains,
 ) -> Result<Ended<D>, RunError>
     requires is_plan { IsPlan plan.now }
     requires actors { AreAllActors plan.now (map rest_actor rests.items) }
@@ -47,5 +48,5 @@ pub fn finish<D: Rig + Drop>(
     let mut queues = queues;
     let mut cluster = Cluster::over(alloc, plan, slots, entered)?;
     rounds(&mut cluster, plan, &mut queues)?;
-    Ok(cluster.finish()?)
+    Ok(cluster.finish(remains)?)
 }

@@ -18,6 +18,7 @@ use crate::opening::{First, desks};
 use crate::rest::Rests;
 use crate::workers::{Shared, serve_all};
 use acc_base::OutOfMemory;
+use acc_cluster::Remains;
 use acc_desk::{Floor, PlanTape, Planned};
 use acc_message::{Items, RunError};
 use acc_ports::{DiskMaker, Gate};
@@ -36,7 +37,7 @@ const MOST_ITEMS: u64 = 1_000_000;
 const MOST_BYTES: u64 = 268_435_456;
 
 /// Lets so many threads take the turns of a plan's actors over new disks, brings what they leave to its end, and gives the disks back, in
-/// rising order of the actors' numbers. Each turn on a thread comes through the gate. A run past a limit, or without memory, has no items,
+/// rising order of the actors' numbers, and what the actors knew to `remains`. Each turn on a thread comes through the gate. A run past a limit, or without memory, has no items,
 /// and its disks may be gone. It waits for the threads, and they wait for one another where they enter what they did.
 pub fn run_free<R: Threads + Wait + Sync, M: DiskMaker, G: Gate + Sync>(
     rt: &R,
@@ -45,6 +46,7 @@ pub fn run_free<R: Threads + Wait + Sync, M: DiskMaker, G: Gate + Sync>(
     workers: u32,
     disks: &mut M,
     gate: &G,
+    remains: &mut Remains,
 ) -> Result<Items, RunError>
 where
     M::D: Drop + Send,
@@ -60,7 +62,7 @@ where
     ensures given { IfOk result (λ items. GivesBack M.D.faults M.D.is_image plan.now (reverse items) (M.given disks.old) (M.given disks.new)) }
     ensures kind { M.strict disks.new ≡ M.strict disks.old }
 {
-    run_on::<R, M, G, Brand>(rt, alloc, plan, workers, disks, gate)
+    run_on::<R, M, G, Brand>(rt, alloc, plan, workers, disks, gate, remains)
 }
 
 // The same over a tape of the plan.
@@ -71,6 +73,7 @@ fn run_on<R: Threads + Wait + Sync, M: DiskMaker, G: Gate + Sync, J: Planned + S
     workers: u32,
     disks: &mut M,
     gate: &G,
+    remains: &mut Remains,
 ) -> Result<Items, RunError>
 where
     M::D: Drop + Send,
@@ -86,7 +89,7 @@ where
     ensures kind { M.strict disks.new ≡ M.strict disks.old }
 {
     let (rests, entered) = entered_by::<R, M, G, J>(rt, alloc, plan, workers, disks, gate)?;
-    let ended = finish(alloc, plan, rests, entered)?;
+    let ended = finish(alloc, plan, rests, entered, remains)?;
     give_back(disks, ended.disks)?;
     Ok(ended.items)
 }

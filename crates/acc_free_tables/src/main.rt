@@ -6,7 +6,7 @@
 mod meeting;
 
 use acc_base::{Bytes, OutOfMemory, Sequence, Text};
-use acc_command::accord;
+use acc_command::{Remains, accord};
 use acc_ports::{MemMaker, MemSink, StdSource};
 use anyhow::{Result, ensure};
 use meeting::Meeting;
@@ -39,6 +39,7 @@ fn main(rt: HostRuntime) -> Result<()> {
         &mut sink,
         &mut disks,
         &meeting,
+        &mut Remains::new(alloc),
     );
     let text = std::str::from_utf8(sink.written())?;
     print!(rt; "{text}")?;

@@ -15,14 +15,20 @@ ghost use Rattle.acc_run.specs.Given.{GivesBack};
 use crate::ending::give_back;
 use crate::opening::opened;
 use crate::steps::take_all;
+use acc_cluster::Remains;
 use acc_message::{Items, RunError};
 use acc_ports::DiskMaker;
 use acc_schedule::Plan;
 use std::alloc::Global;
 
 /// Takes all steps of a plan over new disks, from actors that have done nothing, and gives the disks back at the end, in rising order of
-/// the actors' numbers. A run past a limit, or without memory, has no items, and its disks may be gone.
-pub fn run_plan<M: DiskMaker>(alloc: Global, plan: &Plan, disks: &mut M) -> Result<Items, RunError>
+/// the actors' numbers, and what the actors knew to `remains`. A run past a limit, or without memory, has no items, and its disks may be gone.
+pub fn run_plan<M: DiskMaker>(
+    alloc: Global,
+    plan: &Plan,
+    disks: &mut M,
+    remains: &mut Remains,
+) -> Result<Items, RunError>
 where
     M::D: Drop,
     requires is_plan { IsPlan plan.now }
@@ -43,7 +49,7 @@ where
 {
     let mut cluster = opened(alloc, plan, disks)?;
     take_all(&mut cluster, plan)?;
-    let ended = cluster.finish()?;
+    let ended = cluster.finish(remains)?;
     give_back(disks, ended.disks)?;
     Ok(ended.items)
 }

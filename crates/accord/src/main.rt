@@ -6,12 +6,12 @@ ghost use Rattle.std.specs.Process.{exit_status};
 ghost use Rattle.acc_command.specs.Command.{code_of};
 
 use acc_base::{OutOfMemory, Sequence, Text};
-use acc_command::{Status, accord};
+use acc_command::{Remains, Status, accord};
 use acc_ports::{MemMaker, OpenGate, StdSink, StdSource};
 use std::alloc::Global;
 use std::env::Env;
 use std::process::ExitCode;
-use std::{env, io};
+use std::{env, io, mem};
 
 /// A word as a text.
 fn text_of(alloc: Global, word: &String) -> Result<Text, OutOfMemory>
@@ -65,6 +65,7 @@ fn main(rt: HostRuntime) -> ExitCode {
     let mut source = StdSource::new(&rt);
     let mut sink = StdSink::new(&rt);
     let mut disks = MemMaker::new(rt.alloc());
+    let mut remains = Remains::new(rt.alloc());
     let status = match words(&rt) {
         Ok(words) => accord(
             &rt,
@@ -73,8 +74,11 @@ fn main(rt: HostRuntime) -> ExitCode {
             &mut sink,
             &mut disks,
             &OpenGate,
+            &mut remains,
         ),
         Err(OutOfMemory) => Status::OutOfMemory,
     };
+    // The process ends here, and its memory goes back at once.
+    mem::forget(remains);
     exit_code(status)
 }

@@ -4,7 +4,7 @@ use Rattle.acc_command.proofs.DueFacts.{run_due}
 use Rattle.acc_command.proofs.free.reply.Goals as goal
 
 pub returns-in-Ok : goal.returns-in-Ok
-returns-in-Ok g c = run_due _ c.args.bytes.now c.in-Ok.plan c.report.result c.requires.short c.in-Ok.ensures.accepted c.report.ensures
+returns-in-Ok g c = run_due _ c.args.bytes.now c.in-Ok.plan c.report-reply.result c.requires.short c.in-Ok.ensures.accepted c.report-reply.ensures
 
 pub returns-in_ok-refusal_line-in-Err : goal.returns-in_ok-refusal_line-in-Err
 returns-in_ok-refusal_line-in-Err g c =

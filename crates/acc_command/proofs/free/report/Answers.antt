@@ -9,7 +9,7 @@ use Rattle.acc_command.proofs.free.report.Goals as goal
 
 pub returns-in_ok-text-in-Ok : goal.returns-in_ok-text-in-Ok
 returns-in_ok-text-in-Ok g c =
-    reported _ c.args.plan.now (reverse c.in-Ok.items) c.in_ok-text-in-Ok.field-0
+    reported _ c.args.plan.now (reverse c.in-Ok.items) c.in_ok-text-in-Ok.text
     (record {
       run = c.in-Ok.ensures.served.free.run;
       agreement = c.free_runs_are_safe.ensures.agreement c.args.plan.now (reverse c.in-Ok.items) c.requires.is_plan c.in-Ok.ensures.served.free;

@@ -8,7 +8,7 @@ use Rattle.acc_command.proofs.run.report.Goals as goal
 
 pub returns-in_ok-text-in-Ok : goal.returns-in_ok-text-in-Ok
 returns-in_ok-text-in-Ok g c =
-    reported _ c.args.plan.now (reverse c.in-Ok.items) c.in_ok-text-in-Ok.field-0
+    reported _ c.args.plan.now (reverse c.in-Ok.items) c.in_ok-text-in-Ok.text
     (record {
       run = c.plans_run_safely.ensures.run c.args.plan.now c.in-Ok.ensures.obeys.0 (reverse c.in-Ok.items) c.requires c.in-Ok.ensures.obeys.1;
       agreement = c.plans_run_safely.ensures.agreement c.args.plan.now c.in-Ok.ensures.obeys.0 (reverse c.in-Ok.items) c.requires c.in-Ok.ensures.obeys.1;

@@ -3,8 +3,8 @@ use Rattle.std.proofs.Common.{subst}
 use Rattle.acc_actors.specs.Node.{IsJournal}
 use Rattle.acc_actors.proofs.Left.{holds}
 use Rattle.acc_actors.proofs.Nodes.{marked_acts}
-use Rattle.acc_actors.proofs.node.NodeActor.into_disk.Goals as goal
+use Rattle.acc_actors.proofs.node.NodeActor.into_parts.Goals as goal
 
 pub returns-clause-holds : goal.returns-clause-holds
 returns-clause-holds g c = λ layout number start version past stands image i.
-    holds (IsJournal layout number start version) version (marked_acts layout number start version) past image (stands.left image (subst (λ (d : g.row.D.Denot). g.D.Disk.is_image d image) c.into_disk.ensures i))
+    holds (IsJournal layout number start version) version (marked_acts layout number start version) past image (stands.left image (subst (λ (d : g.row.D.Denot). g.D.Disk.is_image d image) c.into_parts.ensures i))
