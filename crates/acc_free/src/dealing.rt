@@ -6,23 +6,30 @@ ghost use Rattle.acc_free.specs.Dealing.{all_in};
 use acc_base::OutOfMemory;
 use std::alloc::Global;
 
-// The hand for the thing with this number.
-fn hand_for(number: usize, together: usize, count: usize) -> usize
+// The hand for the thing with this number. The first ones go to the first hand, which is then left out for so many rounds.
+fn hand_for(number: usize, together: usize, rounds: usize, count: usize) -> usize
     requires { 0 < count }
     ensures { result < count }
 {
     if number < together || count == 1 {
         return 0;
     }
-    1 + (number - together) % (count - 1)
+    let others = count - 1;
+    let place = number - together;
+    if place / others < rounds {
+        1 + place % others
+    } else {
+        number % count
+    }
 }
 
-/// Deals things to so many hands. The first ones go together to the first hand, and the others to the other hands, round and round. Where
-/// there is one hand, it gets all.
+/// Deals things to so many hands. The first ones go together to the first hand, and the others round and round: for so many rounds to the
+/// other hands alone, and then to all.
 pub(crate) fn deal<T: Drop>(
     alloc: Global,
     things: Vec<T>,
     together: usize,
+    rounds: usize,
     count: usize,
 ) -> Result<Vec<Vec<T>>, OutOfMemory>
     requires { 0 < count }
@@ -34,7 +41,7 @@ pub(crate) fn deal<T: Drop>(
     rest.reverse();
     let mut number: usize = 0;
     while let Some(thing) = rest.pop() {
-        put(&mut hands, hand_for(number, together, count), thing)?;
+        put(&mut hands, hand_for(number, together, rounds, count), thing)?;
         number = number.wrapping_add(1);
     }
     Ok(hands)

@@ -94,6 +94,11 @@ where
     Ok(ended.items)
 }
 
+// How many stores other workers get before the one that has the nodes. All nodes have about a fifth as much to do as all stores.
+fn ahead(actors: usize, nodes: usize) -> usize {
+    actors.saturating_sub(nodes) / 5 + 1
+}
+
 // Serves a desk of each actor until there is nothing to do: what the actors left undone, and what they entered.
 fn entered_by<'x, R: Threads + Wait + Sync, M: DiskMaker, G: Gate + Sync, J: Planned + Send>(
     rt: &'x R,
@@ -118,7 +123,8 @@ where
     let (tape, mut first): (PlanTape<J>, First<J>) = Tape::new(alloc, MOST_ITEMS, MOST_BYTES)?;
     let all = desks(rt, alloc, plan, disks, &tape, &mut first)?;
     let nodes = plan.topology.nodes().count_ones() as usize;
-    let hands = deal(alloc, all, nodes, workers as usize)?;
+    let rounds = ahead(all.len(), nodes);
+    let hands = deal(alloc, all, nodes, rounds, workers as usize)?;
     let floor = Floor::new(alloc, workers as usize)?;
     let on = Shared {
         rt,
