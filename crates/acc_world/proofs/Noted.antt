@@ -1,5 +1,5 @@
 -- The history with one entry more.
-use Rattle.std.proofs.Common.{◌≡◌, List, ◌∷◌, sym, ◌∙◌, ap, subst}
+use Rattle.std.proofs.Common.{◌≡◌, List, ◌∷◌, sym, subst}
 use Rattle.acc_message.specs.declared.entry.Entry.{Entry}
 use Rattle.acc_message.specs.declared.entry.Event.{Event}
 use Rattle.acc_message.specs.declared.item.Item.{Item}
@@ -10,9 +10,9 @@ use Rattle.acc_history.specs.declared.history.History.{History}
 use Rattle.acc_history.specs.Stands.{StandsFor, TakesSent, EventTakesSent}
 use Rattle.acc_world.specs.Held.{past_of}
 
-pub noted : (old new : History) (entry copy : Entry) (event : Event) → copy ≡ entry → entry.event ≡ event
-    → ((s : Situation) → StandsFor old s → TakesSent s (Step copy) → StandsFor new (with_item (Step copy) s))
+pub noted : (old new : History) (entry : Entry) (item : Item) (event : Event) → item ≡ Step entry → entry.event ≡ event
+    → ((s : Situation) → StandsFor old s → TakesSent s item → StandsFor new (with_item item s))
     → (items : List Item) → StandsFor old (past_of items) → EventTakesSent (past_of items) event → StandsFor new (past_of (Step entry ∷ items))
-noted old new entry copy event same is added items stands takes =
-    subst (λ (e : Entry). StandsFor new (past_of (Step e ∷ items))) same
-    (added (past_of items) stands (subst (EventTakesSent (past_of items)) (sym (ap (λ (e : Entry). e.event) same ∙ is)) takes))
+noted old new entry item event same is added items stands takes =
+    subst (λ (i : Item). StandsFor new (past_of (i ∷ items))) same
+    (added (past_of items) stands (subst (TakesSent (past_of items)) (sym same) (subst (EventTakesSent (past_of items)) (sym is) takes)))

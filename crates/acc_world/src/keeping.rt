@@ -14,9 +14,10 @@ ghost use Rattle.acc_world.specs.Keeping.{IsReady, MayAct, HasActed, came_back};
 use crate::held::Held;
 use crate::rebuilding::rebuild;
 use crate::setup::Setup;
+use crate::shared::SharedEntry;
 use acc_base::OutOfMemory;
 use acc_history::History;
-use acc_message::{Emitted, Entry, Event, Item};
+use acc_message::{Emitted, Entry, Event};
 use acc_node::NodeError;
 use acc_stamp::Actor;
 use std::collections::BTreeMap;
@@ -92,18 +93,20 @@ pub(crate) fn note(
     actor: Actor,
     event: Event,
     emitted: Emitted,
-) -> Result<Entry, OutOfMemory>
+) -> Result<SharedEntry, OutOfMemory>
     ensures entry { IfOk result (λ entry. entry ≡ record { actor = actor; event = event; emitted = emitted; lost = false }) }
     ensures ok { IfOk result (λ entry. (items : List AnItem) → IsHistoryOf history.old (past_of items) → EventTakesSent (past_of items) event
         → IsHistoryOf history.new (past_of (AnItem.Step entry ∷ items))) }
     ensures err { OnErr result ((items : List AnItem) → IsHistoryOf history.old (past_of items) → IsHistoryOf history.new (past_of items)) }
 {
+    let alloc = emitted.out.allocator();
     let entry = Entry {
         actor,
         event,
         emitted,
         lost: false,
     };
-    history.add(Item::Step(entry.copy()?), 0)?;
-    Ok(entry)
+    let shared = SharedEntry::of(alloc, entry)?;
+    history.add_shared(shared.item()?, 0)?;
+    Ok(shared)
 }

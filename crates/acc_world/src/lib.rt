@@ -8,7 +8,9 @@ mod keeping;
 pub mod laws;
 mod rebuilding;
 mod setup;
+mod shared;
 mod world;
 
 pub use error::WorldError;
+pub use shared::SharedEntry;
 pub use world::World;

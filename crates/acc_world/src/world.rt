@@ -17,9 +17,10 @@ use crate::error::WorldError;
 use crate::held::nothing;
 use crate::keeping::{self, Actors, note};
 use crate::setup::Setup;
+use crate::shared::SharedEntry;
 use acc_base::OutOfMemory;
 use acc_history::History;
-use acc_message::{Entry, Event, Skip};
+use acc_message::{Event, Skip};
 use acc_node::NodeError;
 use acc_safe_runs::Ask;
 use acc_schedule::{Bodies, Starts};
@@ -62,7 +63,7 @@ impl World {
     /// Takes a step, and answers its entry. A step is passed over by its first cause. **A fast quorum decides at once**: where a node takes an
     /// answer that makes the votes for a transaction's own timestamp a fast quorum in every shard, the entry decides that timestamp. After an
     /// error the world stands for what it stood for.
-    pub fn step(&mut self, ask: &Ask) -> Result<Entry, WorldError>
+    pub fn step(&mut self, ask: &Ask) -> Result<SharedEntry, WorldError>
         requires standing { (cluster : Cluster) × (items : List AnItem) × StandsFor self.old cluster items × HasPlace items × IsAskOf cluster ask.now }
         ensures ok { IfOk result (λ entry. (cluster : Cluster) (items : List AnItem) → StandsFor self.old cluster items → HasPlace items → IsAskOf cluster ask.now
             → Steps self.old self.new cluster items ask.now entry) }
@@ -81,7 +82,7 @@ impl World {
     }
 
     // The home of a transaction begins it.
-    fn begin(&mut self, txn: u32) -> Result<Entry, WorldError>
+    fn begin(&mut self, txn: u32) -> Result<SharedEntry, WorldError>
         requires { MayBeAsked self.old (AnAsk.Begin txn) }
         ensures ok { IfOk result (IsAnswered self.old self.new (AnAsk.Begin txn)) }
         ensures skip { IfErr result (IsSkip (λ cause. Skips self.old (AnAsk.Begin txn) cause)) }
@@ -101,7 +102,7 @@ impl World {
     }
 
     // The node takes a transaction over.
-    fn recover(&mut self, txn: u32, node: u32) -> Result<Entry, WorldError>
+    fn recover(&mut self, txn: u32, node: u32) -> Result<SharedEntry, WorldError>
         requires { MayBeAsked self.old (AnAsk.Recover txn node) }
         ensures ok { IfOk result (IsAnswered self.old self.new (AnAsk.Recover txn node)) }
         ensures skip { IfErr result (IsSkip (λ cause. Skips self.old (AnAsk.Recover txn node) cause)) }
@@ -118,7 +119,7 @@ impl World {
     }
 
     // The home of a transaction gives its fast path up.
-    fn slow(&mut self, txn: u32) -> Result<Entry, WorldError>
+    fn slow(&mut self, txn: u32) -> Result<SharedEntry, WorldError>
         requires { MayBeAsked self.old (AnAsk.Slow txn) }
         ensures ok { IfOk result (IsAnswered self.old self.new (AnAsk.Slow txn)) }
         ensures skip { IfErr result (IsSkip (λ cause. Skips self.old (AnAsk.Slow txn) cause)) }
@@ -140,7 +141,7 @@ impl World {
     }
 
     // The actor that a message goes to takes it.
-    fn deliver(&mut self, number: u64) -> Result<Entry, WorldError>
+    fn deliver(&mut self, number: u64) -> Result<SharedEntry, WorldError>
         requires { MayBeAsked self.old (AnAsk.Deliver number) }
         ensures ok { IfOk result (IsAnswered self.old self.new (AnAsk.Deliver number)) }
         ensures skip { IfErr result (IsSkip (λ cause. Skips self.old (AnAsk.Deliver number) cause)) }
@@ -159,7 +160,7 @@ impl World {
     }
 
     // The actor comes back from its journal.
-    fn restart(&mut self, actor: Actor) -> Result<Entry, WorldError>
+    fn restart(&mut self, actor: Actor) -> Result<SharedEntry, WorldError>
         requires { MayBeAsked self.old (AnAsk.Restart actor) }
         ensures ok { IfOk result (IsAnswered self.old self.new (AnAsk.Restart actor)) }
         ensures skip { IfErr result (IsSkip (λ cause. Skips self.old (AnAsk.Restart actor) cause)) }
@@ -179,7 +180,7 @@ impl World {
 
     // An actor takes an event, which is entered. Where memory is refused behind its step, it is left out, as it has done more than the past
     // says.
-    fn enter(&mut self, actor: Actor, event: Event) -> Result<Entry, NodeError>
+    fn enter(&mut self, actor: Actor, event: Event) -> Result<SharedEntry, NodeError>
         requires { MayBeTried self.old actor event }
         ensures ok { IfOk result (λ entry. (items : List AnItem) (act : Act) → IsTried self.old actor event items act
             → HasEntered self.old self.new items actor event act entry) }

@@ -70,9 +70,9 @@ impl Asking {
     {
         let _plan = plan;
         match self.world.step(ask) {
-            Ok(entry) => {
+            Ok(shared) => {
                 self.count += 1;
-                self.note(entry)
+                self.note(shared.entry())
             }
             Err(WorldError::Skip(cause)) => self.skip(number, cause),
             Err(error) => Err(error.into()),
@@ -80,12 +80,12 @@ impl Asking {
     }
 
     // An entry, with its messages.
-    fn note(&mut self, entry: Entry) -> Result<()>
+    fn note(&mut self, entry: &Entry) -> Result<()>
         ensures same { self.new.world ≡ self.old.world }
         ensures count { self.new.count ≡ self.old.count }
     {
         add_waiting(&mut self.gone, entry.emitted.out.len())?;
-        self.items.push(Item::Step(entry))?;
+        self.items.push(Item::Step(entry.copy()?))?;
         Ok(())
     }
 
