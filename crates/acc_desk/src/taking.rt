@@ -1,8 +1,9 @@
 //! Steps of the actor of a desk.
-ghost use Rattle.std.specs.Prelude.{◌≡◌, ◌≤◌, [], drop, OnOk, OnErr};
+ghost use Rattle.std.specs.Prelude.{◌≡◌, ◌≢◌, ◌≤◌, [], drop, Ok, OnOk, OnErr};
 ghost use Rattle.acc_limits.specs.Limits.{most_items};
 ghost use Rattle.acc_desk.specs.Asks.{event_of, act_of_ask};
 ghost use Rattle.acc_desk.specs.Desks.{newest, item_of, IsSeated, IsSound, MayStep};
+ghost use Rattle.acc_desk.specs.declared.turning.Turned.{Turned as Answer};
 
 use crate::ask::{Ask, step, weigh};
 use crate::desk::Desk;
@@ -69,6 +70,7 @@ impl<D: Rig + Drop, J: Planned> Desk<D, J> {
         ensures same { (self.new.actor ≡ self.old.actor) × (self.new.commands ≡ self.old.commands) }
         ensures ok { OnOk result (IsSound D.is_image D.faults D.strict D.armed D.content D.synced D.written J.strict plan.now tape.now self.new.actor self.new.seat self.new.slot self.new.commands self.new.gone) }
         ensures err { OnErr result (IsSeated tape.now self.new.actor [] self.new.seat) }
+        ensures told { result ≢ Ok Answer.Idle }
     {
         gate.enter(self.actor.0, turn);
         let weight = weigh(&self.slot, plan, self.actor, ask)?;
