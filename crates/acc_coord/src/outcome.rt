@@ -17,16 +17,15 @@ use crate::reads::Reads;
 use crate::step::{Next, Stage, Step, silent};
 use acc_base::OutOfMemory;
 use acc_deps::Settled;
-use acc_message::{Emitted, Message, Messages, Note, ReadAnswer};
+use acc_message::{Emitted, Message, Messages, Note, ReadAnswer, SharedOutcome};
 use acc_stamp::{Actor, Ballot, home};
 use acc_stores::is_store;
 use acc_topology::Topology;
 use acc_topology::sets::contains;
-use acc_txn::Outcome;
 
 impl Coord {
     // Tells the node that began the transaction, where this is another one.
-    fn inform(&self, out: &mut Messages, outcome: &Outcome) -> Result<(), OutOfMemory>
+    fn inform(&self, out: &mut Messages, outcome: &SharedOutcome) -> Result<(), OutOfMemory>
         ensures { OnOk result (out.new ≡ out.old ++ inform (own_of self.now) self.now.id self.now.ballot outcome.now) }
     {
         let own = self.own();
@@ -44,13 +43,13 @@ impl Coord {
     }
 
     // Tells the outcome to all stores, and ends. There is room for the node's reply behind the note.
-    fn finish(&self, settled: &Settled, outcome: &Outcome) -> Result<Step, OutOfMemory>
+    fn finish(&self, settled: &Settled, outcome: &SharedOutcome) -> Result<Step, OutOfMemory>
         ensures { IfOk result (λ step. (layout : Layout) (answers : List Letter) → IsPlaced layout self.now →
             Follows layout self.now answers step (finish layout (own_of self.now) self.now.id (attempt_in self.now answers) settled.now outcome.now)) }
     {
         let told = Note::Outcome {
             id: self.id,
-            reply: outcome.reply.copy()?,
+            reply: outcome.outcome().reply.copy()?,
         };
         let notes = self.noted(told, 2)?;
         let mut out = self.apply_all(settled, outcome)?;
@@ -70,7 +69,7 @@ impl Coord {
             let settled = settled.copy()?;
             return Ok(silent(self.allocator(), Next::Stage(Stage::Reads(settled, reads))));
         }
-        let outcome = self.body.evaluate(&reads.cells)?;
+        let outcome = SharedOutcome::new(self.body.evaluate(&reads.cells)?)?;
         self.finish(settled, &outcome)
     }
 
@@ -89,7 +88,10 @@ impl Coord {
             Follows topology.now self.now answers step (after_read topology.now (own_of self.now) self.now.id (attempt_at self.now (Executing settled.now) (ReadOk from to id ballot answer.now ∷ answers)) settled.now)) }
     {
         match answer {
-            ReadAnswer::Known(outcome) => self.finish(settled, outcome),
+            ReadAnswer::Known(outcome) => {
+                let known = SharedOutcome::new(outcome.copy()?)?;
+                self.finish(settled, &known)
+            }
             ReadAnswer::Values(cells) => {
                 let more = reads.with(topology, shard, cells)?;
                 self.after_read(settled, more)

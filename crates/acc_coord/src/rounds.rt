@@ -6,9 +6,8 @@ ghost use Rattle.acc_coord.specs.Rounds.{message_to, question_to, apply_to};
 use crate::coord::Coord;
 use acc_base::OutOfMemory;
 use acc_deps::Settled;
-use acc_message::{Message, Messages};
+use acc_message::{Message, Messages, SharedOutcome};
 use acc_stamp::{Actor, Ballot, home};
-use acc_txn::Outcome;
 use std::alloc::Global;
 
 /// Which message goes to all stores with a timestamp and dependencies.
@@ -123,7 +122,7 @@ impl Coord {
     fn apply(
         &self,
         settled: &Settled,
-        outcome: &Outcome,
+        outcome: &SharedOutcome,
         store: Actor,
     ) -> Result<Message, OutOfMemory>
         ensures { IfOk result (λ m. m ≡ apply_to self.now settled.now outcome.now store) }
@@ -144,7 +143,7 @@ impl Coord {
     pub(crate) fn apply_all(
         &self,
         settled: &Settled,
-        outcome: &Outcome,
+        outcome: &SharedOutcome,
     ) -> Result<Messages, OutOfMemory>
         ensures { IfOk result (λ out. out ≡ map (apply_to self.now settled.now outcome.now) self.now.stores) }
     {

@@ -9,9 +9,10 @@ ghost use Rattle.acc_execute.specs.Owned.{with_proposed, with_decided, with_sett
 
 use acc_base::{Duplicate, OutOfMemory};
 use acc_deps::{Deps, Settled};
+use acc_message::SharedOutcome;
 use acc_record::{Record, Shelf};
 use acc_stamp::{Ballot, Ballots, Stamp, TxnId};
-use acc_txn::{Body, Outcome};
+use acc_txn::Body;
 
 /// The record with which a step begins, in memory of its own: the one that is kept, or else one that knows the body alone.
 pub(crate) fn begun(shelf: &Shelf, id: TxnId, body: &Body) -> Result<Record, OutOfMemory>
@@ -88,7 +89,7 @@ pub(crate) fn settle(own: &mut Record, t: Stamp, deps: &Deps) -> Result<(), OutO
 }
 
 /// Puts down the outcome, unless that is known.
-pub(crate) fn decide(own: &mut Record, outcome: &Outcome) -> Result<(), OutOfMemory>
+pub(crate) fn decide(own: &mut Record, outcome: &SharedOutcome) -> Result<(), OutOfMemory>
     ensures { OnOk result (own.new ≡ with_outcome outcome.now own.old) }
 {
     if own.outcome.is_none() {

@@ -41,7 +41,7 @@ fn answer_now(shelf: &Shelf, topology: &Topology, there: &Record) -> Result<Read
     ensures { IfOk result (λ answer. answer ≡ answer_now topology.now shelf.now there.now) }
 {
     match &there.outcome {
-        Some(outcome) => Ok(ReadAnswer::Known(outcome.copy()?)),
+        Some(outcome) => Ok(ReadAnswer::Known(outcome.outcome().copy()?)),
         None => Ok(ReadAnswer::Values(present_cells(shelf, topology, there.body.parts())?)),
     }
 }

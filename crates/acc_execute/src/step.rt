@@ -16,13 +16,13 @@ use crate::present::at_once;
 use crate::waits::{change_lists, make_room};
 use acc_base::OutOfMemory;
 use acc_deps::Deps;
-use acc_message::{Message, Messages, top};
+use acc_message::{Message, Messages, SharedOutcome, top};
 use acc_opening::{Known, Plan, planned};
 use acc_reads::{Released, release};
 use acc_record::{Record, Shelf};
 use acc_stamp::{Ballot, Stamp, TxnId};
 use acc_topology::Topology;
-use acc_txn::{Body, Outcome};
+use acc_txn::Body;
 use acc_value::CellList;
 
 /// What a step does, with all memory that it takes.
@@ -214,7 +214,7 @@ fn own_of_apply(
     body: &Body,
     t: Stamp,
     deps: &Deps,
-    outcome: &Outcome,
+    outcome: &SharedOutcome,
 ) -> Result<Record, OutOfMemory>
     ensures { IfOk result (λ own. own ≡ with_outcome outcome.now (with_settled (record { t = t; deps = deps.now }) (known_or_fresh (record_at shelf.now.records id) id body.now))) }
 {

@@ -4,9 +4,10 @@ ghost use Rattle.acc_message.specs.Fields.{from_of, to_of, id_of, ballot_of, env
 
 use crate::answer::ReadAnswer;
 use crate::message::Message;
+use crate::shared_outcome::SharedOutcome;
 use acc_deps::{Deps, SharedView};
 use acc_stamp::{Actor, Ballot, Stamp, TxnId};
-use acc_txn::{Body, Outcome};
+use acc_txn::Body;
 
 /// What all messages name: the sender, the actor that the message goes to, the transaction, and the attempt at it.
 #[derive(Clone, Copy, Debug, PartialEq, Eq)]
@@ -283,7 +284,7 @@ impl Envelope {
     }
 
     /// The outcome, whose writes the store makes.
-    pub fn apply(self, body: Body, t: Stamp, deps: Deps, outcome: Outcome) -> Message
+    pub fn apply(self, body: Body, t: Stamp, deps: Deps, outcome: SharedOutcome) -> Message
         ensures { result ≡ Message.Apply self.from self.to self.id self.ballot body t deps outcome }
     {
         let Envelope {
@@ -382,7 +383,7 @@ impl Envelope {
     }
 
     /// A node that took a transaction over tells its outcome to the node that began it.
-    pub fn inform(self, outcome: Outcome) -> Message
+    pub fn inform(self, outcome: SharedOutcome) -> Message
         ensures { result ≡ Message.Inform self.from self.to self.id self.ballot outcome }
     {
         let Envelope {

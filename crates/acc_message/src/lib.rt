@@ -12,6 +12,7 @@ mod items;
 mod message;
 mod note;
 mod roll;
+mod shared_outcome;
 
 pub use answer::ReadAnswer;
 pub use entry::{Emitted, Entry, Event};
@@ -23,3 +24,4 @@ pub use items::Items;
 pub use message::{Message, Messages};
 pub use note::{Note, Notes, Path};
 pub use roll::Roll;
+pub use shared_outcome::SharedOutcome;

@@ -2,10 +2,11 @@
 ghost use Rattle.std.specs.Prelude.{◌≡◌, IfOk};
 
 use crate::answer::ReadAnswer;
+use crate::shared_outcome::SharedOutcome;
 use acc_base::{Duplicate, OutOfMemory, Sequence};
 use acc_deps::{Deps, SharedView};
 use acc_stamp::{Actor, Ballot, Stamp, TxnId};
-use acc_txn::{Body, Outcome};
+use acc_txn::Body;
 
 /// A message between a node and a store, or between two nodes. Each names its sender, the actor that it goes to, the
 /// transaction, and the attempt at it, by the attempt's ballot. An answer repeats the ballot of what it answers.
@@ -98,7 +99,7 @@ pub enum Message {
         body: Body,
         t: Stamp,
         deps: Deps,
-        outcome: Outcome,
+        outcome: SharedOutcome,
     },
 
     /// A node that takes a transaction over asks a store what it knows of it.
@@ -144,7 +145,7 @@ pub enum Message {
         to: Actor,
         id: TxnId,
         ballot: Ballot,
-        outcome: Outcome,
+        outcome: SharedOutcome,
     },
 }
 

@@ -71,11 +71,11 @@ fn put_content(out: &mut Bytes, m: &Message) -> Result<(), OutOfMemory>
             ..
         } => {
             put_proposal(out, body, *t, deps)?;
-            put_outcome(out, outcome)
+            put_outcome(out, outcome.outcome())
         }
         Message::RecoverOk { view, .. } => put_view(out, view.view()),
         Message::Nack { promised, .. } => put_stamp(out, promised.0),
-        Message::Inform { outcome, .. } => put_outcome(out, outcome),
+        Message::Inform { outcome, .. } => put_outcome(out, outcome.outcome()),
     }
 }
 

@@ -55,10 +55,10 @@ fn content_length(m: &Message) -> u64
             deps,
             outcome,
             ..
-        } => proposal_length(body, deps) + outcome_length(outcome),
+        } => proposal_length(body, deps) + outcome_length(outcome.outcome()),
         Message::RecoverOk { view, .. } => view_length(view.view()),
         Message::Nack { .. } => STAMP,
-        Message::Inform { outcome, .. } => outcome_length(outcome),
+        Message::Inform { outcome, .. } => outcome_length(outcome.outcome()),
     }
 }
 

@@ -10,7 +10,7 @@ use crate::stamps::take_ballot;
 use crate::view::take_view;
 use acc_code::{CodeError, take_outcome};
 use acc_deps::{Settled, SharedView};
-use acc_message::{Envelope, Message};
+use acc_message::{Envelope, Message, SharedOutcome};
 use acc_wire::Reader;
 use std::alloc::Global;
 
@@ -91,7 +91,7 @@ fn take_inform(
     ensures { Reads result reader.new (inform_at envelope reader.old) }
 {
     let outcome = take_outcome(alloc, reader)?;
-    Ok(envelope.inform(outcome))
+    Ok(envelope.inform(SharedOutcome::new(outcome)?))
 }
 
 /// What the message to a node with this number has besides.

@@ -12,7 +12,7 @@ use crate::records::{put_settled, take_settled};
 use acc_base::{Bytes, OutOfMemory};
 use acc_code::{CodeError, put_body, take_body, take_outcome};
 use acc_deps::{Deps, Settled};
-use acc_message::{Envelope, Message};
+use acc_message::{Envelope, Message, SharedOutcome};
 use acc_stamp::Stamp;
 use acc_txn::Body;
 use acc_wire::Reader;
@@ -102,7 +102,7 @@ fn take_apply(
 {
     let (body, Settled { t, deps }) = take_proposal(alloc, reader)?;
     let outcome = take_outcome(alloc, reader)?;
-    Ok(envelope.apply(body, t, deps, outcome))
+    Ok(envelope.apply(body, t, deps, SharedOutcome::new(outcome)?))
 }
 
 #[tactic(auto, unfolding(crate::specs::MessageReading::recover_at))]

@@ -246,7 +246,7 @@ impl Node {
         ensures err { OnErr result (IsSame self.old self.new) }
     {
         match m {
-            Message::Inform { id, outcome, .. } => self.inform(*id, &outcome.reply),
+            Message::Inform { id, outcome, .. } => self.inform(*id, &outcome.outcome().reply),
             _ => self.hear(topology, m),
         }
     }

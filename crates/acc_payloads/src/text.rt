@@ -22,7 +22,7 @@ pub fn has_text(m: &Message) -> bool
         | Message::Stable { body, .. }
         | Message::Recover { body, .. } => body_has_text(body.parts()),
         Message::Apply { body, outcome, .. } => {
-            body_has_text(body.parts()) || outcome_has_text(outcome)
+            body_has_text(body.parts()) || outcome_has_text(outcome.outcome())
         }
         _ => false,
     }

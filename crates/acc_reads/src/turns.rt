@@ -85,7 +85,7 @@ fn apply_turn(
         return Ok(());
     }
     match &there.outcome {
-        Some(outcome) => write(place.topology, place.shard, writes, outcome),
+        Some(outcome) => write(place.topology, place.shard, writes, outcome.outcome()),
         None => Ok(()),
     }
 }

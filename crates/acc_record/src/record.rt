@@ -7,8 +7,9 @@ ghost use Rattle.acc_record.specs.Over.{is_over};
 
 use acc_base::OutOfMemory;
 use acc_deps::{Accepted, Deps, Settled};
+use acc_message::SharedOutcome;
 use acc_stamp::{Ballot, Ballots, Stamp, TxnId};
-use acc_txn::{Body, Outcome};
+use acc_txn::Body;
 use std::alloc::Global;
 use std::collections::HashMap;
 use std::marker::Model;
@@ -37,7 +38,7 @@ pub struct Record {
     /// Whether the transaction may execute here: all that goes before it is applied.
     pub opened: bool,
     /// The outcome that it heard first.
-    pub outcome: Option<Outcome>,
+    pub outcome: Option<SharedOutcome>,
     /// Whether its writes are made here.
     pub applied: bool,
 }

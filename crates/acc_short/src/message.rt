@@ -47,9 +47,11 @@ fn has_short_content(m: &Message) -> bool
         | Message::Stable { deps, .. }
         | Message::Decided { deps, .. } => are_short_deps(deps),
         Message::ReadOk { answer, .. } => is_short_answer(answer),
-        Message::Apply { deps, outcome, .. } => are_short_deps(deps) && is_short_outcome(outcome),
+        Message::Apply { deps, outcome, .. } => {
+            are_short_deps(deps) && is_short_outcome(outcome.outcome())
+        }
         Message::RecoverOk { view, .. } => is_short_view(view.view()),
-        Message::Inform { outcome, .. } => is_short_outcome(outcome),
+        Message::Inform { outcome, .. } => is_short_outcome(outcome.outcome()),
     }
 }
 

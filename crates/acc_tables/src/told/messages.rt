@@ -63,7 +63,7 @@ fn push_fields(text: &mut Vec<u8>, alloc: Global, message: &Message) -> Result<(
             ..
         } => {
             push_proposal(text, alloc, body, *t, deps)?;
-            push_enclosed(text, outcome)
+            push_enclosed(text, outcome.outcome())
         }
         _ => push_answer(text, message),
     }
@@ -78,7 +78,7 @@ fn push_answer(text: &mut Vec<u8>, message: &Message) -> Result<(), OutOfMemory>
         Message::ReadOk { answer, .. } => push_read(text, answer),
         Message::RecoverOk { view, .. } => push_view(text, view.view()),
         Message::Nack { promised, .. } => push_stamp(text, promised.0),
-        Message::Inform { outcome, .. } => push_enclosed(text, outcome),
+        Message::Inform { outcome, .. } => push_enclosed(text, outcome.outcome()),
         _ => Ok(()),
     }
 }

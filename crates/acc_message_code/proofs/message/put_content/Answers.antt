@@ -9,7 +9,7 @@ ok_then (Err e) f h = tt
 
 pub returns-in_ok-put_proposal-in-Apply-clause-fits : goal.returns-in_ok-put_proposal-in-Apply-clause-fits
 returns-in_ok-put_proposal-in-Apply-clause-fits c =
-    rw c.in-Apply.is (ok_then c.put_outcome.result (λ o. (c.in_ok-put_proposal-in-Apply.ensures.fits, o)) c.put_outcome.ensures.fits)
+    rw c.in-Apply.is (ok_then c.put_outcome.result (λ o. (c.in_ok-put_proposal-in-Apply.ensures.fits, rw c.outcome.ensures at o)) c.put_outcome.ensures.fits)
 
 pub returns-in-Accept-clause-fits : goal.returns-in-Accept-clause-fits
 returns-in-Accept-clause-fits c =

@@ -31,5 +31,5 @@ returns c =
     let asked = read_by_all layout self c.args.reads more placed are (omega arith) in
     let all : read_everywhere layout self.body more ≡ true = cc in
     subst (λ (o : Option Outcome). Follows layout self answers step (finish_with layout (own_of self) self.id (attempt_at self (Executing s) more) s o)) (sym (the_outcome layout self c.args.reads more placed are all))
-    (subst (λ (o : Outcome). Follows layout self answers step (finish layout (own_of self) self.id (attempt_in self answers) s o)) c.in_ok-outcome.ensures (h layout answers placed)))
+    (subst (λ (o : Outcome). Follows layout self answers step (finish layout (own_of self) self.id (attempt_in self answers) s o)) (c.in_ok-outcome.ensures ∙ c.in_ok-evaluate.ensures) (h layout answers placed)))
     c.finish.ensures

@@ -1,23 +1,24 @@
-use Rattle.std.proofs.Common.{◌∷◌, sym, subst, arith}
+use Rattle.std.proofs.Common.{◌∷◌, sym, subst, ◌∙◌, arith}
 use Rattle.std.proofs.lemmas.Result.{IfOk-weaker}
+use Rattle.acc_txn.specs.declared.outcome.Outcome.{Outcome}
 use Rattle.acc_message.specs.declared.answer.ReadAnswer.{ReadAnswer}
 use Rattle.acc_message.specs.declared.answer.ReadAnswer.TheVariants.{Values}
 use Rattle.acc_message.specs.declared.message.Message.TheVariants.{ReadOk}
 use Rattle.acc_message.specs.Attempts.{Executing}
-use Rattle.acc_message.specs.Coordinator.{after_read}
-use Rattle.acc_coord.specs.Stands.{own_of, attempt_at, Follows}
+use Rattle.acc_message.specs.Coordinator.{after_read, finish}
+use Rattle.acc_coord.specs.Stands.{own_of, attempt_in, attempt_at, Follows}
 use Rattle.acc_coord.proofs.Hearing.{reads_one_more}
 use Rattle.acc_coord.proofs.coord.Coord.read_one.Goals as goal
 
-pub returns-in-Known : goal.returns-in-Known
-returns-in-Known c =
+pub returns-in_ok-known-in-Known : goal.returns-in_ok-known-in-Known
+returns-in_ok-known-in-Known c =
     let self = c.args.self.now in
     let layout = c.args.topology.now in
     let s = c.args.settled.now in
     IfOk-weaker c.finish.result _ _
     (λ step h. λ from to id ballot answers placed are of unheard.
     subst (λ (answer : ReadAnswer). Follows layout self answers step (after_read layout (own_of self) self.id (attempt_at self (Executing s) (ReadOk from to id ballot answer ∷ answers)) s)) (sym c.in-Known.is)
-    (h layout answers placed))
+    (subst (λ (o : Outcome). Follows layout self answers step (finish layout (own_of self) self.id (attempt_in self answers) s o)) (c.in_ok-known-in-Known.ensures ∙ c.in_ok-copy-in-Known.ensures) (h layout answers placed)))
     c.finish.ensures
 
 pub returns-in_ok-more-in-Values : goal.returns-in_ok-more-in-Values
