@@ -8,12 +8,11 @@ ghost use Rattle.acc_message.specs.BallotRules.{greater_ballot};
 ghost use Rattle.acc_record.specs.Shelf.{record_at};
 ghost use Rattle.acc_accept.specs.Accepting.{with_accepted, with_committed};
 
-use acc_deps::Accepted;
-use acc_record::{Record, Records};
+use acc_record::{Record, Records, SharedAccepted};
 use acc_stamp::{Ballot, TxnId};
 
 /// Promises the ballot of an Accept for a transaction, and keeps what it proposes.
-pub(crate) fn keep_accepted(records: &mut Records, id: TxnId, accepted: Accepted)
+pub(crate) fn keep_accepted(records: &mut Records, id: TxnId, accepted: SharedAccepted)
     ensures { (y : TxnId) → record_at records.new y ≡ cond (id_eq id y) (option_map (with_accepted accepted) (record_at records.old id)) (record_at records.old y) }
 {
     match records.get_mut(&id) {
@@ -22,15 +21,15 @@ pub(crate) fn keep_accepted(records: &mut Records, id: TxnId, accepted: Accepted
     }
 }
 
-fn accept_in(there: &mut Record, accepted: Accepted)
+fn accept_in(there: &mut Record, accepted: SharedAccepted)
     ensures { there.new ≡ with_accepted accepted there.old }
 {
-    there.promised = greater(there.promised, accepted.ballot);
+    there.promised = greater(there.promised, accepted.accepted().ballot);
     there.accepted = Some(accepted);
 }
 
 /// Promises the ballot of a Commit for a transaction, and keeps what it fixes.
-pub(crate) fn keep_committed(records: &mut Records, id: TxnId, committed: Accepted)
+pub(crate) fn keep_committed(records: &mut Records, id: TxnId, committed: SharedAccepted)
     ensures { (y : TxnId) → record_at records.new y ≡ cond (id_eq id y) (option_map (with_committed committed) (record_at records.old id)) (record_at records.old y) }
 {
     match records.get_mut(&id) {
@@ -39,10 +38,10 @@ pub(crate) fn keep_committed(records: &mut Records, id: TxnId, committed: Accept
     }
 }
 
-fn commit_in(there: &mut Record, committed: Accepted)
+fn commit_in(there: &mut Record, committed: SharedAccepted)
     ensures { there.new ≡ with_committed committed there.old }
 {
-    there.promised = greater(there.promised, committed.ballot);
+    there.promised = greater(there.promised, committed.accepted().ballot);
     there.committed = Some(committed);
 }
 

@@ -16,7 +16,7 @@ use acc_base::OutOfMemory;
 use acc_deps::Accepted;
 use acc_index::Share;
 use acc_message::{Message, top};
-use acc_record::Shelf;
+use acc_record::{SharedAccepted, Shelf};
 use acc_stamp::{Ballot, Stamp, TxnId};
 use acc_topology::Topology;
 use acc_txn::Body;
@@ -179,8 +179,10 @@ fn learn_accepted(
     ensures ok { OnOk result (IsLearntAs shelf.old shelf.new id share.now (Some proposed.t) top (with_accepted proposed (known_or_fresh (record_at shelf.old.records id) id body.now))) }
     ensures err { OnErr result (IsSame shelf.old shelf.new) }
 {
-    shelf.learn(id, body, share, Some(proposed.t), top)?;
-    keep_accepted(&mut shelf.records, id, proposed);
+    let t = proposed.t;
+    let accepted = SharedAccepted::new(body.parts().lets.allocator(), proposed)?;
+    shelf.learn(id, body, share, Some(t), top)?;
+    keep_accepted(&mut shelf.records, id, accepted);
     Ok(())
 }
 
@@ -217,7 +219,9 @@ fn learn_committed(
     ensures ok { OnOk result (IsLearntAs shelf.old shelf.new id (share_at topology.now shelf.old id body.now) (Some fixed.t) top (with_committed fixed (known_or_fresh (record_at shelf.old.records id) id body.now))) }
     ensures err { OnErr result (IsSame shelf.old shelf.new) }
 {
-    shelf.learn_body(topology, id, body, Some(fixed.t), top)?;
-    keep_committed(&mut shelf.records, id, fixed);
+    let t = fixed.t;
+    let committed = SharedAccepted::new(body.parts().lets.allocator(), fixed)?;
+    shelf.learn_body(topology, id, body, Some(t), top)?;
+    keep_committed(&mut shelf.records, id, committed);
     Ok(())
 }

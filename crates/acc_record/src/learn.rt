@@ -7,9 +7,10 @@ ghost use Rattle.acc_record.specs.Steps.{fresh};
 ghost use Rattle.acc_record.specs.Learning.{IsLearnt, is_covered_by, is_below_accepted, is_below_settled, later_of, share_at, stamp_to_note, notes_with};
 
 use crate::record::{KeptRecord, Record, Records};
+use crate::shared_accepted::SharedAccepted;
 use crate::shelf::Shelf;
 use acc_base::OutOfMemory;
-use acc_deps::{Accepted, Deps, Settled};
+use acc_deps::{Deps, Settled};
 use acc_index::{Index, Share};
 use acc_stamp::{Ballot, Ballots, Stamp, TxnId};
 use acc_topology::Topology;
@@ -126,11 +127,11 @@ fn later(stamp: Stamp, other: Option<Stamp>) -> Stamp
     }
 }
 
-fn is_below(stamp: Stamp, accepted: &Option<Accepted>) -> bool
+fn is_below(stamp: Stamp, accepted: &Option<SharedAccepted>) -> bool
     ensures { result ≡ is_below_accepted stamp accepted.now }
 {
     match accepted {
-        Some(accepted) => stamp <= accepted.t,
+        Some(accepted) => stamp <= accepted.accepted().t,
         None => false,
     }
 }

@@ -5,10 +5,12 @@ mod cells;
 mod learn;
 mod record;
 mod share;
+mod shared_accepted;
 mod shelf;
 mod vote;
 
 pub use cells::Cells;
 pub use record::{KeptRecord, Record, Records};
+pub use shared_accepted::SharedAccepted;
 pub use shelf::{Shelf, Waits, Watch};
 pub use vote::Vote;

@@ -5,8 +5,9 @@ ghost use Rattle.acc_record.specs.contracts.record.KeptRecord.{the_row};
 ghost use Rattle.acc_record.specs.contracts.record.Record.{the_row as record_row};
 ghost use Rattle.acc_record.specs.Over.{is_over};
 
+use crate::shared_accepted::SharedAccepted;
 use acc_base::OutOfMemory;
-use acc_deps::{Accepted, Deps, Settled};
+use acc_deps::{Deps, Settled};
 use acc_message::SharedOutcome;
 use acc_stamp::{Ballot, Ballots, Stamp, TxnId};
 use acc_txn::Body;
@@ -28,17 +29,17 @@ pub struct Record {
     /// The greatest ballot that it granted, zero where it granted none.
     pub promised: Ballot,
     /// What it accepted last.
-    pub accepted: Option<Accepted>,
+    pub accepted: Option<SharedAccepted>,
     /// What was committed at it last.
-    pub committed: Option<Accepted>,
+    pub committed: Option<SharedAccepted>,
     /// What is stable at it.
     pub stable: Option<Settled>,
     /// The ballots whose attempts wait for the cells, rising.
     pub waiters: Ballots,
-    /// Whether the transaction may execute here: all that goes before it is applied.
-    pub opened: bool,
     /// The outcome that it heard first.
     pub outcome: Option<SharedOutcome>,
+    /// Whether the transaction may execute here: all that goes before it is applied.
+    pub opened: bool,
     /// Whether its writes are made here.
     pub applied: bool,
 }

@@ -6,8 +6,8 @@ ghost use Rattle.acc_record.specs.Shelf.{record_at};
 ghost use Rattle.acc_message.specs.Evidence.{accepted_without, stable_without, accepted_above};
 ghost use Rattle.acc_reveal.specs.Revealed.{rules_out, keeps_waiting, superseded_at, awaited_at};
 
-use acc_deps::{Accepted, Settled};
-use acc_record::{Record, Shelf};
+use acc_deps::Settled;
+use acc_record::{Record, SharedAccepted, Shelf};
 use acc_stamp::{Ids, TxnId};
 
 /// Whether some of the rivals rules out that the transaction was decided at its own timestamp.
@@ -56,11 +56,16 @@ fn is_awaited(there: Option<&Record>, id: TxnId, rival: TxnId) -> bool
     }
 }
 
-fn is_accepted_without(accepted: &Option<Accepted>, shard: u32, id: TxnId, rival: TxnId) -> bool
+fn is_accepted_without(
+    accepted: &Option<SharedAccepted>,
+    shard: u32,
+    id: TxnId,
+    rival: TxnId,
+) -> bool
     ensures { result ≡ accepted_without shard id rival accepted.now }
 {
     match accepted {
-        Some(accepted) => id < rival && !accepted.deps.contains(shard, id),
+        Some(accepted) => id < rival && !accepted.accepted().deps.contains(shard, id),
         None => false,
     }
 }
@@ -74,11 +79,11 @@ fn is_stable_without(stable: &Option<Settled>, shard: u32, id: TxnId) -> bool
     }
 }
 
-fn is_accepted_above(accepted: &Option<Accepted>, id: TxnId, rival: TxnId) -> bool
+fn is_accepted_above(accepted: &Option<SharedAccepted>, id: TxnId, rival: TxnId) -> bool
     ensures { result ≡ accepted_above id rival accepted.now }
 {
     match accepted {
-        Some(accepted) => rival < id && id.0 < accepted.t,
+        Some(accepted) => rival < id && id.0 < accepted.accepted().t,
         None => false,
     }
 }

@@ -7,7 +7,7 @@ use crate::evidence::{awaited, superseded};
 use acc_base::{Duplicate, OutOfMemory};
 use acc_deps::{Accepted, Settled, View};
 use acc_index::Share;
-use acc_record::{Shelf, Vote};
+use acc_record::{SharedAccepted, Shelf, Vote};
 use acc_stamp::{Ids, TxnId};
 
 /// What the store reveals of a transaction that uses these keys here. `top` is the greatest `h` of the message that asks.
@@ -44,7 +44,7 @@ fn accepted(shelf: &Shelf, id: TxnId) -> Result<Option<Accepted>, OutOfMemory>
     ensures { IfOk result (λ accepted. accepted ≡ accepted_in (record_at shelf.now.records id)) }
 {
     match shelf.find(id) {
-        Some(record) => record.accepted.copy(),
+        Some(record) => copied(&record.accepted),
         None => Ok(None),
     }
 }
@@ -53,7 +53,16 @@ fn committed(shelf: &Shelf, id: TxnId) -> Result<Option<Accepted>, OutOfMemory>
     ensures { IfOk result (λ committed. committed ≡ committed_in (record_at shelf.now.records id)) }
 {
     match shelf.find(id) {
-        Some(record) => record.committed.copy(),
+        Some(record) => copied(&record.committed),
+        None => Ok(None),
+    }
+}
+
+fn copied(accepted: &Option<SharedAccepted>) -> Result<Option<Accepted>, OutOfMemory>
+    ensures { IfOk result (λ copy. copy ≡ accepted.now) }
+{
+    match accepted {
+        Some(accepted) => Ok(Some(accepted.accepted().copy()?)),
         None => Ok(None),
     }
 }
