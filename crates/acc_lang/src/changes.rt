@@ -6,6 +6,7 @@ ghost use Rattle.acc_lang.specs.Answer.{Gives};
 ghost use Rattle.acc_lang.specs.Reading.{assignment as assignment_from, removal as removal_from, update as update_from, one_update as one_update_from, more_updates as more_updates_from, key_written};
 
 use crate::fault::ReadError;
+use crate::fit::fitted;
 use crate::judge::{check, standing_of};
 use crate::keys::{from_key, table, where_key};
 use crate::lexemes::{begins_update, is_word};
@@ -38,7 +39,7 @@ pub fn more_updates(
         let next = update(alloc, cursor, texts, uses, lets, extra)?;
         all.push(next)?;
     }
-    Ok(all)
+    Ok(fitted(all))
 }
 
 /// One update, with the key that it writes.

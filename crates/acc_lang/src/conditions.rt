@@ -6,6 +6,7 @@ ghost use Rattle.acc_lang.specs.Answer.{Gives};
 ghost use Rattle.acc_lang.specs.Reading.{operator_of as operator_of_token, operator as operator_from, null_test as null_test_from, comparison as comparison_from, condition_from as condition_from_term, condition as condition_from, one_condition as one_condition_from, more_conditions as more_conditions_from, conditions as conditions_from};
 
 use crate::fault::ReadError;
+use crate::fit::fitted;
 use crate::judge::{check, standing_of};
 use crate::lexemes::{is_mark, is_word};
 use crate::sums::{expression, more_parts, term};
@@ -52,7 +53,7 @@ fn more_conditions(
         let next = one_condition(alloc, cursor, texts, lets, extra)?;
         all.push(next)?;
     }
-    Ok(all)
+    Ok(fitted(all))
 }
 
 /// `AND condition`

@@ -5,6 +5,7 @@ ghost use Rattle.acc_lang.specs.Answer.{Gives};
 ghost use Rattle.acc_lang.specs.Reading.{binding as binding_from, one_let as one_let_from, more_lets};
 
 use crate::fault::ReadError;
+use crate::fit::fitted;
 use crate::judge::{check, standing_of};
 use crate::keys::from_key;
 use crate::lexemes::is_word;
@@ -35,7 +36,7 @@ pub fn lets(
         let next = one_let(alloc, cursor, texts, uses, lets.as_slice(), extra)?;
         lets.push(next)?;
     }
-    Ok(lets)
+    Ok(fitted(lets))
 }
 
 #[tactic(auto, using(crate::proofs::Taking::fails_at_once, crate::proofs::Taking::fails_on, crate::proofs::Taking::fits), unfolding(crate::specs::Reading::one_let, crate::specs::Reading::step))]

@@ -6,6 +6,7 @@ mod changes;
 mod conditions;
 mod error;
 mod fault;
+mod fit;
 mod judge;
 mod keys;
 pub mod laws;

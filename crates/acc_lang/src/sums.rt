@@ -5,6 +5,7 @@ ghost use Rattle.acc_lang.specs.Answer.{Gives};
 ghost use Rattle.acc_lang.specs.Reading.{term as term_from, text_value as text_value_from, negative as negative_from, plain as plain_from, null as null_from, one_part as one_part_from, more_parts as more_parts_from, expression as expression_from, part_of};
 
 use crate::fault::ReadError;
+use crate::fit::fitted;
 use crate::judge::{check, check_behind_minus, standing_of};
 use crate::lexemes::{is_mark, is_number, is_quoted, is_sign, is_word, number_of, text_of};
 use crate::names::named;
@@ -55,7 +56,7 @@ pub fn more_parts(
         let next = one_part(alloc, cursor, texts, lets, extra)?;
         sum.push(next)?;
     }
-    Ok(sum)
+    Ok(fitted(sum))
 }
 
 /// `( + | - ) term`

@@ -37,5 +37,6 @@ updates-preserved c =
 pub returns : goal.returns
 unfolding more_updates
 returns c =
-    sym c.updates.invariant.goes_on
-    ∙ ended begins_update (one_update c.args.texts c.args.lets.now) 16 (length c.updates.all) (c.updates.all, c.updates.uses) c.updates.cursor.rest.now cc
+    rw (sym c.fitted.ensures) at
+    (sym c.updates.invariant.goes_on
+    ∙ ended begins_update (one_update c.args.texts c.args.lets.now) 16 (length c.updates.all) (c.updates.all, c.updates.uses) c.updates.cursor.rest.now cc)

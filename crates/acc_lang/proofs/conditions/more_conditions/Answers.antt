@@ -33,4 +33,5 @@ conditions-preserved c =
 pub returns : goal.returns
 unfolding more_conditions
 returns c =
-    sym c.conditions.invariant.goes_on ∙ ended (is_word (codes "and")) (one_condition c.args.texts c.args.lets.now) 16 (length c.conditions.all) c.conditions.all c.conditions.cursor.rest.now cc
+    rw (sym c.fitted.ensures) at
+    (sym c.conditions.invariant.goes_on ∙ ended (is_word (codes "and")) (one_condition c.args.texts c.args.lets.now) 16 (length c.conditions.all) c.conditions.all c.conditions.cursor.rest.now cc)

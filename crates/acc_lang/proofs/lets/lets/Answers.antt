@@ -33,4 +33,5 @@ lets-preserved c =
 pub returns-clause-lets : goal.returns-clause-lets
 unfolding more_lets
 returns-clause-lets c =
-    sym c.lets.invariant.goes_on ∙ ended (is_word (codes "let")) (one_let c.args.texts) 16 (length c.lets.lets) (c.lets.lets, c.lets.uses) c.lets.cursor.rest.now cc
+    rw (sym c.fitted.ensures) at
+    (sym c.lets.invariant.goes_on ∙ ended (is_word (codes "let")) (one_let c.args.texts) 16 (length c.lets.lets) (c.lets.lets, c.lets.uses) c.lets.cursor.rest.now cc)

@@ -33,4 +33,5 @@ parts-preserved c =
 pub returns : goal.returns
 unfolding more_parts
 returns c =
-    sym c.parts.invariant.goes_on ∙ ended is_sign (one_part c.args.texts c.args.lets.now) 16 (length c.parts.sum) c.parts.sum c.parts.cursor.rest.now cc
+    rw (sym c.fitted.ensures) at
+    (sym c.parts.invariant.goes_on ∙ ended is_sign (one_part c.args.texts c.args.lets.now) 16 (length c.parts.sum) c.parts.sum c.parts.cursor.rest.now cc)
