@@ -51,12 +51,12 @@ impl Duplicate for Emitted {
 pub struct Entry {
     /// Who stepped.
     pub actor: Actor,
+    /// Whether its messages went nowhere, since the actor went down in the step.
+    pub lost: bool,
     /// What it took.
     pub event: Event,
     /// What it noted and sent.
     pub emitted: Emitted,
-    /// Whether its messages went nowhere, since the actor went down in the step.
-    pub lost: bool,
 }
 
 impl Entry {
