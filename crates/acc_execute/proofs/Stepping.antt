@@ -1,5 +1,5 @@
 -- The parts of a step: what is learnt in the room that is made, what is committed, and both together.
-use Rattle.std.proofs.Common.{◌≡◌, ℕ, Bool, true, false, cond, List, ◌++◌, Option, None, Some, is_some, Result, Ok, Err, OnOk, OnErr, refl, sym, ap, ◌∙◌, subst}
+use Rattle.std.proofs.Common.{◌≡◌, ℕ, Bool, true, false, cond, List, Option, None, Some, is_some, unwrap_or, Result, Ok, Err, OnOk, OnErr, refl, sym, ap, ◌∙◌, subst}
 use Rattle.std.specs.Option.{option_map}
 use Rattle.std.proofs.lemmas.Bool.{true≢false}
 use Rattle.acc_stamp.specs.declared.stamps.Stamp.{Stamp}
@@ -10,10 +10,12 @@ use Rattle.acc_stamp.proofs.Order.{id_order, eq_itself, eq-sym}
 use Rattle.acc_topology.specs.Layout.{Layout}
 use Rattle.acc_value.specs.declared.key.Key.{Key}
 use Rattle.acc_value.specs.Cells.{applied}
+use Rattle.acc_value.specs.Pairs.{find}
 use Rattle.acc_txn.specs.declared.parts.BodyParts.{BodyParts}
 use Rattle.acc_message.specs.declared.message.Message.{Message}
 use Rattle.acc_message.specs.Opening.{Change}
 use Rattle.acc_record.specs.declared.record.Record.{Record}
+use Rattle.acc_record.specs.declared.cells.Cells.{Cells}
 use Rattle.acc_record.specs.declared.shelf.Shelf.{Shelf}
 use Rattle.acc_record.specs.Shelf.{Records, Waits, IsSame, record_at, cell_at, watchers}
 use Rattle.acc_record.specs.Learning.{known_or_fresh, IsLearnt}
@@ -25,8 +27,8 @@ use Rattle.acc_stamp.specs.Stamp.{id_cmp}
 use Rattle.acc_opening.specs.Turns.{changes_in}
 use Rattle.acc_opening.specs.Planned.{after_changes, AreWatches}
 use Rattle.acc_opened_laws.specs.Opened.{executed}
-use Rattle.acc_reads.specs.declared.turns.Released.{Released}
-use Rattle.acc_execute.specs.Executed.{AllFit, IsPrepared, IsLearntWithRoom, IsCommitted, IsExecuted}
+use Rattle.acc_execute.specs.declared.step.PreparedStep.{PreparedStep}
+use Rattle.acc_execute.specs.Executed.{AllFit, IsReadyBehind, IsLearntWithRoom, IsCommitted, IsExecuted}
 
 -- ---- learning in the room that is made
 
@@ -85,39 +87,75 @@ lookup_learnt old mid own known learnt y =
     ap (cond (id_eq y own.id) (Some own)) (learnt y ∙ ap (λ b. cond b (Some known) (record_at old y)) (eq-sym id_order own.id y))
     ∙ hidden_by (id_eq y own.id) (Some own) (Some known) (record_at old y)
 
+-- ---- before the step the writes of the last one are moved into the map
+
+module _ (old : Shelf) (cells : Cells) (same : (key : Key) → cell_at cells key ≡ cell_at old.cells key) where
+  abbrev pub moved : Shelf
+  moved = record old { cells = cells }
+
+  same_moved : IsSame old moved
+  same_moved = record { actor = refl; records = λ x. refl; index = refl; cells = same; waits = λ y. refl; greatest = refl }
+
+  pub moved_at_once : {T E : Type 0} (result : Result T E) → OnErr result (IsSame old moved)
+  moved_at_once (Ok t) = tt
+  moved_at_once (Err e) = same_moved
+
+  pub left_moved : {T E : Type 0} (new : Shelf) (result : Result T E) → IsSame moved new → OnErr result (IsSame old new)
+  left_moved new (Ok t) q = tt
+  left_moved new (Err e) q =
+      record { actor = q.actor; records = q.records; index = q.index; cells = λ key. q.cells key ∙ same key; waits = q.waits; greatest = q.greatest }
+
 -- ---- the step
 
-module _ (old mid : Shelf) (own : Record) (plan : Plan) (body : BodyParts) (share : List (Key × Bool)) (stamp : Stamp) (top : ℕ)
-    (l : IsLearntWithRoom old mid own.id plan body share stamp top) where
+module _ (old : Shelf) (cells : Cells) (same : (key : Key) → cell_at cells key ≡ cell_at old.cells key) (mid : Shelf) (step : PreparedStep)
+    (body : BodyParts) (share : List (Key × Bool)) (stamp : Stamp) (top : ℕ)
+    (l : IsLearntWithRoom (moved old cells same) mid step.own.id step.plan body share stamp top) where
+  abbrev own : Record
+  own = step.own
+
+  abbrev known : Record
+  known = known_or_fresh (record_at old.records own.id) own.id body
+
   pub own_known : is_some (record_at mid.records own.id) ≡ true
   own_known =
-      ap is_some
-      (l.learns.records own.id
-      ∙ ap (λ b. cond b (Some (known_or_fresh (record_at old.records own.id) own.id body)) (record_at old.records own.id)) (eq_itself id_order own.id))
+      ap is_some (l.learns.records own.id ∙ ap (λ b. cond b (Some known) (record_at old.records own.id)) (eq_itself id_order own.id))
 
-  module _ (layout : Layout) (new : Shelf) (released : Released) (first sent : List Message) (p : IsPrepared layout old own (record { plan = plan; released = released }))
-      (sends : sent ≡ first ++ released.sent) (q : IsCommitted mid new own plan released.writes) where
-    lists_are : watches_now plan.touched old.waits ≡ watchers new.waits
-    lists_are = λ i y. sym (q.waits y ∙ ap (watches_with (tree.get id_cmp plan.touched y)) (l.waits y)) i
+  module _ (new : Shelf) (q : IsCommitted mid new own step.plan step.writes) (layout : Layout) (first : List Message) (p : IsReadyBehind layout old first step) where
+    lists_are : watches_now step.plan.touched old.waits ≡ watchers new.waits
+    lists_are = λ i y. sym (q.waits y ∙ ap (watches_with (tree.get id_cmp step.plan.touched y)) (l.waits y)) i
 
-    pub executed_here : IsExecuted layout old new own body share stamp top first sent
+    cells_are : (key : Key) → cell_at new.cells key ≡ applied (cell_at old.cells) p.released.writes key
+    cells_are key =
+        q.cells key
+        ∙ ap (λ cells. applied (cell_at cells) step.writes key) l.learns.cells
+        ∙ ap (unwrap_or (find step.writes key)) (same key)
+        ∙ ap (λ writes. applied (cell_at old.cells) writes key) p.writes
+
+    pub executed_here : IsExecuted layout old new own body share stamp top first step.sent
     executed_here =
         record {
-          changes = changes_in plan.done.items;
+          changes = changes_in step.plan.done.items;
           plan = p.planned.turns;
-          released = released;
+          released = p.released;
           releases = p.releases;
-          sends = sends;
-          cells = λ key. q.cells key ∙ ap (λ cells. applied (cell_at cells) released.writes key) l.learns.cells;
-          learnt = record mid { waits = old.waits };
-          learns = l.learns;
+          sends = p.sends;
+          cells = cells_are;
+          learnt = record mid { waits = old.waits; cells = old.cells };
+          learns =
+              record {
+                actor = l.learns.actor;
+                records = l.learns.records;
+                index = l.learns.index;
+                cells = refl;
+                waits = refl;
+                greatest = l.learns.greatest;
+              };
           actor = q.actor ∙ l.learns.actor;
           index = q.index;
           greatest = q.greatest;
           records =
               λ y. q.records y
-              ∙ ap (option_map (executed (changes_in plan.done.items) y))
-              (lookup_learnt old.records mid.records own (known_or_fresh (record_at old.records own.id) own.id body) l.learns.records y);
+              ∙ ap (option_map (executed (changes_in step.plan.done.items) y)) (lookup_learnt old.records mid.records own known l.learns.records y);
           waiting =
-              subst (AreWatches (shard_of old.actor) (after_changes (lookup old.records own) (changes_in plan.done.items))) lists_are p.planned.waiting;
+              subst (AreWatches (shard_of old.actor) (after_changes (lookup old.records own) (changes_in step.plan.done.items))) lists_are p.planned.waiting;
         }

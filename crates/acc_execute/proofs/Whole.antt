@@ -1,5 +1,5 @@
 -- The clauses of the steps and of their answers, from those of their parts.
-use Rattle.std.proofs.Common.{◌≡◌, ℕ, Bool, true, cond, List, [], ◌∷◌, ◌++◌, Option, None, Some, is_some, Result, Ok, Err, IfOk, OnErr, refl, sym, ap, ◌∙◌, subst}
+use Rattle.std.proofs.Common.{◌≡◌, ℕ, Bool, true, cond, List, [], ◌∷◌, ◌++◌, Option, None, Some, is_some, Result, Ok, Err, IfOk, refl, sym, ap, ◌∙◌, subst}
 use Rattle.acc_base.specs.Faults.{or_else}
 use Rattle.acc_stamp.specs.declared.stamps.Stamp.{Stamp}
 use Rattle.acc_stamp.specs.declared.stamps.TxnId.{TxnId}
@@ -20,53 +20,24 @@ use Rattle.acc_message.specs.declared.message.Message.TheVariants.{Stable, Apply
 use Rattle.acc_message.specs.Fields.{top_of}
 use Rattle.acc_message.specs.StoreRules.{replay, store_answer, released as released_by_rules}
 use Rattle.acc_record.specs.declared.record.Record.{Record}
-use Rattle.acc_record.specs.declared.cells.Cells.{Cells}
 use Rattle.acc_record.specs.declared.shelf.Shelf.{Shelf}
-use Rattle.acc_record.specs.Shelf.{record_at, cell_at, IsSame}
+use Rattle.acc_record.specs.Shelf.{record_at, cell_at}
 use Rattle.acc_record.specs.Stands.{StandsFor, AnswersByRules}
 use Rattle.acc_record.specs.Learning.{body_of, known_or_fresh, share_at}
 use Rattle.acc_opening.specs.Known.{IsKnown}
 use Rattle.acc_opening.specs.Turns.{changes_in}
+use Rattle.acc_opening.specs.Lookup.{lookup}
+use Rattle.acc_opening.specs.Planned.{IsPlanned}
+use Rattle.acc_reads.specs.Release.{IsReleased}
 use Rattle.acc_execute_laws.proofs.Joined.{sends}
 use Rattle.acc_execute_laws.proofs.Knowing.{is_known}
-use Rattle.acc_execute.specs.declared.step.Prepared.{Prepared}
+use Rattle.acc_execute.specs.declared.step.PreparedStep.{PreparedStep}
 use Rattle.acc_execute.specs.Owned.{with_settled, with_waiter, with_outcome}
 use Rattle.acc_execute.specs.Now.{at_once_of}
-use Rattle.acc_execute.specs.Executed.{Stands, IsPrepared, IsExecuted}
+use Rattle.acc_execute.specs.Executed.{Stands, IsOwnOf, first_of, IsReadyBehind, IsReady, IsExecuted}
 use Rattle.acc_execute.proofs.Owned.{stable_brings, apply_brings}
 use Rattle.acc_execute.proofs.Now.{now_is}
 use Rattle.acc_execute.proofs.Law.{Brings, is_own, answers_by_rules}
-
--- ---- before the step the writes of the last one are moved into the map
-
-module _ (layout : Layout) (old : Shelf) (cells : Cells) (same : (key : Key) → cell_at cells key ≡ cell_at old.cells key) where
-  abbrev moved : Shelf
-  moved = record old { cells = cells }
-
-  moved_stands : (messages : List Message) → StandsFor layout old (replay layout old.actor messages) → StandsFor layout moved (replay layout old.actor messages)
-  moved_stands messages stands =
-      record { records = stands.records; index = stands.index; cells = λ key. same key ∙ stands.cells key; greatest = stands.greatest; waits = stands.waits }
-
-  pub stands_moved : Stands layout old → Stands layout moved
-  stands_moved s = (s.0, moved_stands s.0 s.1)
-
-  pub answers_moved : {E : Type 0} (new : Shelf) (m : Message) (result : Result (List Message) E) → IfOk result (λ sent. AnswersByRules layout moved new m sent)
-      → IfOk result (λ sent. AnswersByRules layout old new m sent)
-  answers_moved new m (Ok sent) q =
-      record {
-        actor = q.actor;
-        answers = λ messages stands. q.answers messages (moved_stands messages stands);
-        stands = λ messages stands. q.stands messages (moved_stands messages stands);
-      }
-  answers_moved new m (Err e) q = tt
-
-  same_moved : (new : Shelf) → IsSame moved new → IsSame old new
-  same_moved new q =
-      record { actor = q.actor; records = q.records; index = q.index; cells = λ key. q.cells key ∙ same key; waits = q.waits; greatest = q.greatest }
-
-  pub left_moved : {T E : Type 0} (new : Shelf) (result : Result T E) → OnErr result (IsSame moved new) → OnErr result (IsSame old new)
-  left_moved new (Ok t) q = q
-  left_moved new (Err e) q = same_moved new q
 
 -- ---- a message that may open something
 
@@ -80,19 +51,34 @@ module _ (layout : Layout) (old : Shelf) (m : Message) (body : BodyParts) (share
   known_here s stable =
       is_known layout old.actor (shard_of old.actor) s.0 m old.records own s.1.records (is_own old m body own b.brings b.owned) old.waits s.1.waits stable
 
-  answered_here : {E : Type 0} (result : Result (List Message) E) (p : Prepared) → IfOk result (λ sent. sent ≡ first ++ p.released.sent) → IsPrepared layout old own p
-      → IfOk result (λ sent. (messages : List Message) → StandsFor layout old (replay layout old.actor messages) → sent ≡ store_answer layout old.actor (replay layout old.actor messages) m)
-  answered_here (Ok sent) p e is =
-      λ messages stands. e
+  answered_by : (step : PreparedStep) → step.own ≡ own → IsReadyBehind layout old first step
+      → (messages : List Message) → StandsFor layout old (replay layout old.actor messages) → step.sent ≡ store_answer layout old.actor (replay layout old.actor messages) m
+  answered_by step same p messages stands =
+      p.sends
       ∙ ap (λ list. first ++ list)
-      (sends layout messages m old own stands (is_own old m body own b.brings b.owned) (changes_in p.plan.done.items) is.planned.turns p.released is.releases)
+      (sends layout messages m old own stands (is_own old m body own b.brings b.owned) (changes_in step.plan.done.items)
+      (subst (λ (o : Record). IsPlanned (shard_of old.actor) old.records o old.waits step.plan) same p.planned).turns p.released
+      (subst (λ (o : Record). IsReleased layout old.actor (lookup old.records o) (changes_in step.plan.done.items) (cell_at old.cells) p.released) same p.releases))
       ∙ b.answers messages stands
-  answered_here (Err e) p h is = tt
 
-  stepped_here : {E : Type 0} (new : Shelf) (result : Result (List Message) E) → IfOk result (IsExecuted layout old new own body (share_at layout old own.id body) t top first)
+  answered_here : {E : Type 0} (result : Result PreparedStep E) → IfOk result (λ step. step.own ≡ own) → IfOk result (IsReadyBehind layout old first)
+      → IfOk result (λ step. (messages : List Message) → StandsFor layout old (replay layout old.actor messages) → step.sent ≡ store_answer layout old.actor (replay layout old.actor messages) m)
+  answered_here (Ok step) same p = answered_by step same p
+  answered_here (Err e) same p = tt
+
+  ready_here : IsOwnOf old m own → first ≡ first_of layout old m
+      → {E : Type 0} (result : Result PreparedStep E) → IfOk result (λ step. step.own ≡ own) → IfOk result (IsReadyBehind layout old first) → IfOk result (IsReady layout old m)
+  ready_here owns begins (Ok step) same p =
+      record { owns = subst (IsOwnOf old m) (sym same) owns; ready = subst (λ list. IsReadyBehind layout old list step) begins p }
+  ready_here owns begins (Err e) same p = tt
+
+  stepped_here : (step : PreparedStep) → step.own ≡ own → IsReadyBehind layout old first step → {E : Type 0} (new : Shelf) (result : Result (List Message) E)
+      → IfOk result (λ sent. (first : List Message) → IsReadyBehind layout old first step → IsExecuted layout old new step.own body (share_at layout old step.own.id body) t top first sent)
       → IfOk result (λ sent. AnswersByRules layout old new m sent)
-  stepped_here new (Ok sent) e = answers_by_rules layout old new m body share t top first sent own b e
-  stepped_here new (Err e) h = tt
+  stepped_here step same p new (Ok sent) e =
+      answers_by_rules layout old new m body share t top first sent own b
+      (subst (λ (o : Record). IsExecuted layout old new o body (share_at layout old o.id body) t top first sent) same (e first p))
+  stepped_here step same p new (Err e) h = tt
 
 -- ---- Stable
 
@@ -124,13 +110,30 @@ module _ (layout : Layout) (old : Shelf) (m : Message) (from to : Actor) (x : Tx
     pub stable_known : Stands layout old → IsKnown (shard_of old.actor) old.records own old.waits
     stable_known s = known_here layout old m body share t top first own brings_here s stable_stays
 
-    pub stable_answered : {E : Type 0} (result : Result (List Message) E) (p : Prepared) → IfOk result (λ sent. sent ≡ first ++ p.released.sent) → IsPrepared layout old own p
-        → IfOk result (λ sent. (messages : List Message) → StandsFor layout old (replay layout old.actor messages) → sent ≡ store_answer layout old.actor (replay layout old.actor messages) m)
+    pub stable_answered : {E : Type 0} (result : Result PreparedStep E) → IfOk result (λ step. step.own ≡ own) → IfOk result (IsReadyBehind layout old first)
+        → IfOk result (λ step. (messages : List Message) → StandsFor layout old (replay layout old.actor messages) → step.sent ≡ store_answer layout old.actor (replay layout old.actor messages) m)
     stable_answered = answered_here layout old m body share t top first own brings_here
 
-    pub stable_stepped : {E : Type 0} (new : Shelf) (result : Result (List Message) E) → IfOk result (IsExecuted layout old new own body (share_at layout old own.id body) t top first)
+    pub stable_ready : {E : Type 0} (result : Result PreparedStep E) → IfOk result (λ step. step.own ≡ own) → IfOk result (IsReadyBehind layout old first)
+        → IfOk result (IsReady layout old m)
+    stable_ready =
+        ready_here layout old m body share t top first own brings_here (subst (λ z. IsOwnOf old z own) (sym is) owned)
+        (first_is ∙ sym (ap (first_of layout old) is))
+
+    pub stable_stepped : (step : PreparedStep) → step.own ≡ own → IsReadyBehind layout old first step → {E : Type 0} (new : Shelf) (result : Result (List Message) E)
+        → IfOk result (λ sent. (first : List Message) → IsReadyBehind layout old first step → IsExecuted layout old new step.own body (share_at layout old step.own.id body) t top first sent)
         → IfOk result (λ sent. AnswersByRules layout old new m sent)
     stable_stepped = stepped_here layout old m body share t top first own brings_here
+
+module _ (layout : Layout) (old : Shelf) (m : Message) (from to : Actor) (x : TxnId) (b : Ballot) (body : BodyParts) (t : Stamp) (deps : List ShardDeps)
+    (is : m ≡ Stable from to x b body t deps) (step : PreparedStep) (ready : IsReady layout old m step) (share : List (Key × Bool))
+    (shared : share ≡ share_of layout (footprint_of (body_of (record_at old.records x) body)) (shard_of old.actor)) (top : ℕ) (raises : top ≡ top_of m) where
+  pub stable_taken : {E : Type 0} (new : Shelf) (result : Result (List Message) E)
+      → IfOk result (λ sent. (first : List Message) → IsReadyBehind layout old first step → IsExecuted layout old new step.own body (share_at layout old step.own.id body) t top first sent)
+      → IfOk result (λ sent. AnswersByRules layout old new m sent)
+  stable_taken =
+      stable_stepped layout old m from to x b body t deps is step.own (subst (λ z. IsOwnOf old z step.own) is ready.owns)
+      (first_of layout old m) (ap (first_of layout old) is) share shared top raises step refl ready.ready
 
 -- ---- Apply
 
@@ -161,10 +164,27 @@ module _ (layout : Layout) (old : Shelf) (m : Message) (from to : Actor) (x : Tx
     pub apply_known : Stands layout old → IsKnown (shard_of old.actor) old.records own old.waits
     apply_known s = known_here layout old m body share t top first own brought_here s apply_stays
 
-    pub apply_answered : {E : Type 0} (result : Result (List Message) E) (p : Prepared) → IfOk result (λ sent. sent ≡ first ++ p.released.sent) → IsPrepared layout old own p
-        → IfOk result (λ sent. (messages : List Message) → StandsFor layout old (replay layout old.actor messages) → sent ≡ store_answer layout old.actor (replay layout old.actor messages) m)
+    pub apply_answered : {E : Type 0} (result : Result PreparedStep E) → IfOk result (λ step. step.own ≡ own) → IfOk result (IsReadyBehind layout old first)
+        → IfOk result (λ step. (messages : List Message) → StandsFor layout old (replay layout old.actor messages) → step.sent ≡ store_answer layout old.actor (replay layout old.actor messages) m)
     apply_answered = answered_here layout old m body share t top first own brought_here
 
-    pub apply_stepped : {E : Type 0} (new : Shelf) (result : Result (List Message) E) → IfOk result (IsExecuted layout old new own body (share_at layout old own.id body) t top first)
+    pub apply_ready : {E : Type 0} (result : Result PreparedStep E) → IfOk result (λ step. step.own ≡ own) → IfOk result (IsReadyBehind layout old first)
+        → IfOk result (IsReady layout old m)
+    apply_ready =
+        ready_here layout old m body share t top first own brought_here (subst (λ z. IsOwnOf old z own) (sym is) owned)
+        (first_is ∙ sym (ap (first_of layout old) is))
+
+    pub apply_stepped : (step : PreparedStep) → step.own ≡ own → IsReadyBehind layout old first step → {E : Type 0} (new : Shelf) (result : Result (List Message) E)
+        → IfOk result (λ sent. (first : List Message) → IsReadyBehind layout old first step → IsExecuted layout old new step.own body (share_at layout old step.own.id body) t top first sent)
         → IfOk result (λ sent. AnswersByRules layout old new m sent)
     apply_stepped = stepped_here layout old m body share t top first own brought_here
+
+module _ (layout : Layout) (old : Shelf) (m : Message) (from to : Actor) (x : TxnId) (b : Ballot) (body : BodyParts) (t : Stamp) (deps : List ShardDeps) (outcome : Outcome)
+    (is : m ≡ Apply from to x b body t deps outcome) (step : PreparedStep) (ready : IsReady layout old m step) (share : List (Key × Bool))
+    (shared : share ≡ share_of layout (footprint_of (body_of (record_at old.records x) body)) (shard_of old.actor)) (top : ℕ) (raises : top ≡ top_of m) where
+  pub apply_taken : {E : Type 0} (new : Shelf) (result : Result (List Message) E)
+      → IfOk result (λ sent. (first : List Message) → IsReadyBehind layout old first step → IsExecuted layout old new step.own body (share_at layout old step.own.id body) t top first sent)
+      → IfOk result (λ sent. AnswersByRules layout old new m sent)
+  apply_taken =
+      apply_stepped layout old m from to x b body t deps outcome is step.own (subst (λ z. IsOwnOf old z step.own) is ready.owns)
+      (first_of layout old m) (ap (first_of layout old) is) share shared top raises step refl ready.ready

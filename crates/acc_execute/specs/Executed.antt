@@ -12,6 +12,7 @@ use Rattle.acc_value.specs.declared.key.Key.{Key}
 use Rattle.acc_value.specs.Cells.{applied}
 use Rattle.acc_txn.specs.declared.parts.BodyParts.{BodyParts}
 use Rattle.acc_message.specs.declared.message.Message.{Message}
+use Rattle.acc_message.specs.declared.message.Message.TheVariants.{Stable, Apply}
 use Rattle.acc_value.specs.declared.value.Value.{Value}
 use Rattle.acc_message.specs.Opening.{Change}
 use Rattle.acc_message.specs.StoreRules.{replay}
@@ -20,7 +21,7 @@ use Rattle.acc_record.specs.declared.record.Record.{Record}
 use Rattle.acc_record.specs.declared.shelf.Shelf.{Shelf}
 use Rattle.acc_record.specs.declared.shelf.Watch.{Watch}
 use Rattle.acc_record.specs.Shelf.{Waits, record_at, cell_at, watchers}
-use Rattle.acc_record.specs.Learning.{IsLearnt}
+use Rattle.acc_record.specs.Learning.{known_or_fresh, IsLearnt}
 use Rattle.acc_opening_laws.specs.Plan.{IsPlan}
 use Rattle.acc_opening.specs.declared.touched.Touched.{Touched}
 use Rattle.acc_opening.specs.declared.turns.Turn.{Turn}
@@ -32,7 +33,9 @@ use Rattle.acc_opening.specs.Planned.{IsPlanned, after_changes, AreWatches}
 use Rattle.acc_reads.specs.declared.turns.Released.{Released}
 use Rattle.acc_reads.specs.Release.{IsReleased}
 use Rattle.acc_opened_laws.specs.Opened.{executed}
-use Rattle.acc_execute.specs.declared.step.Prepared.{Prepared}
+use Rattle.acc_execute.specs.declared.step.PreparedStep.{PreparedStep}
+use Rattle.acc_execute.specs.Owned.{with_settled, with_waiter, with_outcome}
+use Rattle.acc_execute.specs.Now.{at_once_of}
 
 -- ---- a turn
 
@@ -57,11 +60,33 @@ AllFit touched waits = (y : TxnId) (t : Touched) → tree.get id_cmp touched y �
 abbrev pub Stands : Layout → Shelf → Type 0
 Stands layout shelf = (messages : List Message) × StandsFor layout shelf (replay layout shelf.actor messages)
 
--- what is planned, sent and written is that of the shelf with the own record
-pub record IsPrepared (layout : Layout) (shelf : Shelf) (own : Record) (prepared : Prepared) : Type 0 where
-  pub planned : IsPlanned (shard_of shelf.actor) shelf.records own shelf.waits prepared.plan
+-- the record with which a step begins, with what the message brings
+abbrev pub IsOwnOf : Shelf → Message → Record → Type 0
+IsOwnOf shelf (Stable from to x ballot body t deps) own =
+    own ≡ with_waiter ballot (with_settled (record { t = t; deps = deps }) (known_or_fresh (record_at shelf.records x) x body))
+IsOwnOf shelf (Apply from to x ballot body t deps outcome) own =
+    own ≡ with_outcome outcome (with_settled (record { t = t; deps = deps }) (known_or_fresh (record_at shelf.records x) x body))
+IsOwnOf shelf _ own = ⊥
+
+-- what is sent before anything is opened
+abbrev pub first_of : Layout → Shelf → Message → List Message
+first_of layout shelf (Stable from to x ballot body t deps) = at_once_of layout shelf x ballot
+first_of layout shelf _ = []
+
+-- The step opens and applies what the rules of a plan give for the shelf with its own record, and sends and writes what this releases,
+-- behind these messages.
+pub record IsReadyBehind (layout : Layout) (shelf : Shelf) (first : List Message) (step : PreparedStep) : Type 0 where
+  pub planned : IsPlanned (shard_of shelf.actor) shelf.records step.own shelf.waits step.plan
+  pub released : Released
   pub releases :
-      IsReleased layout shelf.actor (lookup shelf.records own) (changes_in prepared.plan.done.items) (cell_at shelf.cells) prepared.released
+      IsReleased layout shelf.actor (lookup shelf.records step.own) (changes_in step.plan.done.items) (cell_at shelf.cells) released
+  pub sends : step.sent ≡ first ++ released.sent
+  pub writes : step.writes ≡ released.writes
+
+-- the step of the message, while the shelf is this one
+pub record IsReady (layout : Layout) (shelf : Shelf) (m : Message) (step : PreparedStep) : Type 0 where
+  pub owns : IsOwnOf shelf m step.own
+  pub ready : IsReadyBehind layout shelf (first_of layout shelf m) step
 
 -- nothing but what is learnt changes, and what the plan adds to the lists of who waits for whom fits
 pub record IsLearntWithRoom (old new : Shelf) (x : TxnId) (plan : Plan) (body : BodyParts) (share : List (Key × Bool)) (stamp : Stamp) (top : ℕ) : Type 0 where

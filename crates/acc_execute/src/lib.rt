@@ -9,4 +9,4 @@ mod step;
 mod waits;
 
 pub use readiness::ready;
-pub use step::{answer_apply, answer_stable, on_apply, on_stable};
+pub use step::{PreparedStep, prepare_apply, prepare_stable, take_apply, take_stable};

@@ -1,14 +1,14 @@
-//! The steps, and what they would send.
+//! Steps that are planned, and that are taken as planned.
 ghost use Rattle.std.specs.Prelude.{◌≡◌, [], List, ◌++◌, Some, is_some, IsTrue, IfOk, OnOk, OnErr};
 ghost use Rattle.acc_stamp.specs.Actor.{shard_of};
 ghost use Rattle.acc_message.specs.declared.message.Message.{Message};
 ghost use Rattle.acc_message.specs.StoreRules.{store_answer, replay};
 ghost use Rattle.acc_record.specs.Shelf.{IsSame, record_at};
-ghost use Rattle.acc_record.specs.Stands.{IsFor, StandsFor, AnswersByRules};
+ghost use Rattle.acc_record.specs.Stands.{StandsFor, AnswersByRules};
 ghost use Rattle.acc_record.specs.Learning.{known_or_fresh, share_at};
 ghost use Rattle.acc_opening.specs.Known.{IsKnown};
 ghost use Rattle.acc_execute.specs.Owned.{is_stable, is_apply, with_settled, with_waiter, with_outcome};
-ghost use Rattle.acc_execute.specs.Executed.{AllFit, Stands, IsPrepared, IsLearntWithRoom, IsCommitted, IsExecuted};
+ghost use Rattle.acc_execute.specs.Executed.{AllFit, Stands, IsReadyBehind, IsReady, IsLearntWithRoom, IsCommitted, IsExecuted};
 
 use crate::commit::{keep, take_turns};
 use crate::own::{begun, decide, settle, wait};
@@ -25,13 +25,26 @@ use acc_topology::Topology;
 use acc_txn::Body;
 use acc_value::CellList;
 
-/// What a step does, with all memory that it takes.
+/// A step on a Stable or an Apply that is planned. Nothing is changed yet.
 #[derive(Debug, Drop)]
-pub(crate) struct Prepared {
+pub struct PreparedStep {
+    /// The record of its transaction, with what the message brings.
+    own: Record,
     /// What is opened and applied, and who waits for whom then.
-    pub plan: Plan,
-    /// What this sends and writes.
-    pub released: Released,
+    plan: Plan,
+    /// What it sends.
+    sent: Messages,
+    /// The cells that it writes.
+    writes: CellList,
+}
+
+impl PreparedStep {
+    /// What the step sends.
+    pub fn sent(&self) -> &Messages
+        ensures { result.now ≡ self.now.sent }
+    {
+        &self.sent
+    }
 }
 
 /// What a step learns of its transaction.
@@ -45,46 +58,16 @@ pub(crate) struct News<'a> {
     pub top: u64,
 }
 
-/// The step of a store that takes a Stable: what it sends, at once and to those whose wait is over. Without memory for it the
-/// shelf is as before.
-pub fn on_stable(
-    shelf: &mut Shelf,
+/// Plans the step of a store that takes a Stable. Nothing changes yet.
+pub fn prepare_stable(
+    shelf: &Shelf,
     topology: &Topology,
     m: &Message,
-) -> Result<Messages, OutOfMemory>
-    requires store { IsFor shelf.old.actor m.now }
+) -> Result<PreparedStep, OutOfMemory>
     requires stable { IsTrue (is_stable m.now) }
-    requires stands { Stands topology.now shelf.old }
-    ensures ok { IfOk result (λ sent. AnswersByRules topology.now shelf.old shelf.new m.now sent) }
-    ensures err { OnErr result (IsSame shelf.old shelf.new) }
-{
-    shelf.cells.flush()?;
-    take_stable(shelf, topology, m)
-}
-
-/// The step of a store that takes an Apply: what it sends to those whose wait is over. Without memory for it the shelf is as
-/// before.
-pub fn on_apply(
-    shelf: &mut Shelf,
-    topology: &Topology,
-    m: &Message,
-) -> Result<Messages, OutOfMemory>
-    requires store { IsFor shelf.old.actor m.now }
-    requires apply { IsTrue (is_apply m.now) }
-    requires stands { Stands topology.now shelf.old }
-    ensures ok { IfOk result (λ sent. AnswersByRules topology.now shelf.old shelf.new m.now sent) }
-    ensures err { OnErr result (IsSame shelf.old shelf.new) }
-{
-    shelf.cells.flush()?;
-    take_apply(shelf, topology, m)
-}
-
-fn take_stable(shelf: &mut Shelf, topology: &Topology, m: &Message) -> Result<Messages, OutOfMemory>
-    requires stable { IsTrue (is_stable m.now) }
-    requires stands { Stands topology.now shelf.old }
-    requires written { shelf.old.cells.pending ≡ [] }
-    ensures ok { IfOk result (λ sent. AnswersByRules topology.now shelf.old shelf.new m.now sent) }
-    ensures err { OnErr result (IsSame shelf.old shelf.new) }
+    requires stands { Stands topology.now shelf.now }
+    ensures ready { IfOk result (IsReady topology.now shelf.now m.now) }
+    ensures answers { IfOk result (λ step. (messages : List Message) → StandsFor topology.now shelf.now (replay topology.now shelf.now.actor messages) → step.sent ≡ store_answer topology.now shelf.now.actor (replay topology.now shelf.now.actor messages) m.now) }
 {
     match m {
         Message::Stable {
@@ -97,23 +80,22 @@ fn take_stable(shelf: &mut Shelf, topology: &Topology, m: &Message) -> Result<Me
         } => {
             let first = at_once(shelf, topology, *id, *ballot)?;
             let own = own_of_stable(shelf, *id, *ballot, body, *t, deps)?;
-            let news = News {
-                body,
-                t: *t,
-                top: top(m),
-            };
-            execute(shelf, topology, own, first, &news)
+            prepare(shelf, topology, own, first)
         }
         _ => unreachable!(),
     }
 }
 
-fn take_apply(shelf: &mut Shelf, topology: &Topology, m: &Message) -> Result<Messages, OutOfMemory>
+/// Plans the step of a store that takes an Apply. Nothing changes yet.
+pub fn prepare_apply(
+    shelf: &Shelf,
+    topology: &Topology,
+    m: &Message,
+) -> Result<PreparedStep, OutOfMemory>
     requires apply { IsTrue (is_apply m.now) }
-    requires stands { Stands topology.now shelf.old }
-    requires written { shelf.old.cells.pending ≡ [] }
-    ensures ok { IfOk result (λ sent. AnswersByRules topology.now shelf.old shelf.new m.now sent) }
-    ensures err { OnErr result (IsSame shelf.old shelf.new) }
+    requires stands { Stands topology.now shelf.now }
+    ensures ready { IfOk result (IsReady topology.now shelf.now m.now) }
+    ensures answers { IfOk result (λ step. (messages : List Message) → StandsFor topology.now shelf.now (replay topology.now shelf.now.actor messages) → step.sent ≡ store_answer topology.now shelf.now.actor (replay topology.now shelf.now.actor messages) m.now) }
 {
     match m {
         Message::Apply {
@@ -126,67 +108,59 @@ fn take_apply(shelf: &mut Shelf, topology: &Topology, m: &Message) -> Result<Mes
         } => {
             let own = own_of_apply(shelf, *id, body, *t, deps, outcome)?;
             let first = Messages::new(own.waiters.allocator());
+            prepare(shelf, topology, own, first)
+        }
+        _ => unreachable!(),
+    }
+}
+
+/// The step of a store that takes a Stable, which was planned: what it sends, at once and to those whose wait is over. Without
+/// memory for it the shelf is as before.
+pub fn take_stable(
+    shelf: &mut Shelf,
+    topology: &Topology,
+    m: &Message,
+    step: PreparedStep,
+) -> Result<Messages, OutOfMemory>
+    requires stable { IsTrue (is_stable m.now) }
+    requires ready { IsReady topology.now shelf.old m.now step }
+    ensures ok { IfOk result (λ sent. AnswersByRules topology.now shelf.old shelf.new m.now sent) }
+    ensures err { OnErr result (IsSame shelf.old shelf.new) }
+{
+    match m {
+        Message::Stable { body, t, .. } => {
             let news = News {
                 body,
                 t: *t,
                 top: top(m),
             };
-            execute(shelf, topology, own, first, &news)
+            execute(shelf, topology, step, &news)
         }
         _ => unreachable!(),
     }
 }
 
-/// What a store sends when it takes a Stable, without the step.
-pub fn answer_stable(
-    shelf: &Shelf,
+/// The step of a store that takes an Apply, which was planned: what it sends to those whose wait is over. Without memory for it
+/// the shelf is as before.
+pub fn take_apply(
+    shelf: &mut Shelf,
     topology: &Topology,
     m: &Message,
-) -> Result<Messages, OutOfMemory>
-    requires stable { IsTrue (is_stable m.now) }
-    requires stands { Stands topology.now shelf.now }
-    ensures { IfOk result (λ sent. (messages : List Message) → StandsFor topology.now shelf.now (replay topology.now shelf.now.actor messages) → sent ≡ store_answer topology.now shelf.now.actor (replay topology.now shelf.now.actor messages) m.now) }
-{
-    match m {
-        Message::Stable {
-            id,
-            ballot,
-            body,
-            t,
-            deps,
-            ..
-        } => {
-            let first = at_once(shelf, topology, *id, *ballot)?;
-            let own = own_of_stable(shelf, *id, *ballot, body, *t, deps)?;
-            let prepared = prepare(shelf, topology, &own)?;
-            join(first, sent_of(prepared))
-        }
-        _ => unreachable!(),
-    }
-}
-
-/// What a store sends when it takes an Apply, without the step.
-pub fn answer_apply(
-    shelf: &Shelf,
-    topology: &Topology,
-    m: &Message,
+    step: PreparedStep,
 ) -> Result<Messages, OutOfMemory>
     requires apply { IsTrue (is_apply m.now) }
-    requires stands { Stands topology.now shelf.now }
-    ensures { IfOk result (λ sent. (messages : List Message) → StandsFor topology.now shelf.now (replay topology.now shelf.now.actor messages) → sent ≡ store_answer topology.now shelf.now.actor (replay topology.now shelf.now.actor messages) m.now) }
+    requires ready { IsReady topology.now shelf.old m.now step }
+    ensures ok { IfOk result (λ sent. AnswersByRules topology.now shelf.old shelf.new m.now sent) }
+    ensures err { OnErr result (IsSame shelf.old shelf.new) }
 {
     match m {
-        Message::Apply {
-            id,
-            body,
-            t,
-            deps,
-            outcome,
-            ..
-        } => {
-            let own = own_of_apply(shelf, *id, body, *t, deps, outcome)?;
-            let prepared = prepare(shelf, topology, &own)?;
-            Ok(sent_of(prepared))
+        Message::Apply { body, t, .. } => {
+            let news = News {
+                body,
+                t: *t,
+                top: top(m),
+            };
+            execute(shelf, topology, step, &news)
         }
         _ => unreachable!(),
     }
@@ -224,14 +198,20 @@ fn own_of_apply(
     Ok(own)
 }
 
-// Plans the step of a transaction that has this record now, and what it sends and writes.
-fn prepare(shelf: &Shelf, topology: &Topology, own: &Record) -> Result<Prepared, OutOfMemory>
-    requires { IsKnown (shard_of shelf.now.actor) shelf.now.records own.now shelf.now.waits }
-    ensures { IfOk result (IsPrepared topology.now shelf.now own.now) }
+// Plans the step of a transaction that has this record now, where these messages come first.
+fn prepare(
+    shelf: &Shelf,
+    topology: &Topology,
+    own: Record,
+    first: Messages,
+) -> Result<PreparedStep, OutOfMemory>
+    requires { IsKnown (shard_of shelf.now.actor) shelf.now.records own shelf.now.waits }
+    ensures own { IfOk result (λ step. step.own ≡ own) }
+    ensures ready { IfOk result (IsReadyBehind topology.now shelf.now first) }
 {
     let known = Known {
         records: &shelf.records,
-        own,
+        own: &own,
         waits: &shelf.waits,
         shard: shelf.actor.shard(),
     };
@@ -245,22 +225,14 @@ fn prepare(shelf: &Shelf, topology: &Topology, own: &Record) -> Result<Prepared,
         &known,
         &plan.done,
     )?;
-    Ok(Prepared { plan, released })
-}
-
-// What a step sends, for itself.
-fn sent_of(prepared: Prepared) -> Messages
-    ensures { result ≡ prepared.released.sent }
-{
-    let Prepared {
-        plan: _plan,
-        released,
-    } = prepared;
-    let Released {
+    let Released { sent, writes } = released;
+    let sent = join(first, sent)?;
+    Ok(PreparedStep {
+        own,
+        plan,
         sent,
-        writes: _writes,
-    } = released;
-    sent
+        writes,
+    })
 }
 
 fn join(first: Messages, rest: Messages) -> Result<Messages, OutOfMemory>
@@ -278,26 +250,27 @@ fn join(first: Messages, rest: Messages) -> Result<Messages, OutOfMemory>
     Ok(Messages::from_vec(all))
 }
 
-// Takes the step of a transaction that has this record now, where these messages come first.
+// Takes a step that was planned. Before it changes anything the writes of the last one are moved into the map.
 fn execute(
     shelf: &mut Shelf,
     topology: &Topology,
-    own: Record,
-    first: Messages,
+    step: PreparedStep,
     news: &News<'_>,
 ) -> Result<Messages, OutOfMemory>
-    requires known { IsKnown (shard_of shelf.old.actor) shelf.old.records own shelf.old.waits }
-    requires written { shelf.old.cells.pending ≡ [] }
-    ensures ok { IfOk result (IsExecuted topology.now shelf.old shelf.new own news.now.body.now (share_at topology.now shelf.old own.id news.now.body.now) news.now.t news.now.top first) }
+    ensures ok { IfOk result (λ sent. (first : List Message) → IsReadyBehind topology.now shelf.old first step
+        → IsExecuted topology.now shelf.old shelf.new step.own news.now.body.now (share_at topology.now shelf.old step.own.id news.now.body.now) news.now.t news.now.top first sent) }
     ensures err { OnErr result (IsSame shelf.old shelf.new) }
 {
-    let prepared = prepare(shelf, topology, &own)?;
-    let Prepared { plan, released } = prepared;
-    let Released { sent, writes } = released;
-    let all = join(first, sent)?;
+    let PreparedStep {
+        own,
+        plan,
+        sent,
+        writes,
+    } = step;
+    shelf.cells.flush()?;
     learn_with_room(shelf, topology, own.id, &plan, news)?;
     commit(shelf, own, plan, writes);
-    Ok(all)
+    Ok(sent)
 }
 
 // Takes the last memory that the step needs.
