@@ -2,4 +2,5 @@ pub mod Writers
 pub mod Applied
 pub mod Heights
 pub mod Refused
+pub mod Planned
 pub mod Weighed

@@ -1,5 +1,5 @@
 -- A shelf that has what another has stands for what that one stands for.
-use Rattle.std.proofs.Common.{◌≡◌, ℕ, List, Option, Result, Ok, Err, OnErr, sym, ap, ◌∙◌, subst}
+use Rattle.std.proofs.Common.{◌≡◌, ℕ, List, Option, Result, Ok, Err, OnErr, refl, sym, ap, ◌∙◌, subst}
 use Rattle.std.specs.List.{Contains}
 use Rattle.acc_stamp.specs.declared.stamps.TxnId.{TxnId}
 use Rattle.acc_stamp.specs.Actor.{shard_of}
@@ -47,3 +47,11 @@ module _ (old new : Shelf) (q : IsSame old new) (layout : Layout) (history : Lis
 pub as_before : {T E : Type 0} (old new : Store) (result : Result T E) → OnErr result (IsSame old.shelf new.shelf) → OnErr result (IsAsBefore old new)
 as_before old new (Ok t) q = q
 as_before old new (Err e) q = record { same = q; stands = λ layout history stands. still_stands old.shelf new.shelf q layout history stands }
+
+pub unchanged : {T E : Type 0} (store : Store) (result : Result T E) → OnErr result (IsAsBefore store store)
+unchanged store (Ok t) = tt
+unchanged store (Err e) =
+    record {
+      same = record { actor = refl; records = λ x. refl; index = refl; cells = λ key. refl; waits = λ y. refl; greatest = refl };
+      stands = λ layout history stands. stands;
+    }

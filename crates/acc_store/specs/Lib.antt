@@ -1,3 +1,4 @@
 pub mod Stands
 pub mod Queries
 pub mod Weighing
+pub mod Prepared

@@ -1,4 +1,4 @@
-//! One store: its steps, what a step would send, and what it tells of a key without a message.
+//! One store: its steps, what a planned step would send, and what it tells of a key without a message.
 #![tactic(auto)]
 
 pub mod laws;
@@ -7,4 +7,5 @@ mod quiet;
 mod steps;
 mod store;
 
+pub use steps::Prepared;
 pub use store::Store;

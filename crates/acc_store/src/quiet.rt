@@ -56,12 +56,8 @@ fn answering_step(
     }
 }
 
-/// What a store answers to one of these messages, without the step.
-pub(crate) fn answer_quiet(
-    shelf: &Shelf,
-    topology: &Topology,
-    m: &Message,
-) -> Result<Message, OutOfMemory>
+// What a store answers to one of these messages, without the step.
+fn answer_quiet(shelf: &Shelf, topology: &Topology, m: &Message) -> Result<Message, OutOfMemory>
     requires store { IsFor shelf.now.actor m.now }
     requires quiet { may_open m.now ≡ false }
     requires top { top_of m.now < 2 ^ 62 }
@@ -75,4 +71,22 @@ pub(crate) fn answer_quiet(
         Message::Recover { .. } => answer_recover(shelf, topology, m),
         _ => unreachable!(),
     }
+}
+
+/// What a store sends for one of these messages, without the step.
+pub(crate) fn answers_quiet(
+    shelf: &Shelf,
+    topology: &Topology,
+    m: &Message,
+) -> Result<Messages, OutOfMemory>
+    requires store { IsFor shelf.now.actor m.now }
+    requires quiet { may_open m.now ≡ false }
+    requires top { top_of m.now < 2 ^ 62 }
+    requires greatest { shelf.now.greatest < 2 ^ 62 }
+    ensures { IfOk result (λ sent. (messages : List Message) → StandsFor topology.now shelf.now (replay topology.now shelf.now.actor messages) → sent ≡ store_answer topology.now shelf.now.actor (replay topology.now shelf.now.actor messages) m.now) }
+{
+    let answer = answer_quiet(shelf, topology, m)?;
+    let mut sent = Messages::new(shelf.cells.pending.allocator());
+    sent.push(answer)?;
+    Ok(sent)
 }

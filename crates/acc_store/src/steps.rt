@@ -1,4 +1,4 @@
-//! The steps of a store, and what they would send.
+//! The steps of a store, planned and then taken.
 ghost use Rattle.std.specs.Prelude.{◌≡◌, ◌<◌, ◌^◌, List, true, false, IfOk, OnErr};
 ghost use Rattle.acc_message.specs.declared.message.Message.{Message};
 ghost use Rattle.acc_message.specs.Fields.{top_of};
@@ -6,54 +6,39 @@ ghost use Rattle.acc_message.specs.Opening.{may_open};
 ghost use Rattle.acc_message.specs.StoreRules.{store_answer, replay};
 ghost use Rattle.acc_record.specs.Shelf.{IsSame};
 ghost use Rattle.acc_record.specs.Stands.{IsFor, StandsFor, AnswersByRules};
-ghost use Rattle.acc_execute.specs.Executed.{Stands};
+ghost use Rattle.acc_execute.specs.Executed.{Stands, IsReady};
+ghost use Rattle.acc_store.specs.Prepared.{IsPreparedAt};
 
-use crate::quiet::{answer_quiet, on_quiet};
+use crate::quiet::on_quiet;
 use acc_base::OutOfMemory;
-use acc_execute::{answer_apply, answer_stable, on_apply, on_stable};
+use acc_execute::{PreparedStep, prepare_apply, prepare_stable, take_apply, take_stable};
 use acc_message::{Message, Messages};
 use acc_record::Shelf;
 use acc_topology::Topology;
 
-/// The step of a store that takes a message: what it sends. Without memory for it the shelf is as before.
-pub(crate) fn on_message(
-    shelf: &mut Shelf,
-    topology: &Topology,
-    m: &Message,
-) -> Result<Messages, OutOfMemory>
-    requires store { IsFor shelf.old.actor m.now }
-    requires top { top_of m.now < 2 ^ 62 }
-    requires greatest { shelf.old.greatest < 2 ^ 62 }
-    requires stands { Stands topology.now shelf.old }
-    ensures ok { IfOk result (λ sent. AnswersByRules topology.now shelf.old shelf.new m.now sent) }
-    ensures err { OnErr result (IsSame shelf.old shelf.new) }
-{
-    if may_open(m) {
-        on_opening(shelf, topology, m)
-    } else {
-        on_quiet(shelf, topology, m)
-    }
+/// A step that is planned. Nothing is changed yet.
+#[derive(Debug, Drop)]
+pub enum Prepared {
+    /// A Stable or an Apply, with all that it opens, applies and sends.
+    Opens(PreparedStep),
+    /// A message that opens nothing. Its answer is made when it is taken.
+    Quiet,
 }
 
-/// What a store sends when it takes a message, without the step.
-pub(crate) fn answer_message(
+/// Plans the step of a store that takes a message.
+pub(crate) fn prepare(
     shelf: &Shelf,
     topology: &Topology,
     m: &Message,
-) -> Result<Messages, OutOfMemory>
-    requires store { IsFor shelf.now.actor m.now }
-    requires top { top_of m.now < 2 ^ 62 }
-    requires greatest { shelf.now.greatest < 2 ^ 62 }
+) -> Result<Prepared, OutOfMemory>
     requires stands { Stands topology.now shelf.now }
-    ensures { IfOk result (λ sent. (messages : List Message) → StandsFor topology.now shelf.now (replay topology.now shelf.now.actor messages) → sent ≡ store_answer topology.now shelf.now.actor (replay topology.now shelf.now.actor messages) m.now) }
+    ensures { IfOk result (IsPreparedAt topology.now shelf.now m.now) }
 {
-    if may_open(m) {
-        return answer_opening(shelf, topology, m);
+    if !may_open(m) {
+        return Ok(Prepared::Quiet);
     }
-    let answer = answer_quiet(shelf, topology, m)?;
-    let mut sent = Messages::new(shelf.cells.pending.allocator());
-    sent.push(answer)?;
-    Ok(sent)
+    let step = prepare_opening(shelf, topology, m)?;
+    Ok(Prepared::Opens(step))
 }
 
 // Whether a message may open something.
@@ -66,28 +51,57 @@ fn may_open(m: &Message) -> bool
     }
 }
 
-fn on_opening(shelf: &mut Shelf, topology: &Topology, m: &Message) -> Result<Messages, OutOfMemory>
-    requires store { IsFor shelf.old.actor m.now }
+fn prepare_opening(
+    shelf: &Shelf,
+    topology: &Topology,
+    m: &Message,
+) -> Result<PreparedStep, OutOfMemory>
     requires opening { may_open m.now ≡ true }
-    requires stands { Stands topology.now shelf.old }
-    ensures ok { IfOk result (λ sent. AnswersByRules topology.now shelf.old shelf.new m.now sent) }
-    ensures err { OnErr result (IsSame shelf.old shelf.new) }
+    requires stands { Stands topology.now shelf.now }
+    ensures ready { IfOk result (IsReady topology.now shelf.now m.now) }
+    ensures answers { IfOk result (λ step. (messages : List Message) → StandsFor topology.now shelf.now (replay topology.now shelf.now.actor messages) → step.sent ≡ store_answer topology.now shelf.now.actor (replay topology.now shelf.now.actor messages) m.now) }
 {
     match m {
-        Message::Stable { .. } => on_stable(shelf, topology, m),
-        Message::Apply { .. } => on_apply(shelf, topology, m),
+        Message::Stable { .. } => prepare_stable(shelf, topology, m),
+        Message::Apply { .. } => prepare_apply(shelf, topology, m),
         _ => unreachable!(),
     }
 }
 
-fn answer_opening(shelf: &Shelf, topology: &Topology, m: &Message) -> Result<Messages, OutOfMemory>
+/// The step of a store that takes a message as it was planned: what it sends. Without memory for it the shelf is as before.
+pub(crate) fn take(
+    shelf: &mut Shelf,
+    topology: &Topology,
+    m: &Message,
+    prepared: Prepared,
+) -> Result<Messages, OutOfMemory>
+    requires store { IsFor shelf.old.actor m.now }
+    requires top { top_of m.now < 2 ^ 62 }
+    requires greatest { shelf.old.greatest < 2 ^ 62 }
+    requires prepared { IsPreparedAt topology.now shelf.old m.now prepared }
+    ensures ok { IfOk result (λ sent. AnswersByRules topology.now shelf.old shelf.new m.now sent) }
+    ensures err { OnErr result (IsSame shelf.old shelf.new) }
+{
+    match prepared {
+        Prepared::Opens(step) => take_opening(shelf, topology, m, step),
+        Prepared::Quiet => on_quiet(shelf, topology, m),
+    }
+}
+
+fn take_opening(
+    shelf: &mut Shelf,
+    topology: &Topology,
+    m: &Message,
+    step: PreparedStep,
+) -> Result<Messages, OutOfMemory>
     requires opening { may_open m.now ≡ true }
-    requires stands { Stands topology.now shelf.now }
-    ensures { IfOk result (λ sent. (messages : List Message) → StandsFor topology.now shelf.now (replay topology.now shelf.now.actor messages) → sent ≡ store_answer topology.now shelf.now.actor (replay topology.now shelf.now.actor messages) m.now) }
+    requires ready { IsReady topology.now shelf.old m.now step }
+    ensures ok { IfOk result (λ sent. AnswersByRules topology.now shelf.old shelf.new m.now sent) }
+    ensures err { OnErr result (IsSame shelf.old shelf.new) }
 {
     match m {
-        Message::Stable { .. } => answer_stable(shelf, topology, m),
-        Message::Apply { .. } => answer_apply(shelf, topology, m),
+        Message::Stable { .. } => take_stable(shelf, topology, m, step),
+        Message::Apply { .. } => take_apply(shelf, topology, m, step),
         _ => unreachable!(),
     }
 }

@@ -1,5 +1,5 @@
 //! A store.
-ghost use Rattle.std.specs.Prelude.{◌≡◌, ◌+◌, ◌<◌, ◌≤◌, ◌^◌, max, [], List, IfOk, OnOk, OnErr};
+ghost use Rattle.std.specs.Prelude.{◌≡◌, ◌+◌, ◌<◌, ◌≤◌, ◌^◌, max, [], List, All, IfOk, OnOk, OnErr};
 ghost use Rattle.std.specs.Option.{option_map, option_copied};
 ghost use Rattle.acc_stamp.specs.Actor.{shard_of};
 ghost use Rattle.acc_stamp.specs.Rising.{IsRising};
@@ -7,11 +7,13 @@ ghost use Rattle.acc_topology.specs.Layout.{Layout};
 ghost use Rattle.acc_message.specs.declared.message.Message.{Message};
 ghost use Rattle.acc_message.specs.Fields.{top_of};
 ghost use Rattle.acc_message.specs.StoreRules.{store_answer, replay};
+ghost use Rattle.acc_message_code.specs.Short.{IsShortMessage};
 ghost use Rattle.acc_message_code.specs.Weight.{weight_of_all};
 ghost use Rattle.acc_record.specs.Stands.{IsFor};
 
 use crate::queries::are_applied;
-use crate::steps::{answer_message, on_message};
+use crate::quiet::answers_quiet;
+use crate::steps::{Prepared, prepare, take};
 use acc_base::OutOfMemory;
 use acc_message::{Message, Messages};
 use acc_message_code::messages_length;
@@ -32,6 +34,7 @@ impl Store {
     ghost use Rattle.acc_store.specs.Queries.{known_writers, cell_if_applied};
     ghost use Rattle.acc_store.specs.Stands.{actor_of, greatest_in, StandsFor, IsStanding, Answers, IsAsBefore};
     ghost use Rattle.acc_store.specs.Weighing.{SendsShort};
+    ghost use Rattle.acc_store.specs.Prepared.{IsPrepared};
 
     /// A store that has taken no message. It takes no memory yet.
     pub fn new(alloc: Global, actor: Actor) -> Store
@@ -69,19 +72,58 @@ impl Store {
         ensures low { OnOk result (greatest_in self.new ≤ 1 + max (top_of m.now) (greatest_in self.old)) }
         ensures err { OnErr result (IsAsBefore self.old self.new) }
     {
-        on_message(&mut self.shelf, topology, m)
+        let prepared = self.prepare(topology, m)?;
+        self.take(topology, m, prepared)
     }
 
-    /// How many bytes of encoded messages the store would send if it took this message now.
-    pub fn weigh(&self, topology: &Topology, m: &Message) -> Result<u64, OutOfMemory>
+    /// Plans the step that takes a message. It can be weighed and taken as long as the store takes no other.
+    pub fn prepare(&self, topology: &Topology, m: &Message) -> Result<Prepared, OutOfMemory>
+        requires stands { IsStanding topology.now self.now }
+        ensures { IfOk result (IsPrepared topology.now self.now m.now) }
+    {
+        prepare(&self.shelf, topology, m)
+    }
+
+    /// Takes a message as it was planned: what it sends. Without memory for it the store is as before.
+    pub fn take(
+        &mut self,
+        topology: &Topology,
+        m: &Message,
+        prepared: Prepared,
+    ) -> Result<Messages, OutOfMemory>
+        requires store { IsFor (actor_of self.old) m.now }
+        requires top { top_of m.now < 2 ^ 62 }
+        requires greatest { greatest_in self.old < 2 ^ 62 }
+        requires stands { IsStanding topology.now self.old }
+        requires prepared { IsPrepared topology.now self.old m.now prepared }
+        ensures ok { IfOk result (λ sent. Answers topology.now self.old self.new m.now sent) }
+        ensures low { OnOk result (greatest_in self.new ≤ 1 + max (top_of m.now) (greatest_in self.old)) }
+        ensures err { OnErr result (IsAsBefore self.old self.new) }
+    {
+        take(&mut self.shelf, topology, m, prepared)
+    }
+
+    /// How many bytes of encoded messages the step that was planned would send.
+    pub fn weigh(
+        &self,
+        topology: &Topology,
+        m: &Message,
+        prepared: &Prepared,
+    ) -> Result<u64, OutOfMemory>
         requires store { IsFor (actor_of self.now) m.now }
         requires top { top_of m.now < 2 ^ 62 }
         requires greatest { greatest_in self.now < 2 ^ 62 }
         requires short { SendsShort topology.now self.now m.now }
+        requires prepared { IsPrepared topology.now self.now m.now prepared.now }
         ensures { IfOk result (λ weight. (messages : List Message) → StandsFor topology.now self.now (replay topology.now (actor_of self.now) messages) → weight ≡ weight_of_all (store_answer topology.now (actor_of self.now) (replay topology.now (actor_of self.now) messages) m.now)) }
     {
-        let sent = answer_message(&self.shelf, topology, m)?;
-        Ok(messages_length(sent.as_slice()))
+        match prepared {
+            Prepared::Opens(step) => Ok(length_of(step.sent())),
+            Prepared::Quiet => {
+                let sent = answers_quiet(&self.shelf, topology, m)?;
+                Ok(length_of(&sent))
+            }
+        }
     }
 
     /// The transactions that the store knows and that write a key of its shard, rising.
@@ -102,4 +144,13 @@ impl Store {
         }
         Some(self.shelf.cells.get(key))
     }
+}
+
+// How many bytes these messages are.
+fn length_of(sent: &Messages) -> u64
+    requires short { All IsShortMessage sent.now }
+    requires fits { weight_of_all sent.now < 2 ^ 64 }
+    ensures { result ≡ weight_of_all sent.now }
+{
+    messages_length(sent.as_slice())
 }

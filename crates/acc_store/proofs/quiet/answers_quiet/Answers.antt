@@ -1,5 +1,5 @@
 use Rattle.std.proofs.Common.{[], ◌∷◌, ◌++◌, ap, ◌∙◌}
-use Rattle.acc_store.proofs.steps.answer_message.Goals as goal
+use Rattle.acc_store.proofs.quiet.answers_quiet.Goals as goal
 
 pub returns : goal.returns
 returns c messages stands =
