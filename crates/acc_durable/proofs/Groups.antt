@@ -29,5 +29,5 @@ group_takes version marked d = room_by (may_mark version marked) (draw_bytes d) 
 pub group_is_short : (version : ℕ) (marked : Bool) (d : Draw) → AreShort (appended version marked (draw_bytes d))
 group_is_short version marked d = short_by (may_mark version marked) (draw_bytes d) (draw_long d)
 
-pub group_has_some : (version : ℕ) (marked : Bool) (d : Draw) → 0 < length (appended version marked (draw_bytes d))
-group_has_some version marked d = some_by (may_mark version marked) (draw_bytes d)
+pub group_has_some : (version : ℕ) (marked : Bool) (payload : List ℕ) → 0 < length (appended version marked payload)
+group_has_some version marked payload = some_by (may_mark version marked) payload

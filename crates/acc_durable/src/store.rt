@@ -14,6 +14,7 @@ ghost use Rattle.acc_message_code.specs.Weight.{weight_of_all};
 ghost use Rattle.acc_record.specs.Stands.{IsFor};
 ghost use Rattle.acc_store.specs.Stands.{actor_of, greatest_in, IsStanding};
 ghost use Rattle.acc_store.specs.Weighing.{SendsShort};
+ghost use Rattle.acc_store.specs.Prepared.{IsPrepared};
 ghost use Rattle.acc_payloads.specs.declared.store.StorePayload.{StorePayload as Payload};
 ghost use Rattle.acc_payloads.specs.Journals.{appended, marked_after};
 ghost use Rattle.acc_payloads.specs.Store.{IsStoreJournal};
@@ -32,7 +33,7 @@ use acc_journal::{Journal, JournalError};
 use acc_message::{Message, Messages};
 use acc_ports::{Disk, Rig};
 use acc_stamp::Actor;
-use acc_store::Store;
+use acc_store::{Prepared, Store};
 use acc_topology::Topology;
 use std::alloc::Global;
 
@@ -168,7 +169,8 @@ impl<D: Disk> DurableStore<D> {
             → Reads left (left_by_choice (D.armed self.old.journal.disk) choice self.old.journal.payloads (appended self.old.version self.old.marked (message_bytes m.now)))) }
     {
         let _sound = self.journal.is_broken();
-        let sent = self.stage(topology, m)?;
+        let prepared = self.prepare(topology, m)?;
+        let sent = self.stage(topology, m, prepared)?;
         match self.settle() {
             Ok(()) => Ok(sent),
             Err(StepError::DiskFault { .. }) => Err(StepError::DiskFault { unsent: sent }),
@@ -176,9 +178,22 @@ impl<D: Disk> DurableStore<D> {
         }
     }
 
-    /// Takes a message whose payload isn't on the disk yet: it is staged for `settle`. The answers may go out once that has succeeded.
-    /// After an error all is as before. It makes no call of the disk.
-    pub fn stage(&mut self, topology: &Topology, m: &Message) -> Result<Messages, OutOfMemory>
+    /// Plans the step that takes a message. It can be weighed and staged as long as the store takes no other. It makes no call of the disk.
+    pub fn prepare(&self, topology: &Topology, m: &Message) -> Result<Prepared, OutOfMemory>
+        requires stands { IsStanding topology.now self.now.store }
+        ensures { IfOk result (IsPrepared topology.now self.now.store m.now) }
+    {
+        self.store.prepare(topology, m)
+    }
+
+    /// Takes a message as it was planned, whose payload isn't on the disk yet: it is staged for `settle`. The answers may go out once that
+    /// has succeeded. After an error all is as before. It makes no call of the disk.
+    pub fn stage(
+        &mut self,
+        topology: &Topology,
+        m: &Message,
+        prepared: Prepared,
+    ) -> Result<Messages, OutOfMemory>
         requires sound { self.old.journal.broken ≡ false }
         requires short { IsShortMessage m.now }
         requires store { IsFor (actor_in self.old) m.now }
@@ -186,6 +201,7 @@ impl<D: Disk> DurableStore<D> {
         requires greatest { greatest_in self.old.store < 2 ^ 62 }
         requires stands { IsStanding topology.now self.old.store }
         requires texts { has_text m.now ≡ true → self.old.version ≡ 2 }
+        requires prepared { IsPrepared topology.now self.old.store m.now prepared }
         ensures ok { IfOk result (λ sent. (messages : List Told) → StandsFor topology.now self.old messages → Takes topology.now self.old self.new messages m.now sent) }
         ensures fits { OnOk result (FitsMessage m.now) }
         ensures journal { OnOk result (self.new.journal ≡ record self.old.journal { group = self.old.journal.group ++ appended self.old.version self.old.marked (message_bytes m.now) }) }
@@ -195,7 +211,7 @@ impl<D: Disk> DurableStore<D> {
         let before = self.journal.count();
         self.journal
             .put(self.version, self.marked, &Taken { message: m })?;
-        match self.store.step(topology, m) {
+        match self.store.take(topology, m, prepared) {
             Ok(sent) => {
                 self.marked = is_marked(self.version, self.marked);
                 self.staged = self.staged.saturating_add(1);
@@ -263,15 +279,21 @@ impl<D: Disk> DurableStore<D> {
         self.staged
     }
 
-    /// How many bytes of encoded messages the store would send if it took this message now. It makes no call of the disk.
-    pub fn weigh(&self, topology: &Topology, m: &Message) -> Result<u64, OutOfMemory>
+    /// How many bytes of encoded messages the step that was planned would send. It makes no call of the disk.
+    pub fn weigh(
+        &self,
+        topology: &Topology,
+        m: &Message,
+        prepared: &Prepared,
+    ) -> Result<u64, OutOfMemory>
         requires store { IsFor (actor_in self.now) m.now }
         requires top { top_of m.now < 2 ^ 62 }
         requires greatest { greatest_in self.now.store < 2 ^ 62 }
         requires short { SendsShort topology.now self.now.store m.now }
+        requires prepared { IsPrepared topology.now self.now.store m.now prepared.now }
         ensures { IfOk result (λ weight. (messages : List Told) → StandsFor topology.now self.now messages → weight ≡ weight_of_all (store_answer topology.now (actor_in self.now) (replayed topology.now (actor_in self.now) messages) m.now)) }
     {
-        self.store.weigh(topology, m)
+        self.store.weigh(topology, m, prepared)
     }
 
     /// The store as it stands after what is journalled and staged. Takes no memory.
