@@ -10,6 +10,7 @@ use Rattle.acc_message_code.specs.Short.{IsShortMessage}
 use Rattle.acc_message_code.specs.Weight.{weight_of_all}
 use Rattle.acc_node.specs.Weighing.{SendsShort, node_sends}
 use Rattle.acc_node.proofs.Clocks.{number_is}
+use Rattle.acc_store.specs.Stands.{IsStanding}
 use Rattle.acc_store.specs.Weighing as store_weighing
 use Rattle.acc_durable.specs.declared.node.DurableNode.{DurableNode}
 use Rattle.acc_durable.specs.declared.store.DurableStore.{DurableStore}
@@ -69,6 +70,10 @@ module _ {D : Type 0} (images : D → List ℕ → Type 0) (layout : Layout) (ac
 module _ {D : Type 0} (images : D → List ℕ → Type 0) (layout : Layout) (actor : StoreActor D) (s : DurableStore D) (is : actor.state ≡ OpenStore s) (sound : store_actor.is_down actor ≡ false) where
   store_here : (own : Actor) (version : ℕ) (past : Past Message) (staged : List (Stop Message)) → store_actor.IsStaging images layout own version past staged actor → store_actor.IsUp layout own version past staged s
   store_here own version past staged stands = stores.up_in layout own version past staged actor.state s is (stands.up sound)
+
+  pub store_stands : (m : Message) → store_actor.MayStage images layout actor m → IsStanding layout s.store
+  store_stands m may =
+      ((kept_with may.0 may.1.past).acts, (store_here may.1.own may.1.version may.1.past may.0 may.1.stands).stands.stands)
 
   pub store_can : (m : Message) → StoreMayWeigh images layout actor m → stores.CanTake s m
   store_can m may = stores.can_take images layout actor s m is sound may.may

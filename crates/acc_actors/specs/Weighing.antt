@@ -9,6 +9,10 @@ use Rattle.acc_message_code.specs.Short.{IsShortMessage}
 use Rattle.acc_message_code.specs.Weight.{weight_of_all}
 use Rattle.acc_actors.specs.declared.node.NodeActor.{NodeActor}
 use Rattle.acc_actors.specs.declared.store.StoreActor.{StoreActor}
+use Rattle.acc_actors.specs.declared.store.StoreState.{StoreState}
+use Rattle.acc_actors.specs.declared.store.StoreState.TheVariants.{Open, Shut}
+use Rattle.acc_store.specs.declared.steps.Prepared.{Prepared}
+use Rattle.acc_store.specs.Prepared.{IsPrepared}
 use Rattle.acc_actors.specs.Stops.{Stop, Past, kept_with}
 use Rattle.acc_actors.specs.Node as node
 use Rattle.acc_actors.specs.Store as store
@@ -31,3 +35,11 @@ pub record StoreMayWeigh {D : Type 0} (images : D → List ℕ → Type 0) (layo
   pub stands : store.IsStaging images layout own version past staged actor
   pub short : All IsShortMessage (store.emits_next layout own (kept_with staged past) m).out
   pub fits : weight_of_all (store.emits_next layout own (kept_with staged past) m).out < 2 ^ 64
+
+-- The step of a message is planned for the store as it stands, with what is staged.
+abbrev pub IsPreparedIn : {D : Type 0} → Layout → StoreState D → Message → Prepared → Type 0
+IsPreparedIn layout (Open durable) m prepared = IsPrepared layout durable.store m prepared
+IsPreparedIn layout (Shut disk) m prepared = ⊥
+
+abbrev pub IsPreparedBy : {D : Type 0} → Layout → StoreActor D → Message → Prepared → Type 0
+IsPreparedBy layout actor m prepared = IsPreparedIn layout actor.state m prepared

@@ -17,7 +17,7 @@ use acc_journal::JournalError;
 use acc_message::{Emitted, Event, Message, Messages, Notes};
 use acc_ports::Rig;
 use acc_stamp::Actor;
-use acc_store::Store;
+use acc_store::{Prepared, Store};
 use acc_topology::Topology;
 use std::alloc::Global;
 
@@ -50,6 +50,7 @@ impl<D: Rig> StoreActor<D> {
     ghost use Rattle.acc_durable.specs.Store.{StandsFor as Durable, actor_in};
     ghost use Rattle.acc_actors.specs.Stops.{after_step, kept_with, after_group, is_up, KeepsByChoice, HoldsPayloads};
     ghost use Rattle.acc_actors.specs.Store.{IsStaging, StandsFor, IsStrictAt, MayTake, MayStage, MaySettle, Steps, Settles, KeptIn, message_stop, past_after, disk_of, is_down};
+    ghost use Rattle.acc_actors.specs.Weighing.{IsPreparedBy};
 
     /// A durable store of this actor, which has this version and nothing staged.
     pub fn opened(alloc: Global, actor: Actor, version: u8, store: DurableStore<D>) -> StoreActor<D>
@@ -96,7 +97,8 @@ impl<D: Rig> StoreActor<D> {
             × IsStrictAt D.strict D.armed D.content D.synced D.written topology.now own version (after_append armed) (passed_in armed)
             (after_step given past (message_stop number m.now)) self.new) }
     {
-        self.stage(topology, number, m)?;
+        let prepared = self.prepare(topology, m)?;
+        self.stage(topology, number, m, prepared)?;
         let Some(settled) = self.settle()? else {
             return Ok(None);
         };
@@ -107,16 +109,31 @@ impl<D: Rig> StoreActor<D> {
         }
     }
 
-    /// Takes the message that has this number, behind what is staged. It isn't on the disk before `settle`, which gives what the store
-    /// sends for it. After an error all is as before. It makes no call of the disk.
+    /// Plans the step that takes a message behind what is staged. It can be weighed and staged as long as the store takes no other. It
+    /// makes no call of the disk.
+    pub fn prepare(&self, topology: &Topology, m: &Message) -> Result<Prepared, OutOfMemory>
+        requires up { is_down self.now ≡ false }
+        requires may { MayStage D.is_image topology.now self.now m.now }
+        ensures { IfOk result (IsPreparedBy topology.now self.now m.now) }
+    {
+        let StoreState::Open(store) = &self.state else {
+            unreachable!()
+        };
+        store.prepare(topology, m)
+    }
+
+    /// Takes the message that has this number as it was planned, behind what is staged. It isn't on the disk before `settle`, which gives
+    /// what the store sends for it. After an error all is as before. It makes no call of the disk.
     pub fn stage(
         &mut self,
         topology: &Topology,
         number: u64,
         m: &Message,
+        prepared: Prepared,
     ) -> Result<(), OutOfMemory>
         requires up { is_down self.old ≡ false }
         requires may { MayStage D.is_image topology.now self.old m.now }
+        requires prepared { IsPreparedBy topology.now self.old m.now prepared }
 
         ensures ok { OnOk result ((own : Name) (version : ℕ) (past : Past Told) (staged : List (Stop Told)) → IsStaging D.is_image topology.now own version past staged self.old
             → IsStaging D.is_image topology.now own version past (staged ++ message_stop number m.now ∷ []) self.new) }
@@ -133,7 +150,7 @@ impl<D: Rig> StoreActor<D> {
         let StoreState::Open(store) = &mut self.state else {
             unreachable!()
         };
-        let out = store.stage(topology, m)?;
+        let out = store.stage(topology, m, prepared)?;
         let emitted = self.emitted(out);
         let event = Event::Message { number };
         put(&mut self.unsent, Unsent { event, emitted });

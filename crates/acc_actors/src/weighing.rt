@@ -12,6 +12,7 @@ use acc_base::OutOfMemory;
 use acc_message::Message;
 use acc_ports::Rig;
 use acc_stamp::TxnId;
+use acc_store::Prepared;
 use acc_topology::Topology;
 use acc_txn::Body;
 
@@ -71,18 +72,24 @@ impl<D: Rig> NodeActor<D> {
 
 impl<D: Rig> StoreActor<D> {
     ghost use Rattle.acc_actors.specs.Store.{IsStaging, emits_next, is_down};
-    ghost use Rattle.acc_actors.specs.Weighing.{StoreMayWeigh};
+    ghost use Rattle.acc_actors.specs.Weighing.{StoreMayWeigh, IsPreparedBy};
 
-    /// How many bytes of encoded messages the store would send now for a message that it may take behind what is staged.
-    pub fn weigh(&self, topology: &Topology, m: &Message) -> Result<u64, OutOfMemory>
+    /// How many bytes of encoded messages the step that was planned would send.
+    pub fn weigh(
+        &self,
+        topology: &Topology,
+        m: &Message,
+        prepared: &Prepared,
+    ) -> Result<u64, OutOfMemory>
         requires up { is_down self.now ≡ false }
         requires may { StoreMayWeigh D.is_image topology.now self.now m.now }
+        requires prepared { IsPreparedBy topology.now self.now m.now prepared.now }
         ensures { IfOk result (λ weight. (own : Name) (version : ℕ) (past : Past Told) (staged : List (Stop Told)) → IsStaging D.is_image topology.now own version past staged self.now
             → weight ≡ weight_of_all (emits_next topology.now own (kept_with staged past) m.now).out) }
     {
         let StoreState::Open(store) = &self.state else {
             unreachable!()
         };
-        store.weigh(topology, m)
+        store.weigh(topology, m, prepared)
     }
 }

@@ -1,9 +1,10 @@
 -- What the durable store staged stands behind what was staged before.
-use Rattle.std.proofs.Common.{◌≡◌, false, List, [], ◌∷◌, ◌++◌, sym, ap, ◌∙◌}
+use Rattle.std.proofs.Common.{◌≡◌, false, List, [], ◌∷◌, ◌++◌, sym, ap, ◌∙◌, subst}
 use Rattle.acc_message.specs.declared.entry.Event.{Event}
 use Rattle.acc_message.specs.declared.entry.Emitted.{Emitted}
 use Rattle.acc_actors.specs.declared.stops.Unsent.{Unsent}
 use Rattle.acc_actors.specs.Store.{is_shut}
+use Rattle.acc_actors.specs.Weighing.{IsPreparedIn}
 use Rattle.acc_actors.proofs.Stores.{up_in}
 use Rattle.acc_actors.proofs.StoreSteps.{stages}
 use Rattle.acc_actors.proofs.store.StoreActor.stage.Goals as goal
@@ -13,6 +14,10 @@ room_more : (later room before : List Unsent) (event : Event) (told emitted : Em
     → later ≡ before ++ record { event = event; emitted = emitted } ∷ []
 room_more later room before event told emitted e f h =
     e ∙ ap (λ (l : List Unsent). l ++ record { event = event; emitted = told } ∷ []) f ∙ ap (λ (x : Emitted). before ++ record { event = event; emitted = x } ∷ []) h
+
+pub stage-requires-clause-prepared : goal.stage-requires-clause-prepared
+stage-requires-clause-prepared g c =
+    subst (λ state. IsPreparedIn c.args.topology.now state c.args.m.now c.args.prepared) c.in-Open.is c.requires.prepared
 
 pub returns-clause-ok : goal.returns-clause-ok
 returns-clause-ok g c = λ own version past staged stands.

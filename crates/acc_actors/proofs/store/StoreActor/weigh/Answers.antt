@@ -1,3 +1,5 @@
+use Rattle.std.proofs.Common.{subst}
+use Rattle.acc_actors.specs.Weighing.{IsPreparedIn}
 use Rattle.acc_actors.proofs.Weighed.{store_can, store_sends_short, store_weighs}
 use Rattle.acc_actors.proofs.store.StoreActor.weigh.Goals as goal
 
@@ -16,6 +18,10 @@ weigh-requires-clause-greatest g c =
 pub weigh-requires-clause-short : goal.weigh-requires-clause-short
 weigh-requires-clause-short g c =
     store_sends_short g.D.Disk.is_image c.args.topology.now c.args.self.now c.in-Open.store c.in-Open.is c.requires.up c.args.m.now c.requires.may
+
+pub weigh-requires-clause-prepared : goal.weigh-requires-clause-prepared
+weigh-requires-clause-prepared g c =
+    subst (λ state. IsPreparedIn c.args.topology.now state c.args.m.now c.args.prepared.now) c.in-Open.is c.requires.prepared
 
 pub returns : goal.returns
 returns g c =
