@@ -7,12 +7,15 @@ use Rattle.acc_stamp.specs.declared.actors.Actor.{Actor}
 use Rattle.acc_stamp.specs.Actor.{node_of}
 use Rattle.acc_ports.specs.Strict.{Ranges}
 use Rattle.acc_message.specs.declared.entry.Event.{Event}
+use Rattle.acc_message.specs.declared.message.Message.{Message}
 use Rattle.acc_message.specs.Run.{clock_start, is_node, is_down}
 use Rattle.acc_payloads.specs.Items.{downs_in}
 use Rattle.acc_actors.specs.declared.node.NodeActor.{NodeActor}
 use Rattle.acc_actors.specs.declared.store.StoreActor.{StoreActor}
 use Rattle.acc_actors.specs.Node as node
 use Rattle.acc_actors.specs.Store as store
+use Rattle.acc_actors.specs.Weighing.{IsPreparedBy}
+use Rattle.acc_store.specs.declared.steps.Prepared.{Prepared}
 use Rattle.acc_schedule.specs.Content.{Content}
 use Rattle.acc_follow.specs.Situations.{Situation, whole}
 use Rattle.acc_follow.specs.Schedules.{cluster_of}
@@ -72,3 +75,9 @@ abbrev pub IsTaken : {D : Type 0} → Slot D → Type 0
 IsTaken Empty = ⊥
 IsTaken (Node n) = Unit {0}
 IsTaken (Store t) = Unit {0}
+
+-- the step of a message is planned for the store in the slot, with what is staged
+abbrev pub IsPreparedIn : {D : Type 0} → Content → Slot D → Message → Prepared → Type 0
+IsPreparedIn plan Empty m prepared = ⊥
+IsPreparedIn plan (Node node) m prepared = ⊥
+IsPreparedIn plan (Store store) m prepared = IsPreparedBy plan.topology store m prepared

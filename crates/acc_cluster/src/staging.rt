@@ -1,9 +1,12 @@
 //! Groups of messages that a store takes with one append.
-ghost use Rattle.std.specs.Prelude.{◌≡◌, ◌≢◌, ◌≤◌, List, [], ◌∷◌, ◌++◌, IfOk, OnOk, OnErr, Ok, None};
+ghost use Rattle.std.specs.Prelude.{◌≡◌, ◌≢◌, ◌≤◌, false, List, [], ◌∷◌, ◌++◌, IfOk, OnOk, OnErr, Ok, None};
 ghost use Rattle.acc_ports.specs.Faults.{Rose};
 ghost use Rattle.acc_message.specs.declared.entry.Event.{Event as AnEvent};
 ghost use Rattle.acc_message.specs.NodeRules.{Takes};
+ghost use Rattle.acc_message_code.specs.Weight.{weight_of};
 ghost use Rattle.acc_follow.specs.Situations.{Situation};
+ghost use Rattle.acc_follow.specs.Moves.{entry_of, entered_all};
+ghost use Rattle.acc_follow.specs.Schedules.{cluster_of};
 ghost use Rattle.acc_strict.specs.Disks.{Disks};
 
 use crate::slot::Slot;
@@ -14,21 +17,51 @@ use acc_numbers_alone::laws::messages_have_numbers_alone;
 use acc_ports::Rig;
 use acc_schedule::Plan;
 use acc_stamp::Actor;
+use acc_store::Prepared;
 
 impl<D: Rig> Slot<D> {
-    ghost use Rattle.acc_cluster.specs.Slots.{SlotStages, IsStrictSlot, faults_in};
+    ghost use Rattle.acc_cluster.specs.Slots.{SlotStages, IsStrictSlot, IsPreparedIn, faults_in};
     ghost use Rattle.acc_cluster.specs.Asked.{IsAskedBehind, MayAskBehind, IsStaged, HasSettled, HasSettledStrictly};
 
-    /// The store takes the message with this number, behind those that are staged. It is in no image of the disk before `settle`, which
-    /// gives what the store sends for it. After an error all is as before. It makes no call of the disk.
+    /// Plans the step of the store that takes the message with this number, behind those that are staged, and tells how many bytes of
+    /// encoded messages it sends. It can be staged as long as the store takes no other. It makes no call of a disk.
+    pub fn prepare(
+        &self,
+        plan: &Plan,
+        actor: Actor,
+        number: u64,
+        m: &Message,
+    ) -> Result<(u64, Prepared), OutOfMemory>
+        requires { MayAskBehind D.is_image D.faults plan.now actor (AnEvent.Message number) (Takes m.now) self.now }
+        ensures weight { IfOk result (λ found. (s : Situation) (staged : List AnEvent) → IsAskedBehind D.is_image D.faults plan.now s actor staged (AnEvent.Message number) (Takes m.now) self.now
+            → found.0 ≡ weight_of (entry_of (cluster_of plan.now) (entered_all (cluster_of plan.now) s actor staged false) actor (AnEvent.Message number) false)) }
+        ensures prepared { IfOk result (λ found. IsPreparedIn plan.now self.now m.now found.1) }
+    {
+        messages_have_numbers_alone();
+        let _actor = actor;
+        let _number = number;
+        match self {
+            Slot::Empty | Slot::Node(_) => Err(OutOfMemory),
+            Slot::Store(store) => {
+                let prepared = store.prepare(&plan.topology, m)?;
+                let weight = store.weigh(&plan.topology, m, &prepared)?;
+                Ok((weight, prepared))
+            }
+        }
+    }
+
+    /// The store takes the message with this number as it was planned, behind those that are staged. It is in no image of the disk before
+    /// `settle`, which gives what the store sends for it. After an error all is as before. It makes no call of the disk.
     pub fn stage(
         &mut self,
         plan: &Plan,
         actor: Actor,
         number: u64,
         m: &Message,
+        prepared: Prepared,
     ) -> Result<(), OutOfMemory>
-        requires { MayAskBehind D.is_image D.faults plan.now actor (AnEvent.Message number) (Takes m.now) self.old }
+        requires may { MayAskBehind D.is_image D.faults plan.now actor (AnEvent.Message number) (Takes m.now) self.old }
+        requires prepared { IsPreparedIn plan.now self.old m.now prepared }
         ensures ok { OnOk result ((s : Situation) (staged : List AnEvent) → IsAskedBehind D.is_image D.faults plan.now s actor staged (AnEvent.Message number) (Takes m.now) self.old
             → SlotStages D.is_image D.faults plan.now s actor (staged ++ AnEvent.Message number ∷ []) self.new) }
         ensures err { OnErr result ((s : Situation) (staged : List AnEvent) → SlotStages D.is_image D.faults plan.now s actor staged self.old
@@ -41,7 +74,7 @@ impl<D: Rig> Slot<D> {
         let _actor = actor;
         match self {
             Slot::Empty | Slot::Node(_) => Err(OutOfMemory),
-            Slot::Store(store) => store.stage(&plan.topology, number, m),
+            Slot::Store(store) => store.stage(&plan.topology, number, m, prepared),
         }
     }
 

@@ -77,7 +77,10 @@ impl<D: Rig> Slot<D> {
         match self {
             Slot::Empty => Err(OutOfMemory),
             Slot::Node(node) => node.weigh_take(&plan.topology, m),
-            Slot::Store(store) => store.weigh(&plan.topology, m),
+            Slot::Store(store) => {
+                let prepared = store.prepare(&plan.topology, m)?;
+                store.weigh(&plan.topology, m, &prepared)
+            }
         }
     }
 }
