@@ -190,14 +190,15 @@ impl<D: Rig + Drop, J: Planned> Desk<D, J> {
             → IsGathering D.is_image D.faults D.strict D.armed D.content D.synced D.written J.strict plan.now tape.now self.new.actor self.new.seat first self.new.slot self.new.commands self.new.gone joinings weights.new.items) }
     {
         weights.reserve(1)?;
-        let weight = self.slot.weigh_take(plan, self.actor, number, message)?;
+        let (weight, prepared) = self.slot.prepare(plan, self.actor, number, message)?;
         match tape.reserve(rt, &mut self.seat, weight) {
             Ok(()) => {}
             Err(TapeError::Full { .. }) => return Ok(true),
             Err(TapeError::OutOfMemory) => return Err(OutOfMemory),
         }
         weights.push_reserved(weight);
-        self.slot.stage(plan, self.actor, number, message)?;
+        self.slot
+            .stage(plan, self.actor, number, message, prepared)?;
         Ok(false)
     }
 }

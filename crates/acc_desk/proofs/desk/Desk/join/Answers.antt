@@ -15,14 +15,14 @@ on_err : {X E P : Type 0} (r : Result X E) → P → OnErr r P
 on_err (Ok x) h = tt
 on_err (Err e) h = h
 
-pub weigh_take-requires : goal.weigh_take-requires
-weigh_take-requires g c =
+pub prepare-requires : goal.prepare-requires
+prepare-requires g c =
     let self = c.args.self.now in
     let q = c.requires.group in
     asks_now g.D.Disk.is_image g.D.Disk.faults g.D.Disk.strict g.D.Disk.armed g.D.Disk.content g.D.Disk.synced g.D.Disk.written g.J.Planned.strict c.args.plan.now c.args.tape.now c.requires.limits self.actor self.commands self.gone q.0 self.slot q.1 c.args.weights.now.items self.seat (record { event = MessageEvent c.args.number; act = Takes c.args.message.now }) q.2
 
-pub stage-requires : goal.stage-requires
-stage-requires g c =
+pub stage-requires-clause-may : goal.stage-requires-clause-may
+stage-requires-clause-may g c =
     let self = c.args.self.now in
     let q = c.requires.group in
     asks_now g.D.Disk.is_image g.D.Disk.faults g.D.Disk.strict g.D.Disk.armed g.D.Disk.content g.D.Disk.synced g.D.Disk.written g.J.Planned.strict c.args.plan.now c.args.tape.now c.requires.limits self.actor self.commands self.gone q.0 self.slot q.1 c.args.weights.now.items self.seat (record { event = MessageEvent c.args.number; act = Takes c.args.message.now }) q.2
@@ -44,7 +44,7 @@ returns-clause-ok g c = λ first joinings can.
     subst (λ (ws : List ℕ). IsGathering g.D.Disk.is_image g.D.Disk.faults g.D.Disk.strict g.D.Disk.armed g.D.Disk.content g.D.Disk.synced g.D.Disk.written g.J.Planned.strict c.args.plan.now c.args.tape.now self.actor c.reserve-2.new.seat first c.stage.new.self self.commands self.gone (joinings ++ j ∷ []) ws)
     (sym (c.push_reserved.ensures.items ∙ ap (λ (ws : List ℕ). ws ++ weight ∷ []) c.reserve.ensures.items))
     (joins g.D.Disk.is_image g.D.Disk.faults g.D.Disk.strict g.D.Disk.armed g.D.Disk.content g.D.Disk.synced g.D.Disk.written g.J.Planned.strict c.args.plan.now c.args.tape.now c.requires.limits self.actor self.commands self.gone first self.slot joinings c.args.weights.now.items self.seat j can c.reserve-2.new.seat turns c.reserve-2.ensures.same.0
-    c.stage.new.self weight (c.in-Ok.ensures.ok ∙ ap (λ h. h ++ weight ∷ []) can.gathering.desk.seated.held_is) c.in_ok-weight.ensures c.in_ok-stage.ensures.ok c.stage.ensures.strict)
+    c.stage.new.self weight (c.in-Ok.ensures.ok ∙ ap (λ h. h ++ weight ∷ []) can.gathering.desk.seated.held_is) c.in_ok-weight.ensures.weight c.in_ok-stage.ensures.ok c.stage.ensures.strict)
 
 pub returns-in_err-reserve-clause-err : goal.returns-in_err-reserve-clause-err
 returns-in_err-reserve-clause-err g c =
