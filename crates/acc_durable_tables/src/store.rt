@@ -125,7 +125,8 @@ impl OpenStore {
             admits(store, self.version, m),
             "a message that it doesn't take"
         );
-        let sent = store.stage(&self.topology, m)?;
+        let prepared = store.prepare(&self.topology, m)?;
+        let sent = store.stage(&self.topology, m, prepared)?;
         self.pending = true;
         told(self.alloc, "sent", &[], sent.as_slice())
     }

@@ -53,7 +53,8 @@ impl WeighedStore {
         ensure!(self.admits(m), "a message that it doesn't take");
         let first = self.twin.step(&self.topology, m)?;
         weight(first.as_slice()).context("an answer that is too long")?;
-        let told = self.store.weigh(&self.topology, m)?;
+        let prepared = self.store.prepare(&self.topology, m)?;
+        let told = self.store.weigh(&self.topology, m, &prepared)?;
         let sent = self.store.step(&self.topology, m);
         match sent {
             Ok(sent) => weighed(self.alloc, told, &[], sent.as_slice()),

@@ -49,8 +49,9 @@ impl Twins {
         ensure!(is_low(self.second.greatest()), "a stamp out of range");
         let sent = self.first.step(&self.topology, m)?;
         weight(sent.as_slice()).context("an answer that is too long")?;
-        let told = self.second.weigh(&self.topology, m)?;
-        let again = self.second.step(&self.topology, m)?;
+        let prepared = self.second.prepare(&self.topology, m)?;
+        let told = self.second.weigh(&self.topology, m, &prepared)?;
+        let again = self.second.take(&self.topology, m, prepared)?;
         Ok((told, spelled(alloc, again.as_slice())?))
     }
 }
