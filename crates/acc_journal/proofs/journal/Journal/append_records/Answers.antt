@@ -1,5 +1,5 @@
 -- The group of all that waits.
-use Rattle.std.proofs.Common.{arith, ◌≡◌, ◌∙◌, ap, sym, subst, ℕ, ◌-◌, List, [], ◌∷◌, ◌++◌, length, vec_len}
+use Rattle.std.proofs.Common.{arith, ◌≡◌, ◌∙◌, ap, sym, subst, ℕ, ◌-◌, List, ◌++◌, length, vec_len}
 use Rattle.std.specs.Prelude.{OnOk, false, IsTrue}
 use Rattle.acc_ports.specs.Disk.{LeavesOnly}
 use Rattle.acc_journal.specs.Layout.{Reads, payloads_of}
