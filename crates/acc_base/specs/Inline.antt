@@ -1,5 +1,5 @@
 -- A text that stands in place if it is short.
-use Rattle.std.specs.Prelude.{ℕ, List, Vec}
+use Rattle.std.specs.Prelude.{ℕ, List}
 use Rattle.std.specs.Arc.{arc_value}
 use Rattle.acc_base.specs.declared.inline.Form.{Form}
 use Rattle.acc_base.specs.declared.inline.Form.TheVariants.{Short, Long}
