@@ -1,7 +1,8 @@
 use Rattle.std.proofs.Common.{ℕ, List, sym, subst}
 use Rattle.std.proofs.lemmas.Result.{IfOk-weaker}
 use Rattle.acc_message.specs.declared.message.Message.{Message}
-use Rattle.acc_node.specs.Stands.{HasTaken}
+use Rattle.acc_txn.specs.declared.outcome.Outcome.{Outcome}
+use Rattle.acc_node.specs.Stands.{HasInformed, HasTaken}
 use Rattle.acc_node.proofs.Taking.{inform_taken, heard_taken, not_inform}
 use Rattle.acc_node.proofs.node.Node.take.Goals as goal
 
@@ -12,7 +13,8 @@ returns-in-Inform-clause-ok c =
     IfOk-weaker c.inform.result _ _
     (λ emitted h number start acts s.
     subst (λ (m : Message). HasTaken layout number start c.args.self.now c.inform.new.self acts m emitted) (sym w.is)
-    (inform_taken layout number start acts c.args.self.now c.inform.new.self s w.from w.to w.id w.ballot w.outcome emitted h))
+    (inform_taken layout number start acts c.args.self.now c.inform.new.self s w.from w.to w.id w.ballot w.outcome emitted
+    (subst (λ (o : Outcome). HasInformed c.args.self.now c.inform.new.self w.id o.reply emitted) c.outcome.ensures h)))
     c.inform.ensures.ok
 
 pub returns-in_default-clause-ok : goal.returns-in_default-clause-ok
