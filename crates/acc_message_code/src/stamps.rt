@@ -1,5 +1,5 @@
 //! Actors and stamps.
-ghost use Rattle.std.specs.Prelude.{◌≡◌, ◌++◌, OnOk, OnErr};
+ghost use Rattle.std.specs.Prelude.{◌≡◌, ◌≤◌, ◌++◌, length, drop, OnOk, OnErr};
 ghost use Rattle.acc_message_code.specs.Spelling.{actor_bytes, stamp_bytes};
 ghost use Rattle.acc_message_code.specs.Short.{IsShortActor};
 ghost use Rattle.acc_message_code.specs.Fitting.{FitsStamp};
@@ -10,7 +10,8 @@ ghost use Rattle.acc_code.specs.Writing.{Keeps};
 use acc_base::{Bytes, OutOfMemory};
 use acc_code::CodeError;
 use acc_stamp::{Actor, Ballot, Stamp, TxnId};
-use acc_wire::{Reader, put_u16, put_u32, put_u64};
+use acc_wire::{Reader, put_u16};
+use byteorder::{BigEndian, ByteOrder};
 
 /// How many bytes a stamp takes.
 pub(crate) const STAMP: u64 = 12;
@@ -25,15 +26,27 @@ pub(crate) fn put_actor(out: &mut Bytes, actor: Actor) -> Result<(), OutOfMemory
     put_u16(out, actor.0 as u16)
 }
 
+/// Writes a stamp over the first bytes of a field.
+#[tactic(auto, unfolding(crate::specs::Spelling::stamp_bytes, acc_wire::specs::Spelling::u64_bytes, acc_wire::specs::Spelling::u32_bytes))]
+pub(crate) fn write_stamp(field: &mut [u8], stamp: Stamp)
+    requires { 12 ≤ length field.old }
+    ensures spelled { field.new ≡ stamp_bytes stamp ++ drop 12 field.old }
+    ensures fits { FitsStamp stamp }
+{
+    BigEndian::write_u64(field, stamp.h);
+    BigEndian::write_u32(&mut field[8..], stamp.origin);
+}
+
 /// Appends a stamp.
-#[tactic(auto, using(acc_code::proofs::Kept::keeps_all, acc_code::proofs::Kept::keeps_front, acc_code::proofs::Kept::keeps_more), unfolding(crate::specs::Spelling::stamp_bytes))]
+#[tactic(auto, using(acc_code::proofs::Kept::keeps_all))]
 pub(crate) fn put_stamp(out: &mut Bytes, stamp: Stamp) -> Result<(), OutOfMemory>
     ensures spelled { OnOk result (out.new ≡ out.old ++ stamp_bytes stamp) }
     ensures kept { OnErr result (Keeps out.old out.new) }
     ensures fits { FitsStamp stamp }
 {
-    put_u64(out, stamp.h)?;
-    put_u32(out, stamp.origin)
+    let mut field = [0; STAMP as usize];
+    write_stamp(&mut field, stamp);
+    out.extend_from_slice(&field)
 }
 
 /// An actor.
