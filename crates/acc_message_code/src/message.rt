@@ -11,7 +11,7 @@ ghost use Rattle.acc_code.specs.Writing.{Keeps};
 
 use crate::answer::put_answer;
 use crate::deps::put_deps;
-use crate::envelope::{put_envelope, take_envelope};
+use crate::envelope::{put_head, take_envelope};
 use crate::message_lengths::message_length;
 use crate::records::put_settled;
 use crate::replies::take_reply;
@@ -21,7 +21,7 @@ use crate::view::put_view;
 use acc_base::{Bytes, OutOfMemory};
 use acc_code::{CodeError, put_body, put_outcome, take_between};
 use acc_message::{Envelope, Message};
-use acc_wire::{Reader, put_u8};
+use acc_wire::Reader;
 use std::alloc::Global;
 
 fn number_of(m: &Message) -> u8
@@ -86,8 +86,7 @@ fn put_parts(out: &mut Bytes, m: &Message) -> Result<(), OutOfMemory>
     ensures kept { OnErr result (Keeps out.old out.new) }
     ensures fits { OnOk result (FitsMessage m.now) }
 {
-    put_u8(out, number_of(m))?;
-    put_envelope(out, m.envelope())?;
+    put_head(out, number_of(m), m.envelope())?;
     put_content(out, m)
 }
 

@@ -5,15 +5,13 @@ ghost use Rattle.acc_message_code.specs.Spelling.{deps_bytes};
 ghost use Rattle.acc_message_code.specs.Short.{AreShortDeps, IsShortAnswer, HasShortContent, IsShortMessage};
 ghost use Rattle.acc_message_code.specs.MessageSpelling.{answer_bytes, content_bytes, message_bytes};
 
+use crate::envelope::HEAD;
 use crate::lengths::{dated_length, deps_length, view_length};
 use crate::stamps::STAMP;
 use acc_code::{body_length, cells_length, outcome_length};
 use acc_deps::Deps;
 use acc_message::{Message, ReadAnswer};
 use acc_txn::Body;
-
-/// How many bytes the number of a message and what all messages have in common take.
-const HEAD: u64 = 29;
 
 #[tactic(auto, unfolding(crate::specs::MessageSpelling::answer_bytes))]
 fn answer_length(answer: &ReadAnswer) -> u64

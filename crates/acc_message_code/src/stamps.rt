@@ -26,6 +26,16 @@ pub(crate) fn put_actor(out: &mut Bytes, actor: Actor) -> Result<(), OutOfMemory
     put_u16(out, actor.0 as u16)
 }
 
+/// Writes the number of an actor over the first bytes of a field.
+#[tactic(auto, unfolding(crate::specs::Spelling::actor_bytes, acc_wire::specs::Spelling::u16_bytes))]
+pub(crate) fn write_actor(field: &mut [u8], actor: Actor)
+    requires short { IsShortActor actor }
+    requires room { 2 ≤ length field.old }
+    ensures { field.new ≡ actor_bytes actor ++ drop 2 field.old }
+{
+    BigEndian::write_u16(field, actor.0 as u16);
+}
+
 /// Writes a stamp over the first bytes of a field.
 #[tactic(auto, unfolding(crate::specs::Spelling::stamp_bytes, acc_wire::specs::Spelling::u64_bytes, acc_wire::specs::Spelling::u32_bytes))]
 pub(crate) fn write_stamp(field: &mut [u8], stamp: Stamp)
