@@ -18,7 +18,7 @@ use Rattle.acc_record.specs.declared.record.Record.{Record}
 use Rattle.acc_record.specs.declared.cells.Cells.{Cells}
 use Rattle.acc_record.specs.declared.shelf.Shelf.{Shelf}
 use Rattle.acc_record.specs.Shelf.{Records, Waits, IsSame, record_at, cell_at, watchers}
-use Rattle.acc_record.specs.Learning.{known_or_fresh, IsLearnt}
+use Rattle.acc_record.specs.Learning.{known_or_fresh, share_at, IsLearnt}
 use Rattle.acc_opening.specs.declared.plan.Plan.{Plan}
 use Rattle.acc_opening.specs.Lookup.{lookup}
 use Rattle.acc_opening.specs.Touched.{watches_with, watches_now}
@@ -58,6 +58,13 @@ module _ (old : Shelf) (waits : Waits) (same : (y : TxnId) → watchers waits y 
         room = subst (AllFit plan.touched) (sym l.waits) fits;
       }
   learnt_roomy new x plan body share stamp top (Err e) fits l = l
+
+-- what is learnt of a record's transaction is learnt of that of an equal record
+pub learnt_of : (layout : Layout) (old mid : Shelf) (own equal : Record) (plan : Plan) (body : BodyParts) (stamp : Stamp) (top : ℕ) → own ≡ equal
+    → IsLearntWithRoom old mid own.id plan body (share_at layout old own.id body) stamp top
+    → IsLearntWithRoom old mid equal.id plan body (share_at layout old equal.id body) stamp top
+learnt_of layout old mid own equal plan body stamp top same l =
+    subst (λ (r : Record). IsLearntWithRoom old mid r.id plan body (share_at layout old r.id body) stamp top) same l
 
 -- ---- the records
 

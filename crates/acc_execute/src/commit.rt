@@ -12,18 +12,18 @@ use acc_opening::Turn;
 use acc_record::{KeptRecord, Record, Records};
 use acc_stamp::Ballots;
 
-/// Puts the own record in the place of the one that is kept.
-pub(crate) fn keep(records: &mut Records, own: Record)
+/// Keeps the own record in place of the one that is kept.
+pub(crate) fn keep(records: &mut Records, own: KeptRecord)
     ensures { (y : TxnId) → record_at records.new y ≡ cond (id_eq own.id y) (option_map (λ there. own) (record_at records.old own.id)) (record_at records.old y) }
 {
-    let id = own.id;
+    let id = own.get().id;
     match records.get_mut(&id) {
-        Some(there) => replace(there.get_mut(), own),
+        Some(there) => replace(there, own),
         None => {}
     }
 }
 
-fn replace(there: &mut Record, own: Record)
+fn replace(there: &mut KeptRecord, own: KeptRecord)
     ensures { there.new ≡ own }
 {
     *there = own;

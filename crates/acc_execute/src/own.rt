@@ -10,12 +10,13 @@ ghost use Rattle.acc_execute.specs.Owned.{with_proposed, with_decided, with_sett
 use acc_base::{Duplicate, OutOfMemory};
 use acc_deps::{Deps, Settled};
 use acc_message::SharedOutcome;
-use acc_record::{Record, Shelf};
+use acc_record::{KeptRecord, Record, Shelf};
 use acc_stamp::{Ballot, Ballots, Stamp, TxnId};
 use acc_txn::Body;
 
-/// The record with which a step begins, in memory of its own: the one that is kept, or else one that knows the body alone.
-pub(crate) fn begun(shelf: &Shelf, id: TxnId, body: &Body) -> Result<Record, OutOfMemory>
+/// The record with which a step begins, in the place where it will be kept: the one that is kept, or else one that knows the
+/// body alone.
+pub(crate) fn begun(shelf: &Shelf, id: TxnId, body: &Body) -> Result<KeptRecord, OutOfMemory>
     ensures { IfOk result (λ own. own ≡ known_or_fresh (record_at shelf.now.records id) id body.now) }
 {
     match shelf.find(id) {
@@ -24,13 +25,14 @@ pub(crate) fn begun(shelf: &Shelf, id: TxnId, body: &Body) -> Result<Record, Out
     }
 }
 
-fn fresh(id: TxnId, body: &Body) -> Result<Record, OutOfMemory>
+fn fresh(id: TxnId, body: &Body) -> Result<KeptRecord, OutOfMemory>
     ensures { IfOk result (λ made. made ≡ fresh id body.now) }
 {
     let alloc = body.parts().lets.allocator();
-    Ok(Record {
+    let body = body.copy()?;
+    let made = Record {
         id,
-        body: body.copy()?,
+        body,
         vote: None,
         vote_deps: Deps::new(alloc),
         promised: Ballot::ZERO,
@@ -41,16 +43,25 @@ fn fresh(id: TxnId, body: &Body) -> Result<Record, OutOfMemory>
         opened: false,
         outcome: None,
         applied: false,
-    })
+    };
+    let kept = KeptRecord::new(alloc, made)?;
+    Ok(kept)
 }
 
-fn copy_of(there: &Record) -> Result<Record, OutOfMemory>
+fn copy_of(there: &Record) -> Result<KeptRecord, OutOfMemory>
     ensures { IfOk result (λ copy. copy ≡ there.now) }
 {
     let mut copy = fresh(there.id, &there.body)?;
-    copy_proposed(&mut copy, there)?;
-    copy_decided(&mut copy, there)?;
+    copy_all(copy.get_mut(), there)?;
     Ok(copy)
+}
+
+// Takes over all but the transaction and its body.
+fn copy_all(copy: &mut Record, there: &Record) -> Result<(), OutOfMemory>
+    ensures { OnOk result (copy.new ≡ with_decided there.now (with_proposed there.now copy.old)) }
+{
+    copy_proposed(copy, there)?;
+    copy_decided(copy, there)
 }
 
 // Takes over the vote, the promise, and what was accepted and committed.

@@ -19,7 +19,7 @@ use acc_deps::Deps;
 use acc_message::{Message, Messages, SharedOutcome, top};
 use acc_opening::{Known, Plan, planned};
 use acc_reads::{Released, release};
-use acc_record::{Record, Shelf};
+use acc_record::{KeptRecord, Shelf};
 use acc_stamp::{Ballot, Stamp, TxnId};
 use acc_topology::Topology;
 use acc_txn::Body;
@@ -29,7 +29,7 @@ use acc_value::CellList;
 #[derive(Debug, Drop)]
 pub struct PreparedStep {
     /// The record of its transaction, with what the message brings.
-    own: Record,
+    own: KeptRecord,
     /// What is opened and applied, and who waits for whom then.
     plan: Plan,
     /// What it sends.
@@ -107,7 +107,7 @@ pub fn prepare_apply(
             ..
         } => {
             let own = own_of_apply(shelf, *id, body, *t, deps, outcome)?;
-            let first = Messages::new(own.waiters.allocator());
+            let first = Messages::new(own.get().waiters.allocator());
             prepare(shelf, topology, own, first)
         }
         _ => unreachable!(),
@@ -173,12 +173,12 @@ fn own_of_stable(
     body: &Body,
     t: Stamp,
     deps: &Deps,
-) -> Result<Record, OutOfMemory>
+) -> Result<KeptRecord, OutOfMemory>
     ensures { IfOk result (λ own. own ≡ with_waiter ballot (with_settled (record { t = t; deps = deps.now }) (known_or_fresh (record_at shelf.now.records id) id body.now))) }
 {
     let mut own = begun(shelf, id, body)?;
-    settle(&mut own, t, deps)?;
-    wait(&mut own, ballot)?;
+    settle(own.get_mut(), t, deps)?;
+    wait(own.get_mut(), ballot)?;
     Ok(own)
 }
 
@@ -189,12 +189,12 @@ fn own_of_apply(
     t: Stamp,
     deps: &Deps,
     outcome: &SharedOutcome,
-) -> Result<Record, OutOfMemory>
+) -> Result<KeptRecord, OutOfMemory>
     ensures { IfOk result (λ own. own ≡ with_outcome outcome.now (with_settled (record { t = t; deps = deps.now }) (known_or_fresh (record_at shelf.now.records id) id body.now))) }
 {
     let mut own = begun(shelf, id, body)?;
-    settle(&mut own, t, deps)?;
-    decide(&mut own, outcome)?;
+    settle(own.get_mut(), t, deps)?;
+    decide(own.get_mut(), outcome)?;
     Ok(own)
 }
 
@@ -202,7 +202,7 @@ fn own_of_apply(
 fn prepare(
     shelf: &Shelf,
     topology: &Topology,
-    own: Record,
+    own: KeptRecord,
     first: Messages,
 ) -> Result<PreparedStep, OutOfMemory>
     requires { IsKnown (shard_of shelf.now.actor) shelf.now.records own shelf.now.waits }
@@ -211,11 +211,11 @@ fn prepare(
 {
     let known = Known {
         records: &shelf.records,
-        own: &own,
+        own: own.get(),
         waits: &shelf.waits,
         shard: shelf.actor.shard(),
     };
-    let alloc = own.waiters.allocator();
+    let alloc = own.get().waiters.allocator();
     let plan = planned(alloc, &known)?;
     let released = release(
         alloc,
@@ -268,7 +268,7 @@ fn execute(
         writes,
     } = step;
     shelf.cells.flush()?;
-    learn_with_room(shelf, topology, own.id, &plan, news)?;
+    learn_with_room(shelf, topology, own.get().id, &plan, news)?;
     commit(shelf, own, plan, writes);
     Ok(sent)
 }
@@ -289,7 +289,7 @@ fn learn_with_room(
 }
 
 // Changes the shelf as planned. Takes no memory.
-fn commit(shelf: &mut Shelf, own: Record, plan: Plan, writes: CellList)
+fn commit(shelf: &mut Shelf, own: KeptRecord, plan: Plan, writes: CellList)
     requires known { IsTrue (is_some (record_at shelf.old.records own.id)) }
     requires room { AllFit plan.touched shelf.old.waits }
     requires written { shelf.old.cells.pending ≡ [] }

@@ -1,5 +1,5 @@
 use Rattle.acc_record.specs.Learning.{share_at}
-use Rattle.acc_execute.proofs.Stepping.{moved_at_once, left_moved, own_known, executed_here}
+use Rattle.acc_execute.proofs.Stepping.{learnt_of, moved, moved_at_once, left_moved, own_known, executed_here}
 use Rattle.acc_execute.proofs.step.execute.Goals as goal
 
 pub returns-in_err-flush-clause-err : goal.returns-in_err-flush-clause-err
@@ -12,7 +12,9 @@ returns-in_err-learn_with_room-clause-err c =
 pub commit-requires-clause-known : goal.commit-requires-clause-known
 commit-requires-clause-known c =
     own_known c.args.shelf.now c.flush.new.self c.flush.ensures.same c.learn_with_room.new.shelf c.args.step c.args.news.now.body.now (share_at c.args.topology.now c.args.shelf.now c.args.step.own.id c.args.news.now.body.now) c.args.news.now.t
-    c.args.news.now.top c.in_ok-learn_with_room.ensures.ok
+    c.args.news.now.top
+    (learnt_of c.args.topology.now (moved c.args.shelf.now c.flush.new.self c.flush.ensures.same) c.learn_with_room.new.shelf c.get.result.now c.args.step.own c.args.step.plan c.args.news.now.body.now c.args.news.now.t c.args.news.now.top
+    c.get.ensures c.in_ok-learn_with_room.ensures.ok)
 
 pub commit-requires-clause-room : goal.commit-requires-clause-room
 commit-requires-clause-room c = c.in_ok-learn_with_room.ensures.ok.room
@@ -20,4 +22,7 @@ commit-requires-clause-room c = c.in_ok-learn_with_room.ensures.ok.room
 pub returns-clause-ok : goal.returns-clause-ok
 returns-clause-ok c =
     executed_here c.args.shelf.now c.flush.new.self c.flush.ensures.same c.learn_with_room.new.shelf c.args.step c.args.news.now.body.now (share_at c.args.topology.now c.args.shelf.now c.args.step.own.id c.args.news.now.body.now) c.args.news.now.t
-    c.args.news.now.top c.in_ok-learn_with_room.ensures.ok c.commit.new.shelf c.commit.ensures c.args.topology.now
+    c.args.news.now.top
+    (learnt_of c.args.topology.now (moved c.args.shelf.now c.flush.new.self c.flush.ensures.same) c.learn_with_room.new.shelf c.get.result.now c.args.step.own c.args.step.plan c.args.news.now.body.now c.args.news.now.t c.args.news.now.top
+    c.get.ensures c.in_ok-learn_with_room.ensures.ok)
+    c.commit.new.shelf c.commit.ensures c.args.topology.now
