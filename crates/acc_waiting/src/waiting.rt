@@ -1,5 +1,5 @@
 //! The messages that wait.
-ghost use Rattle.std.specs.Prelude.{◌≡◌, ◌≢◌, ℕ, ◌+◌, ◌-◌, ◌<◌, ◌≤◌, [], ◌∷◌, ◌++◌, length, not, IfOk, OnOk, OnErr, MatchOption, slice_set};
+ghost use Rattle.std.specs.Prelude.{◌≡◌, ◌≢◌, ℕ, ◌+◌, ◌-◌, ◌<◌, ◌≤◌, [], ◌∷◌, ◌++◌, length, not, ◌||◌, min, cond, IfOk, OnOk, OnErr, MatchOption, slice_set};
 ghost use Rattle.acc_posts.specs.Mail.{posting_at, taken};
 ghost use Rattle.acc_waiting.specs.Trees.{leaf, IsTree};
 ghost use Rattle.acc_waiting.specs.Standing.{Standing, is_down_at, NothingWaits, IsOldest};
@@ -11,8 +11,8 @@ use acc_posts::{Posting, Posts};
 use std::alloc::Global;
 use std::marker::Model;
 
-/// For so many actors at once room is made.
-const BLOCK: usize = 1024;
+/// For so many actors room is made at first. Where more are named it is at least doubled.
+const FEWEST: usize = 16;
 
 /// The messages that were sent, which of them are open, and which actors are down. A message waits while it is open and
 /// its actor is up. The oldest one that waits is known at once, and each change takes time logarithmic in the greatest number
@@ -67,6 +67,37 @@ fn refresh(posts: &mut Posts, downs: &[bool], heads: &mut Vec<u64>, actor: u32)
     set_leaf(heads, downs.len(), actor as usize, head);
 }
 
+// A message that is sent is the first open one to its actor, if the actor is up and no older one is open.
+fn note_sent(downs: &[bool], heads: &mut Vec<u64>, actor: u32, number: u64, is_lost: bool)
+    requires tree { IsTree (length downs.now) heads.old.items }
+    requires within { actor < length downs.now }
+    ensures tree { IsTree (length downs.now) heads.new.items }
+    ensures head { let head = leaf (length downs.now) heads.old.items actor in leaf (length downs.now) heads.new.items actor ≡ cond (is_down_at downs.now actor || is_lost) head (min head number) }
+    ensures others { (other : ℕ) → other ≢ actor → leaf (length downs.now) heads.new.items other ≡ leaf (length downs.now) heads.old.items other }
+{
+    if is_lost || downs[actor as usize] {
+        return;
+    }
+    if heads[downs.len() + actor as usize] > number {
+        set_leaf(heads, downs.len(), actor as usize, number);
+    }
+}
+
+// Behind a message that was closed the first open one to its actor is looked up again, if it was this one.
+fn note_closed(posts: &mut Posts, downs: &[bool], heads: &mut Vec<u64>, actor: u32, number: u64)
+    requires tree { IsTree (length downs.now) heads.old.items }
+    requires within { actor < length downs.now }
+    requires head { leaf (length downs.now) heads.old.items actor ≢ number → IsHead posts.old.sent actor (is_down_at downs.now actor) (leaf (length downs.now) heads.old.items actor) }
+    ensures same { posts.new ≡ posts.old }
+    ensures tree { IsTree (length downs.now) heads.new.items }
+    ensures head { IsHead posts.old.sent actor (is_down_at downs.now actor) (leaf (length downs.now) heads.new.items actor) }
+    ensures others { (other : ℕ) → other ≢ actor → leaf (length downs.now) heads.new.items other ≡ leaf (length downs.now) heads.old.items other }
+{
+    if heads[downs.len() + actor as usize] == number {
+        refresh(posts, downs, heads, actor);
+    }
+}
+
 impl Waiting {
     /// No messages, and no actor is down.
     pub fn new(alloc: Global) -> Result<Waiting, OutOfMemory>
@@ -111,12 +142,23 @@ impl Waiting {
         ensures more { length self.old.downs ≤ length self.new.downs }
         ensures covered { OnOk result (actor < length self.new.downs) }
     {
-        let count = self.downs.len();
-        if (actor as usize) < count {
+        if (actor as usize) < self.downs.len() {
             return Ok(());
         }
+        self.grow(actor)
+    }
+
+    #[inline(never)]
+    fn grow(&mut self, actor: u32) -> Result<(), OutOfMemory>
+        requires { length self.old.downs ≤ actor }
+        ensures same { (self.new.sent ≡ self.old.sent) × (self.new.room ≡ self.old.room) }
+        ensures downs { (other : ℕ) → is_down_at self.new.downs other ≡ is_down_at self.old.downs other }
+        ensures more { length self.old.downs ≤ length self.new.downs }
+        ensures covered { OnOk result (actor < length self.new.downs) }
+    {
         let alloc = *self.downs.allocator();
-        let more = (actor as usize / BLOCK + 1) * BLOCK;
+        let count = self.downs.len();
+        let more = (actor as usize + 1).max(2 * count).max(FEWEST);
         let heads = grown(alloc, self.heads.as_slice(), count, more)?;
         self.downs.resize(more, false)?;
         self.heads = heads;
@@ -147,8 +189,9 @@ impl Waiting {
         requires covered { to < length self.old.downs }
         ensures { self.new ≡ record self.old { sent = self.old.sent ++ record { to = to; place = place; index = index; is_open = not is_lost } ∷ []; room = self.old.room - 1 } }
     {
+        let number = self.posts.len();
         self.posts.add(to, place, index, is_lost);
-        refresh(&mut self.posts, self.downs.as_slice(), &mut self.heads, to);
+        note_sent(self.downs.as_slice(), &mut self.heads, to, number, is_lost);
     }
 
     /// Notes that the message with this number is open no more.
@@ -158,7 +201,13 @@ impl Waiting {
     {
         let to = self.posts.posting(number).to;
         self.posts.close(number);
-        refresh(&mut self.posts, self.downs.as_slice(), &mut self.heads, to);
+        note_closed(
+            &mut self.posts,
+            self.downs.as_slice(),
+            &mut self.heads,
+            to,
+            number,
+        );
     }
 
     /// An actor goes down or comes up.
