@@ -65,8 +65,3 @@ pub check_ends_on_given : (one other : Over) (left : Option (List ℕ)) (status 
     → EndsOnGiven one Check left status old new → EndsOnGiven other Check left status old new
 check_ends_on_given one other left status old new e =
     record { bytes = e.bytes; given = e.given; ends = check_ends one other e.bytes old new status e.ends }
-
--- the same of equal bytes
-pub on_bytes : (over : Over) (command : Command) (one other : List ℕ) (status : Status) (old new : Option (List ℕ)) → one ≡ other
-    → Ends (IsDue over command one) status old new → Ends (IsDue over command other) status old new
-on_bytes over command one other status old new same ends = subst (λ bytes. Ends (IsDue over command bytes) status old new) same ends

@@ -14,7 +14,7 @@ use crate::reply::{Reply, say};
 use crate::run::run;
 use crate::status::Status;
 use crate::words::{Command, Line, line_of};
-use acc_base::{OutOfMemory, Text};
+use acc_base::{Bytes, OutOfMemory, Text};
 use acc_ports::{DiskMaker, ReadError, Sink, Source, read_all};
 use std::alloc::Global;
 
@@ -97,7 +97,7 @@ where
         → IfSome (S.left source.old) (λ bytes. IsAccepted bytes → length bytes ≤ document_limit → IsDone command result) }
 {
     match read_all(alloc, source, DOCUMENT_LIMIT) {
-        Ok(bytes) => respond(alloc, command, bytes.as_slice(), sink, disks, remains),
+        Ok(bytes) => respond(alloc, command, bytes, sink, disks, remains),
         Err(ReadError::TooLong) => say(sink, LIMIT, Status::Limit),
         Err(ReadError::Failed) => Status::ReadFault,
         Err(ReadError::OutOfMemory) => Status::OutOfMemory,
@@ -108,16 +108,16 @@ where
 fn respond<K: Sink, M: DiskMaker>(
     alloc: Global,
     command: Command,
-    bytes: &[u8],
+    bytes: Bytes,
     sink: &mut K,
     disks: &mut M,
     remains: &mut Remains,
 ) -> Status
 where
     M::D: Drop,
-    requires { length bytes.now ≤ document_limit }
+    requires { length bytes ≤ document_limit }
     ensures check { command ≡ Check → disks.new ≡ disks.old }
-    ensures ends { Ends (IsDue (OverDisks M.D.faults M.D.is_image (M.strict disks.old) (M.given disks.old) (M.given disks.new)) command bytes.now) result (K.written sink.old) (K.written sink.new) }
+    ensures ends { Ends (IsDue (OverDisks M.D.faults M.D.is_image (M.strict disks.old) (M.given disks.old) (M.given disks.new)) command bytes) result (K.written sink.old) (K.written sink.new) }
     ensures cause { result ≡ Status.WriteFault → Rose (K.faults sink.old) (K.faults sink.new) }
     ensures still { result ≢ Status.WriteFault → K.faults sink.new ≡ K.faults sink.old }
     ensures reads { result ≢ Status.ReadFault }
@@ -132,15 +132,15 @@ where
 fn reply<M: DiskMaker>(
     alloc: Global,
     command: Command,
-    bytes: &[u8],
+    bytes: Bytes,
     disks: &mut M,
     remains: &mut Remains,
 ) -> Result<Reply, OutOfMemory>
 where
     M::D: Drop,
-    requires { length bytes.now ≤ document_limit }
+    requires { length bytes ≤ document_limit }
     ensures check { command ≡ Check → disks.new ≡ disks.old }
-    ensures due { IfOk result (λ reply. IsDue (OverDisks M.D.faults M.D.is_image (M.strict disks.old) (M.given disks.old) (M.given disks.new)) command bytes.now reply.status reply.text) }
+    ensures due { IfOk result (λ reply. IsDue (OverDisks M.D.faults M.D.is_image (M.strict disks.old) (M.given disks.old) (M.given disks.new)) command bytes reply.status reply.text) }
 {
     match command {
         Command::Run => run(alloc, bytes, disks, remains),

@@ -7,15 +7,16 @@ ghost use Rattle.acc_command.specs.Command.{document_limit, Ends, EndsOnGiven, I
 
 use crate::alone::{DOCUMENT_LIMIT, LIMIT};
 use crate::lines::{limit_line, refusal_line};
+use crate::reading::read_plan;
 use crate::remains::Remains;
 use crate::reply::{Reply, say};
 use crate::status::Status;
-use acc_base::{OutOfMemory, Sequence};
+use acc_base::{Bytes, OutOfMemory, Sequence};
 use acc_free::run_free;
 use acc_message::RunError;
 use acc_ports::{DiskMaker, Gate, ReadError, Sink, Source, read_all};
 use acc_report::text;
-use acc_schedule::{Plan, read};
+use acc_schedule::Plan;
 use acc_served::laws::free_runs_are_safe;
 use std::alloc::Global;
 use std::sync::Wait;
@@ -47,16 +48,7 @@ where
         → IfSome (S.left source.old) (λ bytes. IsAccepted bytes → length bytes ≤ document_limit → IsDone Run result) }
 {
     match read_all(alloc, source, DOCUMENT_LIMIT) {
-        Ok(bytes) => respond(
-            rt,
-            alloc,
-            workers,
-            bytes.as_slice(),
-            sink,
-            disks,
-            gate,
-            remains,
-        ),
+        Ok(bytes) => respond(rt, alloc, workers, bytes, sink, disks, gate, remains),
         Err(ReadError::TooLong) => say(sink, LIMIT, Status::Limit),
         Err(ReadError::Failed) => Status::ReadFault,
         Err(ReadError::OutOfMemory) => Status::OutOfMemory,
@@ -68,7 +60,7 @@ fn respond<R: Threads + Wait + Sync, K: Sink, M: DiskMaker, G: Gate + Sync>(
     rt: &R,
     alloc: Global,
     workers: u32,
-    bytes: &[u8],
+    bytes: Bytes,
     sink: &mut K,
     disks: &mut M,
     gate: &G,
@@ -77,8 +69,8 @@ fn respond<R: Threads + Wait + Sync, K: Sink, M: DiskMaker, G: Gate + Sync>(
 where
     M::D: Drop + Send,
     requires workers { (1 ≤ workers) × (workers ≤ 16) }
-    requires short { length bytes.now ≤ document_limit }
-    ensures ends { Ends (IsDue (OverThreads M.D.faults M.D.is_image (M.strict disks.old) (M.given disks.old) (M.given disks.new)) Run bytes.now) result (K.written sink.old) (K.written sink.new) }
+    requires short { length bytes ≤ document_limit }
+    ensures ends { Ends (IsDue (OverThreads M.D.faults M.D.is_image (M.strict disks.old) (M.given disks.old) (M.given disks.new)) Run bytes) result (K.written sink.old) (K.written sink.new) }
     ensures cause { result ≡ Status.WriteFault → Rose (K.faults sink.old) (K.faults sink.new) }
     ensures still { result ≢ Status.WriteFault → K.faults sink.new ≡ K.faults sink.old }
     ensures reads { result ≢ Status.ReadFault }
@@ -94,7 +86,7 @@ fn reply<R: Threads + Wait + Sync, M: DiskMaker, G: Gate + Sync>(
     rt: &R,
     alloc: Global,
     workers: u32,
-    bytes: &[u8],
+    bytes: Bytes,
     disks: &mut M,
     gate: &G,
     remains: &mut Remains,
@@ -102,10 +94,10 @@ fn reply<R: Threads + Wait + Sync, M: DiskMaker, G: Gate + Sync>(
 where
     M::D: Drop + Send,
     requires workers { (1 ≤ workers) × (workers ≤ 16) }
-    requires short { length bytes.now ≤ document_limit }
-    ensures { IfOk result (λ reply. IsDue (OverThreads M.D.faults M.D.is_image (M.strict disks.old) (M.given disks.old) (M.given disks.new)) Run bytes.now reply.status reply.text) }
+    requires short { length bytes ≤ document_limit }
+    ensures { IfOk result (λ reply. IsDue (OverThreads M.D.faults M.D.is_image (M.strict disks.old) (M.given disks.old) (M.given disks.new)) Run bytes reply.status reply.text) }
 {
-    match read(alloc, bytes) {
+    match read_plan(alloc, bytes) {
         Ok(plan) => {
             let reply = report(rt, alloc, &plan, workers, disks, gate, remains);
             remains.plan = Some(plan);

@@ -9,6 +9,7 @@ mod free;
 mod generate;
 pub mod laws;
 mod lines;
+mod reading;
 mod remains;
 mod reply;
 mod run;

@@ -5,32 +5,33 @@ ghost use Rattle.acc_command.specs.declared.words.Command.TheVariants.{Run};
 ghost use Rattle.acc_command.specs.Command.{document_limit, IsDue, OverDisks, PlanEnds};
 
 use crate::lines::{limit_line, refusal_line};
+use crate::reading::read_plan;
 use crate::remains::Remains;
 use crate::reply::Reply;
 use crate::status::Status;
-use acc_base::{OutOfMemory, Sequence};
+use acc_base::{Bytes, OutOfMemory, Sequence};
 use acc_limits::laws::one_limit_over_strict_disks;
 use acc_message::RunError;
 use acc_plan_laws::laws::plans_run_safely;
 use acc_ports::DiskMaker;
 use acc_report::text;
 use acc_run::run_plan;
-use acc_schedule::{Plan, read};
+use acc_schedule::Plan;
 use std::alloc::Global;
 
 /// Runs the schedule of a document over disks of this maker, and tells what happened.
 pub(crate) fn run<M: DiskMaker>(
     alloc: Global,
-    bytes: &[u8],
+    bytes: Bytes,
     disks: &mut M,
     remains: &mut Remains,
 ) -> Result<Reply, OutOfMemory>
 where
     M::D: Drop,
-    requires { length bytes.now ≤ document_limit }
-    ensures { IfOk result (λ reply. IsDue (OverDisks M.D.faults M.D.is_image (M.strict disks.old) (M.given disks.old) (M.given disks.new)) Run bytes.now reply.status reply.text) }
+    requires { length bytes ≤ document_limit }
+    ensures { IfOk result (λ reply. IsDue (OverDisks M.D.faults M.D.is_image (M.strict disks.old) (M.given disks.old) (M.given disks.new)) Run bytes reply.status reply.text) }
 {
-    match read(alloc, bytes) {
+    match read_plan(alloc, bytes) {
         Ok(plan) => {
             let reply = report(alloc, &plan, disks, remains);
             remains.plan = Some(plan);

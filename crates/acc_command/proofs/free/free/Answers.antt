@@ -4,19 +4,18 @@ use Rattle.acc_ports.specs.declared.error.ReadError.{ReadError}
 use Rattle.acc_command.specs.declared.words.Command.TheVariants.{Run}
 use Rattle.acc_command.specs.Command.{document_limit, IsAccepted, IsDone}
 use Rattle.acc_command.proofs.CommandFacts.{completes, known_bytes, too_long, unanswered, unread}
-use Rattle.acc_command.proofs.EndsFacts.{on_bytes}
 use Rattle.acc_command.proofs.LeavesFacts.{leaves_none}
 use Rattle.acc_command.proofs.free.free.Goals as goal
 
 pub returns-in-Ok-clause-ends : goal.returns-in-Ok-clause-ends
 returns-in-Ok-clause-ends g c =
-    record { bytes = c.in-Ok.bytes; given = c.in-Ok.ensures.all; ends = on_bytes _ Run _ _ _ _ _ c.as_slice.ensures c.respond.ensures.ends }
+    record { bytes = c.in-Ok.bytes; given = c.in-Ok.ensures.all; ends = c.respond.ensures.ends }
 
 pub returns-in-Ok-clause-leaves : goal.returns-in-Ok-clause-leaves
 returns-in-Ok-clause-leaves g c =
     leaves_none c.in-Ok.bytes (g.S.Source.left c.args.source.now) (g.S.Source.left c.read_all.new.source)
     (g.K.Sink.written c.args.sink.now) (g.K.Sink.written c.respond.new.sink) c.in-Ok.ensures.within c.in-Ok.ensures.all c.in-Ok.ensures.end _ Run c.respond.result
-    (on_bytes _ Run _ _ _ _ _ c.as_slice.ensures c.respond.ensures.ends)
+    c.respond.ensures.ends
 
 pub returns-in-Ok-clause-complete : goal.returns-in-Ok-clause-complete
 returns-in-Ok-clause-complete g c = λ no_read no_write.
@@ -25,7 +24,7 @@ returns-in-Ok-clause-complete g c = λ no_read no_write.
     c.in-Ok.ensures.all
     (λ accepted short. completes _ Run c.in-Ok.bytes c.respond.result (g.K.Sink.written c.args.sink.now) (g.K.Sink.written c.respond.new.sink)
     accepted short c.respond.ensures.reads (λ e. no_write (c.respond.ensures.cause e))
-    (on_bytes _ Run _ _ _ _ _ c.as_slice.ensures c.respond.ensures.ends))
+    c.respond.ensures.ends)
 
 pub returns-in-Err-TooLong-clause-ends : goal.returns-in-Err-TooLong-clause-ends
 returns-in-Err-TooLong-clause-ends g c =

@@ -4,8 +4,8 @@ use Rattle.acc_command.proofs.DueFacts.{run_due}
 use Rattle.acc_command.proofs.run.run.Goals as goal
 
 pub returns-in-Ok : goal.returns-in-Ok
-returns-in-Ok g c = run_due _ c.args.bytes.now c.in-Ok.plan c.report-reply.result c.requires c.in-Ok.ensures.accepted c.report-reply.ensures
+returns-in-Ok g c = run_due _ c.args.bytes c.in-Ok.plan c.report-reply.result c.requires c.in-Ok.ensures.accepted c.report-reply.ensures
 
 pub returns-in_ok-refusal_line-in-Err : goal.returns-in_ok-refusal_line-in-Err
 returns-in_ok-refusal_line-in-Err g c =
-    (c.requires, refusal c.args.bytes.now c.in-Err.error c.in_ok-refusal_line-in-Err.field-0 c.in-Err.ensures.refused c.in_ok-refusal_line-in-Err.ensures)
+    (c.requires, refusal c.args.bytes c.in-Err.error c.in_ok-refusal_line-in-Err.field-0 c.in-Err.ensures.refused c.in_ok-refusal_line-in-Err.ensures)
