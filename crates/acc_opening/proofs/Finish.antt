@@ -5,6 +5,7 @@ use Rattle.std.specs.Option.{option_map}
 use Rattle.std.specs.Ordering.{is_lt, ordering_then}
 use Rattle.std.proofs.lemmas.Bool.{true≢false, false_from_ne_true, and_from, and_parts, or_left, or_right, or_from}
 use Rattle.std.proofs.lemmas.List.{append-nil}
+use Rattle.std.proofs.lemmas.Option.{slice_get_within}
 use Rattle.acc_stamp.specs.declared.stamps.Stamp.{Stamp}
 use Rattle.acc_stamp.specs.declared.stamps.TxnId.{TxnId}
 use Rattle.acc_stamp.specs.Stamp.{stamp_cmp, id_cmp, id_eq}
@@ -169,7 +170,7 @@ module _ (shard : ℕ) (at : Lookup) (watching : TxnId → List Watch) (done : L
     stable = h.of.stable;
     waits_for = h.waits_for;
     held_back = past_after at (changes_in done) h.of.settled.t y (at y) refl ∙ h.held;
-    others = λ i z p e. past_after at (changes_in done) h.of.settled.t z (at z) refl ∙ h.of.past i z (omega arith) p e;
+    others = λ i z p e. past_after at (changes_in done) h.of.settled.t z (at z) refl ∙ h.of.past i z (omega (arith, p)) (slice_get_within (of_shard h.of.settled.deps shard) i z e) e;
   }
 
   all_after : (x : TxnId) (o : Option Record) → at x ≡ o → (r : Record) → option_map (changed (changes_in done) x) o ≡ Some r → is_some r.stable ≡ true → r.opened ≡ false

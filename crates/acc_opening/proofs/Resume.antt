@@ -91,7 +91,7 @@ module _ (shard : ℕ) (records : Records) (own : Record) (waits : AllWaits) (k 
           closed = l.closed;
           settled = h.settled;
           stable = l.stable;
-          past = λ i z p q e. past_is h.settled.t z ∙ h.others i z q e;
+          past = λ i z p q e. past_is h.settled.t z ∙ h.others i z (omega (arith, p)) e;
         };
         waits_for = h.waits_for;
         held = past_is h.settled.t y ∙ h.held_back;

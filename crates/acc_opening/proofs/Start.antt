@@ -1,5 +1,5 @@
 -- Where a plan starts.
-use Rattle.std.proofs.Common.{◌≡◌, ℕ, ◌⊎◌, inl, inr, ⊎_elim, Bool, true, false, cond, ◌||◌, List, [], ◌∷◌, ◌++◌, Option, None, Some, is_some, sym, refl, ap, ◌∙◌, subst, arith}
+use Rattle.std.proofs.Common.{◌≡◌, ℕ, ◌⊎◌, inl, inr, ⊎_elim, Bool, true, false, cond, ◌||◌, List, [], ◌∷◌, ◌++◌, length, Option, None, Some, is_some, sym, refl, ap, ◌∙◌, subst, arith}
 use Rattle.std.specs.List.{Contains}
 use Rattle.std.specs.Map.{lookup as lookup_in}
 use Rattle.std.proofs.lemmas.Bool.{true≢false, false_from_ne_true, and_from}
@@ -8,6 +8,7 @@ use Rattle.acc_stamp.specs.declared.stamps.Stamp.{Stamp}
 use Rattle.acc_stamp.specs.declared.stamps.TxnId.{TxnId}
 use Rattle.acc_stamp.specs.Stamp.{id_eq}
 use Rattle.acc_stamp.proofs.Order.{id_order}
+use Rattle.acc_deps.specs.Deps.{of_shard}
 use Rattle.acc_deps.specs.declared.records.Settled.{Settled}
 use Rattle.acc_message.specs.Opening.{is_past}
 use Rattle.acc_record.specs.declared.record.Record.{Record}
@@ -48,10 +49,6 @@ unsettled_past : (t : Stamp) (o : Option Record) → settled_in o ≡ None → i
 unsettled_past t None e = refl
 unsettled_past t (Some r) e = ap (is_past t r.applied) e
 
-some_of : {X : Type 0} (o : Option X) → is_some o ≡ true → (x : X) × (o ≡ Some x)
-some_of None h = absurd (true≢false (sym h))
-some_of (Some x) h = (x, refl)
-
 -- ---- where the own transaction becomes stable
 
 module _ (shard : ℕ) (records : Records) (own : Record) (waits : AllWaits) (k : IsKnown shard records own waits) (fresh : settled_in (record_at records own.id) ≡ None) where
@@ -90,7 +87,7 @@ module _ (shard : ℕ) (records : Records) (own : Record) (waits : AllWaits) (k 
     closed = h.closed;
     settled = h.settled;
     stable = h.stable;
-    past = λ i z p q e. past_at h.settled.t z (h.others i z q e);
+    past = λ i z p q e. past_at h.settled.t z (h.others i z (omega (arith, p)) e);
   }
 
   watch_held : (y : TxnId) (w : Watch) (h : IsWatch shard (record_at records) y w) → id_eq y own.id ≡ false → IsHeld shard (lookup records own) [] y w
@@ -101,23 +98,23 @@ module _ (shard : ℕ) (records : Records) (own : Record) (waits : AllWaits) (k 
       closed = h.closed;
       settled = h.settled;
       stable = h.stable;
-      past = λ i z p q e. past_at h.settled.t z (h.others i z q e);
+      past = λ i z p q e. past_at h.settled.t z (h.others i z (omega (arith, p)) e);
     };
     waits_for = h.waits_for;
     held = past_alone (lookup records own) h.settled.t y (record_at records y) (other_at records own y e) ∙ h.held_back;
   }
 
-  own_woken : (w : Watch) → w ≡ record { id = own.id; place = 0 } → IsClosed shard (lookup records own) [] w.id w.place
-  own_woken w e =
-      let s = some_of own.stable k.stable in
+  own_woken : (s : Settled) (place : ℕ) → own.stable ≡ Some s → place ≡ length (of_shard s.deps shard) → (w : Watch) → w ≡ record { id = own.id; place = place }
+      → IsClosed shard (lookup records own) [] w.id w.place
+  own_woken s place stable end w e =
       subst (λ (v : Watch). IsClosed shard (lookup records own) [] v.id v.place) (sym e)
       (record {
         there = own;
         there_is = own_at records own;
         closed = own_closed;
-        settled = s.0;
-        stable = s.1;
-        past = λ i z p q h. absurd (omega arith);
+        settled = s;
+        stable = stable;
+        past = λ i z p q h. absurd (omega (arith, p, q, end));
       })
 
   apart_from : (y : TxnId) → is_same own.id y ≡ false → id_eq y own.id ≡ false
@@ -125,16 +122,16 @@ module _ (shard : ℕ) (records : Records) (own : Record) (waits : AllWaits) (k 
       false_from_ne_true (id_eq y own.id)
       (λ h. true≢false (sym (subst (λ z. is_same own.id z ≡ true) (sym ((id_order.decides y own.id).0 h)) (is_same-itself own.id)) ∙ e))
 
-  module _ (after : TxnId → List Watch) (takes : (y : TxnId) → after y ≡ cond (is_same own.id y) [] (watchers waits y)) (woken : List Watch) (are : woken ≡ watchers waits own.id ++ record { id = own.id; place = 0 } ∷ []) where
+  module _ (after : TxnId → List Watch) (takes : (y : TxnId) → after y ≡ cond (is_same own.id y) [] (watchers waits y)) (s : Settled) (place : ℕ) (settled : own.stable ≡ Some s) (end : place ≡ length (of_shard s.deps shard)) (woken : List Watch) (are : woken ≡ watchers waits own.id ++ record { id = own.id; place = place } ∷ []) where
     held_at : (y : TxnId) (w : Watch) (b : Bool) → is_same own.id y ≡ b → Contains (cond b [] (watchers waits y)) w → IsHeld shard (lookup records own) [] y w
     held_at y w true e c = absurd (omega (arith, c.1))
     held_at y w false e c = watch_held y w (k.waiting.true y w c) (apart_from y e)
 
     woken_at : (w : Watch) → Contains woken w → IsWoken shard (lookup records own) [] w
     woken_at w c = record {
-      of = ⊎_elim (λ h. watch_closed own.id w (k.waiting.true own.id w h)) (λ h. own_woken w (only_it _ w h))
-          (Contains-append_cases (watchers waits own.id) (record { id = own.id; place = 0 } ∷ []) w (subst (λ list. Contains list w) are c));
-      later = λ a s p e. absurd (omega (arith, p.1));
+      of = ⊎_elim (λ h. watch_closed own.id w (k.waiting.true own.id w h)) (λ h. own_woken s place settled end w (only_it _ w h))
+          (Contains-append_cases (watchers waits own.id) (record { id = own.id; place = place } ∷ []) w (subst (λ list. Contains list w) are c));
+      later = λ a t p e. absurd (omega (arith, p.1));
     }
 
     placed_other : (x : TxnId) (y : TxnId) (w : Watch) → Contains (watchers waits y) w → w.id ≡ x → (b : Bool) → is_same own.id y ≡ b → IsPlaced x after woken [] []
@@ -149,8 +146,8 @@ module _ (shard : ℕ) (records : Records) (own : Record) (waits : AllWaits) (k 
     placed_at x r there stable closed true h =
         let same : x ≡ own.id = (id_order.decides x own.id).0 h in
         inr (inr (inr (
-          record { id = own.id; place = 0 },
-          subst (λ list. Contains list (record { id = own.id; place = 0 })) (sym are) (Contains-append_right (watchers waits own.id) _ _ (Contains-first _ [])),
+          record { id = own.id; place = place },
+          subst (λ list. Contains list (record { id = own.id; place = place })) (sym are) (Contains-append_right (watchers waits own.id) _ _ (Contains-first _ [])),
           sym same,
         )))
     placed_at x r there stable closed false h =

@@ -1,5 +1,5 @@
 -- One that was woken waits for another dependency, or its turn comes.
-use Rattle.std.proofs.Common.{◌≡◌, ℕ, ◌+◌, ◌<◌, ⊎_elim, true, false, not, cond, ◌&&◌, ◌||◌, List, [], ◌∷◌, ◌++◌, length, get_or, drop, None, Some, is_some, sym, refl, ap, ◌∙◌, subst, arith, add-one}
+use Rattle.std.proofs.Common.{◌≡◌, ℕ, ◌+◌, ◌≤◌, ◌<◌, ⊎_elim, true, false, not, cond, ◌&&◌, ◌||◌, List, [], ◌∷◌, ◌++◌, length, get_or, drop, None, Some, is_some, sym, refl, ap, ◌∙◌, subst, arith, add-one}
 use Rattle.std.proofs.Math.Seq.{drop-cons}
 use Rattle.std.specs.List.{slice_get}
 use Rattle.std.proofs.lemmas.Bool.{cases_lt}
@@ -10,7 +10,7 @@ use Rattle.acc_record.specs.declared.record.Record.{Record}
 use Rattle.acc_record.specs.declared.shelf.Watch.{Watch}
 use Rattle.acc_opening_laws.specs.Plan.{Lookup, settled_in, is_past_behind, is_ready_behind, IsRight}
 use Rattle.acc_opening.specs.declared.turns.Turn.{Turn}
-use Rattle.acc_opening.specs.Scan.{AllPastFrom, IsNextHeld}
+use Rattle.acc_opening.specs.Scan.{AllPastUpTo, IsLastHeld}
 use Rattle.acc_opening.specs.Touched.{is_same}
 use Rattle.acc_opening.specs.Turns.{turn_of, change_of, changes_in, HasTurn}
 use Rattle.acc_opening.specs.State.{IsWoken, IsUnderWay}
@@ -48,15 +48,17 @@ module _ (shard : ℕ) (at : Lookup) (watching : TxnId → List Watch) (w : Watc
       closed : r.opened ≡ false
       closed = ap (λ (z : Record). z.opened) (sym same_record) ∙ first.of.closed
 
-      past_before : (i : ℕ) (z : TxnId) → i < w.place → slice_get (of_shard settled.deps shard) i ≡ Some z → is_past_behind at (changes_in done) settled.t z ≡ true
-      past_before i z h e =
+      past_behind : (i : ℕ) (z : TxnId) → w.place + 1 ≤ i → i < length (of_shard settled.deps shard) → slice_get (of_shard settled.deps shard) i ≡ Some z
+          → is_past_behind at (changes_in done) settled.t z ≡ true
+      past_behind i z p q e =
           subst (λ (k : Settled). is_past_behind at (changes_in done) k.t z ≡ true) same_settled
-          (first.of.past i z (omega arith) h (subst (λ (k : Settled). slice_get (of_shard k.deps shard) i ≡ Some z) (sym same_settled) e))
+          (first.of.past i z p (subst (λ (k : Settled). i < length (of_shard k.deps shard)) (sym same_settled) q)
+          (subst (λ (k : Settled). slice_get (of_shard k.deps shard) i ≡ Some z) (sym same_settled) e))
 
-      ready : AllPastFrom at (changes_in done) settled.t (of_shard settled.deps shard) w.place → is_ready_behind shard at (changes_in done) settled ≡ true
-      ready from =
+      ready : AllPastUpTo at (changes_in done) settled.t (of_shard settled.deps shard) w.place → is_ready_behind shard at (changes_in done) settled ≡ true
+      ready upto =
           all_past (is_past_behind at (changes_in done) settled.t) (of_shard settled.deps shard)
-          (λ i z h e. ⊎_elim (λ k. past_before i z k e) (λ k. from i z k h e) (cases_lt i w.place))
+          (λ i z h e. ⊎_elim (λ k. upto i z (omega arith) k e) (λ k. past_behind i z k h e) (cases_lt i (w.place + 1)))
 
       right : is_ready_behind shard at (changes_in done) settled ≡ true → IsRight shard at (changes_in done) (change_of (turn_of r settled.t w.id))
       right h = record {
@@ -70,14 +72,14 @@ module _ (shard : ℕ) (at : Lookup) (watching : TxnId → List Watch) (w : Watc
         changes = ap (λ b. not b || (is_some r.outcome && not r.applied)) closed;
       }
 
-      pub to_queue : AllPastFrom at (changes_in done) settled.t (of_shard settled.deps shard) w.place → (after : List Turn)
+      pub to_queue : AllPastUpTo at (changes_in done) settled.t (of_shard settled.deps shard) w.place → (after : List Turn)
           → HasTurn (turn_of r settled.t w.id) queue after → IsUnderWay shard at watching rest done after
-      to_queue from after has =
+      to_queue upto after has =
           let is : settled_in (at w.id) ≡ Some settled = ap settled_in there ∙ stable in
-          queued shard at watching w rest done queue s (turn_of r settled.t w.id) after has (right (ready from))
+          queued shard at watching w rest done queue s (turn_of r settled.t w.id) after has (right (ready upto))
           (record { settled = settled; stable = is; t = refl }) refl (λ a c. first.later a settled c is)
 
-      pub to_watch : (place : ℕ) → IsNextHeld at (changes_in done) settled.t (of_shard settled.deps shard) w.place place
+      pub to_watch : (place : ℕ) → IsLastHeld at (changes_in done) settled.t (of_shard settled.deps shard) w.place place
           → (z : TxnId) → slice_get (of_shard settled.deps shard) place ≡ Some z
           → (after : TxnId → List Watch)
           → ((y : TxnId) → after y ≡ cond (is_same z y) (watching y ++ record { id = w.id; place = place } ∷ []) (watching y))
@@ -91,7 +93,7 @@ module _ (shard : ℕ) (at : Lookup) (watching : TxnId → List Watch) (w : Watc
               closed = closed;
               settled = settled;
               stable = stable;
-              past = λ i y p q k. ⊎_elim (λ h. past_before i y h k) (λ h. next.past i y h q k) (cases_lt i w.place);
+              past = λ i y p q k. ⊎_elim (λ h. next.past i y p h k) (λ h. past_behind i y h q k) (cases_lt i (w.place + 1));
             };
             waits_for = e;
             held = next.held z e;

@@ -11,20 +11,20 @@ use Rattle.acc_record.specs.declared.record.Record.{Record}
 use Rattle.acc_record.specs.declared.shelf.Watch.{Watch}
 use Rattle.acc_opening_laws.specs.Plan.{Lookup, settled_in, is_past_behind, IsRight, EachRight}
 use Rattle.acc_opening.specs.declared.turns.Turn.{Turn}
-use Rattle.acc_opening.specs.Scan.{ArePast}
+use Rattle.acc_opening.specs.Scan.{AllPastBehind}
 use Rattle.acc_opening.specs.Turns.{key_of, key_lt, turn_lt, change_of, changes_in, HasItsTime, HaveTheirTimes}
 
 abbrev pub no_turn : Turn
 no_turn = record { t = zero_stamp; id = record { 0 = zero_stamp }; opens = false; applies = false }
 
--- the transaction is stable and was not opened, and the dependencies in front of a place no longer hold it back
+-- the transaction is stable and was not opened, and the dependencies behind a place no longer hold it back
 pub record IsClosed (shard : ℕ) (at : Lookup) (done : List Change) (x : TxnId) (place : ℕ) : Type 0 where
   pub there : Record
   pub there_is : at x ≡ Some there
   pub closed : there.opened ≡ false
   pub settled : Settled
   pub stable : there.stable ≡ Some settled
-  pub past : ArePast at done settled.t (of_shard settled.deps shard) 0 place
+  pub past : AllPastBehind at done settled.t (of_shard settled.deps shard) place
 
 -- it waits for a dependency that holds it back
 pub record IsHeld (shard : ℕ) (at : Lookup) (done : List Change) (y : TxnId) (w : Watch) : Type 0 where

@@ -11,7 +11,7 @@ ghost use Rattle.acc_record.specs.Shelf.{record_at};
 
 use crate::lookup::record_of;
 use crate::queue::{Queue, insert, take_first};
-use crate::scan::next_held;
+use crate::scan::last_held;
 use crate::touched::{TouchedWaits, add_watch, take_watches};
 use crate::turns::{Turn, turn_of};
 use acc_base::OutOfMemory;
@@ -45,7 +45,7 @@ pub struct Plan {
 }
 
 impl Plan {
-    // Looks at one that no longer waits where it did: it waits for the next dependency that holds it back, or its turn comes.
+    // Looks at one that no longer waits where it did: it waits for the last dependency that holds it back, or its turn comes.
     fn wake(&mut self, known: &Known<'_>, woken: &[Watch], place: usize) -> Result<(), OutOfMemory>
         requires one { place < length woken.now }
         requires before { IsUnderWay known.now.shard (lookup known.now.records.now known.now.own.now) (watches_now self.old.touched known.now.waits.now) (drop place woken.now) self.old.done.items (turns_in self.old.queue) }
@@ -60,7 +60,7 @@ impl Plan {
             return Ok(());
         };
         let ids = settled.deps.of_shard(known.shard);
-        match next_held(
+        match last_held(
             known.records,
             known.own,
             &self.done,
@@ -125,10 +125,14 @@ impl Plan {
         requires fresh { settled_in (record_at known.now.records.now known.now.own.now.id) ≡ None }
         ensures { OnOk result (IsUnderWay known.now.shard (lookup known.now.records.now known.now.own.now) (watches_now self.new.touched known.now.waits.now) [] self.new.done.items (turns_in self.new.queue)) }
     {
+        let Some(settled) = &known.own.stable else {
+            return Ok(());
+        };
+        let place = settled.deps.of_shard(known.shard).len();
         let alloc = *self.done.allocator();
         let id = known.own.id;
         let mut woken = take_watches(alloc, &mut self.touched, known.waits, id)?;
-        let own = Watch { id, place: 0 };
+        let own = Watch { id, place };
         if woken.as_slice().is_empty() {
             return self.wake_all(known, &[own]);
         }

@@ -1,12 +1,12 @@
 //! The scan over the dependencies of a transaction.
-ghost use Rattle.std.specs.Prelude.{◌≡◌, ℕ, ◌≤◌, ◌<◌, length, false, IsTrue, MatchOption};
+ghost use Rattle.std.specs.Prelude.{◌≡◌, ℕ, ◌+◌, ◌≤◌, ◌<◌, length, false, IsTrue, MatchOption};
 ghost use Rattle.std.specs.List.{slice_get};
 ghost use Rattle.acc_stamp.specs.declared.stamps.TxnId.{TxnId};
 ghost use Rattle.acc_stamp.specs.Rising.{IsRisingBy};
 ghost use Rattle.acc_opening_laws.specs.Plan.{is_past_behind};
 ghost use Rattle.acc_opening.specs.Lookup.{lookup};
 ghost use Rattle.acc_opening.specs.Turns.{turn_lt, changes_in, HaveTheirTimes};
-ghost use Rattle.acc_opening.specs.Scan.{IsNextHeld, AllPastFrom};
+ghost use Rattle.acc_opening.specs.Scan.{IsLastHeld, AllPastUpTo};
 
 use crate::lookup::{is_kept_over, record_of};
 use crate::turns::{Turn, is_applied_at};
@@ -34,27 +34,32 @@ pub(crate) fn is_past(records: &Records, own: &Record, turns: &[Turn], t: Stamp,
     is_applied_at(turns, settled.t, id)
 }
 
-/// The place of the next dependency, from this one on, that holds back a transaction with this timestamp behind these turns.
-pub(crate) fn next_held(
+/// The place of the last dependency, up to this one, that holds back a transaction with this timestamp behind these turns.
+pub(crate) fn last_held(
     records: &Records,
     own: &Record,
     turns: &[Turn],
     t: Stamp,
     ids: &[TxnId],
-    from: usize,
+    last: usize,
 ) -> Option<usize>
     requires rises { IsRisingBy turn_lt turns.now }
     requires times { HaveTheirTimes (lookup records.now own.now) turns.now }
     ensures { MatchOption result
-        (AllPastFrom (lookup records.now own.now) (changes_in turns.now) t ids.now from)
-        (IsNextHeld (lookup records.now own.now) (changes_in turns.now) t ids.now from) }
+        (AllPastUpTo (lookup records.now own.now) (changes_in turns.now) t ids.now last)
+        (IsLastHeld (lookup records.now own.now) (changes_in turns.now) t ids.now last) }
 {
-    let mut place = from;
-    while place < ids.len() {
+    let mut left = if last < ids.len() {
+        last + 1
+    } else {
+        ids.len()
+    };
+    while left > 0 {
+        let place = left - 1;
         if !is_past(records, own, turns, t, ids[place]) {
             return Some(place);
         }
-        place += 1;
+        left = place;
     }
     None
 }

@@ -1,4 +1,4 @@
--- Who waits for whom: each stable transaction that isn't opened watches the first of its dependencies that holds it back.
+-- Who waits for whom: each stable transaction that isn't opened watches the last of its dependencies that holds it back.
 use Rattle.std.specs.Prelude.{◌≡◌, ℕ, ◌<◌, Bool, false, Option, None, Some, is_some, IsTrue, Contains}
 use Rattle.std.specs.List.{slice_get}
 use Rattle.acc_stamp.specs.declared.stamps.Stamp.{Stamp}
@@ -15,7 +15,7 @@ abbrev pub is_past_record : Stamp → Option Record → Bool
 is_past_record t None = false
 is_past_record t (Some r) = is_past t r.applied r.stable
 
--- the watch is of a stable transaction that isn't opened, for the first of its dependencies in the shard that holds it back
+-- the watch is of a stable transaction that isn't opened, for the last of its dependencies in the shard that holds it back
 pub record IsWatch (shard : ℕ) (at : TxnId → Option Record) (y : TxnId) (w : Watch) : Type 0 where
   pub record_of : Record
   pub there : at w.id ≡ Some record_of
@@ -25,7 +25,7 @@ pub record IsWatch (shard : ℕ) (at : TxnId → Option Record) (y : TxnId) (w :
   pub waits_for : slice_get (of_shard settled.deps shard) w.place ≡ Some y
   pub held_back : is_past_record settled.t (at y) ≡ false
   pub others :
-      (i : ℕ) (z : TxnId) → i < w.place → slice_get (of_shard settled.deps shard) i ≡ Some z → IsTrue (is_past_record settled.t (at z))
+      (i : ℕ) (z : TxnId) → w.place < i → slice_get (of_shard settled.deps shard) i ≡ Some z → IsTrue (is_past_record settled.t (at z))
 
 -- every watch is one, and each stable transaction that isn't opened has one
 pub record AreWaits (shard : ℕ) (at : TxnId → Option Record) (waits : Waits) : Type 0 where

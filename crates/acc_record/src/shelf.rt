@@ -25,12 +25,12 @@ use std::collections::{BTreeMap, HashMap};
 pub struct Watch {
     /// The transaction that waits.
     pub id: TxnId,
-    /// The place of the dependency among its dependencies in the shard. Those before it are done with.
+    /// The place of the dependency among its dependencies in the shard. Those after it are done with.
     pub place: usize,
 }
 
 /// For each dependency that something waits for, what waits for it. A stable transaction that can't be opened yet waits for
-/// the first of its dependencies that holds it back, and for no other.
+/// the last of its dependencies that holds it back, and for no other.
 pub type Waits = BTreeMap<TxnId, Vec<Watch>>;
 
 /// What one store keeps.

@@ -8,7 +8,7 @@ use Rattle.acc_deps.specs.Deps.{of_shard}
 use Rattle.acc_opening_laws.specs.Plan.{Lookup}
 use Rattle.acc_opening.specs.Lookup.{lookup}
 use Rattle.acc_opening.specs.Queue.{turns_in}
-use Rattle.acc_opening.specs.Scan.{AllPastFrom, IsNextHeld}
+use Rattle.acc_opening.specs.Scan.{AllPastUpTo, IsLastHeld}
 use Rattle.acc_opening.specs.Touched.{watches_now}
 use Rattle.acc_opening.specs.Turns.{changes_in, HasTurn}
 use Rattle.acc_opening.proofs.Woken.{front, unknown, unsettled, to_queue, to_watch}
@@ -28,21 +28,21 @@ returns-in_default-stable-clause-after c =
     let r = c.in-Some.there.now in
     absurd (unsettled c.args.known.now.shard _ _ _ _ _ _ s r (sym c.in-Some.ensures) c.in_default-stable.is)
 
-pub returns-in-Some-next_held-clause-after : goal.returns-in-Some-next_held-clause-after
-returns-in-Some-next_held-clause-after c =
+pub returns-in-Some-last_held-clause-after : goal.returns-in-Some-last_held-clause-after
+returns-in-Some-last_held-clause-after c =
     let known = c.args.known.now in
     let at : Lookup = lookup known.records.now known.own.now in
     let s = front known.shard at _ c.args.woken.now c.args.place _ _ _ c.requires.one c.requires.before in
     let w : Watch = get_or c.args.woken.now c.args.place (record { id = no_id; place = 0 }) in
     let r = c.in-Some.there.now in
     let settled = c.in-Some-stable.settled in
-    let next = subst (λ ids. IsNextHeld at (changes_in c.deref.result.now) settled.t ids w.place c.in-Some-next_held.held) c.of_shard-ids.ensures.ids c.in-Some-next_held.ensures in
-    let next_done = subst (λ turns. IsNextHeld at (changes_in turns) settled.t (of_shard settled.deps known.shard) w.place c.in-Some-next_held.held) c.deref.ensures.value next in
+    let next = subst (λ ids. IsLastHeld at (changes_in c.deref.result.now) settled.t ids w.place c.in-Some-last_held.held) c.of_shard-ids.ensures.ids c.in-Some-last_held.ensures in
+    let next_done = subst (λ turns. IsLastHeld at (changes_in turns) settled.t (of_shard settled.deps known.shard) w.place c.in-Some-last_held.held) c.deref.ensures.value next in
     IfOk-weaker _ _ _
     (λ _ adds.
-    to_watch known.shard at _ _ _ _ _ s r (sym c.in-Some.ensures) settled c.in-Some-stable.is c.in-Some-next_held.held next_done
-    _ (subst (λ ids. slice_get ids c.in-Some-next_held.held ≡ Some (get_or c.of_shard-ids.result.now c.in-Some-next_held.held no_id)) c.of_shard-ids.ensures.ids
-    (slice_get-get_or c.of_shard-ids.result.now c.in-Some-next_held.held no_id c.in-Some-next_held.ensures.within))
+    to_watch known.shard at _ _ _ _ _ s r (sym c.in-Some.ensures) settled c.in-Some-stable.is c.in-Some-last_held.held next_done
+    _ (subst (λ ids. slice_get ids c.in-Some-last_held.held ≡ Some (get_or c.of_shard-ids.result.now c.in-Some-last_held.held no_id)) c.of_shard-ids.ensures.ids
+    (slice_get-get_or c.of_shard-ids.result.now c.in-Some-last_held.held no_id c.in-Some-last_held.ensures.within))
     (watches_now c.add_watch.new.touched known.waits.now) (adds known.waits.now))
     c.add_watch.ensures
 
@@ -54,8 +54,8 @@ returns-in-None-clause-after c =
     let w : Watch = get_or c.args.woken.now c.args.place (record { id = no_id; place = 0 }) in
     let r = c.in-Some.there.now in
     let settled = c.in-Some-stable.settled in
-    let past = subst (λ ids. AllPastFrom at (changes_in c.deref.result.now) settled.t ids w.place) c.of_shard-ids.ensures.ids c.in-None.ensures in
-    let past_done = subst (λ turns. AllPastFrom at (changes_in turns) settled.t (of_shard settled.deps known.shard) w.place) c.deref.ensures.value past in
+    let past = subst (λ ids. AllPastUpTo at (changes_in c.deref.result.now) settled.t ids w.place) c.of_shard-ids.ensures.ids c.in-None.ensures in
+    let past_done = subst (λ turns. AllPastUpTo at (changes_in turns) settled.t (of_shard settled.deps known.shard) w.place) c.deref.ensures.value past in
     IfOk-weaker _ _ _
     (λ _ has.
     to_queue known.shard at _ _ _ _ _ s r (sym c.in-Some.ensures) settled c.in-Some-stable.is past_done (turns_in c.insert.new.queue)
