@@ -1,7 +1,7 @@
 //! The bell of a worker.
 use std::hint::spin_loop;
 use std::sync::Wait;
-use std::sync::atomic::{AtomicBool, AtomicU64, Ordering};
+use std::sync::atomic::{AtomicU64, Ordering};
 
 // How often a worker looks for a call before it sleeps.
 const LOOKS: u32 = 100;
@@ -16,8 +16,9 @@ pub(crate) struct Bell {
     calls: AtomicU64,
     /// One more than the calls that it had heard when it last rested, or 0 where it never did.
     rested: AtomicU64,
-    /// Whether the next call has to wake it.
-    asleep: AtomicBool,
+    /// One more than the calls that it had heard when it went to sleep, or 0 where it is awake. Only the worker writes this, so that
+    /// nobody whose call it has heard already can make it look awake.
+    asleep: AtomicU64,
 }
 
 impl Bell {
@@ -26,14 +27,14 @@ impl Bell {
         Bell {
             calls: AtomicU64::new(0),
             rested: AtomicU64::new(0),
-            asleep: AtomicBool::new(false),
+            asleep: AtomicU64::new(0),
         }
     }
 
-    /// Calls the worker.
+    /// Calls the worker. Where it sleeps, the first call that it hasn't heard wakes it.
     pub(crate) fn ring(&self) {
-        let _before = self.calls.fetch_add(1, Ordering::SeqCst);
-        if self.asleep.load(Ordering::SeqCst) && self.asleep.swap(false, Ordering::SeqCst) {
+        let before = self.calls.fetch_add(1, Ordering::SeqCst);
+        if self.asleep.load(Ordering::SeqCst) == before.wrapping_add(1) {
             self.calls.wake_all();
         }
     }
@@ -73,12 +74,12 @@ impl Bell {
             spin_loop();
         }
         for _ in rt.forever() {
-            self.asleep.store(true, Ordering::SeqCst);
+            self.asleep.store(heard.wrapping_add(1), Ordering::SeqCst);
             if self.calls() != heard {
                 break;
             }
             self.calls.park(rt, (heard % (1 << 32)) as u32);
         }
-        self.asleep.store(false, Ordering::SeqCst);
+        self.asleep.store(0, Ordering::SeqCst);
     }
 }
