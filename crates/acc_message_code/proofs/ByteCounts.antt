@@ -24,7 +24,7 @@ pub stamp_takes : (stamp : Stamp) → length (stamp_bytes stamp) ≡ 12
 unfolding stamp_bytes u64_bytes u32_bytes
 stamp_takes stamp = refl
 
-each_id_takes : (ids : List TxnId) → length (flat_map id_bytes ids) ≡ 12 * length ids
+pub each_id_takes : (ids : List TxnId) → length (flat_map id_bytes ids) ≡ 12 * length ids
 each_id_takes [] = refl
 each_id_takes (id ∷ ids) =
     ap length (flat_map-cons id_bytes id ids)

@@ -1,4 +1,5 @@
 mod ByteCounts
+mod Written
 pub mod Shortness
 pub mod Rising
 pub mod Known

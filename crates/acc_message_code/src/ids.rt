@@ -1,5 +1,5 @@
 //! Rising lists of transactions.
-ghost use Rattle.std.specs.Prelude.{◌≡◌, ◌≤◌, ◌++◌, ◌∷◌, [], length, OnOk, OnErr, IfOk, IsTrue};
+ghost use Rattle.std.specs.Prelude.{◌≡◌, ◌≤◌, ◌*◌, ◌++◌, ◌∷◌, [], length, drop, OnOk, OnErr, IfOk, IsTrue};
 ghost use Rattle.std.specs.List.{flat_map, list_all};
 ghost use Rattle.acc_stamp.specs.Stamp.{id_lt};
 ghost use Rattle.acc_stamp.specs.Rising.{IsRising};
@@ -10,12 +10,41 @@ ghost use Rattle.acc_message_code.specs.Fitting.{FitStamps};
 ghost use Rattle.acc_message_code.specs.Reading.{next_id_at, ids_at};
 ghost use Rattle.acc_code.specs.Writing.{Keeps};
 
-use crate::stamps::{STAMP, put_stamp, take_id};
+use crate::stamps::{STAMP, take_id, write_stamp};
 use acc_base::{Bytes, OutOfMemory};
 use acc_code::{CodeError, out_of_range};
 use acc_stamp::{Ids, TxnId};
 use acc_wire::{Reader, put_u16};
 use std::alloc::Global;
+
+/// How many transactions are appended at once.
+const FEW: usize = 8;
+
+/// Writes transactions over the first bytes of a field.
+fn write_ids(field: &mut [u8], ids: &[TxnId])
+    requires { 12 * length ids.now ≤ length field.old }
+    ensures spelled { field.new ≡ flat_map id_bytes ids.now ++ drop (12 * length ids.now) field.old }
+    ensures stamps { FitStamps ids.now }
+{
+    let mut place = 0;
+    for id in ids {
+        write_stamp(&mut field[place..], id.0);
+        place += STAMP as usize;
+    }
+}
+
+/// Appends a few transactions at once.
+#[tactic(auto, using(acc_code::proofs::Kept::keeps_all))]
+fn put_few_ids(out: &mut Bytes, ids: &[TxnId]) -> Result<(), OutOfMemory>
+    requires { length ids.now ≤ 8 }
+    ensures spelled { OnOk result (out.new ≡ out.old ++ flat_map id_bytes ids.now) }
+    ensures kept { OnErr result (Keeps out.old out.new) }
+    ensures stamps { OnOk result (FitStamps ids.now) }
+{
+    let mut field = [0; FEW * STAMP as usize];
+    write_ids(&mut field, ids);
+    out.extend_from_slice(&field[..ids.len() * STAMP as usize])
+}
 
 #[tactic(auto, using(acc_code::proofs::Kept::keeps_all, acc_code::proofs::Kept::keeps_front, acc_code::proofs::Kept::keeps_more))]
 fn put_each_id(out: &mut Bytes, ids: &[TxnId]) -> Result<(), OutOfMemory>
@@ -23,10 +52,12 @@ fn put_each_id(out: &mut Bytes, ids: &[TxnId]) -> Result<(), OutOfMemory>
     ensures kept { OnErr result (Keeps out.old out.new) }
     ensures stamps { OnOk result (FitStamps ids.now) }
 {
-    for id in ids {
-        put_stamp(out, id.0)?;
+    let mut place = 0;
+    'groups: while ids.len() - place > FEW {
+        put_few_ids(out, &ids[place..place + FEW])?;
+        place += FEW;
     }
-    Ok(())
+    put_few_ids(out, &ids[place..])
 }
 
 /// Appends transactions: a count in two bytes, and their ids.
