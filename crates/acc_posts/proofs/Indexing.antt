@@ -12,7 +12,7 @@ use Rattle.acc_posts.specs.Mail.{posting_at, nothing, taken}
 use Rattle.acc_posts.specs.Indexed.{lane_at, AreNowhere, Indexed}
 
 abbrev none : ℕ
-none = 18446744073709551615
+none = 4294967295
 
 -- no messages, and a place of none for each lane
 pub of_nothing : (sent : List Posting) (links firsts lasts : List ℕ) → sent ≡ [] → links ≡ [] → AreNowhere 1024 firsts → AreNowhere 1024 lasts → Indexed sent links firsts lasts

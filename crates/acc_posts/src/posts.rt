@@ -4,7 +4,7 @@ ghost use Rattle.std.specs.List.{list_any};
 ghost use Rattle.acc_posts.specs.Mail.{Mail, posting_at, taken, early_after, IsOpenTo, IsNext, HasNone};
 ghost use Rattle.acc_posts.specs.Indexed.{lane_at};
 
-use crate::lanes::{LANES, join_lane, lane_of, no_places};
+use crate::lanes::{LANES, NOWHERE, join_lane, lane_of, no_places};
 use crate::posting::{Post, Posting};
 use acc_base::OutOfMemory;
 use std::alloc::Global;
@@ -19,10 +19,10 @@ use std::marker::Model;
 pub struct Posts {
     postings: Vec<Posting>,
     // For each message the next one of its lane.
-    links: Vec<usize>,
+    links: Vec<u32>,
     // For each lane a message before which none of the lane is open, and the lane's last message.
-    firsts: Vec<usize>,
-    lasts: Vec<usize>,
+    firsts: Vec<u32>,
+    lasts: Vec<u32>,
     // The numbers of messages that were taken before they were sent, which happens in no run.
     early: Vec<u64>,
     // How many more messages and takings there is room for.
@@ -40,7 +40,7 @@ impl Model for Posts {
 
     ghost view = { λ p. record { sent = p.postings.items; early = p.early.items; room = p.room; takings = p.takings } };
 
-    ghost invariant = { λ p. Indexed p.postings.items p.links.items p.firsts.items p.lasts.items × (vec_len p.postings + p.room ≤ vec_capacity p.postings) × (vec_len p.postings + p.room ≤ vec_capacity p.links) × (vec_len p.early + p.takings ≤ vec_capacity p.early) };
+    ghost invariant = { λ p. Indexed p.postings.items p.links.items p.firsts.items p.lasts.items × (vec_len p.postings + p.room ≤ vec_capacity p.postings) × (vec_len p.postings + p.room ≤ vec_capacity p.links) × (vec_len p.postings + p.room ≤ 4294967295) × (vec_len p.early + p.takings ≤ vec_capacity p.early) };
 }
 
 // Closes the message at a place.
@@ -85,12 +85,16 @@ impl Posts {
         })
     }
 
-    /// Makes room for so many more messages and for one more taking. Without memory for it all is as before.
+    /// Makes room for so many more messages and for one more taking. Without memory for it, and where the messages and the room
+    /// for more would pass 32 bits, all is as before.
     pub fn reserve(&mut self, messages: u64) -> Result<(), OutOfMemory>
         ensures ok { OnOk result (self.new ≡ record self.old { room = self.old.room + messages; takings = self.old.takings + 1 }) }
         ensures err { OnErr result (self.new ≡ self.old) }
     {
         let room = self.room.checked_add(messages as usize).ok_or(OutOfMemory)?;
+        if room > NOWHERE as usize - self.postings.len() {
+            return Err(OutOfMemory);
+        }
         let takings = self.takings + 1;
         self.postings.reserve(room)?;
         self.links.reserve(room)?;
@@ -190,8 +194,8 @@ impl Posts {
         ensures { self.new ≡ self.old }
     {
         let mut first = self.firsts[lane];
-        while first < self.postings.len() && !self.postings[first].is_open {
-            first = self.links[first];
+        while (first as usize) < self.postings.len() && !self.postings[first as usize].is_open {
+            first = self.links[first as usize];
         }
         self.firsts[lane] = first;
     }
@@ -202,7 +206,7 @@ impl Posts {
         ensures before { (number : ℕ) → from ≤ number → number < result → ¬ IsOpenTo self.now.sent actor number }
     {
         let lane = lane_of(actor);
-        let first = self.firsts[lane];
+        let first = self.firsts[lane] as usize;
         let place = from as usize;
         if place == 0 || self.postings.len() < place {
             return first;
@@ -210,7 +214,7 @@ impl Posts {
         if lane_of(self.postings[place - 1].to) != lane {
             return first;
         }
-        first.max(self.links[place - 1])
+        first.max(self.links[place - 1] as usize)
     }
 
     fn find_after(&self, actor: u32, number: u64) -> Option<Post>
@@ -235,7 +239,7 @@ impl Posts {
                     index: posting.index,
                 });
             }
-            at = self.links[at];
+            at = self.links[at] as usize;
         }
         None
     }

@@ -7,7 +7,7 @@ abbrev pub invariant-loop-first : goal.invariant-loop-first
 invariant-loop-first l = record {
   on_lane : l.first < length l.self-inside.postings.items → lane_at l.self-inside.postings.items l.first ≡ l.lane;
   passed : (j : ℕ) → j < length l.self-inside.postings.items → j < l.first → lane_at l.self-inside.postings.items j ≡ l.lane → (posting_at l.self-inside.postings.items j).is_open ≡ false;
-  or_none : length l.self-inside.postings.items ≤ l.first → l.first ≡ 18446744073709551615;
+  or_none : length l.self-inside.postings.items ≤ l.first → l.first ≡ 4294967295;
 }
 
 abbrev pub decreases-loop-first : goal.decreases-loop-first
