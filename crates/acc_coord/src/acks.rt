@@ -12,12 +12,12 @@ ghost use Rattle.acc_tally.specs.Stands.{StandsFor as Tallies};
 ghost use Rattle.acc_coord.specs.Stands.{own_of, attempt_in, attempt_at, IsPlaced, Keeps, Follows};
 
 use crate::coord::Coord;
+use crate::kept::KeptTally;
 use crate::step::{Next, Stage, Step, silent};
 use acc_base::OutOfMemory;
 use acc_deps::{Deps, Settled};
 use acc_message::Path;
 use acc_stamp::{Actor, Ballot, Stamp};
-use acc_tally::Tally;
 use acc_topology::Topology;
 
 impl Coord {
@@ -37,15 +37,16 @@ impl Coord {
         &self,
         topology: &Topology,
         settled: &Settled,
-        tally: Tally,
+        tally: KeptTally,
     ) -> Result<Step, OutOfMemory>
         ensures { IfOk result (λ step. (answers more : List Letter) → IsPlaced topology.now self.now →
             Tallies tally (shards_used topology.now self.now.body) (plainly self.now.id more) →
             Follows topology.now self.now answers step (after_accept topology.now (own_of self.now) self.now.id (attempt_at self.now (Accepting settled.now) more) settled.now)) }
     {
         let mut agreed = settled.copy()?;
-        if tally.majority_everywhere(topology) {
-            agreed.deps.union(tally.deps())?;
+        let acks = tally.get();
+        if acks.majority_everywhere(topology) {
+            agreed.deps.union(acks.deps())?;
             return self.commit(agreed);
         }
         Ok(silent(self.allocator(), Next::Stage(Stage::Accepts(agreed, tally))))
@@ -83,14 +84,14 @@ impl Coord {
         &self,
         topology: &Topology,
         settled: &Settled,
-        tally: Tally,
+        tally: KeptTally,
     ) -> Result<Step, OutOfMemory>
         ensures { IfOk result (λ step. (answers more : List Letter) → IsPlaced topology.now self.now →
             Tallies tally (shards_used topology.now self.now.body) (plainly self.now.id more) →
             Follows topology.now self.now answers step (after_commit topology.now (own_of self.now) self.now.id (attempt_at self.now (Committing settled.now) more) settled.now)) }
     {
         let settled = settled.copy()?;
-        if tally.majority_everywhere(topology) {
+        if tally.get().majority_everywhere(topology) {
             return self.decide(self.path(), settled);
         }
         Ok(silent(

@@ -10,13 +10,13 @@ ghost use Rattle.acc_coord.specs.declared.error.SlowError.{SlowError as Refused}
 ghost use Rattle.acc_coord.specs.Stands.{StandsFor, Answers, MakesFastQuorum, DecidesFast, Slows, IsNew, is_voting, is_voting_phase, after_step, is_end};
 
 use crate::error::SlowError;
+use crate::kept::KeptTally;
 use crate::step::{Next, Stage, Step};
 use acc_base::{OutOfMemory, Sequence};
 use acc_deps::Choice;
 use acc_message::{Emitted, Message, Messages};
 use acc_stamp::{Actor, Ballot, TxnId};
 use acc_stores::stores;
-use acc_tally::Tally;
 use acc_topology::{ShardSet, Topology};
 use acc_txn::Body;
 
@@ -45,6 +45,7 @@ impl Coord {
         let shards = topology.shards_of(body.uses());
         let stores = stores(alloc, topology, shards)?;
         let body = body.copy()?;
+        let tally = KeptTally::new(alloc, shards)?;
         let _ = topology.shards();
         Ok(Coord {
             id,
@@ -52,7 +53,7 @@ impl Coord {
             body,
             shards,
             stores,
-            stage: Stage::Votes(Tally::new(alloc, shards)),
+            stage: Stage::Votes(tally),
         })
     }
 

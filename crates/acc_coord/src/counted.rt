@@ -10,11 +10,11 @@ ghost use Rattle.acc_tally.specs.Stands.{StandsFor as Tallies};
 ghost use Rattle.acc_coord.specs.Stands.{IsPlaced, CountedIs};
 
 use crate::coord::Coord;
+use crate::kept::KeptTally;
 use acc_base::OutOfMemory;
 use acc_deps::Deps;
 use acc_stamp::{Actor, Stamp};
 use acc_stores::is_store;
-use acc_tally::Tally;
 use acc_topology::Topology;
 
 impl Coord {
@@ -22,11 +22,11 @@ impl Coord {
     pub(crate) fn counted(
         &self,
         topology: &Topology,
-        tally: &Tally,
+        tally: &KeptTally,
         store: Actor,
         vote: Stamp,
         deps: &Deps,
-    ) -> Result<Option<Tally>, OutOfMemory>
+    ) -> Result<Option<KeptTally>, OutOfMemory>
         ensures { IfOk result (λ more. (m : Letter) (answers : List Letter) →
             from_of m ≡ store → vote_in_answer m ≡ vote → deps_in_answer m ≡ deps.now → IsPlaced topology.now self.now →
             Tallies tally.now (shards_used topology.now self.now.body) (plainly self.now.id answers) →
@@ -35,7 +35,7 @@ impl Coord {
         if !is_store(topology, self.shards, store) {
             return Ok(None);
         }
-        let mut more = tally.copy()?;
+        let mut more = tally.copy(self.allocator())?;
         if more.first(store, vote == self.id.0, vote, deps)? {
             Ok(Some(more))
         } else {

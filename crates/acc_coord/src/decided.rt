@@ -6,6 +6,7 @@ ghost use Rattle.acc_message.specs.Coordinator.{propose, commit, decide, go, on_
 ghost use Rattle.acc_coord.specs.Stands.{own_of, attempt_in, has_decided_in, may_adopt_in, IsPlaced, Follows};
 
 use crate::coord::Coord;
+use crate::kept::KeptTally;
 use crate::reads::Reads;
 use crate::rounds::Round;
 use crate::step::{Next, Stage, Step, silent};
@@ -13,7 +14,6 @@ use acc_base::OutOfMemory;
 use acc_deps::{Choice, Deps, Settled};
 use acc_message::{Emitted, Messages, Note, Notes, Path};
 use acc_stamp::{Ballot, Stamp};
-use acc_tally::Tally;
 
 impl Coord {
     // A list of one note, with room for so many and no more.
@@ -32,12 +32,13 @@ impl Coord {
             Follows layout self.now answers step (propose layout (own_of self.now) self.now.id (attempt_in self.now answers) settled)) }
     {
         let out = self.send(Round::Propose, &settled)?;
+        let tally = KeptTally::new(self.allocator(), self.shards)?;
         Ok(Step {
             emitted: Emitted {
                 notes: Notes::new(self.allocator()),
                 out,
             },
-            next: Next::Stage(Stage::Accepts(settled, Tally::new(self.allocator(), self.shards))),
+            next: Next::Stage(Stage::Accepts(settled, tally)),
         })
     }
 
@@ -48,12 +49,13 @@ impl Coord {
             Follows layout self.now answers step (commit layout (own_of self.now) self.now.id (attempt_in self.now answers) settled)) }
     {
         let out = self.send(Round::Fix, &settled)?;
+        let tally = KeptTally::new(self.allocator(), self.shards)?;
         Ok(Step {
             emitted: Emitted {
                 notes: Notes::new(self.allocator()),
                 out,
             },
-            next: Next::Stage(Stage::Commits(settled, Tally::new(self.allocator(), self.shards))),
+            next: Next::Stage(Stage::Commits(settled, tally)),
         })
     }
 

@@ -3,21 +3,21 @@
 ghost use Rattle.std.specs.Prelude.{◌≡◌};
 ghost use Rattle.acc_message.specs.Coordinator.{silence};
 
+use crate::kept::KeptTally;
 use crate::reads::Reads;
 use acc_deps::Settled;
 use acc_message::{Emitted, Messages, Notes};
-use acc_tally::Tally;
 use std::alloc::Global;
 
 /// What a coordinator waits for.
 #[derive(Debug, Drop)]
 pub(crate) enum Stage {
     /// Votes.
-    Votes(Tally),
+    Votes(KeptTally),
     /// Stores that accept the proposal.
-    Accepts(Settled, Tally),
+    Accepts(Settled, KeptTally),
     /// Stores that have committed.
-    Commits(Settled, Tally),
+    Commits(Settled, KeptTally),
     /// The cells that the decided transaction reads.
     Reads(Settled, Reads),
 }

@@ -15,6 +15,7 @@ ghost use Rattle.acc_coord.specs.Stands.{own_of, attempt_in, attempt_at, is_voti
 
 use crate::coord::Coord;
 use crate::error::SlowError;
+use crate::kept::KeptTally;
 use crate::step::{Next, Stage, Step, silent};
 use acc_base::OutOfMemory;
 use acc_deps::{Deps, Settled};
@@ -38,17 +39,18 @@ impl Coord {
     }
 
     // What the votes with the newest one make.
-    fn after_vote(&self, topology: &Topology, tally: Tally) -> Result<Step, OutOfMemory>
+    fn after_vote(&self, topology: &Topology, tally: KeptTally) -> Result<Step, OutOfMemory>
         ensures { IfOk result (λ step. (answers more : List Letter) → IsPlaced topology.now self.now →
             Tallies tally (shards_used topology.now self.now.body) (plainly self.now.id more) →
             Follows topology.now self.now answers step (after_vote topology.now (own_of self.now) self.now.id (attempt_at self.now Voting more))) }
     {
-        if tally.fast_everywhere(topology) {
-            let deps = tally.deps().copy()?;
+        let votes = tally.get();
+        if votes.fast_everywhere(topology) {
+            let deps = votes.deps().copy()?;
             return self.decide(Path::Fast, Settled { t: self.id.0, deps });
         }
-        if tally.majority_everywhere(topology) && tally.fast_lost(topology) {
-            return self.slow_down(&tally);
+        if votes.majority_everywhere(topology) && votes.fast_lost(topology) {
+            return self.slow_down(votes);
         }
         Ok(silent(self.allocator(), Next::Stage(Stage::Votes(tally))))
     }
@@ -87,6 +89,7 @@ impl Coord {
     {
         match &self.stage {
             Stage::Votes(tally) => {
+                let tally = tally.get();
                 if !tally.majority_everywhere(topology) {
                     return Err(SlowError::NoQuorum);
                 }

@@ -1,4 +1,4 @@
-use Rattle.std.proofs.Common.{◌≡◌, true, false, ◌&&◌, refl, subst, ◌∙◌}
+use Rattle.std.proofs.Common.{◌≡◌, true, false, ◌&&◌, refl, sym, subst, ◌∙◌}
 use Rattle.std.proofs.lemmas.Result.{IfOk-weaker}
 use Rattle.std.proofs.lemmas.Bool.{and_from, and_left, and_right}
 use Rattle.acc_deps.specs.declared.records.Settled.{Settled}
@@ -6,6 +6,8 @@ use Rattle.acc_message.specs.declared.note.Path.TheVariants.{Fast}
 use Rattle.acc_message.specs.Shares.{shards_used}
 use Rattle.acc_message.specs.Attempts.{Voting, plainly, majority_everywhere, fast_everywhere, fast_lost_somewhere}
 use Rattle.acc_message.specs.Coordinator.{decide}
+use Rattle.acc_tally.specs.declared.tally.Tally.{Tally}
+use Rattle.acc_tally.specs.Stands.{StandsFor as Tallies}
 use Rattle.acc_coord.specs.declared.step.Stage.TheVariants.{Votes}
 use Rattle.acc_coord.specs.Stands.{own_of, attempt_in, attempt_at, Follows}
 use Rattle.acc_coord.proofs.Moves.{when_goes, when_waits, either_one, either_other, same_settled}
@@ -19,9 +21,10 @@ returns-then-fast_everywhere c =
     IfOk-weaker c.decide.result _ _
     (λ step h. λ answers more placed stands.
     let shards = shards_used layout self.body in
-    let asked = c.fast_everywhere.ensures shards (plainly self.id more) placed.exist stands in
+    let there : Tallies c.get-votes.result.now shards (plainly self.id more) = subst (λ (t : Tally). Tallies t shards (plainly self.id more)) (sym c.get-votes.ensures) stands in
+    let asked = c.fast_everywhere.ensures shards (plainly self.id more) placed.exist there in
     let is : fast_everywhere layout self.id self.body more ≡ true = cc in
-    let deps_are = c.in_ok-deps.ensures ∙ c.deps.ensures shards (plainly self.id more) stands in
+    let deps_are = c.in_ok-deps.ensures ∙ c.deps.ensures shards (plainly self.id more) there in
     either_one layout self answers step _ _ _ (attempt_at self Voting more) is
     (subst (λ (s : Settled). Follows layout self answers step (decide layout (own_of self) self.id (attempt_in self answers) Fast s)) (same_settled {t = self.id.0} {u = self.id.0} refl deps_are) (h layout answers placed)))
     c.decide.ensures
@@ -33,14 +36,15 @@ returns-then-fast_lost c =
     IfOk-weaker c.slow_down.result _ _
     (λ step h. λ answers more placed stands.
     let shards = shards_used layout self.body in
-    let asked = c.fast_everywhere.ensures shards (plainly self.id more) placed.exist stands in
+    let there : Tallies c.get-votes.result.now shards (plainly self.id more) = subst (λ (t : Tally). Tallies t shards (plainly self.id more)) (sym c.get-votes.ensures) stands in
+    let asked = c.fast_everywhere.ensures shards (plainly self.id more) placed.exist there in
     let no : fast_everywhere layout self.id self.body more ≡ false = cc in
-    let asked_too = c.majority_everywhere.ensures shards (plainly self.id more) placed.exist stands in
+    let asked_too = c.majority_everywhere.ensures shards (plainly self.id more) placed.exist there in
     let majority : majority_everywhere layout self.id self.body more ≡ true = cc in
-    let asked_last = c.fast_lost.ensures shards (plainly self.id more) placed.exist stands in
+    let asked_last = c.fast_lost.ensures shards (plainly self.id more) placed.exist there in
     let lost : fast_lost_somewhere layout self.id self.body more ≡ true = cc in
     either_other layout self answers step _ _ _ (attempt_at self Voting more) no
-    (when_goes layout self answers step _ _ (attempt_at self Voting more) (and_from _ _ majority lost) (h layout answers more placed stands)))
+    (when_goes layout self answers step _ _ (attempt_at self Voting more) (and_from _ _ majority lost) (h layout answers more placed there)))
     c.slow_down.ensures
 
 pub returns : goal.returns
@@ -48,13 +52,14 @@ returns c = λ answers more placed stands.
     let self = c.args.self.now in
     let layout = c.args.topology.now in
     let shards = shards_used layout self.body in
-    let asked = c.fast_everywhere.ensures shards (plainly self.id more) placed.exist stands in
+    let there : Tallies c.get-votes.result.now shards (plainly self.id more) = subst (λ (t : Tally). Tallies t shards (plainly self.id more)) (sym c.get-votes.ensures) stands in
+    let asked = c.fast_everywhere.ensures shards (plainly self.id more) placed.exist there in
     let no : fast_everywhere layout self.id self.body more ≡ false = cc in
-    let asked_too = c.majority_everywhere.ensures shards (plainly self.id more) placed.exist stands in
+    let asked_too = c.majority_everywhere.ensures shards (plainly self.id more) placed.exist there in
     let neither : (majority_everywhere layout self.id self.body more && fast_lost_somewhere layout self.id self.body more) ≡ false =
     elim c.else-majority_everywhere.branch [
       | else-majority_everywhere-via-then-majority_everywhere+else-fast_lost w ↦
-          let lost = w.fast_lost.ensures shards (plainly self.id more) placed.exist stands in
+          let lost = w.fast_lost.ensures shards (plainly self.id more) placed.exist there in
           let not_lost : fast_lost_somewhere layout self.id self.body more ≡ false = cc in
           and_right _ _ not_lost
       | else-majority_everywhere-via-else-majority_everywhere w ↦

@@ -26,6 +26,6 @@ returns c =
           shards = listed ∙ ap (shards_used layout) same;
           exist = shards_of-exist layout c.shards.ensures.valid (footprint_of c.in_ok-body.body);
         };
-        stage = subst (λ (ns : List ℕ). Tallies c.new.result ns []) (listed ∙ ap (shards_used layout) same) c.new.ensures;
+        stage = subst (λ (ns : List ℕ). Tallies c.in_ok-tally.tally ns []) (listed ∙ ap (shards_used layout) same) c.in_ok-tally.ensures;
       };
     }
