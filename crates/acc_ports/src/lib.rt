@@ -12,6 +12,7 @@ mod maker;
 mod memory;
 mod memory_disk;
 mod memory_maker;
+mod room;
 mod saved;
 mod sink;
 mod source;

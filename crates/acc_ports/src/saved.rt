@@ -40,6 +40,7 @@ impl Saved {
         ensures { IfOk result (λ saved. saved ≡ bytes.now) }
     {
         match bytes {
+            [] => Ok(Saved::nothing(alloc)),
             [byte] => Ok(Saved {
                 is_one: true,
                 one: *byte,

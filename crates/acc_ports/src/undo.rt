@@ -4,6 +4,7 @@ ghost use Rattle.acc_ports.specs.Disk.{overwritten};
 ghost use Rattle.acc_ports.specs.Strict.{IsFilled};
 ghost use Rattle.acc_ports.specs.Undo.{synced_of, ranges_of, CanUndo, CanCrash};
 
+use crate::room::append;
 use crate::saved::Saved;
 use crate::surface::Write;
 use acc_base::OutOfMemory;
@@ -13,8 +14,11 @@ pub(crate) fn overwrite(content: &mut Vec<u8>, at: usize, bytes: &[u8])
     requires { at + length bytes.now ≤ vec_len content.old }
     ensures { content.new.items ≡ overwritten at bytes.now content.old.items }
 {
-    let end = at + bytes.len();
-    content[at..end].copy_from_slice(bytes);
+    match bytes {
+        [] => {}
+        [byte] => content[at] = *byte,
+        _ => content[at..at + bytes.len()].copy_from_slice(bytes),
+    }
 }
 
 /// Writes bytes at a place, over the content and past its end, and notes what takes that back. Without memory all is as
@@ -38,7 +42,7 @@ pub(crate) fn write_over(
     let count = bytes.len();
     let over = count.min(before - at);
     let saved = Saved::of(*content.allocator(), &content[at..at + over])?;
-    content.extend_from_slice(&bytes[over..])?;
+    append(content, &bytes[over..])?;
     let write = Write {
         at,
         count,
