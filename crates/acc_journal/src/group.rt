@@ -6,7 +6,7 @@ use acc_base::Bytes;
 use byteorder::{BigEndian, ByteOrder};
 
 /// Appends bytes for which there is room. It takes no memory.
-pub(crate) fn push_all(buffer: &mut Vec<u8>, bytes: &[u8])
+fn push_all(buffer: &mut Vec<u8>, bytes: &[u8])
     requires { vec_len buffer.old + length bytes.now ≤ vec_capacity buffer.old }
     ensures items { buffer.new.items ≡ buffer.old.items ++ bytes.now }
     ensures len { vec_len buffer.new ≡ vec_len buffer.old + length bytes.now }

@@ -5,7 +5,7 @@ ghost use Rattle.acc_ports.specs.Faults.{Rose};
 ghost use Rattle.acc_ports.specs.Strict.{after_call, LeftByChoice};
 
 use crate::append::put_down;
-use crate::group::{fill, fill_one, push_all};
+use crate::group::{fill, fill_one};
 use crate::reading::read_disk;
 use crate::records::Records;
 use crate::{JournalError, Payloads};
@@ -223,7 +223,7 @@ impl<D: Disk> Journal<D> {
         ensures failed { IsTrue (D.strict self.old.disk) → result ≡ Err JournalError.DiskFault → (choice : ℕ) (left : List ℕ) → LeftByChoice choice (D.content self.new.disk) (D.synced self.new.disk) (D.written self.new.disk) left
             → Reads left (left_by_choice (D.armed self.old.disk) choice self.old.payloads records.old) }
     {
-        push_all(&mut records.bytes, &[0]);
+        records.bytes.push_reserved(0);
         let appended = put_down(
             &mut self.disk,
             &mut self.gate,

@@ -72,6 +72,22 @@ fn put_payload<P: Payload>(buffer: &mut Vec<u8>, payload: &P) -> Result<(), OutO
     Ok(())
 }
 
+/// Appends an open gate and four bytes for a length, one by one: to copy so few takes longer. Without memory for them the bytes are as
+/// before.
+fn put_head(buffer: &mut Vec<u8>) -> Result<(), OutOfMemory>
+    ensures items { OnOk result (buffer.new.items ≡ buffer.old.items ++ 1 ∷ 0 ∷ 0 ∷ 0 ∷ 0 ∷ []) }
+    ensures capacity { vec_capacity buffer.old ≤ vec_capacity buffer.new }
+    ensures err { OnErr result (buffer.new.items ≡ buffer.old.items) }
+{
+    buffer.reserve(5)?;
+    buffer.push_reserved(1);
+    buffer.push_reserved(0);
+    buffer.push_reserved(0);
+    buffer.push_reserved(0);
+    buffer.push_reserved(0);
+    Ok(())
+}
+
 /// Appends an open gate and the record of a payload, and leaves room for a gate. Without memory for it the bytes are as before, and
 /// the room for a gate is still there.
 fn put_record<P: Payload>(buffer: &mut Vec<u8>, payload: &P) -> Result<(), OutOfMemory>
@@ -84,7 +100,7 @@ fn put_record<P: Payload>(buffer: &mut Vec<u8>, payload: &P) -> Result<(), OutOf
     ensures err_room { OnErr result (vec_len buffer.old < vec_capacity buffer.old → vec_len buffer.new < vec_capacity buffer.new) }
 {
     let before = buffer.len();
-    buffer.extend_from_slice(&[1, 0, 0, 0, 0])?;
+    put_head(buffer)?;
     let put = put_payload(buffer, payload);
     if put.is_err() {
         buffer.truncate(before);

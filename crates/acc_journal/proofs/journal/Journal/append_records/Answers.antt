@@ -10,46 +10,46 @@ use Rattle.acc_journal.proofs.journal.Journal.append_records.Goals as goal
 
 pub invariant_of-self : goal.invariant_of-self
 invariant_of-self g c =
-    let is = waiting_group _ _ _ c.records.view_is c.requires.some c.records.invariant.records (c.deref.ensures.value ∙ c.push_all.ensures.items) in
+    let is = waiting_group _ _ _ c.records.view_is c.requires.some c.records.invariant.records (c.deref.ensures.value ∙ c.push_reserved.ensures.items) in
     c.put_down-appended.ensures.settled (c.args.records.now) is
 
 pub returns-clause-ok : goal.returns-clause-ok
 returns-clause-ok g c =
-    let is = waiting_group _ _ _ c.records.view_is c.requires.some c.records.invariant.records (c.deref.ensures.value ∙ c.push_all.ensures.items) in
+    let is = waiting_group _ _ _ c.records.view_is c.requires.some c.records.invariant.records (c.deref.ensures.value ∙ c.push_reserved.ensures.items) in
     subst (λ (v : JournalState g.row.D.Denot). OnOk c.put_down-appended.result ((c.put_down-appended.new.broken ≡ false) × (payloads_of (g.D.Disk.content c.put_down-appended.new.disk) ≡ v.payloads ++ c.args.records.now))) c.self.view_is (c.put_down-appended.ensures.ok (c.args.records.now) is)
 
 pub returns-clause-lasts : goal.returns-clause-lasts
 returns-clause-lasts g c =
-    let is = waiting_group _ _ _ c.records.view_is c.requires.some c.records.invariant.records (c.deref.ensures.value ∙ c.push_all.ensures.items) in
+    let is = waiting_group _ _ _ c.records.view_is c.requires.some c.records.invariant.records (c.deref.ensures.value ∙ c.push_reserved.ensures.items) in
     c.put_down-appended.ensures.lasts (c.args.records.now) is
 
 pub returns-clause-any_moment : goal.returns-clause-any_moment
 returns-clause-any_moment g c =
-    let is = waiting_group _ _ _ c.records.view_is c.requires.some c.records.invariant.records (c.deref.ensures.value ∙ c.push_all.ensures.items) in
+    let is = waiting_group _ _ _ c.records.view_is c.requires.some c.records.invariant.records (c.deref.ensures.value ∙ c.push_reserved.ensures.items) in
     subst (λ (v : JournalState g.row.D.Denot). LeavesOnly g.D.Disk.clock g.D.Disk.was_image v.disk c.put_down-appended.new.disk (ReadsAsEither v.payloads (c.args.records.now))) c.self.view_is (c.put_down-appended.ensures.any_moment (c.args.records.now) is)
 
 pub returns-clause-failed : goal.returns-clause-failed
 returns-clause-failed g c =
-    let is = waiting_group _ _ _ c.records.view_is c.requires.some c.records.invariant.records (c.deref.ensures.value ∙ c.push_all.ensures.items) in
+    let is = waiting_group _ _ _ c.records.view_is c.requires.some c.records.invariant.records (c.deref.ensures.value ∙ c.push_reserved.ensures.items) in
     λ strict failed choice left by.
     let old_strict : IsTrue (g.D.Disk.strict c.self.inside.disk) = subst (λ (v : JournalState g.row.D.Denot). IsTrue (g.D.Disk.strict v.disk)) (sym c.self.view_is) strict in
     subst (λ (v : JournalState g.row.D.Denot). Reads left (left_by_choice (g.D.Disk.armed v.disk) choice v.payloads (c.args.records.now))) c.self.view_is (c.put_down-appended.ensures.failed old_strict failed (c.args.records.now) is choice left by)
 
-pub push_all-requires : goal.push_all-requires
-push_all-requires g c = omega (arith, c.records.invariant.room (omega (arith, c.requires.some, ap length c.records.view_is, c.records.invariant.count)))
+pub push_reserved-requires : goal.push_reserved-requires
+push_reserved-requires g c = omega (arith, c.records.invariant.room (omega (arith, c.requires.some, ap length c.records.view_is, c.records.invariant.count)))
 
 pub invariant_of-records : goal.invariant_of-records
 invariant_of-records g c =
     let inside = c.records.inside.bytes in
-    let same = gate_off inside.items c.push_all.new.buffer.items c.pop-gate.new.self.items (vec_len c.push_all.new.buffer - 1) c.push_all.ensures.items (omega (arith, c.push_all.ensures.len, inside.ok.0)) c.pop-gate.ensures.rest in
+    let same = gate_off inside.items c.push_reserved.new.self.items c.pop-gate.new.self.items (vec_len c.push_reserved.new.self - 1) c.push_reserved.ensures.items (omega (arith, c.push_reserved.ensures.len, inside.ok.0)) c.pop-gate.ensures.rest in
     record {
       records = subst (λ (l : List ℕ). AreRecords l (payloads_in l)) (sym same) c.records.invariant.records;
       count = c.records.invariant.count ∙ ap (λ (l : List ℕ). length (payloads_in l)) (sym same);
-      room = λ some. omega (arith, c.records.invariant.room some, c.push_all.ensures.len, c.push_all.ensures.room, c.pop-gate.ensures.capacity, ap length same, inside.ok.0, c.pop-gate.new.self.ok.0);
+      room = λ some. omega (arith, c.records.invariant.room some, c.push_reserved.ensures.len, c.push_reserved.ensures.capacity, c.pop-gate.ensures.capacity, ap length same, inside.ok.0, c.pop-gate.new.self.ok.0);
     }
 
 pub returns-clause-kept : goal.returns-clause-kept
 returns-clause-kept g c =
     let inside = c.records.inside.bytes in
-    let same = gate_off inside.items c.push_all.new.buffer.items c.pop-gate.new.self.items (vec_len c.push_all.new.buffer - 1) c.push_all.ensures.items (omega (arith, c.push_all.ensures.len, inside.ok.0)) c.pop-gate.ensures.rest in
+    let same = gate_off inside.items c.push_reserved.new.self.items c.pop-gate.new.self.items (vec_len c.push_reserved.new.self - 1) c.push_reserved.ensures.items (omega (arith, c.push_reserved.ensures.len, inside.ok.0)) c.pop-gate.ensures.rest in
     ap payloads_in same ∙ c.records.view_is
