@@ -1,11 +1,11 @@
 -- Bytes with zeros behind them are ordered as two words and then their lengths are.
-use Rattle.std.proofs.Common.{◌≡◌, ℕ, zero, suc, ◌+◌, ◌*◌, ◌<◌, ◌≤◌, List, [], ◌∷◌, length, get_or, take, drop, refl, sym, ap, ◌∙◌, arith, inl, inr}
+use Rattle.std.proofs.Common.{◌≡◌, ℕ, zero, suc, ◌+◌, ◌*◌, ◌<◌, ◌≤◌, true, false, ◌&&◌, nat_eq, List, [], ◌∷◌, length, get_or, take, drop, refl, sym, ap, ◌∙◌, arith, inl, inr}
 use Rattle.std.specs.declared.cmp.Ordering.{Ordering}
 use Rattle.std.specs.declared.cmp.Ordering.TheVariants.{Less, Equal, Greater}
 use Rattle.std.specs.Int.{w64, from_be_bytes}
-use Rattle.std.specs.Ordering.{nat_cmp, ordering_then}
-use Rattle.std.specs.Cmp.{nat_cmp_is}
-use Rattle.std.specs.Cmp.Lexicographic.{slice_cmp}
+use Rattle.std.specs.Ordering.{nat_cmp, ordering_then, is_eq}
+use Rattle.std.specs.Cmp.{nat_cmp_is, both_tied, unsigned_ties}
+use Rattle.std.specs.Cmp.Lexicographic.{slice_cmp, pointwise, lists_ties}
 use Rattle.std.proofs.lemmas.List.{drop_more, drop_all, get_or-drop, get_or-take, get_or_past, length-take, length-drop}
 use Rattle.std.proofs.lemmas.Bool.{cases_lt}
 use Rattle.std.proofs.lemmas.Cmp.{ranked, by_ranked}
@@ -31,6 +31,16 @@ then_twice Less b c h = refl
 then_twice Equal b c h = h
 then_twice Greater b c h = refl
 
+untied_first : (a b c : Ordering) → is_eq a ≡ false → a ≡ ordering_then (ordering_then a b) c
+untied_first Less b c h = refl
+untied_first Equal b c h = cc
+untied_first Greater b c h = refl
+
+tied_first : (a b c : Ordering) → is_eq a ≡ true → ordering_then b c ≡ ordering_then (ordering_then a b) c
+tied_first Less b c h = cc
+tied_first Equal b c h = refl
+tied_first Greater b c h = cc
+
 -- ---- numbers
 
 less : (m n : ℕ) → m < n → nat_cmp m n ≡ Less
@@ -41,6 +51,9 @@ tied m n h = sym (nat_cmp_is m n Equal h)
 
 greater : (m n : ℕ) → n < m → nat_cmp m n ≡ Greater
 greater m n h = sym (nat_cmp_is m n Greater h)
+
+untied : (m n : ℕ) → (m ≡ n → ⊥) → is_eq (nat_cmp m n) ≡ false
+untied m n h = by_ranked (m < n) (m ≡ n) (n < m) (nat_cmp m n) (ranked m n _ refl) (λ is k. ap is_eq is) (λ is k. absurd (h k)) (λ is k. ap is_eq is)
 
 -- a digit decides where those before it are equal
 digit : (m n a b : ℕ) → a < 256 → b < 256 → nat_cmp (m * 256 + a) (n * 256 + b) ≡ ordering_then (nat_cmp m n) (nat_cmp a b)
@@ -189,3 +202,44 @@ order_is xs ys us vs m n a b c d r s t p q e f bytes others padded padding is_a 
     is_q ∙ ap (λ (o : Ordering). ordering_then o t) both ∙ ap (λ (o : Ordering). ordering_then (order xs ys) o) is_t
     ∙ in_front m n xs ys (omega (arith, e, f)) (omega (arith, e, padded.0)) (omega (arith, f, padding.0)) padded.1 padding.1
     ∙ ap (λ (l : List ℕ). order l (take n ys)) (sym is_us) ∙ ap (λ (l : List ℕ). order us l) (sym is_vs)
+
+-- the order of two words and of the lengths
+abbrev words_order : (m n a b c d : ℕ) → Ordering
+words_order m n a b c d = ordering_then (ordering_then (nat_cmp a b) (nat_cmp c d)) (nat_cmp m n)
+
+words_order_is : (xs ys us vs : List ℕ) (m n a b c d : ℕ) → length xs ≡ 14 → length ys ≡ 14 → AreBytes xs → AreBytes ys
+    → (m ≤ 14) × AreZerosFrom m xs → (n ≤ 14) × AreZerosFrom n ys
+    → a ≡ number_behind 0 (take 8 xs) → b ≡ number_behind 0 (take 8 ys) → c ≡ number_behind 0 (drop 6 xs) → d ≡ number_behind 0 (drop 6 ys)
+    → us ≡ take m xs → vs ≡ take n ys → words_order m n a b c d ≡ slice_cmp nat_cmp us vs
+words_order_is xs ys us vs m n a b c d e f bytes others padded padding is_a is_b is_c is_d is_us is_vs =
+    order_is xs ys us vs m n a b c d (nat_cmp a b) (nat_cmp c d) (nat_cmp m n) (ordering_then (nat_cmp a b) (nat_cmp c d)) (words_order m n a b c d)
+    e f bytes others padded padding is_a is_b is_c is_d refl refl refl refl refl is_us is_vs
+
+-- first words that differ decide
+pub first_decides : (xs ys us vs : List ℕ) (m n a b : ℕ) (q : Ordering) → length xs ≡ 14 → length ys ≡ 14 → AreBytes xs → AreBytes ys
+    → (m ≤ 14) × AreZerosFrom m xs → (n ≤ 14) × AreZerosFrom n ys
+    → a ≡ number_behind 0 (take 8 xs) → b ≡ number_behind 0 (take 8 ys)
+    → us ≡ take m xs → vs ≡ take n ys → (a ≡ b → ⊥) → q ≡ nat_cmp a b → q ≡ slice_cmp nat_cmp us vs
+first_decides xs ys us vs m n a b q e f bytes others padded padding is_a is_b is_us is_vs differ is_q =
+    is_q ∙ untied_first (nat_cmp a b) (nat_cmp (number_behind 0 (drop 6 xs)) (number_behind 0 (drop 6 ys))) (nat_cmp m n) (untied a b differ)
+    ∙ words_order_is xs ys us vs m n a b (number_behind 0 (drop 6 xs)) (number_behind 0 (drop 6 ys)) e f bytes others padded padding is_a is_b refl refl is_us is_vs
+
+-- equal first words leave the others and the lengths
+pub last_decides : (xs ys us vs : List ℕ) (m n a b c d : ℕ) (s t q : Ordering) → length xs ≡ 14 → length ys ≡ 14 → AreBytes xs → AreBytes ys
+    → (m ≤ 14) × AreZerosFrom m xs → (n ≤ 14) × AreZerosFrom n ys
+    → a ≡ number_behind 0 (take 8 xs) → b ≡ number_behind 0 (take 8 ys) → c ≡ number_behind 0 (drop 6 xs) → d ≡ number_behind 0 (drop 6 ys)
+    → us ≡ take m xs → vs ≡ take n ys → a ≡ b → s ≡ nat_cmp c d → t ≡ nat_cmp m n → q ≡ ordering_then s t → q ≡ slice_cmp nat_cmp us vs
+last_decides xs ys us vs m n a b c d s t q e f bytes others padded padding is_a is_b is_c is_d is_us is_vs same is_s is_t is_q =
+    is_q ∙ ap (λ (o : Ordering). ordering_then o t) is_s ∙ ap (λ (o : Ordering). ordering_then (nat_cmp c d) o) is_t
+    ∙ tied_first (nat_cmp a b) (nat_cmp c d) (nat_cmp m n) (ap is_eq (tied a b same))
+    ∙ words_order_is xs ys us vs m n a b c d e f bytes others padded padding is_a is_b is_c is_d is_us is_vs
+
+-- bytes are equal where the words and the lengths are
+pub equal_is : (xs ys us vs : List ℕ) (m n a b c d : ℕ) → length xs ≡ 14 → length ys ≡ 14 → AreBytes xs → AreBytes ys
+    → (m ≤ 14) × AreZerosFrom m xs → (n ≤ 14) × AreZerosFrom n ys
+    → a ≡ number_behind 0 (take 8 xs) → b ≡ number_behind 0 (take 8 ys) → c ≡ number_behind 0 (drop 6 xs) → d ≡ number_behind 0 (drop 6 ys)
+    → us ≡ take m xs → vs ≡ take n ys → (nat_eq a b && nat_eq c d && nat_eq m n) ≡ pointwise nat_eq us vs
+equal_is xs ys us vs m n a b c d e f bytes others padded padding is_a is_b is_c is_d is_us is_vs =
+    both_tied _ _ _ _ (both_tied _ _ _ _ (unsigned_ties a b) (unsigned_ties c d)) (unsigned_ties m n)
+    ∙ ap is_eq (words_order_is xs ys us vs m n a b c d e f bytes others padded padding is_a is_b is_c is_d is_us is_vs)
+    ∙ sym (lists_ties nat_cmp unsigned_ties us vs)

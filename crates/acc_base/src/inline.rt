@@ -91,6 +91,22 @@ impl InlineText {
             form,
         })
     }
+
+    // The order of texts of which one at least is long. It stands apart from that of short ones, which is found far more often.
+    #[inline(never)]
+    fn cmp_slices(&self, other: &InlineText) -> Ordering
+        ensures { result ≡ slice_cmp nat_cmp self.now other.now }
+    {
+        self.as_slice().cmp(other.as_slice())
+    }
+
+    // Whether texts of which one at least is long are equal.
+    #[inline(never)]
+    fn equals_slices(&self, other: &InlineText) -> bool
+        ensures { result ≡ pointwise nat_eq self.now other.now }
+    {
+        self.as_slice() == other.as_slice()
+    }
 }
 
 impl Duplicate for InlineText {
@@ -105,7 +121,10 @@ impl PartialEq for InlineText {
     ghost laws = { Prim.search (comparing, rules) };
 
     fn eq(&self, other: &InlineText) -> bool {
-        self.cmp(other).is_eq()
+        match (&self.form, &other.form) {
+            (Form::Short(bytes), Form::Short(others)) => bytes.equals(others),
+            _ => self.equals_slices(other),
+        }
     }
 }
 
@@ -135,7 +154,7 @@ impl Ord for InlineText {
     fn cmp(&self, other: &InlineText) -> Ordering {
         match (&self.form, &other.form) {
             (Form::Short(bytes), Form::Short(others)) => bytes.cmp(others),
-            _ => self.as_slice().cmp(other.as_slice()),
+            _ => self.cmp_slices(other),
         }
     }
 }

@@ -1,6 +1,6 @@
 //! A few bytes that stand in place.
-ghost use Rattle.std.specs.Prelude.{◌≡◌, ◌≤◌, take, drop, length};
-ghost use Rattle.std.specs.Cmp.Lexicographic.{slice_cmp};
+ghost use Rattle.std.specs.Prelude.{◌≡◌, ◌≤◌, take, drop, length, nat_eq};
+ghost use Rattle.std.specs.Cmp.Lexicographic.{pointwise, slice_cmp};
 ghost use Rattle.std.specs.Ordering.{nat_cmp};
 ghost use Rattle.acc_base.specs.Short.{number_behind, AreBytes};
 
@@ -61,9 +61,23 @@ impl Short {
     pub(crate) fn cmp(&self, other: &Short) -> Ordering
         ensures { result ≡ slice_cmp nat_cmp self.now other.now }
     {
-        let first = front(&self.bytes).cmp(&front(&other.bytes));
-        let last = back(&self.bytes).cmp(&back(&other.bytes));
-        first.then(last).then(self.len.cmp(&other.len))
+        let mine = front(&self.bytes);
+        let others = front(&other.bytes);
+        if mine == others {
+            let last = back(&self.bytes).cmp(&back(&other.bytes));
+            last.then(self.len.cmp(&other.len))
+        } else {
+            mine.cmp(&others)
+        }
+    }
+
+    /// Whether the bytes are equal. The zeros behind them let two numbers and the lengths tell.
+    pub(crate) fn equals(&self, other: &Short) -> bool
+        ensures { result ≡ pointwise nat_eq self.now other.now }
+    {
+        let first = front(&self.bytes) == front(&other.bytes);
+        let last = back(&self.bytes) == back(&other.bytes);
+        first & last & (self.len == other.len)
     }
 }
 
