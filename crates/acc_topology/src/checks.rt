@@ -1,5 +1,5 @@
 //! The rules that nodes and shards must meet, each in its turn.
-ghost use Rattle.std.specs.Prelude.{◌≡◌, ◌<◌, ◌≤◌, ℕ, List, length, Some, None, MatchResult, All, map};
+ghost use Rattle.std.specs.Prelude.{◌≡◌, ◌<◌, ◌≤◌, ℕ, List, length, Some, None, MatchResult, IfOk, All, map};
 ghost use Rattle.std.specs.Option.{option_copied};
 ghost use Rattle.acc_topology.specs.Sets.{in_set, IsSetOf};
 ghost use Rattle.acc_topology.specs.Layout.{is_replica_count};
@@ -10,7 +10,7 @@ use crate::error::{TopologyError, TopologyKind};
 use crate::given::{NodeSpec, ShardSpec};
 use crate::sets::{NodeSet, contains, with};
 use crate::shard::Shard;
-use acc_base::{Duplicate, Text};
+use acc_base::{InlineText, OutOfMemory, Text};
 use std::alloc::Global;
 
 /// The set of the nodes.
@@ -153,6 +153,16 @@ pub(crate) fn checked_shards(
     Ok(checked)
 }
 
+/// The text in front of which a shard ends, as it is compared with keys.
+fn end_of(end: &Option<Text>) -> Result<Option<InlineText>, OutOfMemory>
+    ensures { IfOk result (λ copy. copy ≡ end.now) }
+{
+    match end {
+        Some(end) => Ok(Some(InlineText::from_slice(end.allocator(), end.as_slice())?)),
+        None => Ok(None),
+    }
+}
+
 /// A shard with the sets of its replicas and its electorate.
 fn checked_shard(nodes: NodeSet, place: u32, shard: &ShardSpec) -> Result<Shard, TopologyError>
     ensures { Finds (replica_faults (in_set nodes) place shard.now)
@@ -164,7 +174,7 @@ fn checked_shard(nodes: NodeSet, place: u32, shard: &ShardSpec) -> Result<Shard,
     let replicas = replica_set(nodes, place, shard.replicas.as_slice())?;
     let electorate = electorate_set(replicas, place, shard)?;
     Ok(Shard {
-        end: shard.end.copy()?,
+        end: end_of(&shard.end)?,
         replicas,
         electorate,
     })

@@ -5,13 +5,13 @@ ghost use Rattle.acc_topology.specs.Layout.{is_below};
 ghost use Rattle.acc_topology.specs.Quorums.{tolerated, fast_size, is_majority, is_fast, fast_lost, may_be_fast};
 
 use crate::sets::{NodeSet, common, count};
-use acc_base::{Duplicate, OutOfMemory, Text};
+use acc_base::{Duplicate, InlineText, OutOfMemory};
 use acc_value::Key;
 
 /// A shard's end, its replicas and its electorate.
 #[derive(Debug, Drop)]
 pub(crate) struct Shard {
-    pub(crate) end: Option<Text>,
+    pub(crate) end: Option<InlineText>,
     pub(crate) replicas: NodeSet,
     pub(crate) electorate: NodeSet,
 }
@@ -39,7 +39,7 @@ impl Shard {
         ensures { result ≡ not (is_below key.now.key self.now.end) }
     {
         match &self.end {
-            Some(end) => !key.key.as_slice().cmp(end.as_slice()).is_lt(),
+            Some(end) => !key.key.cmp(end).is_lt(),
             None => false,
         }
     }
