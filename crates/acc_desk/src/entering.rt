@@ -1,5 +1,5 @@
 //! What a store staged is settled, and entered.
-ghost use Rattle.std.specs.Prelude.{◌≡◌, ◌≢◌, ℕ, ◌≤◌, List, [], ◌∷◌, drop, OnOk, OnErr};
+ghost use Rattle.std.specs.Prelude.{◌≡◌, ◌≢◌, ℕ, ◌<◌, ◌≤◌, List, [], ◌∷◌, length, drop, OnOk, OnErr};
 ghost use Rattle.acc_message.specs.declared.entry.Event.{Event as AnEvent};
 ghost use Rattle.acc_actors.specs.declared.stops.Unsent.{Unsent as AnUnsent};
 ghost use Rattle.acc_limits.specs.Limits.{most_items};
@@ -35,6 +35,7 @@ impl<D: Rig + Drop, J: Planned> Desk<D, J> {
         ensures same { (self.new.actor ≡ self.old.actor) × (self.new.commands ≡ self.old.commands) }
         ensures ok { OnOk result (IsSound D.is_image D.faults D.strict D.armed D.content D.synced D.written J.strict plan.now tape.now self.new.actor self.new.seat self.new.slot self.new.commands self.new.gone) }
         ensures err { OnErr result (IsSeated tape.now self.new.actor [] self.new.seat) }
+        ensures entered { OnOk result (length self.old.seat.mine < length self.new.seat.mine) }
     {
         let Ok(given) = self.slot.settle(plan, self.actor) else {
             self.release_from(rt, plan, tape, weights, 0);
@@ -63,6 +64,7 @@ impl<D: Rig + Drop, J: Planned> Desk<D, J> {
         ensures same { (self.new.actor ≡ self.old.actor) × (self.new.commands ≡ self.old.commands) }
         ensures ok { OnOk result (IsSound D.is_image D.faults D.strict D.armed D.content D.synced D.written J.strict plan.now tape.now self.new.actor self.new.seat self.new.slot self.new.commands self.new.gone) }
         ensures err { OnErr result (IsSeated tape.now self.new.actor [] self.new.seat) }
+        ensures entered { OnOk result (unsent ≢ [] → length self.old.seat.mine < length self.new.seat.mine) }
     {
         let mut place = 0;
         for one in unsent.into_vec() {
@@ -99,6 +101,7 @@ impl<D: Rig + Drop, J: Planned> Desk<D, J> {
             → IsEnteringDesk D.is_image D.faults D.strict D.armed D.content D.synced D.written J.strict plan.now tape.now (weight ∷ weights) self.old.actor self.old.seat self.old.slot self.old.commands self.old.gone (event ∷ events) (one ∷ unsent)
             → IsEnteringDesk D.is_image D.faults D.strict D.armed D.content D.synced D.written J.strict plan.now tape.now weights self.new.actor self.new.seat self.new.slot self.new.commands self.new.gone events unsent) }
         ensures err { OnErr result ((weights : List ℕ) → IsSeated tape.now self.old.actor (weight ∷ weights) self.old.seat → IsSeated tape.now self.new.actor weights self.new.seat) }
+        ensures entered { OnOk result (length self.old.seat.mine < length self.new.seat.mine) }
     {
         let _plan = plan;
         let Unsent { event, emitted } = one;
@@ -125,6 +128,7 @@ impl<D: Rig + Drop, J: Planned> Desk<D, J> {
         ensures same { (self.new.actor ≡ self.old.actor) × (self.new.commands ≡ self.old.commands) }
         ensures ok { OnOk result (IsSound D.is_image D.faults D.strict D.armed D.content D.synced D.written J.strict plan.now tape.now self.new.actor self.new.seat self.new.slot self.new.commands self.new.gone) }
         ensures err { OnErr result (IsSeated tape.now self.new.actor [] self.new.seat) }
+        ensures entered { OnOk result (length self.old.seat.mine < length self.new.seat.mine) }
     {
         if weights.is_empty() {
             return Err(OutOfMemory);
@@ -154,6 +158,7 @@ impl<D: Rig + Drop, J: Planned> Desk<D, J> {
         requires limits { tape.now.limits.items ≤ most_items }
         requires seated { IsSeated tape.now self.old.actor (drop place weights.now) self.old.seat }
         ensures same { (self.new.actor ≡ self.old.actor) × (self.new.slot ≡ self.old.slot) × (self.new.commands ≡ self.old.commands) × (self.new.gone ≡ self.old.gone) }
+        ensures mine { self.new.seat.mine ≡ self.old.seat.mine }
         ensures seated { IsSeated tape.now self.new.actor [] self.new.seat }
         ensures sound { IsDesk D.is_image D.faults D.strict D.armed D.content D.synced D.written J.strict plan.now tape.now (drop place weights.now) self.old.actor self.old.seat self.old.slot self.old.commands self.old.gone
             → IsSound D.is_image D.faults D.strict D.armed D.content D.synced D.written J.strict plan.now tape.now self.new.actor self.new.seat self.new.slot self.new.commands self.new.gone }

@@ -13,6 +13,7 @@ ghost use Rattle.acc_tape.specs.Seats.{SeatView, Turns};
 ghost use Rattle.acc_desk.specs.Fits.{fits_plan};
 ghost use Rattle.acc_desk.specs.Desks.{newest, IsSeated, IsSound};
 ghost use Rattle.acc_desk.specs.Groups.{Joining, CanGather, IsGathering, bound_of, joined_if, one_unless, IsOldestHere};
+ghost use Rattle.acc_desk.specs.Outcomes.{CameTo};
 
 use crate::desk::Desk;
 use crate::floor::Floor;
@@ -85,6 +86,7 @@ impl<D: Rig + Drop, J: Planned> Desk<D, J> {
         ensures same { (self.new.actor ≡ self.old.actor) × (self.new.commands ≡ self.old.commands) }
         ensures ok { OnOk result (IsSound D.is_image D.faults D.strict D.armed D.content D.synced D.written J.strict plan.now tape.now self.new.actor self.new.seat self.new.slot self.new.commands self.new.gone) }
         ensures err { OnErr result (IsSeated tape.now self.new.actor [] self.new.seat) }
+        ensures came { IfOk result (λ turned. CameTo turned self.old.seat.mine self.old.gone self.new.seat.mine self.new.gone) }
     {
         let mut weights = Vec::new(self.alloc);
         let (staged, ended) = self.gather(rt, plan, tape, gate, turn, &mut weights);
@@ -113,6 +115,7 @@ impl<D: Rig + Drop, J: Planned> Desk<D, J> {
         ensures same { (self.new.actor ≡ self.old.actor) × (self.new.commands ≡ self.old.commands) }
         ensures ok { OnOk result (IsSound D.is_image D.faults D.strict D.armed D.content D.synced D.written J.strict plan.now tape.now self.new.actor self.new.seat self.new.slot self.new.commands self.new.gone) }
         ensures err { OnErr result (IsSeated tape.now self.new.actor [] self.new.seat) }
+        ensures came { IfOk result (λ turned. CameTo turned self.old.seat.mine self.old.gone self.new.seat.mine self.new.gone) }
     {
         if staged == 0 {
             self.release_from(rt, plan, tape, weights, 0);
@@ -139,6 +142,7 @@ impl<D: Rig + Drop, J: Planned> Desk<D, J> {
         requires up { is_down self.old.actor (newest self.old.seat) ≡ false }
         requires none { weights.old.items ≡ [] }
         ensures same { (self.new.actor ≡ self.old.actor) × (self.new.commands ≡ self.old.commands) × (self.new.gone ≡ self.old.gone) }
+        ensures mine { self.new.seat.mine ≡ self.old.seat.mine }
         ensures gathering { (joinings : List Joining) × (length joinings ≡ result.0)
             × IsGathering D.is_image D.faults D.strict D.armed D.content D.synced D.written J.strict plan.now tape.now self.new.actor self.new.seat self.old.slot self.new.slot self.new.commands self.new.gone joinings weights.new.items }
     {
@@ -183,6 +187,7 @@ impl<D: Rig + Drop, J: Planned> Desk<D, J> {
         requires limits { tape.now.limits.items ≤ most_items }
         requires group { (first : ASlot D) × (joinings : List Joining) × CanGather D.is_image D.faults D.strict D.armed D.content D.synced D.written J.strict plan.now tape.now self.old.actor self.old.seat first self.old.slot self.old.commands self.old.gone joinings weights.old.items (record { event = AnEvent.Message number; act = Takes message.now }) }
         ensures same { (self.new.actor ≡ self.old.actor) × (self.new.commands ≡ self.old.commands) × (self.new.gone ≡ self.old.gone) }
+        ensures mine { self.new.seat.mine ≡ self.old.seat.mine }
         ensures ok { IfOk result (λ full. (first : ASlot D) (joinings : List Joining) → CanGather D.is_image D.faults D.strict D.armed D.content D.synced D.written J.strict plan.now tape.now self.old.actor self.old.seat first self.old.slot self.old.commands self.old.gone joinings weights.old.items (record { event = AnEvent.Message number; act = Takes message.now })
             → IsGathering D.is_image D.faults D.strict D.armed D.content D.synced D.written J.strict plan.now tape.now self.new.actor self.new.seat first self.new.slot self.new.commands self.new.gone (joined_if full joinings (record { event = AnEvent.Message number; act = Takes message.now })) weights.new.items) }
         ensures long { IfOk result (λ full. length weights.new.items ≡ length weights.old.items + one_unless full) }

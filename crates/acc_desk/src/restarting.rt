@@ -12,6 +12,7 @@ ghost use Rattle.acc_strict.specs.Disks.{Disks};
 ghost use Rattle.acc_cluster.specs.Slots.{SlotStands, IsStrictSlot};
 ghost use Rattle.acc_cluster.specs.Asked.{IsFew};
 ghost use Rattle.acc_desk.specs.Desks.{IsSeated, IsSound, HasReopened, HasReopenedStrictly};
+ghost use Rattle.acc_desk.specs.Outcomes.{CameTo};
 
 use crate::desk::Desk;
 use crate::rules::{PlanTape, Planned};
@@ -85,6 +86,7 @@ impl<D: Rig + Drop, J: Planned> Desk<D, J> {
         ensures same { (self.new.actor ≡ self.old.actor) × (self.new.commands ≡ self.old.commands) }
         ensures ok { OnOk result (IsSound D.is_image D.faults D.strict D.armed D.content D.synced D.written J.strict plan.now tape.now self.new.actor self.new.seat self.new.slot self.new.commands self.new.gone) }
         ensures err { OnErr result (IsSeated tape.now self.new.actor [] self.new.seat) }
+        ensures came { IfOk result (λ turned. CameTo turned self.old.seat.mine self.old.gone self.new.seat.mine self.new.gone) }
     {
         if self.gone >= self.commands.len() {
             return Ok(Turned::Idle);

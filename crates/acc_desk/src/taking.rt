@@ -1,8 +1,9 @@
 //! Steps of the actor of a desk.
-ghost use Rattle.std.specs.Prelude.{◌≡◌, ◌≢◌, ◌≤◌, [], drop, Ok, OnOk, OnErr};
+ghost use Rattle.std.specs.Prelude.{◌≡◌, ◌≢◌, ◌≤◌, [], drop, Ok, IfOk, OnOk, OnErr};
 ghost use Rattle.acc_limits.specs.Limits.{most_items};
 ghost use Rattle.acc_desk.specs.Asks.{event_of, act_of_ask};
 ghost use Rattle.acc_desk.specs.Desks.{newest, item_of, IsSeated, IsSound, MayStep};
+ghost use Rattle.acc_desk.specs.Outcomes.{CameTo};
 ghost use Rattle.acc_desk.specs.declared.turning.Turned.{Turned as Answer};
 
 use crate::ask::{Ask, step, weigh};
@@ -70,6 +71,7 @@ impl<D: Rig + Drop, J: Planned> Desk<D, J> {
         ensures same { (self.new.actor ≡ self.old.actor) × (self.new.commands ≡ self.old.commands) }
         ensures ok { OnOk result (IsSound D.is_image D.faults D.strict D.armed D.content D.synced D.written J.strict plan.now tape.now self.new.actor self.new.seat self.new.slot self.new.commands self.new.gone) }
         ensures err { OnErr result (IsSeated tape.now self.new.actor [] self.new.seat) }
+        ensures came { IfOk result (λ turned. CameTo turned self.old.seat.mine self.old.gone self.new.seat.mine self.new.gone) }
         ensures told { result ≢ Ok Answer.Idle }
     {
         gate.enter(self.actor.0, turn);

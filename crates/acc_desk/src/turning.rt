@@ -1,5 +1,5 @@
 //! Turns.
-ghost use Rattle.std.specs.Prelude.{◌≡◌, ◌≤◌, ℕ, [], OnOk, OnErr, Some, true, false};
+ghost use Rattle.std.specs.Prelude.{◌≡◌, ◌≤◌, ℕ, [], IfOk, OnOk, OnErr, Some, true, false};
 ghost use Rattle.std.specs.Option.{option_copied};
 ghost use Rattle.acc_stamp.specs.declared.actors.Actor.{Actor as AnActor};
 ghost use Rattle.std.specs.List.{slice_get, list_any};
@@ -12,6 +12,7 @@ ghost use Rattle.acc_limits.specs.Limits.{most_items};
 ghost use Rattle.acc_cluster.specs.Slots.{SlotStands};
 ghost use Rattle.acc_tape.specs.Seats.{TapeName};
 ghost use Rattle.acc_desk.specs.Desks.{newest, IsSeated, IsSound, begins_it};
+ghost use Rattle.acc_desk.specs.Outcomes.{CameTo};
 
 use crate::ask::Ask;
 use crate::desk::Desk;
@@ -124,6 +125,7 @@ impl<D: Rig + Drop, J: Planned> Desk<D, J> {
         ensures same { (self.new.actor ≡ self.old.actor) × (self.new.commands ≡ self.old.commands) }
         ensures ok { OnOk result (IsSound D.is_image D.faults D.strict D.armed D.content D.synced D.written J.strict plan.now tape.now self.new.actor self.new.seat self.new.slot self.new.commands self.new.gone) }
         ensures err { OnErr result (IsSeated tape.now self.new.actor [] self.new.seat) }
+        ensures came { IfOk result (λ turned. CameTo turned self.old.seat.mine self.old.gone self.new.seat.mine self.new.gone) }
     {
         match self.command(rt, plan, floor, tape, gate, turn)? {
             Turned::Idle => self.message(rt, plan, floor, tape, gate, turn),
@@ -171,6 +173,7 @@ impl<D: Rig + Drop, J: Planned> Desk<D, J> {
         ensures same { (self.new.actor ≡ self.old.actor) × (self.new.commands ≡ self.old.commands) }
         ensures ok { OnOk result (IsSound D.is_image D.faults D.strict D.armed D.content D.synced D.written J.strict plan.now tape.now self.new.actor self.new.seat self.new.slot self.new.commands self.new.gone) }
         ensures err { OnErr result (IsSeated tape.now self.new.actor [] self.new.seat) }
+        ensures came { IfOk result (λ turned. CameTo turned self.old.seat.mine self.old.gone self.new.seat.mine self.new.gone) }
     {
         if self.is_down() {
             return Ok(Turned::Idle);
@@ -206,6 +209,7 @@ impl<D: Rig + Drop, J: Planned> Desk<D, J> {
         ensures same { (self.new.actor ≡ self.old.actor) × (self.new.commands ≡ self.old.commands) }
         ensures ok { OnOk result (IsSound D.is_image D.faults D.strict D.armed D.content D.synced D.written J.strict plan.now tape.now self.new.actor self.new.seat self.new.slot self.new.commands self.new.gone) }
         ensures err { OnErr result (IsSeated tape.now self.new.actor [] self.new.seat) }
+        ensures came { IfOk result (λ turned. CameTo turned self.old.seat.mine self.old.gone self.new.seat.mine self.new.gone) }
     {
         let Some(home) = home_of(plan, txn) else {
             return Ok(Turned::Idle);
@@ -240,6 +244,7 @@ impl<D: Rig + Drop, J: Planned> Desk<D, J> {
         ensures same { (self.new.actor ≡ self.old.actor) × (self.new.commands ≡ self.old.commands) }
         ensures ok { OnOk result (IsSound D.is_image D.faults D.strict D.armed D.content D.synced D.written J.strict plan.now tape.now self.new.actor self.new.seat self.new.slot self.new.commands self.new.gone) }
         ensures err { OnErr result (IsSeated tape.now self.new.actor [] self.new.seat) }
+        ensures came { IfOk result (λ turned. CameTo turned self.old.seat.mine self.old.gone self.new.seat.mine self.new.gone) }
     {
         let Some(body) = body_of(plan, txn) else {
             return Ok(Turned::Idle);
@@ -277,6 +282,7 @@ impl<D: Rig + Drop, J: Planned> Desk<D, J> {
         ensures same { (self.new.actor ≡ self.old.actor) × (self.new.commands ≡ self.old.commands) }
         ensures ok { OnOk result (IsSound D.is_image D.faults D.strict D.armed D.content D.synced D.written J.strict plan.now tape.now self.new.actor self.new.seat self.new.slot self.new.commands self.new.gone) }
         ensures err { OnErr result (IsSeated tape.now self.new.actor [] self.new.seat) }
+        ensures came { IfOk result (λ turned. CameTo turned self.old.seat.mine self.old.gone self.new.seat.mine self.new.gone) }
     {
         if self.is_down() {
             return Ok(Turned::Idle);
@@ -307,6 +313,7 @@ impl<D: Rig + Drop, J: Planned> Desk<D, J> {
         ensures same { (self.new.actor ≡ self.old.actor) × (self.new.commands ≡ self.old.commands) }
         ensures ok { OnOk result (IsSound D.is_image D.faults D.strict D.armed D.content D.synced D.written J.strict plan.now tape.now self.new.actor self.new.seat self.new.slot self.new.commands self.new.gone) }
         ensures err { OnErr result (IsSeated tape.now self.new.actor [] self.new.seat) }
+        ensures came { IfOk result (λ turned. CameTo turned self.old.seat.mine self.old.gone self.new.seat.mine self.new.gone) }
     {
         let Some((post, sender)) = tape.next_with_item(rt, &mut self.seat, self.actor.0)? else {
             return Ok(Turned::Idle);

@@ -1,4 +1,4 @@
-use Rattle.std.proofs.Common.{◌≡◌, ◌+◌, true, false, List, [], ◌∷◌, length, get_or, drop, Result, Ok, Err, refl, sym, ◌∙◌, subst, arith}
+use Rattle.std.proofs.Common.{◌≡◌, ◌≢◌, ◌+◌, ◌<◌, true, false, List, [], ◌∷◌, length, get_or, drop, Result, Ok, Err, refl, sym, ◌∙◌, ap, subst, arith}
 use Rattle.std.specs.Prelude.{OnOk, OnErr}
 use Rattle.std.specs.Result.{is_err}
 use Rattle.std.specs.Vec.Iter.{into_iter_items}
@@ -60,6 +60,8 @@ loop-one-preserved g c =
       is_finite = tt;
       same = (c.enter_one.ensures.same.0 ∙ c.loop-one.invariant.same.0, c.enter_one.ensures.same.2 ∙ c.loop-one.invariant.same.1);
       group = (n.1, when_ok c.enter_one.result (sym c.is_err.ensures.value ∙ c.if-is_err.false) c.enter_one.ensures.ok (drop (place + 1) ws) n.0 n.1 (into_iter_items c.next.new.self) n.2);
+      left = let l = c.loop-one.invariant.left in let n = ap (λ (l : List Unsent). length l) c.in-Some.ensures.steps.0 in omega arith;
+      entered = let m = c.loop-one.invariant.entered in let more = when_ok c.enter_one.result (sym c.is_err.ensures.value ∙ c.if-is_err.false) c.enter_one.ensures.entered in omega arith;
     }
 
 pub returns-clause-ok : goal.returns-clause-ok
@@ -69,3 +71,19 @@ returns-clause-ok g c =
     let left = c.loop-one.one-iterator in
     c.release_from-2.ensures.sound
     (none_left g.D.Disk.is_image g.D.Disk.faults g.D.Disk.strict g.D.Disk.armed g.D.Disk.content g.D.Disk.synced g.D.Disk.written g.J.Planned.strict c.args.plan.now c.args.tape.now c.requires.limits self.actor self.commands self.gone self.slot (drop c.loop-one.place c.args.weights.now) self.seat group.0 (into_iter_items left) (empty_is (into_iter_items left) (sym left.rest.ok.0 ∙ c.in-None.ensures.steps.0)) group.1)
+
+-- a list that isn't empty has an element
+some_in : {X : Type 0} (l : List X) → l ≢ [] → 0 < length l
+some_in [] some = absurd (some refl)
+some_in (x ∷ l) some = omega arith
+
+pub returns-clause-entered : goal.returns-clause-entered
+returns-clause-entered g c = λ some.
+    let left = c.loop-one.one-iterator in
+    let none = empty_is (into_iter_items left) (sym left.rest.ok.0 ∙ c.in-None.ensures.steps.0) in
+    let n = ap (λ (l : List Unsent). length l) none in
+    let l = c.loop-one.invariant.left in
+    let m = c.loop-one.invariant.entered in
+    let s = some_in c.args.unsent some in
+    let same = ap length c.release_from-2.ensures.mine in
+    omega arith

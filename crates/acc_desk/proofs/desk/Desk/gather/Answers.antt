@@ -23,6 +23,7 @@ loop-place-init g c =
     let self = c.args.self.now in
     record {
       same = (refl, refl, refl);
+      mine = refl;
       group = (
         [],
         refl,
@@ -118,6 +119,7 @@ loop-place-preserved g c =
     let more = length-append group.0 (j ∷ []) in
     record {
       same = (same.0 ∙ was.0, same.1 ∙ was.1, same.2 ∙ was.2);
+      mine = c.join.ensures.mine ∙ c.find.ensures.same.0 ∙ c.loop-place.invariant.mine;
       group = (
         group.0 ++ j ∷ [],
         (let n = group.1 in omega arith),

@@ -31,5 +31,6 @@ loop-place-preserved g c =
     let turns = subst (λ p. Turns actor_of_item weight_of (fits_plan p) self.seat c.fetch.new.seat) (sym c.requires.plan) c.fetch.ensures.turn in
     record {
       same = c.loop-place.invariant.same;
+      mine = c.fetch.ensures.same.0 ∙ c.loop-place.invariant.mine;
       desk = desk_on c.args.plan.now c.args.tape.now c.requires.limits self.actor g.D.Disk.is_image g.D.Disk.faults g.D.Disk.strict g.D.Disk.armed g.D.Disk.content g.D.Disk.synced g.D.Disk.written g.J.Planned.strict self.commands self.gone self.slot [] [] self.seat c.fetch.new.seat c.loop-place.invariant.desk turns c.fetch.ensures.same.0 (c.fetch.ensures.same.1 ∙ c.loop-place.invariant.desk.seated.held_is);
     }

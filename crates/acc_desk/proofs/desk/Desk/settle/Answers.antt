@@ -1,11 +1,14 @@
-use Rattle.std.proofs.Common.{◌≢◌, List, [], Option, subst}
+use Rattle.std.proofs.Common.{◌≢◌, Bool, List, [], ◌∷◌, Option, Result, Ok, Err, refl, subst}
+use Rattle.std.specs.Prelude.{OnOk}
+use Rattle.acc_stamp.specs.declared.actors.Actor.{Actor}
 use Rattle.acc_message.specs.declared.entry.Event.{Event}
 use Rattle.acc_actors.specs.declared.stops.Unsent.{Unsent}
 use Rattle.acc_follow.specs.Situations.{Situation}
 use Rattle.acc_strict.specs.Disks.{Disks}
 use Rattle.acc_cluster.specs.Slots.{IsStrictSlot}
-use Rattle.acc_cluster.specs.Asked.{IsStaged, HasSettled, HasSettledStrictly}
-use Rattle.acc_desk.specs.Groups.{events_of}
+use Rattle.acc_cluster.specs.Asked.{AreSteps, IsStaged, HasSettled, HasSettledStrictly}
+use Rattle.acc_message.specs.Run.{Cluster}
+use Rattle.acc_desk.specs.Groups.{Joining, events_of}
 use Rattle.acc_desk.proofs.Joining.{settle_asks, settled_none, settled_some}
 use Rattle.acc_desk.proofs.desk.Desk.settle.Goals as goal
 
@@ -39,3 +42,24 @@ enter_down-requires-clause-group g c =
       q.1,
       settled_none g.D.Disk.is_image g.D.Disk.faults g.D.Disk.strict g.D.Disk.armed g.D.Disk.content g.D.Disk.synced g.D.Disk.written g.J.Planned.strict c.args.plan.now c.args.tape.now c.requires.limits self.actor self.commands self.gone q.0 self.slot q.1 c.args.weights.now self.seat q.3 c.settle.new.self settled strictly q.2,
     )
+
+-- a group that isn't empty gives a step
+some_given : (cluster : Cluster) (s : Situation) (a : Actor) (joinings : List Joining) (lost : Bool) (given : List Unsent) → joinings ≢ [] → AreSteps cluster s a (events_of joinings) lost given → given ≢ []
+some_given cluster s a [] lost given some steps = absurd (some refl)
+some_given cluster s a (j ∷ joinings) lost [] some steps = absurd steps
+some_given cluster s a (j ∷ joinings) lost (one ∷ given) some steps = λ none. absurd (cc)
+
+then_ok : {A E P Q : Type 0} (r : Result A E) → (P → Q) → OnOk r P → OnOk r Q
+then_ok (Ok x) f h = f h
+then_ok (Err e) f h = h
+
+pub returns-in-Some-clause-entered : goal.returns-in-Some-clause-entered
+returns-in-Some-clause-entered g c =
+    let self = c.args.self.now in
+    let q = c.requires.group in
+    let settled = subst (λ (o : Option (List Unsent)). (s : Situation) (staged : List Event) → IsStaged g.D.Disk.is_image g.D.Disk.faults c.args.plan.now s self.actor staged self.slot → HasSettled g.D.Disk.is_image g.D.Disk.faults c.args.plan.now s self.actor staged c.settle.new.self o) c.in-Some.is c.in-Ok.ensures.ok in
+    let strictly = subst (λ (o : Option (List Unsent)). (s : Situation) (staged : List Event) (disks : Disks) → IsStaged g.D.Disk.is_image g.D.Disk.faults c.args.plan.now s self.actor staged self.slot → staged ≢ []
+    → IsStrictSlot g.D.Disk.strict g.D.Disk.armed g.D.Disk.content g.D.Disk.synced g.D.Disk.written c.args.plan.now s disks self.actor self.slot
+    → HasSettledStrictly g.D.Disk.strict g.D.Disk.armed g.D.Disk.content g.D.Disk.synced g.D.Disk.written c.args.plan.now s disks self.actor staged c.settle.new.self o) c.in-Some.is c.in-Ok.ensures.strict in
+    let desk = settled_some g.D.Disk.is_image g.D.Disk.faults g.D.Disk.strict g.D.Disk.armed g.D.Disk.content g.D.Disk.synced g.D.Disk.written g.J.Planned.strict c.args.plan.now c.args.tape.now c.requires.limits self.actor self.commands self.gone q.0 self.slot q.1 c.args.weights.now self.seat q.3 c.settle.new.self c.in-Some.unsent settled strictly q.2 in
+    then_ok c.enter_group.result (λ more. more (some_given _ _ _ q.1 _ c.in-Some.unsent q.2 desk.entering.steps)) c.enter_group.ensures.entered
