@@ -58,7 +58,7 @@ module _ {D : Type 0} (images : D → List ℕ → Type 0) (faults : D → ℕ) 
       )
 
   module _ (new : SeatView Item) (turns : Turns actor_of_item weight_of (fits_plan plan) old new) (same : new.mine ≡ old.mine) where
-    can_moves : CanJoin plan (newest new) a (drop gone commands) j
+    pub can_moves : CanJoin plan (newest new) a (drop gone commands) j
     can_moves =
         let b = came plan tape limits a weights old new gathering.desk.seated turns same in
         subst (λ items. CanJoin plan items a (drop gone commands) j) (sym b.items_are)

@@ -16,3 +16,4 @@ pub mod Puts
 pub mod Weighing
 pub mod Joining
 pub mod Finding
+pub mod Rooms

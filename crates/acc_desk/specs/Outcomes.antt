@@ -1,12 +1,30 @@
 -- What a turn came to.
-use Rattle.std.specs.Prelude.{◌≡◌, ◌⊎◌, ℕ, ◌<◌, List, length}
+use Rattle.std.specs.Prelude.{◌≡◌, ◌⊎◌, ℕ, ◌+◌, ◌<◌, ◌≤◌, false, List, length, sum_by, drop}
+use Rattle.acc_stamp.specs.declared.actors.Actor.{Actor}
+use Rattle.acc_message.specs.declared.entry.Event.{Event}
 use Rattle.acc_message.specs.declared.item.Item.{Item}
+use Rattle.acc_message.specs.NodeRules.{Act}
+use Rattle.acc_message_code.specs.Weight.{weight_of}
+use Rattle.acc_schedule.specs.Content.{Content}
+use Rattle.acc_schedule.specs.declared.plan.Step.{Step}
+use Rattle.acc_entering.specs.Entries.{entering}
+use Rattle.acc_follow.specs.Schedules.{cluster_of}
+use Rattle.acc_tape.specs.Seats.{TapeName, SeatView}
+use Rattle.acc_desk.specs.Desks.{newest, MayStep}
 use Rattle.acc_desk.specs.declared.turning.Turned.{Turned}
 use Rattle.acc_desk.specs.declared.turning.Turned.TheVariants.{Taken, Idle, Full}
 
--- Of the actor's items that stand on the tape and its commands that went by, before the turn and behind it: Taken says that it entered an
--- item or more, and Idle that it entered none and no command went by. Where the tape is full it entered what it had staged, or nothing.
-abbrev pub CameTo : Turned → List Item → ℕ → List Item → ℕ → Type 0
-CameTo Taken mine gone later_mine later_gone = length mine < length later_mine
-CameTo Idle mine gone later_mine later_gone = (later_mine ≡ mine) × (later_gone ≡ gone)
-CameTo Full mine gone later_mine later_gone = (length mine < length later_mine) ⊎ ((later_mine ≡ mine) × (later_gone ≡ gone))
+-- The tape, as the seat saw it last, has no room for an item more, or for the bytes of what the actor would enter for an event that it may
+-- take, while these of its commands are left.
+abbrev pub HasNoRoom : Content → TapeName → Actor → List Step → SeatView Item → Type 0
+HasNoRoom plan tape a left seat =
+    (tape.limits.items ≤ length seat.seen + seat.out_count)
+    ⊎ ((event : Event) × (act : Act) × (later : List Step) × MayStep plan (newest seat) a event act left later
+    × (tape.limits.weight < sum_by weight_of seat.seen + seat.out_weight + weight_of (entering (cluster_of plan) (newest seat) a event false)))
+
+-- What a turn came to, of the items that the actor had entered and its commands that had gone by. Taken: it entered an item or more.
+-- Idle: it entered none, and no command went by. Full: it entered what it had staged, or nothing, as the tape has no room.
+abbrev pub CameTo : Content → TapeName → Actor → List Step → Turned → List Item → ℕ → SeatView Item → ℕ → Type 0
+CameTo plan tape a commands Taken mine gone seat later = length mine < length seat.mine
+CameTo plan tape a commands Idle mine gone seat later = (seat.mine ≡ mine) × (later ≡ gone)
+CameTo plan tape a commands Full mine gone seat later = (length mine < length seat.mine) ⊎ ((seat.mine ≡ mine) × (later ≡ gone) × HasNoRoom plan tape a (drop gone commands) seat)

@@ -159,6 +159,7 @@ impl<D: Rig + Drop, J: Planned> Desk<D, J> {
         requires seated { IsSeated tape.now self.old.actor (drop place weights.now) self.old.seat }
         ensures same { (self.new.actor ≡ self.old.actor) × (self.new.slot ≡ self.old.slot) × (self.new.commands ≡ self.old.commands) × (self.new.gone ≡ self.old.gone) }
         ensures mine { self.new.seat.mine ≡ self.old.seat.mine }
+        ensures still { length weights.now ≤ place → self.new.seat ≡ self.old.seat }
         ensures seated { IsSeated tape.now self.new.actor [] self.new.seat }
         ensures sound { IsDesk D.is_image D.faults D.strict D.armed D.content D.synced D.written J.strict plan.now tape.now (drop place weights.now) self.old.actor self.old.seat self.old.slot self.old.commands self.old.gone
             → IsSound D.is_image D.faults D.strict D.armed D.content D.synced D.written J.strict plan.now tape.now self.new.actor self.new.seat self.new.slot self.new.commands self.new.gone }

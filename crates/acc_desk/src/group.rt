@@ -1,5 +1,5 @@
 //! A store takes its oldest messages as a group, with one append.
-ghost use Rattle.std.specs.Prelude.{◌≡◌, ◌+◌, ◌≤◌, List, [], length, false, Some, IfOk, IfSome, OnOk, OnErr, slice_get};
+ghost use Rattle.std.specs.Prelude.{◌≡◌, ◌≢◌, ◌+◌, ◌<◌, ◌≤◌, List, [], length, drop, true, false, Some, IfOk, IfSome, OnOk, OnErr, slice_get};
 ghost use Rattle.std.specs.Arc.{arc_value};
 ghost use Rattle.acc_message.specs.declared.entry.Event.{Event as AnEvent};
 ghost use Rattle.acc_message.specs.declared.item.Item.{Item as AnItem};
@@ -13,7 +13,8 @@ ghost use Rattle.acc_tape.specs.Seats.{SeatView, Turns};
 ghost use Rattle.acc_desk.specs.Fits.{fits_plan};
 ghost use Rattle.acc_desk.specs.Desks.{newest, IsSeated, IsSound};
 ghost use Rattle.acc_desk.specs.Groups.{Joining, CanGather, IsGathering, bound_of, joined_if, one_unless, IsOldestHere};
-ghost use Rattle.acc_desk.specs.Outcomes.{CameTo};
+ghost use Rattle.acc_desk.specs.Outcomes.{CameTo, HasNoRoom};
+ghost use Rattle.acc_desk.specs.declared.group.Ended.{Ended as AnEnd};
 
 use crate::desk::Desk;
 use crate::floor::Floor;
@@ -86,7 +87,7 @@ impl<D: Rig + Drop, J: Planned> Desk<D, J> {
         ensures same { (self.new.actor ≡ self.old.actor) × (self.new.commands ≡ self.old.commands) }
         ensures ok { OnOk result (IsSound D.is_image D.faults D.strict D.armed D.content D.synced D.written J.strict plan.now tape.now self.new.actor self.new.seat self.new.slot self.new.commands self.new.gone) }
         ensures err { OnErr result (IsSeated tape.now self.new.actor [] self.new.seat) }
-        ensures came { IfOk result (λ turned. CameTo turned self.old.seat.mine self.old.gone self.new.seat.mine self.new.gone) }
+        ensures came { IfOk result (λ turned. CameTo plan.now tape.now self.old.actor self.old.commands turned self.old.seat.mine self.old.gone self.new.seat self.new.gone) }
     {
         let mut weights = Vec::new(self.alloc);
         let (staged, ended) = self.gather(rt, plan, tape, gate, turn, &mut weights);
@@ -115,7 +116,9 @@ impl<D: Rig + Drop, J: Planned> Desk<D, J> {
         ensures same { (self.new.actor ≡ self.old.actor) × (self.new.commands ≡ self.old.commands) }
         ensures ok { OnOk result (IsSound D.is_image D.faults D.strict D.armed D.content D.synced D.written J.strict plan.now tape.now self.new.actor self.new.seat self.new.slot self.new.commands self.new.gone) }
         ensures err { OnErr result (IsSeated tape.now self.new.actor [] self.new.seat) }
-        ensures came { IfOk result (λ turned. CameTo turned self.old.seat.mine self.old.gone self.new.seat.mine self.new.gone) }
+        ensures some { OnOk result (staged ≢ 0 → length self.old.seat.mine < length self.new.seat.mine) }
+        ensures none { staged ≡ 0 → length weights.now ≡ 0 → (self.new.seat ≡ self.old.seat) × (self.new.gone ≡ self.old.gone) }
+        ensures came { IfOk result (λ turned. CameTo plan.now tape.now self.old.actor self.old.commands turned self.old.seat.mine self.old.gone self.new.seat self.new.gone) }
     {
         if staged == 0 {
             self.release_from(rt, plan, tape, weights, 0);
@@ -143,6 +146,7 @@ impl<D: Rig + Drop, J: Planned> Desk<D, J> {
         requires none { weights.old.items ≡ [] }
         ensures same { (self.new.actor ≡ self.old.actor) × (self.new.commands ≡ self.old.commands) × (self.new.gone ≡ self.old.gone) }
         ensures mine { self.new.seat.mine ≡ self.old.seat.mine }
+        ensures full { result.1 ≡ AnEnd.Full → (length weights.new.items ≡ result.0) × (result.0 ≡ 0 → HasNoRoom plan.now tape.now self.new.actor (drop self.new.gone self.new.commands) self.new.seat) }
         ensures gathering { (joinings : List Joining) × (length joinings ≡ result.0)
             × IsGathering D.is_image D.faults D.strict D.armed D.content D.synced D.written J.strict plan.now tape.now self.new.actor self.new.seat self.old.slot self.new.slot self.new.commands self.new.gone joinings weights.new.items }
     {
@@ -190,6 +194,8 @@ impl<D: Rig + Drop, J: Planned> Desk<D, J> {
         ensures mine { self.new.seat.mine ≡ self.old.seat.mine }
         ensures ok { IfOk result (λ full. (first : ASlot D) (joinings : List Joining) → CanGather D.is_image D.faults D.strict D.armed D.content D.synced D.written J.strict plan.now tape.now self.old.actor self.old.seat first self.old.slot self.old.commands self.old.gone joinings weights.old.items (record { event = AnEvent.Message number; act = Takes message.now })
             → IsGathering D.is_image D.faults D.strict D.armed D.content D.synced D.written J.strict plan.now tape.now self.new.actor self.new.seat first self.new.slot self.new.commands self.new.gone (joined_if full joinings (record { event = AnEvent.Message number; act = Takes message.now })) weights.new.items) }
+        ensures room { IfOk result (λ full. full ≡ true → (first : ASlot D) → CanGather D.is_image D.faults D.strict D.armed D.content D.synced D.written J.strict plan.now tape.now self.old.actor self.old.seat first self.old.slot self.old.commands self.old.gone [] weights.old.items (record { event = AnEvent.Message number; act = Takes message.now })
+            → HasNoRoom plan.now tape.now self.new.actor (drop self.new.gone self.new.commands) self.new.seat) }
         ensures long { IfOk result (λ full. length weights.new.items ≡ length weights.old.items + one_unless full) }
         ensures err { OnErr result ((first : ASlot D) (joinings : List Joining) → CanGather D.is_image D.faults D.strict D.armed D.content D.synced D.written J.strict plan.now tape.now self.old.actor self.old.seat first self.old.slot self.old.commands self.old.gone joinings weights.old.items (record { event = AnEvent.Message number; act = Takes message.now })
             → IsGathering D.is_image D.faults D.strict D.armed D.content D.synced D.written J.strict plan.now tape.now self.new.actor self.new.seat first self.new.slot self.new.commands self.new.gone joinings weights.new.items) }

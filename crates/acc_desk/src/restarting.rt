@@ -86,7 +86,7 @@ impl<D: Rig + Drop, J: Planned> Desk<D, J> {
         ensures same { (self.new.actor ≡ self.old.actor) × (self.new.commands ≡ self.old.commands) }
         ensures ok { OnOk result (IsSound D.is_image D.faults D.strict D.armed D.content D.synced D.written J.strict plan.now tape.now self.new.actor self.new.seat self.new.slot self.new.commands self.new.gone) }
         ensures err { OnErr result (IsSeated tape.now self.new.actor [] self.new.seat) }
-        ensures came { IfOk result (λ turned. CameTo turned self.old.seat.mine self.old.gone self.new.seat.mine self.new.gone) }
+        ensures came { IfOk result (λ turned. CameTo plan.now tape.now self.old.actor self.old.commands turned self.old.seat.mine self.old.gone self.new.seat self.new.gone) }
     {
         if self.gone >= self.commands.len() {
             return Ok(Turned::Idle);

@@ -8,7 +8,7 @@ use Rattle.acc_message_code.specs.Weight.{weight_of}
 use Rattle.acc_tape.specs.ItemViews.{actor_of_item}
 use Rattle.acc_tape.specs.Seats.{Turns}
 use Rattle.acc_desk.specs.Fits.{fits_plan}
-use Rattle.acc_desk.specs.Groups.{Joining, IsGathering, bound_of, joined_if, one_unless}
+use Rattle.acc_desk.specs.Groups.{Joining, CanGather, IsGathering, bound_of, joined_if, one_unless}
 use Rattle.acc_desk.proofs.Finding.{Found}
 use Rattle.acc_desk.proofs.Joining.{begins_gathering, gathering_moves, can_gather, all_below}
 use Rattle.acc_desk.proofs.desk.Desk.gather.Goals as goal
@@ -133,3 +133,25 @@ pub returns-clause-gathering : goal.returns-clause-gathering
 returns-clause-gathering g c =
     let group = c.loop-place.invariant.group in
     (group.0, (let n = group.1 in let few = group.4.joined.few in let t = c.loop-place-test.false in omega arith), group.4)
+
+empty_is : {X : Type 0} (l : List X) → length l ≡ 0 → l ≡ []
+empty_is [] none = refl
+empty_is (x ∷ l) none = absurd (omega (arith, none))
+
+pub returns-then-full-clause-full : goal.returns-then-full-clause-full
+returns-then-full-clause-full g c = λ is.
+    let self = c.loop-place.self in
+    let first = c.args.self.now.slot in
+    let group = c.loop-place.invariant.group in
+    let number = c.in-Some.post.number in
+    let message = c.in-Some-message_in.message.now in
+    let found = some_of (λ pair. Found g.J.Planned.plan self.actor.0 c.loop-place.after self.seat c.find.new.seat pair.0 (arc_value pair.1)) c.in-Ok.found (c.in-Some.post, c.in-Some.sender) c.in-Ok.ensures.next c.in-Some.is in
+    let found' = subst (λ p. Found p self.actor.0 c.loop-place.after self.seat c.find.new.seat c.in-Some.post c.deref.result.now) (sym c.requires.plan) (subst (λ i. Found g.J.Planned.plan self.actor.0 c.loop-place.after self.seat c.find.new.seat c.in-Some.post i) (sym c.deref.ensures) found) in
+    let can = can_gather g.D.Disk.is_image g.D.Disk.faults g.D.Disk.strict g.D.Disk.armed g.D.Disk.content g.D.Disk.synced g.D.Disk.written g.J.Planned.strict c.args.plan.now c.args.tape.now c.requires.limits self.actor self.commands self.gone first self.slot group.0 c.loop-place.weights.items self.seat c.find.new.seat
+    group.4 group.2 (let n = group.1 in let t = c.loop-place-test.true in omega arith) c.loop-place.after group.3 c.find.ensures.same.0 c.find.ensures.same.1 c.in-Some.post c.deref.result.now found' message (sym c.message_in.ensures ∙ ap option_copied c.in-Some-message_in.is) in
+    let j : Joining = record { event = MessageEvent number; act = Takes message } in
+    let long = c.in-Ok-join.ensures.long ∙ ap (λ full. length c.loop-place.weights.items + one_unless full) c.if-full.true in (
+      (let n = group.1 in let m = group.2 in omega arith),
+      λ none. c.in-Ok-join.ensures.room c.if-full.true first
+          (subst (λ joinings. CanGather g.D.Disk.is_image g.D.Disk.faults g.D.Disk.strict g.D.Disk.armed g.D.Disk.content g.D.Disk.synced g.D.Disk.written g.J.Planned.strict c.args.plan.now c.args.tape.now self.actor c.find.new.seat first self.slot self.commands self.gone joinings c.loop-place.weights.items j) (empty_is group.0 (group.1 ∙ none)) can),
+    )

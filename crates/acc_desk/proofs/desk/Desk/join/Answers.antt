@@ -1,13 +1,15 @@
-use Rattle.std.proofs.Common.{ℕ, Result, Ok, Err, List, [], ◌∷◌, ◌++◌, sym, ◌∙◌, ap, subst}
-use Rattle.std.specs.Prelude.{OnErr}
+use Rattle.std.proofs.Common.{ℕ, ◌+◌, length, Result, Ok, Err, List, [], ◌∷◌, ◌++◌, sym, ◌∙◌, ap, subst}
+use Rattle.std.specs.Prelude.{OnErr, sum_by}
 use Rattle.acc_message.specs.declared.entry.Event.TheVariants.{Message as MessageEvent}
 use Rattle.acc_message.specs.NodeRules.{Takes}
 use Rattle.acc_message_code.specs.Weight.{weight_of}
 use Rattle.acc_tape.specs.ItemViews.{actor_of_item}
+use Rattle.acc_tape.specs.Refusals.{Refuses}
 use Rattle.acc_tape.specs.Seats.{Turns}
 use Rattle.acc_desk.specs.Fits.{fits_plan}
 use Rattle.acc_desk.specs.Groups.{Joining, IsGathering}
 use Rattle.acc_desk.proofs.Joining.{asks_now, no_room, refused, joins}
+use Rattle.acc_desk.proofs.Rooms.{first_no_room}
 use Rattle.acc_desk.proofs.desk.Desk.join.Goals as goal
 
 -- what holds, holds after an error
@@ -77,3 +79,12 @@ returns-in_err-stage-clause-err g c =
     (sym (c.push_reserved.ensures.items ∙ ap (λ (ws : List ℕ). ws ++ weight ∷ []) c.reserve.ensures.items))
     (refused g.D.Disk.is_image g.D.Disk.faults g.D.Disk.strict g.D.Disk.armed g.D.Disk.content g.D.Disk.synced g.D.Disk.written g.J.Planned.strict c.args.plan.now c.args.tape.now c.requires.limits self.actor self.commands self.gone first self.slot joinings c.args.weights.now.items self.seat j can c.reserve-2.new.seat turns c.reserve-2.ensures.same.0
     c.stage.new.self weight (c.in-Ok.ensures.ok ∙ ap (λ h. h ++ weight ∷ []) can.gathering.desk.seated.held_is) c.in_err-stage.ensures.err c.stage.ensures.strict))
+
+pub returns-in-Err-Full-clause-room : goal.returns-in-Err-Full-clause-room
+returns-in-Err-Full-clause-room g c = λ is first can.
+    let self = c.args.self.now in
+    let new = c.reserve-2.new.seat in
+    let turns = subst (λ p. Turns actor_of_item weight_of (fits_plan p) self.seat new) (sym c.requires.plan) c.reserve-2.ensures.turn in
+    let refuses = subst (λ e. Refuses c.args.tape.now.limits (length new.seen + new.out_count) (sum_by weight_of new.seen + new.out_weight) c.in_ok-weight.weight e) c.in-Err-Full.field-0-is c.in-Err-Full.ensures.cause in
+    first_no_room g.D.Disk.is_image g.D.Disk.faults g.D.Disk.strict g.D.Disk.armed g.D.Disk.content g.D.Disk.synced g.D.Disk.written g.J.Planned.strict c.args.plan.now c.args.tape.now c.requires.limits self.actor self.commands self.gone first self.slot c.args.weights.now.items self.seat (record { event = MessageEvent c.args.number; act = Takes c.args.message.now }) can new turns c.reserve-2.ensures.same.0
+    (c.in-Err-Full.ensures.err ∙ can.gathering.desk.seated.held_is) c.in_ok-weight.weight c.in_ok-weight.ensures.weight c.in-Err-Full.field-0-0 c.in-Err-Full.field-0-1 refuses

@@ -1,12 +1,15 @@
-use Rattle.std.proofs.Common.{[], ◌∷◌, ◌++◌, Contains, refl, sym, ap, ◌∙◌, subst, arith}
+use Rattle.std.proofs.Common.{◌+◌, [], ◌∷◌, ◌++◌, Contains, length, inr, refl, sym, ap, ◌∙◌, subst, arith}
 use Rattle.acc_message_code.specs.Weight.{weight_of}
+use Rattle.std.specs.Prelude.{sum_by}
 use Rattle.acc_tape.specs.Lists.{without}
+use Rattle.acc_tape.specs.Refusals.{Refuses}
 use Rattle.acc_tape.specs.ItemViews.{actor_of_item}
 use Rattle.acc_tape.specs.Seats.{Turns, FitsBehind, ComesLast}
 use Rattle.acc_desk.specs.Asks.{event_of, act_of_ask}
 use Rattle.acc_desk.specs.Desks.{item_of}
 use Rattle.acc_desk.specs.Fits.{fits_plan}
 use Rattle.acc_desk.proofs.Seating.{desk_on, may_on, asks, own, short, weighs, fits, taken, without_own}
+use Rattle.acc_desk.proofs.Rooms.{asked_no_room}
 use Rattle.acc_desk.proofs.desk.Desk.take.Goals as goal
 
 pub weigh-requires : goal.weigh-requires
@@ -81,3 +84,20 @@ returns-clause-ok g c =
     let last = subst (λ p. ComesLast actor_of_item (fits_plan p) c.reserve.new.seat c.put.new.seat.seen c.item_for-item.result) (sym c.requires.plan) c.in_ok-put.ensures.behind in
     let free = c.put.ensures.held ∙ ap (without w) held ∙ without_own w in
     taken c.args.plan.now c.args.tape.now c.requires.limits a g.D.Disk.is_image g.D.Disk.faults g.D.Disk.strict g.D.Disk.armed g.D.Disk.content g.D.Disk.synced g.D.Disk.written g.J.Planned.strict c.args.self.now.commands c.args.self.now.gone c.args.self.now.slot event act c.args.gone (w ∷ []) c.reserve.new.seat desk may c.in-Ok-step.given c.step.new.slot c.in-Ok-step.ensures.ok c.in-Ok-step.ensures.strict c.put.new.seat turns' free (subst (λ item. ComesLast actor_of_item (fits_plan c.args.plan.now) c.reserve.new.seat c.put.new.seat.seen item) item_is last)
+
+pub returns-in-Err-Full-clause-came : goal.returns-in-Err-Full-clause-came
+returns-in-Err-Full-clause-came g c =
+    let a = c.args.self.now.actor in
+    let event = event_of c.args.ask in
+    let act = act_of_ask c.args.ask in
+    let new = c.reserve.new.seat in
+    let turns = subst (λ p. Turns actor_of_item weight_of (fits_plan p) c.args.self.now.seat new) (sym c.requires.plan) c.reserve.ensures.turn in
+    let desk = desk_on c.args.plan.now c.args.tape.now c.requires.limits a g.D.Disk.is_image g.D.Disk.faults g.D.Disk.strict g.D.Disk.armed g.D.Disk.content g.D.Disk.synced g.D.Disk.written g.J.Planned.strict c.args.self.now.commands c.args.self.now.gone c.args.self.now.slot [] [] c.args.self.now.seat new c.requires.desk turns c.reserve.ensures.same.0 (c.in-Err-Full.ensures.err ∙ c.requires.desk.seated.held_is) in
+    let may = may_on c.args.plan.now c.args.tape.now c.requires.limits a g.D.Disk.is_image g.D.Disk.faults g.D.Disk.strict g.D.Disk.armed g.D.Disk.content g.D.Disk.synced g.D.Disk.written g.J.Planned.strict c.args.self.now.commands c.args.self.now.gone c.args.self.now.slot event act c.args.gone [] c.args.self.now.seat new c.requires.desk turns c.reserve.ensures.same.0 c.requires.may in
+    let refuses = subst (λ e. Refuses c.args.tape.now.limits (length new.seen + new.out_count) (sum_by weight_of new.seen + new.out_weight) c.in_ok-weight.weight e) c.in-Err-Full.field-0-is c.in-Err-Full.ensures.cause in
+    inr (
+      c.reserve.ensures.same.0,
+      refl,
+      asked_no_room g.D.Disk.is_image g.D.Disk.faults g.D.Disk.strict g.D.Disk.armed g.D.Disk.content g.D.Disk.synced g.D.Disk.written g.J.Planned.strict c.args.plan.now c.args.tape.now c.requires.limits a c.args.self.now.commands c.args.self.now.gone c.args.self.now.slot event act c.args.gone [] new desk may
+          c.in_ok-weight.weight c.in_ok-weight.ensures c.in-Err-Full.field-0-0 c.in-Err-Full.field-0-1 refuses,
+    )
