@@ -17,3 +17,4 @@ pub mod Weighing
 pub mod Joining
 pub mod Finding
 pub mod Rooms
+pub mod Rounds

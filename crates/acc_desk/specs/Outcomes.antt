@@ -1,5 +1,5 @@
 -- What a turn came to.
-use Rattle.std.specs.Prelude.{◌≡◌, ◌⊎◌, ℕ, ◌+◌, ◌<◌, ◌≤◌, false, List, length, sum_by, drop}
+use Rattle.std.specs.Prelude.{◌≡◌, ◌⊎◌, ℕ, ◌+◌, ◌<◌, ◌≤◌, false, List, length, map, sum_by, drop, Any}
 use Rattle.acc_stamp.specs.declared.actors.Actor.{Actor}
 use Rattle.acc_message.specs.declared.entry.Event.{Event}
 use Rattle.acc_message.specs.declared.item.Item.{Item}
@@ -11,6 +11,7 @@ use Rattle.acc_entering.specs.Entries.{entering}
 use Rattle.acc_follow.specs.Schedules.{cluster_of}
 use Rattle.acc_tape.specs.Seats.{TapeName, SeatView}
 use Rattle.acc_desk.specs.Desks.{newest, MayStep}
+use Rattle.acc_desk.specs.declared.desk.Desk.{Desk}
 use Rattle.acc_desk.specs.declared.turning.Turned.{Turned}
 use Rattle.acc_desk.specs.declared.turning.Turned.TheVariants.{Taken, Idle, Full}
 
@@ -28,3 +29,22 @@ abbrev pub CameTo : Content → TapeName → Actor → List Step → Turned → 
 CameTo plan tape a commands Taken mine gone seat later = length mine < length seat.mine
 CameTo plan tape a commands Idle mine gone seat later = (seat.mine ≡ mine) × (later ≡ gone)
 CameTo plan tape a commands Full mine gone seat later = (length mine < length seat.mine) ⊎ ((seat.mine ≡ mine) × (later ≡ gone) × HasNoRoom plan tape a (drop gone commands) seat)
+
+-- ---- desks together
+
+-- what the actor of a desk entered, and how many of its commands went by
+abbrev pub progress_of : {D J : Type 0} → Desk D J → List Item × ℕ
+progress_of desk = (desk.seat.mine, desk.gone)
+
+-- how many items the actors entered
+abbrev pub entered_by : {D J : Type 0} → List (Desk D J) → ℕ
+entered_by {D} {J} desks = sum_by (λ (desk : Desk D J). length desk.seat.mine) desks
+
+-- What a turn of each of the desks came to. Taken: they entered an item or more. Idle: they entered none, and no command went by. Full:
+-- they entered some, or nothing, as one of them sees that the tape has no room.
+abbrev pub HaveComeTo : {D J : Type 0} → Content → TapeName → Turned → List (Desk D J) → List (Desk D J) → Type 0
+HaveComeTo plan tape Taken before desks = entered_by before < entered_by desks
+HaveComeTo plan tape Idle before desks = map progress_of desks ≡ map progress_of before
+HaveComeTo {D} {J} plan tape Full before desks =
+    (entered_by before < entered_by desks)
+    ⊎ ((map progress_of desks ≡ map progress_of before) × Any (λ (desk : Desk D J). HasNoRoom plan tape desk.actor (drop desk.gone desk.commands) desk.seat) desks)

@@ -1,7 +1,8 @@
 //! Serving desks.
-ghost use Rattle.std.specs.Prelude.{◌≡◌, ◌≤◌, false, map, OnOk, OnErr};
+ghost use Rattle.std.specs.Prelude.{◌≡◌, ◌≤◌, false, map, IfOk, OnOk, OnErr};
 ghost use Rattle.acc_limits.specs.Limits.{most_items};
 ghost use Rattle.acc_desk.specs.Desks.{AreSound, AreSeated, name_of};
+ghost use Rattle.acc_desk.specs.Outcomes.{HaveComeTo};
 
 use crate::desk::Desks;
 use crate::floor::Floor;
@@ -45,6 +46,7 @@ fn round<W: Wait, G: Gate, D: Rig + Drop, J: Planned>(
     ensures same { map name_of desks.new.items ≡ map name_of desks.old.items }
     ensures ok { OnOk result (AreSound D.is_image D.faults D.strict D.armed D.content D.synced D.written J.strict plan.now tape.now desks.new.items) }
     ensures err { OnErr result (AreSeated tape.now desks.new.items) }
+    ensures came { IfOk result (λ turned. HaveComeTo plan.now tape.now turned desks.old.items desks.new.items) }
 {
     let mut all = Turned::Idle;
     for place in 0..desks.len() {

@@ -1,8 +1,13 @@
-use Rattle.std.proofs.Common.{ap, ◌∙◌}
+use Rattle.std.proofs.Common.{◌≡◌, ◌<◌, length, set, sym, ap, ◌∙◌, subst, arith}
 use Rattle.std.proofs.Math.Seq.{map-set_same}
 use Rattle.std.proofs.lemmas.List.Elements.{All-set}
 use Rattle.acc_desk.specs.Desks.{IsSound, name_of}
 use Rattle.acc_desk.specs.declared.desk.Desk.{Desk}
+use Rattle.acc_desk.specs.declared.turning.Turned.{Turned}
+use Rattle.acc_desk.specs.declared.turning.Turned.TheVariants.{Taken, Idle, Full}
+use Rattle.acc_desk.specs.Outcomes.{CameTo}
+use Rattle.acc_desk.proofs.Rounds.{SoFar, all_done, after_idle, after_taken, after_full}
+use Rattle.acc_desk.proofs.serving.round.Goals.{in-Idle, in-Taken}
 use Rattle.acc_desk.proofs.serving.round.Goals as goal
 
 pub returns-in_err-turn-clause-same : goal.returns-in_err-turn-clause-same
@@ -23,6 +28,16 @@ returns-in-Full-clause-ok g c =
 
 pub loop-place-preserved : goal.loop-place-preserved
 loop-place-preserved g c =
+    let plan = c.args.plan.now in
+    let tape = c.args.tape.now in
+    let xs = c.args.desks.now.items in
+    let ys = c.loop-place.desks.items in
+    let place = c.loop-place.place in
+    let new = c.turn.new.self in
+    let d = c.index_mut.result.now in
+    let there : place < length ys = let t = c.loop-place-test.true in let n = c.loop-place.invariant.long in omega arith in
+    let turned = λ (t : Turned) (is : c.in_ok-turn.field-0 ≡ t). subst (λ (o : Desk g.row.D.Denot g.row.J.Denot). CameTo plan tape o.actor o.commands t o.seat.mine o.gone new.seat new.gone) c.index_mut.ensures.value
+    (subst (λ so. CameTo plan tape d.actor d.commands so d.seat.mine d.gone new.seat new.gone) is c.in_ok-turn.ensures.came) in
     record {
       same =
           map-set_same name_of c.loop-place.desks.items c.loop-place.place c.turn.new.self c.index_mut.result.now
@@ -30,5 +45,28 @@ loop-place-preserved g c =
           ∙ c.loop-place.invariant.same;
       sound =
           All-set (λ (desk : Desk g.row.D.Denot g.row.J.Denot). IsSound g.D.Disk.is_image g.D.Disk.faults g.D.Disk.strict g.D.Disk.armed g.D.Disk.content g.D.Disk.synced g.D.Disk.written g.J.Planned.strict c.args.plan.now c.args.tape.now desk.actor desk.seat desk.slot desk.commands desk.gone) c.loop-place.desks.items c.loop-place.place c.turn.new.self c.in_ok-turn.ensures.ok c.loop-place.invariant.sound;
+      came = elim c.match-branch-2.branch [
+        | in-Idle w ↦ subst (λ so. SoFar so xs (set ys place new)) (sym w.all-is) (after_idle plan tape xs ys place new d there c.loop-place.all c.loop-place.invariant.came (turned Idle w.in-Idle.is))
+        | in-Taken w ↦ subst (λ so. SoFar so xs (set ys place new)) (sym w.all-is) (after_taken plan tape xs ys place new d there c.loop-place.all c.loop-place.invariant.came (turned Taken w.in-Taken.is))
+      ];
       long = c.loop-place.invariant.long;
     }
+
+pub returns-in-Full-clause-came : goal.returns-in-Full-clause-came
+returns-in-Full-clause-came g c =
+    let plan = c.args.plan.now in
+    let tape = c.args.tape.now in
+    let xs = c.args.desks.now.items in
+    let ys = c.loop-place.desks.items in
+    let place = c.loop-place.place in
+    let new = c.turn.new.self in
+    let d = c.index_mut.result.now in
+    let there : place < length ys = let t = c.loop-place-test.true in let n = c.loop-place.invariant.long in omega arith in
+    let value = c.index_mut.ensures.value in
+    let turned = subst (λ (o : Desk g.row.D.Denot g.row.J.Denot). CameTo plan tape o.actor o.commands Full o.seat.mine o.gone new.seat new.gone) value
+    (subst (λ so. CameTo plan tape d.actor d.commands so d.seat.mine d.gone new.seat new.gone) c.in-Full.is c.in_ok-turn.ensures.came) in
+    after_full plan tape xs ys place new d there c.loop-place.all c.loop-place.invariant.came
+    (c.turn.ensures.same.0 ∙ ap (λ (o : Desk g.row.D.Denot g.row.J.Denot). o.actor) value) (c.turn.ensures.same.1 ∙ ap (λ (o : Desk g.row.D.Denot g.row.J.Denot). o.commands) value) turned
+
+pub returns-clause-came : goal.returns-clause-came
+returns-clause-came g c = all_done c.args.plan.now c.args.tape.now c.args.desks.now.items c.loop-place.desks.items c.loop-place.all c.loop-place.invariant.came
