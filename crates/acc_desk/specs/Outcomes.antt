@@ -1,5 +1,6 @@
 -- What a turn came to.
-use Rattle.std.specs.Prelude.{◌≡◌, ◌⊎◌, ℕ, ◌+◌, ◌<◌, ◌≤◌, false, List, length, map, sum_by, drop, Any}
+use Rattle.std.specs.Prelude.{◌≡◌, ◌⊎◌, ℕ, ◌+◌, ◌<◌, ◌≤◌, false, List, length, map, sum_by, drop, Any, Some}
+use Rattle.std.specs.List.{slice_get, list_any}
 use Rattle.acc_stamp.specs.declared.actors.Actor.{Actor}
 use Rattle.acc_message.specs.declared.entry.Event.{Event}
 use Rattle.acc_message.specs.declared.item.Item.{Item}
@@ -7,10 +8,12 @@ use Rattle.acc_message.specs.NodeRules.{Act}
 use Rattle.acc_message_code.specs.Weight.{weight_of}
 use Rattle.acc_schedule.specs.Content.{Content}
 use Rattle.acc_schedule.specs.declared.plan.Step.{Step}
+use Rattle.acc_schedule.specs.declared.plan.Step.TheVariants.{Begin, Restart}
+use Rattle.acc_txn.specs.declared.parts.BodyParts.{BodyParts}
 use Rattle.acc_entering.specs.Entries.{entering}
 use Rattle.acc_follow.specs.Schedules.{cluster_of}
 use Rattle.acc_tape.specs.Seats.{TapeName, SeatView}
-use Rattle.acc_desk.specs.Desks.{newest, MayStep}
+use Rattle.acc_desk.specs.Desks.{newest, MayStep, begins_it}
 use Rattle.acc_desk.specs.declared.desk.Desk.{Desk}
 use Rattle.acc_desk.specs.declared.turning.Turned.{Turned}
 use Rattle.acc_desk.specs.declared.turning.Turned.TheVariants.{Taken, Idle, Full}
@@ -29,6 +32,13 @@ abbrev pub CameTo : Content → TapeName → Actor → List Step → Turned → 
 CameTo plan tape a commands Taken mine gone seat later = length mine < length seat.mine
 CameTo plan tape a commands Idle mine gone seat later = (seat.mine ≡ mine) × (later ≡ gone)
 CameTo plan tape a commands Full mine gone seat later = (length mine < length seat.mine) ⊎ ((seat.mine ≡ mine) × (later ≡ gone) × HasNoRoom plan tape a (drop gone commands) seat)
+
+-- It is a restart, or it begins a transaction that has a node and a body and that none of the commands before begins: an actor that is up
+-- takes it as its next, whatever stands on the tape.
+abbrev pub IsTakenAtOnce : Content → List Step → Step → Type 0
+IsTakenAtOnce plan before (Begin txn) = (home : ℕ) × (body : BodyParts) × (slice_get plan.homes txn ≡ Some home) × (slice_get plan.bodies txn ≡ Some body) × (list_any (begins_it txn) before ≡ false)
+IsTakenAtOnce plan before (Restart a choice) = Unit {0}
+IsTakenAtOnce plan before command = ⊥
 
 -- ---- desks together
 

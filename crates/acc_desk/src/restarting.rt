@@ -1,5 +1,5 @@
 //! Restarts of the actor of a desk.
-ghost use Rattle.std.specs.Prelude.{◌≡◌, ◌≤◌, ◌+◌, ◌∷◌, [], true, drop, Contains, IfOk, OnOk, OnErr};
+ghost use Rattle.std.specs.Prelude.{◌≡◌, ◌≢◌, ◌≤◌, ◌+◌, ◌∷◌, [], true, drop, Contains, Ok, IfOk, OnOk, OnErr};
 ghost use Rattle.acc_schedule.specs.declared.plan.Step.{Step};
 ghost use Rattle.acc_message.specs.Coordinator.{silence};
 ghost use Rattle.acc_limits.specs.Limits.{most_items};
@@ -13,6 +13,7 @@ ghost use Rattle.acc_cluster.specs.Slots.{SlotStands, IsStrictSlot};
 ghost use Rattle.acc_cluster.specs.Asked.{IsFew};
 ghost use Rattle.acc_desk.specs.Desks.{IsSeated, IsSound, HasReopened, HasReopenedStrictly};
 ghost use Rattle.acc_desk.specs.Outcomes.{CameTo};
+ghost use Rattle.acc_desk.specs.declared.turning.Turned.{Turned as Answer};
 
 use crate::desk::Desk;
 use crate::rules::{PlanTape, Planned};
@@ -87,6 +88,7 @@ impl<D: Rig + Drop, J: Planned> Desk<D, J> {
         ensures ok { OnOk result (IsSound D.is_image D.faults D.strict D.armed D.content D.synced D.written J.strict plan.now tape.now self.new.actor self.new.seat self.new.slot self.new.commands self.new.gone) }
         ensures err { OnErr result (IsSeated tape.now self.new.actor [] self.new.seat) }
         ensures came { IfOk result (λ turned. CameTo plan.now tape.now self.old.actor self.old.commands turned self.old.seat.mine self.old.gone self.new.seat self.new.gone) }
+        ensures told { result ≢ Ok Answer.Idle }
     {
         if self.gone >= self.commands.len() {
             return Ok(Turned::Idle);

@@ -1,5 +1,5 @@
 //! Turns.
-ghost use Rattle.std.specs.Prelude.{◌≡◌, ◌≤◌, ℕ, [], IfOk, OnOk, OnErr, Some, true, false};
+ghost use Rattle.std.specs.Prelude.{◌≡◌, ◌≤◌, ℕ, [], take, Ok, IfOk, OnOk, OnErr, Some, true, false};
 ghost use Rattle.std.specs.Option.{option_copied};
 ghost use Rattle.acc_stamp.specs.declared.actors.Actor.{Actor as AnActor};
 ghost use Rattle.std.specs.List.{slice_get, list_any};
@@ -12,7 +12,8 @@ ghost use Rattle.acc_limits.specs.Limits.{most_items};
 ghost use Rattle.acc_cluster.specs.Slots.{SlotStands};
 ghost use Rattle.acc_tape.specs.Seats.{TapeName};
 ghost use Rattle.acc_desk.specs.Desks.{newest, IsSeated, IsSound, begins_it};
-ghost use Rattle.acc_desk.specs.Outcomes.{CameTo};
+ghost use Rattle.acc_desk.specs.Outcomes.{CameTo, IsTakenAtOnce};
+ghost use Rattle.acc_desk.specs.declared.turning.Turned.{Turned as Answer};
 
 use crate::ask::Ask;
 use crate::desk::Desk;
@@ -126,6 +127,7 @@ impl<D: Rig + Drop, J: Planned> Desk<D, J> {
         ensures ok { OnOk result (IsSound D.is_image D.faults D.strict D.armed D.content D.synced D.written J.strict plan.now tape.now self.new.actor self.new.seat self.new.slot self.new.commands self.new.gone) }
         ensures err { OnErr result (IsSeated tape.now self.new.actor [] self.new.seat) }
         ensures came { IfOk result (λ turned. CameTo plan.now tape.now self.old.actor self.old.commands turned self.old.seat.mine self.old.gone self.new.seat self.new.gone) }
+        ensures waits { result ≡ Ok Answer.Idle → is_down self.old.actor (newest self.old.seat) ≡ false → (command : AStep) → slice_get self.old.commands self.old.gone ≡ Some command → ¬ IsTakenAtOnce plan.now (take self.old.gone self.old.commands) command }
     {
         match self.command(rt, plan, floor, tape, gate, turn)? {
             Turned::Idle => self.message(rt, plan, floor, tape, gate, turn),
@@ -174,6 +176,7 @@ impl<D: Rig + Drop, J: Planned> Desk<D, J> {
         ensures ok { OnOk result (IsSound D.is_image D.faults D.strict D.armed D.content D.synced D.written J.strict plan.now tape.now self.new.actor self.new.seat self.new.slot self.new.commands self.new.gone) }
         ensures err { OnErr result (IsSeated tape.now self.new.actor [] self.new.seat) }
         ensures came { IfOk result (λ turned. CameTo plan.now tape.now self.old.actor self.old.commands turned self.old.seat.mine self.old.gone self.new.seat self.new.gone) }
+        ensures waits { result ≡ Ok Answer.Idle → is_down self.old.actor (newest self.old.seat) ≡ false → (command : AStep) → slice_get self.old.commands self.old.gone ≡ Some command → ¬ IsTakenAtOnce plan.now (take self.old.gone self.old.commands) command }
     {
         if self.is_down() {
             return Ok(Turned::Idle);
@@ -210,6 +213,7 @@ impl<D: Rig + Drop, J: Planned> Desk<D, J> {
         ensures ok { OnOk result (IsSound D.is_image D.faults D.strict D.armed D.content D.synced D.written J.strict plan.now tape.now self.new.actor self.new.seat self.new.slot self.new.commands self.new.gone) }
         ensures err { OnErr result (IsSeated tape.now self.new.actor [] self.new.seat) }
         ensures came { IfOk result (λ turned. CameTo plan.now tape.now self.old.actor self.old.commands turned self.old.seat.mine self.old.gone self.new.seat self.new.gone) }
+        ensures waits { result ≡ Ok Answer.Idle → ¬ IsTakenAtOnce plan.now (take self.old.gone self.old.commands) (AStep.Begin txn) }
     {
         let Some(home) = home_of(plan, txn) else {
             return Ok(Turned::Idle);
