@@ -10,7 +10,7 @@ ghost use Rattle.acc_opening_laws.specs.Plan.{settled_in};
 ghost use Rattle.acc_record.specs.Shelf.{record_at};
 
 use crate::lookup::record_of;
-use crate::queue::{Queue, insert, take_first};
+use crate::queue::{Queue, insert, note, take_first};
 use crate::scan::last_held;
 use crate::touched::{TouchedWaits, add_watch, take_watches};
 use crate::turns::{Turn, turn_of};
@@ -98,7 +98,7 @@ impl Plan {
         ensures after { OnOk result (IsUnderWay known.now.shard (lookup known.now.records.now known.now.own.now) (watches_now self.new.touched known.now.waits.now) [] self.new.done.items (turns_in self.new.queue)) }
         ensures done { OnOk result (self.new.done.items ≡ self.old.done.items ++ turn ∷ []) }
     {
-        self.done.push(turn)?;
+        note(&mut self.done, &mut self.queue, turn)?;
         if turn.applies {
             let alloc = *self.done.allocator();
             let woken = take_watches(alloc, &mut self.touched, known.waits, turn.id)?;

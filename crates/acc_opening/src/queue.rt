@@ -1,11 +1,12 @@
 //! The transactions whose turn comes.
-ghost use Rattle.std.specs.Prelude.{◌≡◌, [], ◌∷◌, OnOk, MatchOption};
+ghost use Rattle.std.specs.Prelude.{◌≡◌, [], ◌∷◌, ◌++◌, OnOk, MatchOption};
 ghost use Rattle.acc_stamp.specs.Rising.{IsRisingBy, IsGapFor};
 ghost use Rattle.acc_opening.specs.Turns.{turn_lt, key_lt, key_of, HasTurn};
 ghost use Rattle.acc_opening.specs.Queue.{turns_in};
 
 use crate::turns::{Turn, place_of};
 use acc_base::OutOfMemory;
+use std::mem;
 
 /// The transactions whose turn comes, in the order of their turns. Mostly there is one, so this takes no tree.
 pub type Queue = Vec<Turn>;
@@ -38,4 +39,17 @@ pub(crate) fn take_first(queue: &mut Queue) -> Option<Turn>
         return None;
     }
     Some(queue.remove(0))
+}
+
+/// Puts the turn that was taken behind those before it. The first one takes over the room of the queue where nothing is left
+/// there, so a step of one turn takes this memory once.
+pub(crate) fn note(done: &mut Vec<Turn>, queue: &mut Queue, turn: Turn) -> Result<(), OutOfMemory>
+    ensures done { OnOk result (done.new.items ≡ done.old.items ++ turn ∷ []) }
+    ensures queue { turns_in queue.new ≡ turns_in queue.old }
+{
+    if done.is_empty() && queue.is_empty() {
+        mem::swap(done, queue);
+    }
+    done.push(turn)?;
+    Ok(())
 }

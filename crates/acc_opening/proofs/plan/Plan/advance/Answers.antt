@@ -18,8 +18,9 @@ wake_all-requires c =
     let taken = taken_woken known.shard at (watches_now c.args.self.now.touched known.waits.now) done turn rest c.requires (watches_now c.take_watches.new.touched known.waits.now) c.in_ok-woken.woken.items c.in_ok-woken.ensures.left c.in_ok-woken.ensures.taken in
     record {
       before =
-          subst (λ list. IsUnderWay known.shard at (watches_now c.take_watches.new.touched known.waits.now) list c.push.new.self.items rest) (sym c.deref.ensures.value)
-          (subst (λ list. IsUnderWay known.shard at (watches_now c.take_watches.new.touched known.waits.now) c.in_ok-woken.woken.items list rest) (sym c.in_ok-push.ensures.items) taken);
+          subst (λ list. IsUnderWay known.shard at (watches_now c.take_watches.new.touched known.waits.now) list c.note.new.done.items (turns_in c.note.new.queue)) (sym c.deref.ensures.value)
+          (subst (λ list. IsUnderWay known.shard at (watches_now c.take_watches.new.touched known.waits.now) c.in_ok-woken.woken.items c.note.new.done.items list) (sym c.note.ensures.queue)
+          (subst (λ list. IsUnderWay known.shard at (watches_now c.take_watches.new.touched known.waits.now) c.in_ok-woken.woken.items list rest) (sym c.in_ok-note.ensures.done) taken));
     }
 
 pub returns-else-turn-clause-after : goal.returns-else-turn-clause-after
@@ -28,5 +29,7 @@ returns-else-turn-clause-after c =
     let at : Lookup = lookup known.records.now known.own.now in
     let done : List Turn = c.args.self.now.done.items in
     let rest : List Turn = turns_in c.args.self.now.queue in
-    subst (λ list. IsUnderWay known.shard at (watches_now c.args.self.now.touched known.waits.now) [] list rest) (sym c.in_ok-push.ensures.items)
-    (taken_idle known.shard at (watches_now c.args.self.now.touched known.waits.now) done c.args.turn rest c.requires c.if-turn.false)
+    let watching = watches_now c.args.self.now.touched known.waits.now in
+    subst (λ list. IsUnderWay known.shard at watching [] c.note.new.done.items list) (sym c.note.ensures.queue)
+    (subst (λ list. IsUnderWay known.shard at watching [] list rest) (sym c.in_ok-note.ensures.done)
+    (taken_idle known.shard at watching done c.args.turn rest c.requires c.if-turn.false))
