@@ -90,10 +90,16 @@ fn apply_turn(
     }
 }
 
-// No messages yet, with room for this many.
-fn with_room(alloc: Global, room: usize) -> Result<Messages, OutOfMemory>
+// No messages yet, with room for one of each turn that opens. Mostly one attempt waits for each transaction that is opened.
+fn with_room(alloc: Global, turns: &[Turn]) -> Result<Messages, OutOfMemory>
     ensures { IfOk result (λ sent. sent ≡ []) }
 {
+    let mut room: usize = 0;
+    for turn in turns {
+        if turn.opens {
+            room = room.saturating_add(1);
+        }
+    }
     let sent = Vec::with_capacity(alloc, room)?;
     Ok(Messages::from_vec(sent))
 }
@@ -115,8 +121,7 @@ pub fn release(
         shard: own.shard(),
         cells,
     };
-    // Mostly one attempt waits for each transaction that is opened.
-    let mut sent = with_room(alloc, turns.len())?;
+    let mut sent = with_room(alloc, turns)?;
     let mut writes = CellList::new(alloc);
     for turn in turns {
         let Some(there) = record_of(known.records, known.own, turn.id) else {
