@@ -1,5 +1,5 @@
 -- The entries of a map, as the map of their cells, and what a step makes of them.
-use Rattle.std.proofs.Common.{◌≡◌, ℕ, ◌+◌, ◌<◌, Bool, true, false, cond, ◌||◌, List, [], ◌∷◌, ◌++◌, Option, Some, None, length, get_or, take, drop, refl, sym, ap, subst, ◌∙◌, IsTrue, unwrap_or, is_some, is_none, Result, Ok, Err, OnErr, map as map_list, arith}
+use Rattle.std.proofs.Common.{◌≡◌, ℕ, ◌+◌, ◌<◌, ◌≤◌, Bool, true, false, cond, ◌||◌, List, [], ◌∷◌, ◌++◌, Option, Some, None, length, get_or, take, drop, refl, sym, ap, subst, ◌∙◌, IsTrue, unwrap_or, is_some, is_none, Result, Ok, Err, OnErr, map as map_list, arith}
 use Rattle.std.specs.Cmp.{first_so, second_so}
 use Rattle.std.specs.Option.{option_flatten}
 use Rattle.std.specs.Ordering.{is_eq}
@@ -96,6 +96,17 @@ reserved_apart old new key (w ∷ writes) kept below reserved =
 first_write : (b : Bool) (cell : Option Value) (later : Option (Option Value)) (before : Option Value) → (b ≡ true → later ≡ None) → unwrap_or later (cond b cell before) ≡ unwrap_or (cond b (Some cell) later) before
 first_write true cell later before none = ap (λ o. unwrap_or o cell) (none refl)
 first_write false cell later before none = refl
+
+-- a list of one pair, whose key and cell are asked for apart
+pub alone : (pairs : List (Key × Option Value)) (k c : Key × Option Value) → 1 ≤ length pairs → length pairs < 2 → pairs ≡ ((get_or pairs 0 k).0, (get_or pairs 0 c).1) ∷ []
+alone [] k c some few = absurd (omega (arith, some))
+alone (p ∷ []) k c some few = refl
+alone (p ∷ q ∷ rest) k c some few = absurd (omega (arith, few))
+
+-- a write that is the only one
+pub only_write : (before : Key → Option Value) (w : Key × Option Value) (q : Key) → cond (key_eq w.0 q) w.1 (before q) ≡ applied before (w ∷ []) q
+only_write before w q =
+    ap (λ b. cond b w.1 (before q)) (key_eq-symm w.0 q) ∙ first_write (key_eq q w.0) w.1 None (before q) (λ same. refl)
 
 -- one write made leaves the others to be made
 pub write_step : (old new : Entries) (w : Key × Option Value) (rest : List (Key × Option Value)) → ((q : Key) → held new q ≡ cond (key_eq w.0 q) w.1 (held old q)) → IsRising (w ∷ rest) → (q : Key) → applied (held new) rest q ≡ applied (held old) (w ∷ rest) q

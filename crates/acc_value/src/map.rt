@@ -61,6 +61,10 @@ impl CellMap {
         ensures err { OnErr result (self.new ≡ self.old) }
     {
         let pairs = writes.pairs();
+        if let [(key, cell)] = pairs {
+            write_one(&mut self.entries, key, cell)?;
+            return Ok(());
+        }
         let cells = cells_in(writes.allocator(), pairs)?;
         reserve(&mut self.entries, pairs)?;
         write_cells(&mut self.entries, pairs, cells);
@@ -81,6 +85,23 @@ impl Duplicate for CellMap {
     fn copy(&self) -> Result<CellMap, OutOfMemory> {
         CellMap::copy(self)
     }
+}
+
+/// Sets one cell. Without memory for it the cells are as before.
+fn write_one(
+    entries: &mut BTreeMap<Key, Option<Value>>,
+    key: &Key,
+    cell: &Option<Value>,
+) -> Result<(), OutOfMemory>
+    ensures ok { OnOk result ((k : Key) → held entries.new k ≡ (if key_eq key.now k then cell.now else held entries.old k)) }
+    ensures err { OnErr result ((k : Key) → held entries.new k ≡ held entries.old k) }
+{
+    let cell = cell.copy()?;
+    if cell.is_some() {
+        reserve_entry(entries, key)?;
+    }
+    set_cell(entries, key, cell);
+    Ok(())
 }
 
 /// Makes an entry, which holds null, for each key that is to get a number and has none. The cells stay in any case.
