@@ -36,7 +36,8 @@ impl<R> Model for StdSource<R> {
 impl<R: Read> StdSource<R> {
     /// The standard input of the process. Nothing is read yet.
     pub fn new<I: Input<Reader = R>>(rt: &I) -> StdSource<R>
-        ensures { result.faults ≡ 0 }
+        ensures moved { result.moved ≡ [] }
+        ensures faults { result.faults ≡ 0 }
     {
         StdSource::over(rt.reader())
     }
@@ -108,7 +109,8 @@ impl<W> Model for StdSink<W> {
 impl<'a, P: Print> StdSink<Printer<'a, P>> {
     /// The standard output of the process. Nothing is written yet.
     pub fn new(rt: &'a P) -> StdSink<Printer<'a, P>>
-        ensures { result.faults ≡ 0 }
+        ensures moved { result.moved ≡ [] }
+        ensures faults { result.faults ≡ 0 }
     {
         StdSink::over(io::writer(rt))
     }
