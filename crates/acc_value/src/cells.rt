@@ -8,8 +8,8 @@ ghost use Rattle.acc_value.specs.Pairs.{IsRising, put};
 ghost use Rattle.acc_value.specs.Cells.{cell_of, cells_eq};
 
 use crate::key::Key;
-use crate::room::insert_pair;
 use crate::search::place_of;
+use crate::shared_pairs::SharedPairs;
 use crate::value::Value;
 use acc_base::{Duplicate, OutOfMemory, SharedSequence};
 use std::alloc::Global;
@@ -21,7 +21,7 @@ pub type Cells = SharedSequence<Option<Value>>;
 /// Cells by their keys, in the order of the keys, each key once. Copies share the pairs. Contracts see the pairs as a plain list.
 #[derive(Debug, Drop)]
 pub struct CellList {
-    cells: SharedSequence<(Key, Option<Value>)>,
+    cells: SharedPairs,
 }
 
 impl Model for CellList {
@@ -43,7 +43,7 @@ impl CellList {
         ensures { result ≡ [] }
     {
         CellList {
-            cells: SharedSequence::new(alloc),
+            cells: SharedPairs::new(alloc),
         }
     }
 
@@ -92,7 +92,7 @@ impl CellList {
         ensures err { OnErr result (self.new ≡ self.old) }
     {
         let place = self.cells.len();
-        insert_pair(&mut self.cells, place, (key, cell))
+        self.cells.insert(place, (key, cell))
     }
 
     /// Sets the cell of a key. Without memory for a new pair the list is as before.
@@ -106,7 +106,7 @@ impl CellList {
                 Ok(())
             }
             Err(place) => {
-                insert_pair(&mut self.cells, place, (key, cell))?;
+                self.cells.insert(place, (key, cell))?;
                 Ok(())
             }
         }
@@ -134,7 +134,7 @@ impl PartialEq for CellList {
     ghost laws = { partial_equiv_from_equiv (Prim.search (comparing, rules) depth 9) };
 
     fn eq(&self, other: &CellList) -> bool {
-        self.cells == other.cells
+        self.cells.as_slice() == other.cells.as_slice()
     }
 }
 

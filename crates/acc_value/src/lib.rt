@@ -7,6 +7,7 @@ mod key;
 mod map;
 mod room;
 mod search;
+mod shared_pairs;
 mod value;
 
 pub use acc_base::{Bytes, Duplicate, OutOfMemory, Sequence, Text};

@@ -14,7 +14,7 @@ pub invariant_of-self-in-Err : goal.invariant_of-self-in-Err
 invariant_of-self-in-Err c =
     let nowhere = rw c.as_slice.ensures at c.in-Err.ensures in
     let is = put-lacks c.self.inside.cells c.args.key c.args.cell c.in-Err.place nowhere in
-    rw (c.in_ok-insert_pair-in-Err.ensures.ok, ← is) (IsRising-put c.self.inside.cells c.args.key c.args.cell c.self.invariant)
+    rw (c.in_ok-insert-in-Err.ensures.ok, ← is) (IsRising-put c.self.inside.cells c.args.key c.args.cell c.self.invariant)
 
 pub returns-in_ok-set-in-Ok-clause-ok : goal.returns-in_ok-set-in-Ok-clause-ok
 returns-in_ok-set-in-Ok-clause-ok c =
@@ -22,8 +22,8 @@ returns-in_ok-set-in-Ok-clause-ok c =
     let is = put-over c.self.inside.cells c.args.key c.args.cell c.in-Ok.place c.self.invariant here in
     c.in_ok-set-in-Ok.ensures.ok ∙ sym is ∙ ap (λ pairs. put pairs c.args.key c.args.cell) c.self.view_is
 
-pub returns-in_ok-insert_pair-in-Err-clause-ok : goal.returns-in_ok-insert_pair-in-Err-clause-ok
-returns-in_ok-insert_pair-in-Err-clause-ok c =
+pub returns-in_ok-insert-in-Err-clause-ok : goal.returns-in_ok-insert-in-Err-clause-ok
+returns-in_ok-insert-in-Err-clause-ok c =
     let nowhere = rw c.as_slice.ensures at c.in-Err.ensures in
     let is = put-lacks c.self.inside.cells c.args.key c.args.cell c.in-Err.place nowhere in
-    c.in_ok-insert_pair-in-Err.ensures.ok ∙ sym is ∙ ap (λ pairs. put pairs c.args.key c.args.cell) c.self.view_is
+    c.in_ok-insert-in-Err.ensures.ok ∙ sym is ∙ ap (λ pairs. put pairs c.args.key c.args.cell) c.self.view_is
