@@ -5,7 +5,7 @@ ghost use Rattle.acc_stamp.specs.declared.stamps.TxnId.{TxnId};
 ghost use Rattle.acc_stamp.specs.Rising.{IsRising};
 ghost use Rattle.acc_deps.specs.Deps.{AreDeps, of_shard, deps_has, deps_with, deps_union, deps_of, all_ids};
 
-use crate::content::{Content, insert_shared, push_shared, shards_in};
+use crate::content::{Content, insert_shared, push_shared, shards_in, share};
 use crate::parts::is_part;
 use crate::shards::{ShardDeps, merged_all, merged_shards, place_of};
 use acc_base::{Duplicate, OutOfMemory};
@@ -26,15 +26,15 @@ pub struct Deps {
 
 impl Model for Deps {
     ghost use Rattle.std.specs.Prelude.{List};
-    ghost use Rattle.acc_base.specs.Shared.{items_of};
+    ghost use Rattle.acc_deps.specs.Content.{held};
     ghost use Rattle.acc_deps.specs.declared.shards.ShardDeps.{ShardDeps};
     ghost use Rattle.acc_deps.specs.Deps.{AreDeps};
 
     ghost Value = { List ShardDeps };
 
-    ghost view = { λ d. items_of d.shards };
+    ghost view = { λ d. held d.shards };
 
-    ghost invariant = { λ d. AreDeps (items_of d.shards) };
+    ghost invariant = { λ d. AreDeps (held d.shards) };
 }
 
 impl Deps {
@@ -44,7 +44,7 @@ impl Deps {
     {
         Deps {
             alloc,
-            shards: None,
+            shards: Content::Nothing,
         }
     }
 
@@ -55,7 +55,7 @@ impl Deps {
     {
         Ok(Deps {
             alloc,
-            shards: Some(Arc::new(alloc, shards)?),
+            shards: Content::List(Arc::new(alloc, shards)?),
         })
     }
 
@@ -158,13 +158,10 @@ impl Deps {
     pub fn copy(&self) -> Result<Deps, OutOfMemory>
         ensures { IfOk result (λ copy. copy ≡ self.now) }
     {
-        match &self.shards {
-            Some(shards) => Ok(Deps {
-                alloc: self.alloc,
-                shards: Some(Arc::try_clone(shards)?),
-            }),
-            None => Ok(Deps::new(self.alloc)),
-        }
+        Ok(Deps {
+            alloc: self.alloc,
+            shards: share(&self.shards)?,
+        })
     }
 }
 
