@@ -27,3 +27,4 @@ pub mod FollowBody
 pub mod FirstFault
 pub mod Versions
 pub mod UsesRead
+pub mod Seeing

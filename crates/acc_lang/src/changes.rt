@@ -11,7 +11,7 @@ use crate::judge::{check, standing_of};
 use crate::keys::{from_key, table, where_key};
 use crate::lexemes::{begins_update, is_word};
 use crate::sums::expression;
-use crate::take::{take_mark, take_word};
+use crate::take::{sees_update, take_mark, take_word};
 use acc_token::Cursor;
 use acc_txn::{Let, Update, Updates};
 use acc_value::Footprint;
@@ -34,7 +34,7 @@ pub fn more_updates(
     ensures { Gives (λ all. (all, uses.new)) result cursor.new.rest.now (more_updates_from texts lets.now (16 - length updates) (updates, uses.old) cursor.old.rest.now) }
 {
     let mut all = updates;
-    'updates: while begins_update(cursor.peek()) {
+    'updates: while sees_update(cursor) {
         let extra = all.len() == MOST_UPDATES;
         let next = update(alloc, cursor, texts, uses, lets, extra)?;
         all.push(next)?;

@@ -8,9 +8,9 @@ ghost use Rattle.acc_lang.specs.Reading.{operator_of as operator_of_token, opera
 use crate::fault::ReadError;
 use crate::fit::fitted;
 use crate::judge::{check, standing_of};
-use crate::lexemes::{is_mark, is_word};
+use crate::lexemes::is_mark;
 use crate::sums::{expression, more_parts, term};
-use crate::take::take_word;
+use crate::take::{sees_word, take_word};
 use acc_base::Sequence;
 use acc_token::{Cursor, Lexeme};
 use acc_txn::{Condition, Conditions, Let, Operator, Term};
@@ -48,7 +48,7 @@ fn more_conditions(
 {
     let mut all = Sequence::new(alloc);
     all.push(first)?;
-    'conditions: while is_word(cursor.peek(), "and") {
+    'conditions: while sees_word(cursor, "and") {
         let extra = all.len() == MOST_CONDITIONS;
         let next = one_condition(alloc, cursor, texts, lets, extra)?;
         all.push(next)?;
@@ -102,7 +102,7 @@ fn condition_from(
     ensures { Gives (λ condition. condition) result cursor.new.rest.now (condition_from_term texts lets.now first cursor.old.rest.now) }
 {
     match first {
-        Term::Name(name) if is_word(cursor.peek(), "is") => {
+        Term::Name(name) if sees_word(cursor, "is") => {
             cursor.next();
             null_test(cursor, texts, name)
         }
@@ -115,7 +115,7 @@ fn condition_from(
 fn null_test(cursor: &mut Cursor<'_>, texts: bool, name: u8) -> Result<Condition, ReadError>
     ensures { Gives (λ condition. condition) result cursor.new.rest.now (null_test_from texts name cursor.old.rest.now) }
 {
-    if is_word(cursor.peek(), "not") {
+    if sees_word(cursor, "not") {
         cursor.next();
         take_word(cursor, texts, "null")?;
         Ok(Condition::IsNotNull(name))

@@ -11,7 +11,7 @@ use crate::fault::{Fault, ReadError, Standing};
 use acc_token::{Lexeme, QuotedText, Shown};
 
 /// The greatest length of a word in bytes.
-const LONGEST_WORD: usize = 32;
+pub const LONGEST_WORD: usize = 32;
 
 /// The greatest length of a key's text in bytes.
 const LONGEST_TEXT: usize = 64;

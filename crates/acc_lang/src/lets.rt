@@ -10,7 +10,7 @@ use crate::judge::{check, standing_of};
 use crate::keys::from_key;
 use crate::lexemes::is_word;
 use crate::names::new_name;
-use crate::take::{take_mark, take_word};
+use crate::take::{sees_word, take_mark, take_word};
 use acc_base::Sequence;
 use acc_token::Cursor;
 use acc_txn::{Let, Lets};
@@ -31,7 +31,7 @@ pub fn lets(
     ensures few { IfOk result (λ lets. length lets ≤ 16) }
 {
     let mut lets = Sequence::new(alloc);
-    'lets: while is_word(cursor.peek(), "let") {
+    'lets: while sees_word(cursor, "let") {
         let extra = lets.len() == MOST_LETS;
         let next = one_let(alloc, cursor, texts, uses, lets.as_slice(), extra)?;
         lets.push(next)?;

@@ -11,7 +11,7 @@ use crate::judge::{check, check_behind_end, standing_of};
 use crate::lets::lets;
 use crate::lexemes::is_word;
 use crate::selects::select;
-use crate::take::{skip_mark, take_word};
+use crate::take::{sees_word, skip_mark, take_word};
 use acc_base::Sequence;
 use acc_token::Cursor;
 use acc_txn::{BodyParts, Conditions, Let, Lets, Updates};
@@ -90,7 +90,7 @@ fn action(
     requires { length lets.now ≤ 16 }
     ensures { Gives (λ both. (both, uses.new)) result cursor.new.rest.now (action_from texts uses.old lets.now cursor.old.rest.now) }
 {
-    if is_word(cursor.peek(), "if") {
+    if sees_word(cursor, "if") {
         cursor.next();
         guarded(alloc, cursor, texts, uses, lets)
     } else {

@@ -5,9 +5,8 @@ ghost use Rattle.acc_lang.specs.Reading.{one_item as one_item_from, more_items a
 
 use crate::fault::ReadError;
 use crate::keys::from_key;
-use crate::lexemes::{is_mark, is_word};
 use crate::names::named;
-use crate::take::{take_mark, take_word};
+use crate::take::{sees_mark, sees_word, take_mark, take_word};
 use acc_base::Sequence;
 use acc_token::Cursor;
 use acc_txn::{Let, Numbers, Select};
@@ -29,7 +28,7 @@ pub fn select(
     requires { length lets.now ≤ 16 }
     ensures { Gives (λ select. (select, uses.new)) result cursor.new.rest.now (select_from texts uses.old lets.now cursor.old.rest.now) }
 {
-    if is_word(cursor.peek(), "select") {
+    if sees_word(cursor, "select") {
         cursor.next();
         selected(alloc, cursor, texts, uses, lets)
     } else {
@@ -60,12 +59,12 @@ fn selected(
 fn begins_get(cursor: &Cursor<'_>) -> bool
     ensures { result ≡ begins_get_of cursor.now.rest.now }
 {
-    if !is_word(cursor.peek(), "v") {
+    if !sees_word(cursor, "v") {
         return false;
     }
     let mut ahead = *cursor;
     ahead.next();
-    is_word(ahead.peek(), "from")
+    sees_word(&ahead, "from")
 }
 
 /// `v FROM table WHERE k = 'key' ;`
@@ -113,7 +112,7 @@ fn more_items(
 {
     let mut names = Sequence::new(alloc);
     names.push(first)?;
-    'items: while is_mark(cursor.peek(), ",") {
+    'items: while sees_mark(cursor, ",") {
         let extra = names.len() == MOST_ITEMS;
         let next = one_item(cursor, texts, lets, extra)?;
         names.push(next)?;

@@ -9,6 +9,7 @@ use crate::fit::fitted;
 use crate::judge::{check, check_behind_minus, standing_of};
 use crate::lexemes::{is_mark, is_number, is_quoted, is_sign, is_word, number_of, text_of};
 use crate::names::named;
+use crate::take::sees_sign;
 use acc_base::Sequence;
 use acc_token::Cursor;
 use acc_txn::{Expr, Let, Part, Term};
@@ -51,7 +52,7 @@ pub fn more_parts(
         minus: false,
         term: first,
     })?;
-    'parts: while is_sign(cursor.peek()) {
+    'parts: while sees_sign(cursor) {
         let extra = sum.len() == MOST_TERMS;
         let next = one_part(alloc, cursor, texts, lets, extra)?;
         sum.push(next)?;
@@ -99,13 +100,13 @@ pub fn term(
     ensures room { OnOk result (extra ≡ false) }
 {
     let first = cursor.peek();
-    if is_mark(first, "-") {
+    if is_mark(&first, "-") {
         negative(cursor, texts, extra)
-    } else if is_number(first) {
+    } else if is_number(&first) {
         plain(cursor, texts, extra)
-    } else if is_quoted(first) && texts {
+    } else if is_quoted(&first) && texts {
         text_value(alloc, cursor, extra)
-    } else if is_word(first, "null") {
+    } else if is_word(&first, "null") {
         null(cursor, texts, extra)
     } else {
         let name = named(cursor, texts, lets, extra)?;

@@ -1,2 +1,3 @@
 pub mod QuotedFacts
 pub mod DigitFacts
+pub mod Words

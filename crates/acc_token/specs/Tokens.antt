@@ -2,6 +2,7 @@
 use Rattle.std.specs.Prelude.{ℕ, ◌+◌, Bool, true, false, not, ◌&&◌, ◌||◌, ◌==◌, nat_le, List, [], ◌∷◌, length, take, drop, map, Option, Some, None, if◌then◌else◌}
 use Rattle.std.specs.Char.{is_ascii_alphabetic, is_ascii_digit, to_ascii_lowercase}
 use Rattle.std.specs.List.{list_all, prefix_len, take_while}
+use Rattle.std.specs.Str.{bytes_eq}
 use Rattle.std.specs.Str.Parse.{digits_value}
 use Rattle.acc_base.specs.Numbers.{greatest_u64}
 
@@ -123,3 +124,29 @@ left_at text = length (after_blanks text)
 -- what follows it
 unfoldable pub behind : List ℕ → List ℕ
 behind text = let begun = after_blanks text in drop (token_len begun) begun
+
+-- whether a token is this word, or this mark
+abbrev pub says_word : List ℕ → Token → Bool
+says_word word (Word letters) = bytes_eq letters word
+says_word word (Mark mark) = false
+says_word word (Number number) = false
+says_word word (Quoted text closed) = false
+says_word word Strange = false
+says_word word End = false
+
+abbrev pub says_mark : List ℕ → Token → Bool
+says_mark mark (Word letters) = false
+says_mark mark (Mark bytes) = bytes_eq bytes mark
+says_mark mark (Number number) = false
+says_mark mark (Quoted text closed) = false
+says_mark mark Strange = false
+says_mark mark End = false
+
+-- whether a byte is this one of a word in small letters
+abbrev pub spells : ℕ → ℕ → Bool
+spells byte small = continues_word byte && to_ascii_lowercase byte == small
+
+-- whether there is a first byte that passes
+abbrev pub first_passes : (ℕ → Bool) → List ℕ → Bool
+first_passes p [] = false
+first_passes p (c ∷ cs) = p c

@@ -1,23 +1,19 @@
 //! The place between two tokens of a text.
-ghost use Rattle.std.specs.Prelude.{◌≡◌, ◌≤◌, ◌+◌, false, length, drop};
-ghost use Rattle.acc_token.specs.Tokens.{Quoted, token_at, left_at, behind as behind_of, token_of, token_len, content, is_closed, quoted_len, mark_of, mark_len};
+ghost use Rattle.std.specs.Prelude.{◌≡◌, ◌≤◌, ◌+◌, false, length, drop, if◌then◌else◌};
+ghost use Rattle.acc_token.specs.Tokens.{Quoted, token_at, left_at, behind as behind_of, token_of, token_len, content, is_closed, quoted_len, mark_of, mark_len, after_blanks, says_word, says_mark};
 ghost use Rattle.acc_token.specs.Lexemes.{token_shown};
 
 use crate::lexeme::{Lexeme, QuotedText};
 use crate::scan::{
-    Extent, begins_word, blanks, digits_len, mark_len, number_of, quoted_extent, word_len,
+    Extent, begins_word, blanks, digits_len, is_mark, is_word, mark_len, number_of, quoted_extent,
+    without_front, word_len,
 };
 
-/// A place between two tokens of a text. It holds the next token, so that each is looked for once.
+/// A place between two tokens of a text.
 #[derive(Clone, Copy, Debug)]
 pub struct Cursor<'a> {
     /// What follows the place.
     pub rest: &'a [u8],
-    shown: Shown<'a>,
-    behind: &'a [u8],
-    ghost shows: { token_shown shown.lexeme ≡ token_at rest.now },
-    ghost places: { shown.left ≡ left_at rest.now },
-    ghost goes_on: { behind.now ≡ behind_of rest.now },
 }
 
 /// A token, and where it stands.
@@ -31,39 +27,87 @@ pub struct Shown<'a> {
 
 impl<'a> Cursor<'a> {
     /// The place in front of a text.
-    #[tactic(auto, unfolding(crate::specs::Tokens::after_blanks, crate::specs::Tokens::token_at, crate::specs::Tokens::left_at, crate::specs::Tokens::behind))]
     pub fn new(text: &'a [u8]) -> Cursor<'a>
         ensures { result.rest.now ≡ text.now }
     {
-        let begun = without_front(text, blanks(text));
-        let (lexeme, len) = first(begun);
-        Cursor {
-            rest: text,
-            shown: Shown {
-                lexeme,
-                left: begun.len(),
-            },
-            behind: without_front(begun, len),
-        }
+        Cursor { rest: text }
     }
 
     /// The next token. The cursor stays in front of it.
-    pub fn peek(&self) -> &Lexeme<'a>
-        ensures { token_shown result.now ≡ token_at self.now.rest.now }
+    #[tactic(auto, unfolding(crate::specs::Tokens::token_at))]
+    pub fn peek(&self) -> Lexeme<'a>
+        ensures { token_shown result ≡ token_at self.now.rest.now }
     {
-        &self.shown.lexeme
+        first(begun(self.rest)).0
     }
 
     /// Goes behind the next token. At the end, and in front of a byte that begins no token, it stays.
+    #[tactic(auto, unfolding(crate::specs::Tokens::token_at, crate::specs::Tokens::left_at, crate::specs::Tokens::behind))]
     pub fn next(&mut self) -> Shown<'a>
         ensures token { token_shown result.lexeme ≡ token_at self.old.rest.now }
         ensures left { result.left ≡ left_at self.old.rest.now }
         ensures behind { self.new.rest.now ≡ behind_of self.old.rest.now }
     {
-        let shown = self.shown;
-        *self = Cursor::new(self.behind);
-        shown
+        let text = begun(self.rest);
+        let (lexeme, len) = first(text);
+        self.rest = without_front(text, len);
+        Shown {
+            lexeme,
+            left: text.len(),
+        }
     }
+
+    /// Whether the next token is this word, which is given in small letters.
+    #[tactic(auto, unfolding(crate::specs::Tokens::token_at))]
+    pub fn is_word(&self, word: &[u8]) -> bool
+        ensures { result ≡ says_word word.now (token_at self.now.rest.now) }
+    {
+        is_word(begun(self.rest), word)
+    }
+
+    /// Whether the next token is this mark.
+    #[tactic(auto, unfolding(crate::specs::Tokens::token_at))]
+    pub fn is_mark(&self, mark: &[u8]) -> bool
+        ensures { result ≡ says_mark mark.now (token_at self.now.rest.now) }
+    {
+        is_mark(begun(self.rest), mark)
+    }
+
+    /// Goes behind the next token where it is this word, which is given in small letters, and tells whether it is.
+    #[tactic(auto, using(crate::proofs::Words::len_of_word, crate::proofs::Words::word_within), unfolding(crate::specs::Tokens::token_at, crate::specs::Tokens::behind))]
+    pub fn skip_word(&mut self, word: &[u8]) -> bool
+        ensures word { result ≡ says_word word.now (token_at self.old.rest.now) }
+        ensures behind { self.new.rest.now ≡ (if result then behind_of self.old.rest.now else self.old.rest.now) }
+    {
+        let text = begun(self.rest);
+        let is_next = is_word(text, word);
+        if is_next {
+            self.rest = without_front(text, word.len());
+        }
+        is_next
+    }
+
+    /// Goes behind the next token where it is this mark, and tells whether it is.
+    #[tactic(auto, using(crate::proofs::Words::len_of_mark, crate::proofs::Words::mark_fits), unfolding(crate::specs::Tokens::token_at, crate::specs::Tokens::behind))]
+    pub fn skip_mark(&mut self, mark: &[u8]) -> bool
+        ensures mark { result ≡ says_mark mark.now (token_at self.old.rest.now) }
+        ensures behind { self.new.rest.now ≡ (if result then behind_of self.old.rest.now else self.old.rest.now) }
+    {
+        let text = begun(self.rest);
+        let is_next = is_mark(text, mark);
+        if is_next {
+            self.rest = without_front(text, mark.len());
+        }
+        is_next
+    }
+}
+
+// The text from its first token on.
+#[tactic(auto, unfolding(crate::specs::Tokens::after_blanks))]
+fn begun(text: &[u8]) -> &[u8]
+    ensures { result.now ≡ after_blanks text.now }
+{
+    without_front(text, blanks(text))
 }
 
 // The token that a text without blanks in front begins with, and how many bytes it has.
@@ -117,11 +161,4 @@ fn mark(text: &[u8]) -> (Lexeme<'_>, usize)
         0 => (Lexeme::Strange, 0),
         len => (Lexeme::Mark(&text[..len]), len),
     }
-}
-
-fn without_front(text: &[u8], len: usize) -> &[u8]
-    requires { len ≤ length text.now }
-    ensures { result.now ≡ drop len text.now }
-{
-    &text[len..]
 }

@@ -1,8 +1,8 @@
 //! How far a token reaches.
-ghost use Rattle.std.specs.Prelude.{◌≡◌, ◌≤◌, ◌+◌, ℕ, true, false, length, drop};
+ghost use Rattle.std.specs.Prelude.{◌≡◌, ◌≤◌, ◌+◌, ℕ, true, false, length, drop, zip};
 ghost use Rattle.std.specs.Char.{is_ascii_digit};
 ghost use Rattle.std.specs.List.{prefix_len, list_all};
-ghost use Rattle.acc_token.specs.Tokens.{is_blank as is_blank_of, begins_word as begins_word_of, continues_word as continues_word_of, mark_len as mark_len_of, number_of as number_of_digits, content, is_closed, is_plain as is_plain_byte, says_plain, quoted_len};
+ghost use Rattle.acc_token.specs.Tokens.{is_blank as is_blank_of, begins_word as begins_word_of, continues_word as continues_word_of, mark_len as mark_len_of, number_of as number_of_digits, content, is_closed, is_plain as is_plain_byte, says_plain, quoted_len, spells as spells_of, first_passes, says_word, says_mark, token_of};
 
 /// How many blanks the text begins with.
 pub fn blanks(text: &[u8]) -> usize
@@ -39,6 +39,75 @@ pub fn word_len(text: &[u8]) -> usize
     text.iter()
         .take_while(|byte| continues_word(**byte))
         .count()
+}
+
+// Whether the byte is this one of a word in small letters.
+fn spells(byte: u8, small: u8) -> bool
+    ensures { result ≡ spells_of byte small }
+{
+    let letter = byte | 32;
+    if letter.is_ascii_lowercase() {
+        letter == small
+    } else {
+        byte == small && (byte == b'_' || byte.is_ascii_digit())
+    }
+}
+
+// Whether each byte is that of the word at its place, up to where one of the two ends.
+fn begins_alike(text: &[u8], word: &[u8]) -> bool
+    ensures { result ≡ list_all (λ pair. spells_of pair.0 pair.1) (zip text.now word.now) }
+{
+    text.iter()
+        .zip(word)
+        .all(|(byte, small)| spells(*byte, *small))
+}
+
+// Whether a word may begin with the text.
+fn begins(text: &[u8]) -> bool
+    ensures { result ≡ first_passes begins_word_of text.now }
+{
+    match text {
+        [byte, ..] => begins_word(*byte),
+        [] => false,
+    }
+}
+
+// Whether a word that reaches up to the text goes on in it.
+fn goes_on(text: &[u8]) -> bool
+    ensures { result ≡ first_passes continues_word_of text.now }
+{
+    match text {
+        [byte, ..] => continues_word(*byte),
+        [] => false,
+    }
+}
+
+/// What follows so many bytes.
+pub fn without_front(text: &[u8], len: usize) -> &[u8]
+    requires { len ≤ length text.now }
+    ensures { result.now ≡ drop len text.now }
+{
+    &text[len..]
+}
+
+/// Whether the text begins with this word, which is given in small letters, and the word ends there.
+#[tactic(auto, using(crate::proofs::Words::word_tested))]
+pub fn is_word(text: &[u8], word: &[u8]) -> bool
+    ensures { result ≡ says_word word.now (token_of text.now) }
+{
+    word.len() <= text.len()
+        && begins_alike(text, word)
+        && !goes_on(without_front(text, word.len()))
+        && begins(text)
+}
+
+/// Whether the text begins with this mark.
+#[tactic(auto, using(crate::proofs::Words::mark_in_front))]
+pub fn is_mark(text: &[u8], mark: &[u8]) -> bool
+    ensures { result ≡ says_mark mark.now (token_of text.now) }
+{
+    let len = mark_len(text);
+    len != 0 && &text[..len] == mark
 }
 
 /// How many digits the text begins with.
