@@ -1,9 +1,9 @@
 //! The messages that wait.
-ghost use Rattle.std.specs.Prelude.{◌≡◌, ◌≢◌, ℕ, ◌+◌, ◌-◌, ◌<◌, ◌≤◌, [], ◌∷◌, ◌++◌, length, not, ◌||◌, min, cond, IfOk, OnOk, OnErr, MatchOption, slice_set};
+ghost use Rattle.std.specs.Prelude.{◌≡◌, ◌≢◌, ℕ, ◌+◌, ◌-◌, ◌<◌, ◌≤◌, [], ◌∷◌, ◌++◌, length, not, nat_lt, IfOk, OnOk, OnErr, MatchOption, slice_set};
 ghost use Rattle.acc_posts.specs.Mail.{posting_at, taken};
 ghost use Rattle.acc_waiting.specs.Trees.{leaf, IsTree};
 ghost use Rattle.acc_waiting.specs.Standing.{Standing, is_down_at, NothingWaits, IsOldest};
-ghost use Rattle.acc_waiting.specs.Heads.{IsHead};
+ghost use Rattle.acc_waiting.specs.Heads.{IsHead, IsNextWaiting, AreCovered, waits_in};
 
 use crate::least::{NOTHING, grown, least, set_leaf};
 use acc_base::OutOfMemory;
@@ -15,18 +15,21 @@ use std::marker::Model;
 const FEWEST: usize = 16;
 
 /// The messages that were sent, which of them are open, and which actors are down. A message waits while it is open and
-/// its actor is up. The oldest one that waits is known at once, and each change takes time logarithmic in the greatest number
-/// of an actor, counted over many calls.
+/// its actor is up. The oldest one that waits is known at once. A change takes constant time, and time logarithmic in the
+/// greatest number of an actor where it concerns a late message, counted over many calls.
 ///
-/// For each actor that is up the first open message to it is known, and the least of these is the oldest. An actor that is
-/// down keeps its messages in their order.
+/// A message is known that waits itself, and before which only late ones wait: those that were passed over while their
+/// actors were down. It never goes back. For each actor that came up again the first late message to it is known, and the
+/// least of these is the oldest. An actor that is down keeps its messages in their order.
 #[derive(Debug, Drop)]
 pub struct Waiting {
     posts: Posts,
     // For each actor, by its number, whether it is down.
     downs: Vec<bool>,
-    // The tree over the first open messages of these actors.
+    // The tree over the first late messages to these actors.
     heads: Vec<u64>,
+    // The first message that waits and isn't late, or the number behind all messages.
+    first: u64,
 }
 
 impl Model for Waiting {
@@ -37,65 +40,83 @@ impl Model for Waiting {
 
     ghost view = { λ w. record { sent = w.posts.sent; room = w.posts.room; downs = w.downs.items } };
 
-    ghost invariant = { λ w. Kept w.posts w.downs.items w.heads.items };
+    ghost invariant = { λ w. Kept w.posts w.downs.items w.heads.items w.first };
 }
 
-// The first open message to an actor that is up.
-fn head_of(posts: &mut Posts, is_down: bool, actor: u32) -> u64
+// The first late message to an actor, if it is up.
+fn head_of(posts: &mut Posts, is_down: bool, first: u64, actor: u32) -> u64
     ensures same { posts.new ≡ posts.old }
-    ensures head { IsHead posts.old.sent actor is_down result }
+    ensures head { IsHead posts.old.sent first actor is_down result }
 {
     if is_down {
         return NOTHING;
     }
-    match posts.next_for(actor) {
-        Some(post) => post.number,
-        None => NOTHING,
+    let Some(post) = posts.next_for(actor) else {
+        return NOTHING;
+    };
+    if post.number >= first {
+        return NOTHING;
     }
+    post.number
 }
 
-// Looks the first open message of an actor up again.
-fn refresh(posts: &mut Posts, downs: &[bool], heads: &mut Vec<u64>, actor: u32)
+// Looks the first late message to an actor up again.
+#[inline(never)]
+fn refresh(posts: &mut Posts, downs: &[bool], heads: &mut Vec<u64>, first: u64, actor: u32)
     requires tree { IsTree (length downs.now) heads.old.items }
     requires within { actor < length downs.now }
     ensures same { posts.new ≡ posts.old }
     ensures tree { IsTree (length downs.now) heads.new.items }
-    ensures head { IsHead posts.old.sent actor (is_down_at downs.now actor) (leaf (length downs.now) heads.new.items actor) }
+    ensures head { IsHead posts.old.sent first actor (is_down_at downs.now actor) (leaf (length downs.now) heads.new.items actor) }
     ensures others { (other : ℕ) → other ≢ actor → leaf (length downs.now) heads.new.items other ≡ leaf (length downs.now) heads.old.items other }
 {
-    let head = head_of(posts, downs[actor as usize], actor);
+    let head = head_of(posts, downs[actor as usize], first, actor);
     set_leaf(heads, downs.len(), actor as usize, head);
 }
 
-// A message that is sent is the first open one to its actor, if the actor is up and no older one is open.
-fn note_sent(downs: &[bool], heads: &mut Vec<u64>, actor: u32, number: u64, is_lost: bool)
+// Behind a message that was closed the first late one to its actor is looked up again, if it was this one.
+fn note_closed(
+    posts: &mut Posts,
+    downs: &[bool],
+    heads: &mut Vec<u64>,
+    first: u64,
+    actor: u32,
+    number: u64,
+)
     requires tree { IsTree (length downs.now) heads.old.items }
     requires within { actor < length downs.now }
-    ensures tree { IsTree (length downs.now) heads.new.items }
-    ensures head { let head = leaf (length downs.now) heads.old.items actor in leaf (length downs.now) heads.new.items actor ≡ cond (is_down_at downs.now actor || is_lost) head (min head number) }
-    ensures others { (other : ℕ) → other ≢ actor → leaf (length downs.now) heads.new.items other ≡ leaf (length downs.now) heads.old.items other }
-{
-    if is_lost || downs[actor as usize] {
-        return;
-    }
-    if heads[downs.len() + actor as usize] > number {
-        set_leaf(heads, downs.len(), actor as usize, number);
-    }
-}
-
-// Behind a message that was closed the first open one to its actor is looked up again, if it was this one.
-fn note_closed(posts: &mut Posts, downs: &[bool], heads: &mut Vec<u64>, actor: u32, number: u64)
-    requires tree { IsTree (length downs.now) heads.old.items }
-    requires within { actor < length downs.now }
-    requires head { leaf (length downs.now) heads.old.items actor ≢ number → IsHead posts.old.sent actor (is_down_at downs.now actor) (leaf (length downs.now) heads.old.items actor) }
+    requires head { leaf (length downs.now) heads.old.items actor ≢ number → IsHead posts.old.sent first actor (is_down_at downs.now actor) (leaf (length downs.now) heads.old.items actor) }
     ensures same { posts.new ≡ posts.old }
     ensures tree { IsTree (length downs.now) heads.new.items }
-    ensures head { IsHead posts.old.sent actor (is_down_at downs.now actor) (leaf (length downs.now) heads.new.items actor) }
+    ensures head { IsHead posts.old.sent first actor (is_down_at downs.now actor) (leaf (length downs.now) heads.new.items actor) }
     ensures others { (other : ℕ) → other ≢ actor → leaf (length downs.now) heads.new.items other ≡ leaf (length downs.now) heads.old.items other }
 {
     if heads[downs.len() + actor as usize] == number {
-        refresh(posts, downs, heads, actor);
+        refresh(posts, downs, heads, first, actor);
     }
+}
+
+// Whether a message is open and its actor is up.
+fn waits(posts: &Posts, downs: &[bool], number: u64) -> bool
+    requires sent { number < length posts.now.sent }
+    requires covered { (posting_at posts.now.sent number).to < length downs.now }
+    ensures { result ≡ waits_in posts.now.sent downs.now number }
+{
+    let posting = posts.posting(number);
+    posting.is_open && !downs[posting.to as usize]
+}
+
+// The first message from a number on that waits, or the number behind all messages.
+fn next_waiting(posts: &Posts, downs: &[bool], from: u64) -> u64
+    requires within { from ≤ length posts.now.sent }
+    requires covered { AreCovered posts.now.sent (length downs.now) }
+    ensures next { IsNextWaiting posts.now.sent downs.now from result }
+{
+    let mut number = from;
+    while number < posts.len() && !waits(posts, downs, number) {
+        number += 1;
+    }
+    number
 }
 
 impl Waiting {
@@ -107,6 +128,7 @@ impl Waiting {
             posts: Posts::new(alloc)?,
             downs: Vec::new(alloc),
             heads: Vec::new(alloc),
+            first: 0,
         })
     }
 
@@ -135,6 +157,13 @@ impl Waiting {
         self.downs[actor as usize]
     }
 
+    /// Whether there is room for an actor.
+    pub fn covers(&self, actor: u32) -> bool
+        ensures { result ≡ nat_lt actor (length self.now.downs) }
+    {
+        (actor as usize) < self.downs.len()
+    }
+
     /// Makes room for an actor, so that it can go down, and messages can be sent to it. In any case nothing else changes.
     pub fn cover(&mut self, actor: u32) -> Result<(), OutOfMemory>
         ensures same { (self.new.sent ≡ self.old.sent) × (self.new.room ≡ self.old.room) }
@@ -142,7 +171,7 @@ impl Waiting {
         ensures more { length self.old.downs ≤ length self.new.downs }
         ensures covered { OnOk result (actor < length self.new.downs) }
     {
-        if (actor as usize) < self.downs.len() {
+        if self.covers(actor) {
             return Ok(());
         }
         self.grow(actor)
@@ -170,6 +199,9 @@ impl Waiting {
         ensures ok { OnOk result (self.new ≡ record self.old { room = self.old.room + messages }) }
         ensures err { OnErr result (self.new ≡ self.old) }
     {
+        if messages == 0 {
+            return Ok(());
+        }
         self.posts.reserve(messages)?;
         self.posts.release(0, 1);
         Ok(())
@@ -189,9 +221,8 @@ impl Waiting {
         requires covered { to < length self.old.downs }
         ensures { self.new ≡ record self.old { sent = self.old.sent ++ record { to = to; place = place; index = index; is_open = not is_lost } ∷ []; room = self.old.room - 1 } }
     {
-        let number = self.posts.len();
         self.posts.add(to, place, index, is_lost);
-        note_sent(self.downs.as_slice(), &mut self.heads, to, number, is_lost);
+        self.first = next_waiting(&self.posts, self.downs.as_slice(), self.first);
     }
 
     /// Notes that the message with this number is open no more.
@@ -205,9 +236,11 @@ impl Waiting {
             &mut self.posts,
             self.downs.as_slice(),
             &mut self.heads,
+            self.first,
             to,
             number,
         );
+        self.first = next_waiting(&self.posts, self.downs.as_slice(), self.first);
     }
 
     /// An actor goes down or comes up.
@@ -220,18 +253,23 @@ impl Waiting {
             &mut self.posts,
             self.downs.as_slice(),
             &mut self.heads,
+            self.first,
             actor,
         );
+        self.first = next_waiting(&self.posts, self.downs.as_slice(), self.first);
     }
 
     /// The oldest message that waits.
     pub fn oldest(&self) -> Option<u64>
         ensures { MatchOption result (NothingWaits self.now) (IsOldest self.now) }
     {
-        let first = least(self.heads.as_slice(), self.downs.len());
-        if first >= self.posts.len() {
+        let late = least(self.heads.as_slice(), self.downs.len());
+        if late < self.first {
+            return Some(late);
+        }
+        if self.first >= self.posts.len() {
             return None;
         }
-        Some(first)
+        Some(self.first)
     }
 }

@@ -1,4 +1,4 @@
-use Rattle.std.proofs.Common.{length, refl, ap, arith}
+use Rattle.std.proofs.Common.{length, ap, arith}
 use Rattle.acc_posts.specs.Mail.{Mail}
 use Rattle.acc_waiting.specs.Standing.{Standing}
 use Rattle.acc_waiting.proofs.OpenOnes.{added_kept}
@@ -6,7 +6,6 @@ use Rattle.acc_waiting.proofs.waiting.Waiting.add.Goals as goal
 
 pub invariant_of-self : goal.invariant_of-self
 invariant_of-self c =
-    let n = c.note_sent.ensures in
+    let after = c.add.ensures in
     let count = ap (λ (s : Standing). length s.downs) c.self.view_is in
-    let sent = ap (λ (m : Mail). m.sent) c.add.ensures in
-    added_kept c.self.invariant _ _ _ _ c.args.is_lost _ _ (sent, ap (λ (m : Mail). m.early) c.add.ensures, ap (λ (m : Mail). m.takings) c.add.ensures) (omega (arith, count)) c.len-number.ensures.count (omega (arith, c.len-number.ensures.count, c.len-number.ensures.most)) refl c.as_slice.ensures.value n.tree n.head n.others
+    added_kept c.self.invariant _ _ _ _ (ap (λ (m : Mail). m.sent) after, ap (λ (m : Mail). m.early) after, ap (λ (m : Mail). m.takings) after) (omega (arith, count)) c.as_slice.ensures.value c.next_waiting-self-inside.ensures.next
