@@ -31,8 +31,10 @@ fn note(begun: &mut Begun, txn: u32, id: Option<TxnId>) -> Result<(), OutOfMemor
     ensures ok { OnOk result ((number : ℕ) → get nat_cmp begun.new number ≡ begun_with (txn == number) id (get nat_cmp begun.old number)) }
     ensures err { OnErr result ((number : ℕ) → get nat_cmp begun.new number ≡ get nat_cmp begun.old number) }
 {
-    let first = begun.get(&txn).copied().flatten();
-    begun.insert(txn, first.or(id))?;
+    let first = begun.entry(txn)?.or_insert(None);
+    if first.is_none() {
+        *first = id;
+    }
     Ok(())
 }
 

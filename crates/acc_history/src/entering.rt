@@ -1,5 +1,5 @@
 //! What an item changes in what waits.
-ghost use Rattle.std.specs.Prelude.{◌≡◌, ◌<◌, ◌≤◌, ◌++◌, length, not, ◌&&◌, ◌||◌, OnOk};
+ghost use Rattle.std.specs.Prelude.{◌≡◌, ◌+◌, ◌<◌, ◌≤◌, ◌++◌, length, not, ◌&&◌, ◌||◌, OnOk};
 ghost use Rattle.acc_stamp.specs.declared.actors.Actor.{Actor as AnActor};
 ghost use Rattle.acc_message.specs.Items.{same_actor, sent_in};
 ghost use Rattle.acc_message.specs.Run.{down_after};
@@ -21,16 +21,16 @@ pub(crate) fn messages_of(item: &Item) -> &[Message]
     }
 }
 
-// Makes room for the actors to which messages go.
-fn cover_receivers(waiting: &mut Waiting, messages: &[Message]) -> Result<(), OutOfMemory>
-    ensures same { IsAsBefore waiting.old waiting.new }
-    ensures room { waiting.new.room ≡ waiting.old.room }
-    ensures covered { OnOk result (AreCovered (length waiting.new.downs) messages.now) }
+// The greatest number of an actor and of those to which messages go.
+fn greatest_of(actor: u32, messages: &[Message]) -> u32
+    ensures actor { actor ≤ result }
+    ensures receivers { AreCovered (result + 1) messages.now }
 {
+    let mut greatest = actor;
     for index in 0..messages.len() {
-        waiting.cover(messages[index].to().0)?;
+        greatest = greatest.max(messages[index].to().0);
     }
-    Ok(())
+    greatest
 }
 
 // Makes room for who stepped and for the actors to which its messages go.
@@ -40,8 +40,11 @@ fn cover_entry(waiting: &mut Waiting, entry: &Entry) -> Result<(), OutOfMemory>
     ensures actor { OnOk result (entry.now.actor.0 < length waiting.new.downs) }
     ensures receivers { OnOk result (AreCovered (length waiting.new.downs) entry.now.emitted.out) }
 {
-    waiting.cover(entry.actor.0)?;
-    cover_receivers(waiting, entry.emitted.out.as_slice())
+    let greatest = greatest_of(entry.actor.0, entry.emitted.out.as_slice());
+    if waiting.covers(greatest) {
+        return Ok(());
+    }
+    waiting.cover(greatest)
 }
 
 /// Makes room for the actors that an item names. In any case nothing else changes.
