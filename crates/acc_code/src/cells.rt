@@ -18,7 +18,7 @@ use crate::keys::{put_key, take_any_key};
 use acc_base::{Bytes, OutOfMemory, Text};
 use acc_txn::is_free_text_value;
 use acc_value::{CellList, Cells, Key, Value};
-use acc_wire::{Reader, put_i64, put_text, put_u8};
+use acc_wire::{Reader, put_marked_i64, put_text, put_u8};
 use std::alloc::Global;
 
 /// Appends a cell: 0, or 1 and its number, or 2 and its text.
@@ -31,10 +31,7 @@ fn put_cell(out: &mut Bytes, cell: &Option<Value>) -> Result<(), OutOfMemory>
 {
     match cell {
         None => put_u8(out, 0),
-        Some(Value::Number(number)) => {
-            put_u8(out, 1)?;
-            put_i64(out, *number)
-        }
+        Some(Value::Number(number)) => put_marked_i64(out, 1, *number),
         Some(Value::Text(text)) => {
             put_u8(out, 2)?;
             put_text(out, text.as_slice())

@@ -12,20 +12,35 @@ ghost use Rattle.acc_code.specs.Writing.{Keeps};
 
 use crate::error::CodeError;
 use crate::fields::{out_of_range, take_between};
-use crate::keys::{put_key, take_use, take_word};
+use crate::keys::{key_room, push_key, take_use, take_word, taken_out};
 use acc_base::{Bytes, OutOfMemory, Text};
 use acc_txn::{Let, Lets, Select};
-use acc_wire::{Reader, put_text, put_u8};
+use acc_wire::{Reader, push_text, put_u8};
 use std::alloc::Global;
 
-#[tactic(auto, using(crate::proofs::Kept::keeps_all, crate::proofs::Kept::keeps_front, crate::proofs::Kept::keeps_more), unfolding(crate::specs::BodySpelling::let_bytes))]
+#[inline(always)]
+#[tactic(auto, unfolding(crate::specs::BodySpelling::let_bytes))]
+fn append_let(out: &mut Vec<u8>, binding: &Let) -> Result<(), OutOfMemory>
+    requires { IsShortLet binding.now }
+    ensures ok { OnOk result (out.new.items ≡ out.old.items ++ let_bytes binding.now) }
+    ensures err { OnErr result (out.new.items ≡ out.old.items) }
+{
+    out.reserve(1 + binding.name.len() + key_room(&binding.key))?;
+    push_text(out, binding.name.as_slice());
+    push_key(out, &binding.key);
+    Ok(())
+}
+
+#[tactic(auto, using(crate::proofs::Kept::keeps_all))]
 fn put_let(out: &mut Bytes, binding: &Let) -> Result<(), OutOfMemory>
     requires { IsShortLet binding.now }
     ensures ok { OnOk result (out.new ≡ out.old ++ let_bytes binding.now) }
     ensures kept { OnErr result (Keeps out.old out.new) }
 {
-    put_text(out, binding.name.as_slice())?;
-    put_key(out, &binding.key)
+    let mut bytes = taken_out(out);
+    let appended = append_let(&mut bytes, binding);
+    *out = Bytes::from_vec(bytes);
+    appended
 }
 
 #[tactic(auto, using(crate::proofs::Kept::keeps_all, crate::proofs::Kept::keeps_front, crate::proofs::Kept::keeps_more))]

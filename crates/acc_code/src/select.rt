@@ -11,7 +11,7 @@ ghost use Rattle.acc_code.specs.Writing.{Keeps};
 
 use crate::error::CodeError;
 use crate::fields::take_between;
-use crate::keys::{put_key, take_use};
+use crate::keys::{put_marked_key, take_use};
 use crate::sums::take_let_number;
 use acc_base::{Bytes, OutOfMemory};
 use acc_txn::{Let, Numbers, Select};
@@ -52,10 +52,7 @@ pub(crate) fn put_select(out: &mut Bytes, select: &Select) -> Result<(), OutOfMe
             put_u8(out, 1)?;
             put_names(out, names)
         }
-        Select::Get(key) => {
-            put_u8(out, 2)?;
-            put_key(out, key)
-        }
+        Select::Get(key) => put_marked_key(out, 2, key),
     }
 }
 

@@ -12,7 +12,7 @@ use crate::error::CodeError;
 use crate::fields::{out_of_range, take_between};
 use acc_base::{Bytes, OutOfMemory};
 use acc_txn::{Expr, Part, Term};
-use acc_wire::{Reader, put_i64, put_text, put_u8};
+use acc_wire::{Reader, put_marked_i64, put_text, put_u8};
 use std::alloc::Global;
 
 #[tactic(auto, using(crate::proofs::Kept::keeps_all, crate::proofs::Kept::keeps_front, crate::proofs::Kept::keeps_more, crate::proofs::Shortness::short_text), unfolding(crate::specs::BodySpelling::term_bytes))]
@@ -23,10 +23,7 @@ fn put_term(out: &mut Bytes, term: &Term) -> Result<(), OutOfMemory>
     ensures fits { OnOk result (IsTerm term.now) }
 {
     match term {
-        Term::Number(number) => {
-            put_u8(out, 0)?;
-            put_i64(out, *number)
-        }
+        Term::Number(number) => put_marked_i64(out, 0, *number),
         Term::Name(name) => {
             put_u8(out, 1)?;
             put_u8(out, *name)

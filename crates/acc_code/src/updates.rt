@@ -12,7 +12,7 @@ ghost use Rattle.acc_code.specs.Writing.{Keeps};
 
 use crate::error::CodeError;
 use crate::fields::take_between;
-use crate::keys::{put_key, take_use};
+use crate::keys::{put_marked_key, take_use};
 use crate::sums::{put_sum, take_sum};
 use acc_base::{Bytes, OutOfMemory};
 use acc_txn::{Condition, Let, Select, Update, Updates};
@@ -35,14 +35,10 @@ fn put_update(out: &mut Bytes, update: &Update) -> Result<(), OutOfMemory>
 {
     match update {
         Update::Set { key, value } => {
-            put_u8(out, SET)?;
-            put_key(out, key)?;
+            put_marked_key(out, SET, key)?;
             put_sum(out, value)
         }
-        Update::Delete { key } => {
-            put_u8(out, DELETE)?;
-            put_key(out, key)
-        }
+        Update::Delete { key } => put_marked_key(out, DELETE, key),
     }
 }
 

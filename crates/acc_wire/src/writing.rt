@@ -2,8 +2,10 @@
 ghost use Rattle.std.specs.Prelude.{◌≡◌, ◌<◌, ◌++◌, length, OnOk, OnErr};
 ghost use Rattle.acc_wire.specs.Spelling.{u8_bytes, u16_bytes, u32_bytes, u64_bytes, i64_bytes, text_bytes, IsShortText};
 
+use crate::room::push_marked_i64;
 use acc_base::{Bytes, OutOfMemory};
 use byteorder::{BigEndian, ByteOrder};
+use std::mem;
 
 /// Appends a byte.
 pub fn put_u8(out: &mut Bytes, v: u8) -> Result<(), OutOfMemory>
@@ -46,15 +48,26 @@ pub fn put_u64(out: &mut Bytes, v: u64) -> Result<(), OutOfMemory>
     out.extend_from_slice(&field)
 }
 
-/// Appends a signed number in 8 bytes, in two's complement.
-#[tactic(auto, unfolding(crate::specs::Spelling::i64_bytes, crate::specs::Spelling::u64_bytes))]
-pub fn put_i64(out: &mut Bytes, v: i64) -> Result<(), OutOfMemory>
-    ensures ok { OnOk result (out.new ≡ out.old ++ i64_bytes v) }
+#[inline(always)]
+fn append_marked_i64(out: &mut Vec<u8>, mark: u8, v: i64) -> Result<(), OutOfMemory>
+    ensures ok { OnOk result (out.new.items ≡ out.old.items ++ u8_bytes mark ++ i64_bytes v) }
+    ensures err { OnErr result (out.new.items ≡ out.old.items) }
+{
+    out.reserve(9)?;
+    push_marked_i64(out, mark, v);
+    Ok(())
+}
+
+/// Appends a byte and a signed number in 8 bytes, at once.
+pub fn put_marked_i64(out: &mut Bytes, mark: u8, v: i64) -> Result<(), OutOfMemory>
+    ensures ok { OnOk result (out.new ≡ out.old ++ u8_bytes mark ++ i64_bytes v) }
     ensures err { OnErr result (out.new ≡ out.old) }
 {
-    let mut field = [0; 8];
-    BigEndian::write_i64(&mut field, v);
-    out.extend_from_slice(&field)
+    let alloc = out.allocator();
+    let mut bytes = mem::replace(out, Bytes::new(alloc)).into_vec();
+    let appended = append_marked_i64(&mut bytes, mark, v);
+    *out = Bytes::from_vec(bytes);
+    appended
 }
 
 /// Appends a text: its length in one byte, and its bytes.

@@ -1,0 +1,10 @@
+-- The bytes so far are appended.
+use Rattle.std.proofs.Common.{◌≡◌, ◌+◌, ◌++◌, take, vec_len, vec_capacity}
+use Rattle.acc_wire.proofs.room.push_bytes.Given as goal
+
+abbrev pub invariant-loop-byte : goal.invariant-loop-byte
+invariant-loop-byte l = record {
+  items : l.out.items ≡ l.fn.out.items ++ take l.byte-index l.bytes;
+  len : vec_len l.out ≡ vec_len l.fn.out + l.byte-index;
+  capacity : vec_capacity l.out ≡ vec_capacity l.fn.out;
+}
