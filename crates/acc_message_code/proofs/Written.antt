@@ -1,8 +1,7 @@
 -- What is written over a part of a field, behind what was written before.
 use Rattle.std.proofs.Common.{◌≡◌, ℕ, ◌+◌, ◌*◌, ◌-◌, ◌<◌, ◌≤◌, List, [], ◌∷◌, ◌++◌, length, take, drop, get_or, sym, ap, ◌∙◌, arith, append-nil}
-use Rattle.std.specs.List.{flat_map, between}
+use Rattle.std.specs.List.{flat_map}
 use Rattle.std.proofs.lemmas.List.{take_at, drop_at, drop-drop, drop_all, append_assoc, length-drop, length-take-le, take_rest, take_more}
-use Rattle.std.proofs.Math.Seq.{take-add, take-length}
 use Rattle.std.proofs.lemmas.List.Concat.{flat_map-append}
 use borrow.Rule.Slice.PartMut.{put_mid, mid_of}
 use Rattle.acc_stamp.specs.declared.stamps.TxnId.{TxnId}
@@ -45,38 +44,5 @@ fit_together : (xs ys : List TxnId) → FitStamps xs → FitStamps ys → FitSta
 fit_together [] ys front behind = behind
 fit_together (x ∷ xs) ys front behind = (front.0, fit_together xs ys front.1 behind)
 
-group_more : (ids : List TxnId) (i n : ℕ) (old now : List ℕ) → now ≡ old ++ flat_map id_bytes (take i ids)
-    → now ++ flat_map id_bytes (take n (drop i ids)) ≡ old ++ flat_map id_bytes (take (i + n) ids)
-group_more ids i n old now before =
-    ap (λ (f : List ℕ). f ++ flat_map id_bytes (take n (drop i ids))) before
-    ∙ append_assoc old (flat_map id_bytes (take i ids)) (flat_map id_bytes (take n (drop i ids)))
-    ∙ ap (λ (f : List ℕ). old ++ f) (sym (ap (λ (l : List TxnId). flat_map id_bytes l) (take-add i n ids) ∙ flat_map-append id_bytes (take i ids) (take n (drop i ids))))
-
-group_fits : (ids : List TxnId) (i n : ℕ) → FitStamps (take i ids) → FitStamps (take n (drop i ids)) → FitStamps (take (i + n) ids)
-group_fits ids i n front behind = rw (take-add i n ids) (fit_together (take i ids) (take n (drop i ids)) front behind)
-
 pub one_fits : (ids : List TxnId) (i : ℕ) (d : TxnId) → i < length ids → FitStamps (take i ids) → FitsStamp (get_or ids i d).0 → FitStamps (take (i + 1) ids)
 one_fits ids i d within front fits = rw (take_more ids i d within) (fit_together (take i ids) (get_or ids i d ∷ []) front (fits, tt))
-
--- the next group is spelled behind those before it
-pub group_next : (ids : List TxnId) (i j : ℕ) (old now next : List ℕ) → i ≤ j → now ≡ old ++ flat_map id_bytes (take i ids) → next ≡ now ++ flat_map id_bytes (between i j ids)
-    → next ≡ old ++ flat_map id_bytes (take j ids)
-group_next ids i j old now next order before after =
-    let place : i + (j - i) ≡ j = omega arith in
-    after ∙ group_more ids i (j - i) old now before ∙ ap (λ (n : ℕ). old ++ flat_map id_bytes (take n ids)) place
-
-pub next_fits : (ids : List TxnId) (i j : ℕ) → i ≤ j → FitStamps (take i ids) → FitStamps (between i j ids) → FitStamps (take j ids)
-next_fits ids i j order front behind =
-    let place : i + (j - i) ≡ j = omega arith in
-    let fits = group_fits ids i (j - i) front behind in
-    rw place at fits
-
-pub last_spelled : (ids : List TxnId) (i : ℕ) (old now next : List ℕ) → i ≤ length ids → now ≡ old ++ flat_map id_bytes (take i ids) → next ≡ now ++ flat_map id_bytes (between i (length ids) ids)
-    → next ≡ old ++ flat_map id_bytes ids
-last_spelled ids i old now next order before after =
-    group_next ids i (length ids) old now next order before after ∙ ap (λ (l : List TxnId). old ++ flat_map id_bytes l) (take-length ids)
-
-pub last_fits : (ids : List TxnId) (i : ℕ) → i ≤ length ids → FitStamps (take i ids) → FitStamps (between i (length ids) ids) → FitStamps ids
-last_fits ids i order front behind =
-    let fits = next_fits ids i (length ids) order front behind in
-    rw (take-length ids) at fits

@@ -1,5 +1,5 @@
 //! Rising lists of transactions.
-ghost use Rattle.std.specs.Prelude.{◌≡◌, ◌≤◌, ◌*◌, ◌++◌, ◌∷◌, [], length, drop, OnOk, OnErr, IfOk, IsTrue};
+ghost use Rattle.std.specs.Prelude.{◌≡◌, ◌<◌, ◌≤◌, ◌+◌, ◌*◌, ◌^◌, ◌++◌, ◌∷◌, [], length, drop, replicate, OnOk, OnErr, IfOk, IsTrue};
 ghost use Rattle.std.specs.List.{flat_map, list_all};
 ghost use Rattle.acc_stamp.specs.Stamp.{id_lt};
 ghost use Rattle.acc_stamp.specs.Rising.{IsRising};
@@ -14,11 +14,10 @@ use crate::stamps::{STAMP, take_id, write_stamp};
 use acc_base::{Bytes, OutOfMemory};
 use acc_code::{CodeError, out_of_range};
 use acc_stamp::{Ids, TxnId};
-use acc_wire::{Reader, put_u16};
+use acc_wire::Reader;
+use byteorder::{BigEndian, ByteOrder};
 use std::alloc::Global;
-
-/// How many transactions are appended at once.
-const FEW: usize = 8;
+use std::mem;
 
 /// Writes transactions over the first bytes of a field.
 fn write_ids(field: &mut [u8], ids: &[TxnId])
@@ -33,43 +32,54 @@ fn write_ids(field: &mut [u8], ids: &[TxnId])
     }
 }
 
-/// Appends a few transactions at once.
-#[tactic(auto, using(acc_code::proofs::Kept::keeps_all))]
-fn put_few_ids(out: &mut Bytes, ids: &[TxnId]) -> Result<(), OutOfMemory>
-    requires { length ids.now ≤ 8 }
-    ensures spelled { OnOk result (out.new ≡ out.old ++ flat_map id_bytes ids.now) }
-    ensures kept { OnErr result (Keeps out.old out.new) }
-    ensures stamps { OnOk result (FitStamps ids.now) }
+/// Writes how many transactions there are, and their ids, over the first bytes of a field.
+#[tactic(auto, unfolding(crate::specs::Spelling::ids_bytes, acc_wire::specs::Spelling::u16_bytes))]
+fn write_counted(field: &mut [u8], ids: &[TxnId])
+    requires short { AreShortIds ids.now }
+    requires room { 2 + 12 * length ids.now ≤ length field.old }
+    ensures spelled { field.new ≡ ids_bytes ids.now ++ drop (2 + 12 * length ids.now) field.old }
+    ensures stamps { FitStamps ids.now }
 {
-    let mut field = [0; FEW * STAMP as usize];
-    write_ids(&mut field, ids);
-    out.extend_from_slice(&field[..ids.len() * STAMP as usize])
+    BigEndian::write_u16(field, ids.len() as u16);
+    write_ids(&mut field[2..], ids);
 }
 
-#[tactic(auto, using(acc_code::proofs::Kept::keeps_all, acc_code::proofs::Kept::keeps_front, acc_code::proofs::Kept::keeps_more))]
-fn put_each_id(out: &mut Bytes, ids: &[TxnId]) -> Result<(), OutOfMemory>
-    ensures spelled { OnOk result (out.new ≡ out.old ++ flat_map id_bytes ids.now) }
-    ensures kept { OnErr result (Keeps out.old out.new) }
+/// Appends a field of so many zeros, to be written over.
+fn append_field(out: &mut Vec<u8>, count: usize) -> Result<(), OutOfMemory>
+    requires { count < 2 ^ 20 }
+    ensures ok { OnOk result (out.new.items ≡ out.old.items ++ replicate count 0) }
+    ensures err { OnErr result (out.new.items ≡ out.old.items) }
+{
+    let before = out.len();
+    out.resize(before + count, 0)?;
+    Ok(())
+}
+
+fn append_ids(out: &mut Vec<u8>, ids: &[TxnId]) -> Result<(), OutOfMemory>
+    requires { AreShortIds ids.now }
+    ensures spelled { OnOk result (out.new.items ≡ out.old.items ++ ids_bytes ids.now) }
+    ensures err { OnErr result (out.new.items ≡ out.old.items) }
     ensures stamps { OnOk result (FitStamps ids.now) }
 {
-    let mut place = 0;
-    'groups: while ids.len() - place > FEW {
-        put_few_ids(out, &ids[place..place + FEW])?;
-        place += FEW;
-    }
-    put_few_ids(out, &ids[place..])
+    let before = out.len();
+    append_field(out, 2 + STAMP as usize * ids.len())?;
+    write_counted(&mut out[before..], ids);
+    Ok(())
 }
 
 /// Appends transactions: a count in two bytes, and their ids.
-#[tactic(auto, using(acc_code::proofs::Kept::keeps_all, acc_code::proofs::Kept::keeps_front, acc_code::proofs::Kept::keeps_more), unfolding(crate::specs::Spelling::ids_bytes))]
+#[tactic(auto, using(acc_code::proofs::Kept::keeps_all))]
 pub(crate) fn put_ids(out: &mut Bytes, ids: &[TxnId]) -> Result<(), OutOfMemory>
     requires { AreShortIds ids.now }
     ensures spelled { OnOk result (out.new ≡ out.old ++ ids_bytes ids.now) }
     ensures kept { OnErr result (Keeps out.old out.new) }
     ensures stamps { OnOk result (FitStamps ids.now) }
 {
-    put_u16(out, ids.len() as u16)?;
-    put_each_id(out, ids)
+    let alloc = out.allocator();
+    let mut bytes = mem::replace(out, Bytes::new(alloc)).into_vec();
+    let appended = append_ids(&mut bytes, ids);
+    *out = Bytes::from_vec(bytes);
+    appended
 }
 
 /// Whether a transaction may follow the others.
