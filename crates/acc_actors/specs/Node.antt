@@ -11,6 +11,7 @@ use Rattle.acc_message.specs.declared.entry.Event.{Event}
 use Rattle.acc_message.specs.declared.entry.Event.TheVariants.{Begin as BeginEvent, Recover as RecoverEvent}
 use Rattle.acc_message.specs.declared.entry.Emitted.{Emitted}
 use Rattle.acc_message.specs.NodeRules.{Act, Begins, Recovers, Slows, Restarts, Deed, clock_of, begun_id, attempt_of, node_emits, node_replay}
+use Rattle.acc_node.specs.declared.node.Node.{Node}
 use Rattle.acc_node.specs.Stands.{is_first_voting, has_majority}
 use Rattle.acc_payloads.specs.declared.draw.Purpose.{Purpose}
 use Rattle.acc_payloads.specs.declared.draw.Purpose.TheVariants.{Begin, Recover}
@@ -38,6 +39,11 @@ disk_in (Shut disk) = disk
 
 abbrev pub disk_of : {D : Type 0} → NodeActor D → D
 disk_of actor = disk_in actor.state
+
+-- the node over the disk
+abbrev pub node_in : {D : Type 0} → NodeState D → Option Node
+node_in (Open n) = Some n.node
+node_in (Shut disk) = None
 
 abbrev pub is_shut : {D : Type 0} → NodeState D → Bool
 is_shut (Open n) = n.journal.broken

@@ -16,6 +16,7 @@ use Rattle.acc_message.specs.VoteRule.{greatest_h}
 use Rattle.acc_message_code.specs.Short.{IsShortMessage}
 use Rattle.acc_message_code.specs.MessageSpelling.{message_bytes}
 use Rattle.acc_record.specs.Stands.{IsFor}
+use Rattle.acc_store.specs.declared.store.Store.{Store}
 use Rattle.acc_payloads.specs.declared.store.StorePayload.{StorePayload}
 use Rattle.acc_payloads.specs.Store.{IsStoreJournal, taken_in}
 use Rattle.acc_payloads.specs.Items.{without_marks}
@@ -39,6 +40,11 @@ disk_in (Shut disk) = disk
 
 abbrev pub disk_of : {D : Type 0} → StoreActor D → D
 disk_of actor = disk_in actor.state
+
+-- the store over the disk
+abbrev pub store_in : {D : Type 0} → StoreState D → Option Store
+store_in (Open s) = Some s.store
+store_in (Shut disk) = None
 
 abbrev pub is_shut : {D : Type 0} → StoreState D → Bool
 is_shut (Open s) = s.journal.broken

@@ -9,7 +9,7 @@ ghost use Rattle.acc_node.specs.Stands.{may_slow, is_answered};
 ghost use Rattle.acc_strict.specs.Disks.{fails_append, after_append, passed_in};
 ghost use Rattle.acc_ports.specs.Strict.{LeftByChoice};
 ghost use Rattle.acc_actors.specs.Stops.{Past, count_of, IsLeft, ReadsIf, TellsByChoice};
-ghost use Rattle.acc_actors.specs.Node.{IsJournal, IsFound, disk_in, is_shut};
+ghost use Rattle.acc_actors.specs.Node.{IsJournal, IsFound, disk_in, node_in, is_shut};
 
 use crate::name::NodeName;
 use crate::stops::{put, told};
@@ -183,6 +183,8 @@ impl<D: Rig> NodeActor<D> {
 
         ensures ok { IfOk result (λ emitted. (number start version : ℕ) (past : Past Act) → StandsFor D.is_image topology.now number start version past self.old
             → Takes D.is_image topology.now number start version past (TakesMessage m.now) self.new emitted) }
+        ensures err { OnErr result ((number start version : ℕ) (past : Past Act) → StandsFor D.is_image topology.now number start version past self.old
+            → StandsFor D.is_image topology.now number start version past self.new) }
 
         ensures up { is_down self.new ≡ false }
         ensures disk { disk_of self.new ≡ disk_of self.old }
@@ -258,6 +260,7 @@ impl<D: Rig> NodeActor<D> {
     /// Its disk, and the node over it where it is up. Each image of the disk holds the payloads of the past, and breaks no rule on marks.
     pub fn into_parts(self) -> (D, Option<Node>)
         ensures disk { result.0 ≡ disk_of self }
+        ensures node { result.1 ≡ node_in self.state }
         ensures holds { (layout : Layout) (number start version : ℕ) (past : Past Act) → StandsFor D.is_image layout number start version past self
             → (image : List ℕ) → D.is_image result.0 image → HoldsPayloads version past image }
     {
@@ -321,7 +324,8 @@ impl<D: Rig> NodeState<D> {
     }
 
     fn into_parts(self) -> (D, Option<Node>)
-        ensures { result.0 ≡ disk_in self }
+        ensures disk { result.0 ≡ disk_in self }
+        ensures node { result.1 ≡ node_in self }
     {
         match self {
             NodeState::Open(node) => {

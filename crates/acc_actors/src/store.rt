@@ -7,7 +7,7 @@ ghost use Rattle.acc_ports.specs.Strict.{LeftByChoice};
 ghost use Rattle.acc_message.specs.declared.message.Message.{Message as Told};
 ghost use Rattle.acc_strict.specs.Disks.{fails_append, after_append, passed_in};
 ghost use Rattle.acc_actors.specs.Stops.{Stop, Past, count_of, IsLeft, ReadsIf, TellsByChoice};
-ghost use Rattle.acc_actors.specs.Store.{IsJournal, IsFound, disk_in, is_shut, sends};
+ghost use Rattle.acc_actors.specs.Store.{IsJournal, IsFound, disk_in, store_in, is_shut, sends};
 
 use crate::stops::{put, take_all, told};
 use crate::{Restarted, Unsent, Unsents};
@@ -279,6 +279,7 @@ impl<D: Rig> StoreActor<D> {
     /// Its disk, and the store over it where it is up. Each image of the disk holds the payloads of the past, without what is staged, and breaks no rule on marks.
     pub fn into_parts(self) -> (D, Option<Store>)
         ensures disk { result.0 ≡ disk_of self }
+        ensures store { result.1 ≡ store_in self.state }
         ensures holds { (layout : Layout) (own : Name) (version : ℕ) (past : Past Told) (staged : List (Stop Told)) → IsStaging D.is_image layout own version past staged self
             → (image : List ℕ) → D.is_image result.0 image → HoldsPayloads version past image }
     {
@@ -330,7 +331,8 @@ impl<D: Rig> StoreState<D> {
     }
 
     fn into_parts(self) -> (D, Option<Store>)
-        ensures { result.0 ≡ disk_in self }
+        ensures disk { result.0 ≡ disk_in self }
+        ensures store { result.1 ≡ store_in self }
     {
         match self {
             StoreState::Open(store) => {

@@ -7,4 +7,4 @@ use Rattle.acc_actors.proofs.node.NodeActor.into_parts.Goals as goal
 
 pub returns-clause-holds : goal.returns-clause-holds
 returns-clause-holds g c = λ layout number start version past stands image i.
-    holds (IsJournal layout number start version) version (marked_acts layout number start version) past image (stands.left image (subst (λ (d : g.row.D.Denot). g.D.Disk.is_image d image) c.into_parts.ensures i))
+    holds (IsJournal layout number start version) version (marked_acts layout number start version) past image (stands.left image (subst (λ (d : g.row.D.Denot). g.D.Disk.is_image d image) c.into_parts.ensures.disk i))
