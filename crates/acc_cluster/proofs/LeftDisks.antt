@@ -4,13 +4,15 @@ use Rattle.std.proofs.lemmas.List.{append-nil}
 use Rattle.std.proofs.lemmas.Bool.{true≢false}
 use Rattle.std.specs.List.{AllByRecursion, slice_index_or}
 use Rattle.acc_stamp.specs.declared.actors.Actor.{Actor}
+use Rattle.acc_stamp.specs.Actor.{node_of}
 use Rattle.acc_topology.specs.Layout.{Layout}
 use Rattle.acc_message.specs.declared.message.Message.{Message}
 use Rattle.acc_message.specs.declared.entry.Event.{Event}
 use Rattle.acc_message.specs.declared.item.Item.{Item}
 use Rattle.acc_message.specs.NodeRules.{Act}
-use Rattle.acc_message.specs.Run.{is_down}
+use Rattle.acc_message.specs.Run.{clock_start, is_down}
 use Rattle.acc_payloads.specs.Items.{Keeps, KeepsImage, AreKept, ends_down, payloads_in}
+use Rattle.acc_actors.specs.declared.node.NodeActor.{NodeActor}
 use Rattle.acc_actors.specs.declared.store.StoreActor.{StoreActor}
 use Rattle.acc_actors.specs.Stops.{Stop, Past, some, HoldsPayloads}
 use Rattle.acc_actors.specs.Node as node
@@ -126,6 +128,15 @@ loosen false false payloads kept implied h = h
 some_stop : (stops : List (Stop Act)) → some (store_stops stops) ≡ true → some stops ≡ true
 some_stop [] h = h
 some_stop (stop ∷ stops) h = refl
+
+-- what a node's disk holds, as it is given back
+pub node_left : {D : Type 0} (images : D → List ℕ → Type 0) (faults : D → ℕ) (slot : Slot D) (n : NodeActor D) (disk : D) → slot ≡ Node n → disk ≡ node.disk_of n
+    → ((layout : Layout) (number start version : ℕ) (past : Past Act) → node.StandsFor images layout number start version past n
+    → (image : List ℕ) → images disk image → HoldsPayloads version past image)
+    → LeavesHeld images faults slot
+node_left {D} images faults slot n disk is disk_is holds =
+    subst (λ (x : Slot D). LeavesHeld images faults x) (sym is)
+    (λ plan s a stands image left. holds plan.topology (node_of a) (clock_start plan.starts (node_of a)) plan.version (node_past (cluster_of plan) s a) stands.stands image (subst (λ (d : D). images d image) (sym disk_is) left))
 
 -- what a store's disk holds, as it is given back
 pub store_left : {D : Type 0} (images : D → List ℕ → Type 0) (faults : D → ℕ) (slot : Slot D) (t : StoreActor D) (disk : D) → slot ≡ Store t → disk ≡ store.disk_of t

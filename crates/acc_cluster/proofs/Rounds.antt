@@ -2,8 +2,7 @@
 use Rattle.std.proofs.Common.{◌≡◌, ℕ, suc, ◌-◌, ◌<◌, ◌≤◌, Bool, true, false, List, ◌∷◌, Option, None, Result, Err, IfErr, IsTrue, length, refl, sym, ◌∙◌, ap, subst, inl, arith}
 use Rattle.std.specs.Result.{IsErrAnd}
 use Rattle.std.proofs.lemmas.Result.{err_from_is_err_and}
-use Rattle.std.specs.Arc.{arc_value}
-use Rattle.std.proofs.lemmas.List.{length-map, length-reverse}
+use Rattle.std.proofs.lemmas.List.{length-reverse}
 use Rattle.acc_ports.specs.Strict.{Ranges}
 use Rattle.acc_stamp.specs.declared.actors.Actor.{Actor}
 use Rattle.acc_message.specs.declared.entry.Event.{Event}
@@ -37,7 +36,7 @@ waiting_is_taken cluster s message waiting =
     deliver_skip_is cluster s message true false found.0 found.1
 
 pub as_many : (h : History) (s : Situation) → history.StandsFor h s → length h.items.items ≡ length s.own
-as_many h s stands = sym (length-map h.items.items arc_value) ∙ ap length stands.holds.items_are ∙ length-reverse s.own
+as_many h s stands = ap length stands.holds.items_are ∙ length-reverse s.own
 
 -- ---- the room that is left gets smaller
 

@@ -1,6 +1,5 @@
 //! The steps of a schedule.
-ghost use Rattle.std.specs.Prelude.{◌≡◌, reverse, map, length, IfErr, OnOk, IfSome, None};
-ghost use Rattle.std.specs.Arc.{arc_value};
+ghost use Rattle.std.specs.Prelude.{◌≡◌, reverse, length, IfErr, OnOk, IfSome, None};
 ghost use Rattle.acc_stamp.specs.declared.actors.Actor.{Actor as AnActor};
 ghost use Rattle.acc_message.specs.declared.error.Which.{Which as AWhich};
 ghost use Rattle.acc_message.specs.Items.{is_begun};
@@ -13,13 +12,12 @@ ghost use Rattle.acc_strict.specs.Moves.{StrictSituation};
 
 use crate::slot::Slot;
 use acc_history::History;
-use acc_message::{Item, RunError};
+use acc_message::{GrowingItems, RunError};
 use acc_ports::Rig;
 use acc_schedule::{Plan, Step};
 use acc_stamp::Actor;
 use acc_store::Store;
 use std::alloc::Global;
-use std::sync::Arc;
 
 /// The actors of a plan over their disks, and the past that they made together since they were opened.
 #[derive(Debug, Drop)]
@@ -65,8 +63,8 @@ impl<D: Rig + Drop> Cluster<D> {
     }
 
     /// The items since the cluster was opened, in the order in which they were entered.
-    pub fn items(&self) -> &[Arc<Item>]
-        ensures { (plan : Content) (s : Situation) → StandsFor D.is_image D.faults plan self.now s → map arc_value result.now ≡ reverse s.own }
+    pub fn items(&self) -> &GrowingItems
+        ensures { (plan : Content) (s : Situation) → StandsFor D.is_image D.faults plan self.now s → result.now.items ≡ reverse s.own }
     {
         self.history.items()
     }

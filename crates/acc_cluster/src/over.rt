@@ -15,7 +15,7 @@ use crate::slot::Slot;
 use acc_base::OutOfMemory;
 use acc_history::History;
 use acc_history::laws::stopped_steps_are_apart;
-use acc_message::{Item, Items};
+use acc_message::{Item, SharedItems};
 use acc_message_code::messages_length;
 use acc_ports::Rig;
 use acc_schedule::Plan;
@@ -35,7 +35,7 @@ impl<D: Rig + Drop> Cluster<D> {
         alloc: Global,
         plan: &Plan,
         slots: Slots<D>,
-        items: Items,
+        items: SharedItems,
     ) -> Result<Cluster<D>, OutOfMemory>
         requires standing { (stopped : List Stopped) × IsOver D.is_image D.faults plan.now slots.items items stopped }
         requires actors { AreSlotsOf plan.now slots.items }
@@ -67,7 +67,7 @@ fn placed<D: Rig + Drop>(alloc: Global, slots: Slots<D>) -> Result<Vec<Slot<D>>,
 }
 
 // The past of these items.
-fn history_over(alloc: Global, plan: &Plan, items: Items) -> Result<History, OutOfMemory>
+fn history_over(alloc: Global, plan: &Plan, items: SharedItems) -> Result<History, OutOfMemory>
     requires { IsStanding (cluster_of plan.now) (reverse items) × AreFew (reverse items) }
     ensures { IfOk result (λ history. (stopped : List Stopped) → IsHistoryOver items stopped history) }
 {

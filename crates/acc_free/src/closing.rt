@@ -13,7 +13,7 @@ use crate::rest::{Rest, Rests};
 use acc_base::OutOfMemory;
 use acc_desk::laws::{closed_items_are_within, desks_stand_at_the_end, nobody_goes_down};
 use acc_desk::{Desks, Parts, PlanRules, PlanTape, Planned};
-use acc_message::{Item, Items};
+use acc_message::{Item, SharedItems};
 use acc_ports::Rig;
 use acc_schedule::Plan;
 use acc_served::laws::turns_go_by;
@@ -27,7 +27,7 @@ pub(crate) fn closed<D: Rig + Drop, J: Planned>(
     tape: PlanTape<J>,
     first: First<J>,
     desks: Desks<D, J>,
-) -> Result<(Rests<D>, Items), OutOfMemory>
+) -> Result<(Rests<D>, SharedItems), OutOfMemory>
     requires plan { plan.now ≡ J.plan }
     requires is_plan { IsPlan plan.now }
     requires limits { (tape.limits.items ≤ most_items) × (tape.limits.weight ≤ most_bytes) }
@@ -47,7 +47,7 @@ pub(crate) fn closed<D: Rig + Drop, J: Planned>(
     let Ok(entered) = tape.close(first, seats) else {
         return Err(OutOfMemory);
     };
-    Ok((rests, Items::from_vec(entered.into_vec())))
+    Ok((rests, SharedItems::from_vec(entered.into_vec())))
 }
 
 // The seats, and what the actors left undone.

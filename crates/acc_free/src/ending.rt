@@ -14,7 +14,7 @@ ghost use Rattle.acc_free.specs.Finish.{AreResting, HasFinished};
 use crate::rest::{Rests, parted};
 use crate::round::rounds;
 use acc_cluster::{Cluster, Ended, Remains};
-use acc_message::{Items, RunError};
+use acc_message::{RunError, SharedItems};
 use acc_ports::Rig;
 use acc_schedule::Plan;
 use acc_served::laws::served_at_the_end;
@@ -28,7 +28,7 @@ pub fn finish<D: Rig + Drop>(
     alloc: Global,
     plan: &Plan,
     rests: Rests<D>,
-    entered: Items,
+    entered: SharedItems,
     remains: &mut Remains,
 ) -> Result<Ended<D>, RunError>
     requires is_plan { IsPlan plan.now }

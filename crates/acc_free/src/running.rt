@@ -20,7 +20,7 @@ use crate::workers::{Shared, serve_all};
 use acc_base::OutOfMemory;
 use acc_cluster::Remains;
 use acc_desk::{Floor, PlanTape, Planned};
-use acc_message::{Items, RunError};
+use acc_message::{Items, RunError, SharedItems};
 use acc_ports::{DiskMaker, Gate};
 use acc_run::give_back;
 use acc_schedule::Plan;
@@ -107,7 +107,7 @@ fn entered_by<'x, R: Threads + Wait + Sync, M: DiskMaker, G: Gate + Sync, J: Pla
     workers: u32,
     disks: &mut M,
     gate: &'x G,
-) -> Result<(Rests<M::D>, Items), OutOfMemory>
+) -> Result<(Rests<M::D>, SharedItems), OutOfMemory>
 where
     M::D: Drop + Send,
     requires plan { plan.now ≡ J.plan }

@@ -23,7 +23,8 @@ use Rattle.acc_safe_runs.specs.Asks.{receiver}
 use Rattle.acc_follow.specs.Situations.{Situation, whole, is_lost, is_sent_lost}
 use Rattle.acc_follow.specs.Moves.{with_item}
 use Rattle.acc_history.specs.Entering.{IsAsBefore, without_event, without_item, posting_of, postings_in}
-use Rattle.acc_history.specs.Stands.{EventTakesSent, TakesSent, message_in, IsPosting, Holds}
+use Rattle.acc_message.specs.Growing.{message_in}
+use Rattle.acc_history.specs.Stands.{EventTakesSent, TakesSent, IsPosting, Holds}
 use Rattle.acc_history.proofs.Lists.{get_front, get_behind, get_or_behind, get_more, get_last, get_some, closed_if, taken_at, length-taken, length-postings_of, posting_in}
 use Rattle.acc_history.proofs.Raised.{down_raised}
 

@@ -1,9 +1,8 @@
 -- What a history stands for: the own items of a situation, what was dropped, and what was begun before.
 --     StandsFor h s      the history stands for this situation
 --     IsWeighed h s      it has the weight of the own items
-use Rattle.std.specs.Prelude.{◌≡◌, ℕ, ◌<◌, ◌≤◌, false, not, ◌||◌, List, ◌∷◌, length, map, reverse, Option, None, Some}
+use Rattle.std.specs.Prelude.{◌≡◌, ℕ, ◌<◌, ◌≤◌, false, not, ◌||◌, List, ◌∷◌, length, reverse}
 use Rattle.std.specs.List.{list_any, slice_get}
-use Rattle.std.specs.Arc.{arc_value}
 use Rattle.std.specs.BTreeMap.{get}
 use Rattle.std.specs.Ordering.{nat_cmp}
 use Rattle.acc_stamp.specs.declared.actors.Actor.{Actor}
@@ -11,12 +10,12 @@ use Rattle.acc_topology.specs.Sets.{is_among}
 use Rattle.acc_posts.specs.declared.posting.Posting.{Posting}
 use Rattle.acc_posts.specs.Mail.{posting_at}
 use Rattle.acc_waiting.specs.Standing.{Standing, is_down_at}
-use Rattle.acc_message.specs.declared.message.Message.{Message}
 use Rattle.acc_message.specs.declared.entry.Event.{Event}
 use Rattle.acc_message.specs.declared.entry.Event.TheVariants.{Message as TakesMessage}
 use Rattle.acc_message.specs.declared.item.Item.{Item}
 use Rattle.acc_message.specs.declared.item.Item.TheVariants.{Step, Skipped, Down}
-use Rattle.acc_message.specs.Items.{sent_in, sent_of, message_at, is_begun, id_of_txn}
+use Rattle.acc_message.specs.Growing.{message_in}
+use Rattle.acc_message.specs.Items.{sent_of, message_at, is_begun, id_of_txn}
 use Rattle.acc_message.specs.Run.{is_down}
 use Rattle.acc_message_code.specs.Weight.{weight_of_items}
 use Rattle.acc_safety.specs.Calm.{item_takes}
@@ -42,10 +41,6 @@ TakesSent s (Down actor) = Unit {0}
 
 -- ---- the messages
 
-abbrev pub message_in : Option Item → ℕ → Option Message
-message_in None index = None
-message_in (Some item) index = slice_get (sent_in item) index
-
 -- the message with this number stands in the items, the oldest first, at this place
 pub record IsPosting (items : List Item) (s : Situation) (number : ℕ) (p : Posting) : Type 0 where
   pub message : message_in (slice_get items p.place) p.index ≡ message_at s.own number
@@ -63,7 +58,7 @@ pub record Holds (items : List Item) (w : Standing) (s : Situation) : Type 0 whe
 -- ---- the whole
 
 pub record StandsFor (h : History) (s : Situation) : Type 0 where
-  pub holds : Holds (map arc_value h.items.items) h.waiting s
+  pub holds : Holds h.items.items h.waiting s
   pub begun : (txn : ℕ) → get nat_cmp h.begun txn ≡ begun_as (is_begun (whole s) txn) (id_of_txn (whole s) txn)
 
 abbrev pub IsWeighed : History → Situation → Type 0

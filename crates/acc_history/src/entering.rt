@@ -1,5 +1,5 @@
 //! What an item changes in what waits.
-ghost use Rattle.std.specs.Prelude.{◌≡◌, ◌+◌, ◌<◌, ◌≤◌, ◌++◌, length, not, ◌&&◌, ◌||◌, OnOk};
+ghost use Rattle.std.specs.Prelude.{◌≡◌, ◌+◌, ◌^◌, ◌<◌, ◌≤◌, ◌++◌, length, not, ◌&&◌, ◌||◌, OnOk};
 ghost use Rattle.acc_stamp.specs.declared.actors.Actor.{Actor as AnActor};
 ghost use Rattle.acc_message.specs.Items.{same_actor, sent_in};
 ghost use Rattle.acc_message.specs.Run.{down_after};
@@ -10,16 +10,6 @@ use acc_base::OutOfMemory;
 use acc_message::{Entry, Event, Item, Message};
 use acc_stamp::Actor;
 use acc_waiting::Waiting;
-
-/// The messages that an item sent, those of a lost entry too.
-pub(crate) fn messages_of(item: &Item) -> &[Message]
-    ensures { result.now ≡ sent_in item.now }
-{
-    match item {
-        Item::Step(entry) => entry.emitted.out.as_slice(),
-        Item::Skipped { .. } | Item::Down { .. } => &[],
-    }
-}
 
 // The greatest number of an actor and of those to which messages go.
 fn greatest_of(actor: u32, messages: &[Message]) -> u32
@@ -61,14 +51,15 @@ pub(crate) fn cover_all(waiting: &mut Waiting, item: &Item) -> Result<(), OutOfM
 }
 
 // Notes the messages that the item at a place sent.
-fn send(waiting: &mut Waiting, messages: &[Message], place: u64, is_lost: bool)
+fn send(waiting: &mut Waiting, messages: &[Message], place: u32, is_lost: bool)
+    requires few { length messages.now < 2 ^ 32 }
     requires room { length messages.now ≤ waiting.old.room }
     requires covered { AreCovered (length waiting.old.downs) messages.now }
     ensures sent { waiting.new.sent ≡ waiting.old.sent ++ postings_of place 0 is_lost messages.now }
     ensures downs { waiting.new.downs ≡ waiting.old.downs }
 {
     for index in 0..messages.len() {
-        waiting.add(messages[index].to().0, place, index as u64, is_lost);
+        waiting.add(messages[index].to().0, place, index as u32, is_lost);
     }
 }
 
@@ -106,7 +97,8 @@ fn go_down(waiting: &mut Waiting, actor: Actor)
 }
 
 // Notes what an entry took, who is up behind it, and what it sent.
-fn step(waiting: &mut Waiting, entry: &Entry, place: u64)
+fn step(waiting: &mut Waiting, entry: &Entry, place: u32)
+    requires few { length entry.now.emitted.out < 2 ^ 32 }
     requires room { length entry.now.emitted.out ≤ waiting.old.room }
     requires actor { entry.now.actor.0 < length waiting.old.downs }
     requires receivers { AreCovered (length waiting.old.downs) entry.now.emitted.out }
@@ -119,7 +111,8 @@ fn step(waiting: &mut Waiting, entry: &Entry, place: u64)
 }
 
 /// Notes what the item at a place took, who goes down or comes up by it, and what it sent.
-pub(crate) fn enter(waiting: &mut Waiting, item: &Item, place: u64)
+pub(crate) fn enter(waiting: &mut Waiting, item: &Item, place: u32)
+    requires few { length (sent_in item.now) < 2 ^ 32 }
     requires room { length (sent_in item.now) ≤ waiting.old.room }
     requires covered { IsCovered (length waiting.old.downs) item.now }
     ensures sent { waiting.new.sent ≡ without_item item.now waiting.old.sent ++ postings_in place item.now }

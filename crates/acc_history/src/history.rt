@@ -16,9 +16,9 @@ ghost use Rattle.acc_history.specs.Stands.{StandsFor, IsWeighed, TakesSent, with
 ghost use Rattle.acc_history.specs.Entering.{IsAsBefore, IsCovered};
 
 use crate::begun::{Begun, known, note_begin};
-use crate::entering::{cover_all, enter, messages_of};
+use crate::entering::{cover_all, enter};
 use acc_base::OutOfMemory;
-use acc_message::{Item, Items, Message};
+use acc_message::{GrowingItems, Item, Items, Message, sent_by};
 use acc_stamp::{Actor, TxnId};
 use acc_waiting::Waiting;
 use std::alloc::Global;
@@ -29,7 +29,7 @@ use std::sync::Arc;
 /// item that sent it, and nowhere else. Messages are numbered from 0.
 #[derive(Debug, Drop)]
 pub struct History {
-    items: Vec<Arc<Item>>,
+    items: GrowingItems,
     waiting: Waiting,
     begun: Begun,
     weight: u64,
@@ -38,6 +38,7 @@ pub struct History {
 // Makes room for what an item changes, and notes what it begins. Without memory for it all else is as before.
 fn prepare(waiting: &mut Waiting, begun: &mut Begun, item: &Item) -> Result<(), OutOfMemory>
     ensures same { IsAsBefore waiting.old waiting.new }
+    ensures few { OnOk result (length (sent_in item.now) < 2 ^ 32) }
     ensures room { OnOk result (length (sent_in item.now) ≤ waiting.new.room) }
     ensures covered { OnOk result (IsCovered (length waiting.new.downs) item.now) }
     ensures begun { OnOk result ((number : ℕ) → get nat_cmp begun.new number ≡ begun_with (begins_txn number item.now) (id_begun number item.now) (get nat_cmp begun.old number)) }
@@ -45,13 +46,24 @@ fn prepare(waiting: &mut Waiting, begun: &mut Begun, item: &Item) -> Result<(), 
     ensures err_room { OnErr result (waiting.new.room ≡ waiting.old.room) }
 {
     cover_all(waiting, item)?;
-    let sent = messages_of(item).len() as u64;
+    let sent = sent_by(item).len() as u64;
     waiting.reserve(sent)?;
     if note_begin(begun, item).is_err() {
         waiting.release(sent);
         return Err(OutOfMemory);
     }
     Ok(())
+}
+
+// The place of the next item. More than 32 bits tell are refused as memory is.
+fn next_place(items: &GrowingItems) -> Result<u32, OutOfMemory>
+    ensures { IfOk result (λ place. place ≡ length items.now.items) }
+{
+    let place = items.len();
+    if place > u32::MAX as usize {
+        return Err(OutOfMemory);
+    }
+    Ok(place as u32)
 }
 
 impl History {
@@ -61,7 +73,7 @@ impl History {
         ensures weighed { IfOk result (λ history. IsWeighed history (opened [])) }
     {
         Ok(History {
-            items: Vec::new(alloc),
+            items: GrowingItems::new(alloc),
             waiting: Waiting::new(alloc)?,
             begun: BTreeMap::new(alloc),
             weight: 0,
@@ -78,7 +90,7 @@ impl History {
     {
         let waiting = Waiting::new(alloc)?;
         let begun = known(alloc, ids)?;
-        let items = Vec::new(alloc);
+        let items = GrowingItems::new(alloc);
         Ok(History {
             items,
             waiting,
@@ -88,10 +100,10 @@ impl History {
     }
 
     /// The items.
-    pub fn items(&self) -> &[Arc<Item>]
-        ensures { (s : Situation) → StandsFor self.now s → map arc_value result.now ≡ reverse s.own }
+    pub fn items(&self) -> &GrowingItems
+        ensures { (s : Situation) → StandsFor self.now s → result.now.items ≡ reverse s.own }
     {
-        self.items.as_slice()
+        &self.items
     }
 
     /// The items, in their own memory.
@@ -104,7 +116,7 @@ impl History {
             begun: _,
             weight: _,
         } = self;
-        Items::from_vec(items)
+        items.close()
     }
 
     /// How many items there are.
@@ -136,8 +148,8 @@ impl History {
             return None;
         }
         let posting = self.waiting.posting(number);
-        let item = self.items.get(posting.place as usize)?;
-        messages_of(&**item).get(posting.index as usize)
+        self.items
+            .message(posting.place as usize, posting.index as usize)
     }
 
     /// Whether the transaction with this number was begun.
@@ -182,30 +194,40 @@ impl History {
     }
 
     /// Enters an item, whose messages have so many bytes. A message that it takes was sent before. All memory is taken first:
-    /// without it, and where the bytes of all messages pass 64 bits, the past is as before.
+    /// without it, and where the bytes of all messages pass 64 bits or the items 32 bits, the past is as before.
     pub fn add(&mut self, item: Item, weight: u64) -> Result<(), OutOfMemory>
         ensures stands { OnOk result ((s : Situation) → StandsFor self.old s → TakesSent s item → StandsFor self.new (with_item item s)) }
         ensures weighed { OnOk result ((s : Situation) → IsWeighed self.old s → weight ≡ weight_of item → IsWeighed self.new (with_item item s)) }
         ensures still_stands { OnErr result ((s : Situation) → StandsFor self.old s → StandsFor self.new s) }
         ensures still_weighed { OnErr result ((s : Situation) → IsWeighed self.old s → IsWeighed self.new s) }
     {
-        let shared = Arc::new(*self.items.allocator(), item)?;
-        self.add_shared(shared, weight)
+        let weight = self.weight.checked_add(weight).ok_or(OutOfMemory)?;
+        let place = next_place(&self.items)?;
+        self.items.reserve(sent_by(&item).len())?;
+        prepare(&mut self.waiting, &mut self.begun, &item)?;
+        enter(&mut self.waiting, &item, place);
+        self.weight = weight;
+        self.items.push(item);
+        Ok(())
     }
 
-    /// The same of an item that is shared.
+    /// The same of an item that others may have too, which stands where it stood unless the past has items of its own.
     pub fn add_shared(&mut self, item: Arc<Item>, weight: u64) -> Result<(), OutOfMemory>
         ensures stands { OnOk result ((s : Situation) → StandsFor self.old s → TakesSent s (arc_value item) → StandsFor self.new (with_item (arc_value item) s)) }
         ensures weighed { OnOk result ((s : Situation) → IsWeighed self.old s → weight ≡ weight_of (arc_value item) → IsWeighed self.new (with_item (arc_value item) s)) }
         ensures still_stands { OnErr result ((s : Situation) → StandsFor self.old s → StandsFor self.new s) }
         ensures still_weighed { OnErr result ((s : Situation) → IsWeighed self.old s → IsWeighed self.new s) }
     {
+        if self.items.own() > 0 {
+            return self.add(item.copy()?, weight);
+        }
         let weight = self.weight.checked_add(weight).ok_or(OutOfMemory)?;
-        self.items.reserve(1)?;
+        let place = next_place(&self.items)?;
+        self.items.reserve(0)?;
         prepare(&mut self.waiting, &mut self.begun, &*item)?;
-        enter(&mut self.waiting, &*item, self.items.len() as u64);
+        enter(&mut self.waiting, &*item, place);
         self.weight = weight;
-        self.items.push_reserved(item);
+        self.items.share(item);
         Ok(())
     }
 }

@@ -1,5 +1,8 @@
 pub mod Fields
 pub mod Items
+pub mod Shown
+pub mod Joined
+pub mod Growing
 pub mod Shares
 pub mod Taken
 pub mod VoteRule

@@ -1,7 +1,9 @@
 //! Items: what a run consists of.
 ghost use Rattle.std.specs.Prelude.{◌≡◌, IfOk};
+ghost use Rattle.acc_message.specs.Items.{sent_in};
 
 use crate::entry::Entry;
+use crate::message::Message;
 use acc_base::{Duplicate, OutOfMemory};
 use acc_stamp::Actor;
 
@@ -52,5 +54,15 @@ impl Item {
 impl Duplicate for Item {
     fn copy(&self) -> Result<Item, OutOfMemory> {
         Item::copy(self)
+    }
+}
+
+/// The messages that an item sent, those of a lost entry too.
+pub fn sent_by(item: &Item) -> &[Message]
+    ensures { result.now ≡ sent_in item.now }
+{
+    match item {
+        Item::Step(entry) => entry.emitted.out.as_slice(),
+        Item::Skipped { .. } | Item::Down { .. } => &[],
     }
 }

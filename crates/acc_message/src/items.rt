@@ -1,27 +1,28 @@
 //! Lists of items.
-ghost use Rattle.std.specs.Prelude.{◌≡◌, ◌==◌, [], ◌∷◌, ◌++◌, length, map, slice_get, MatchOption, IfOk, OnOk, OnErr, IsNone};
-ghost use Rattle.std.specs.Arc.{arc_value};
+ghost use Rattle.std.specs.Prelude.{◌≡◌, ◌==◌, List, ◌<◌, [], ◌∷◌, ◌++◌, Some, length, slice_get, OnOk, OnErr};
+ghost use Rattle.acc_message.specs.declared.message.Message.{Message as AMessage};
+ghost use Rattle.acc_message.specs.Shown.{with_sent};
 
-use crate::item::Item;
-use acc_base::{Duplicate, OutOfMemory};
+use crate::growing_items::GrowingItems;
+use crate::item::{Item, sent_by};
+use crate::shown::Shown;
+use acc_base::OutOfMemory;
 use std::alloc::Global;
 use std::marker::Model;
-use std::sync::Arc;
 
-/// A list of items, each of which can be shared with other lists. Contracts see the items in their order.
+/// A list of items. Contracts see the items in their order.
 #[derive(Debug, Drop)]
 pub struct Items {
-    items: Vec<Arc<Item>>,
+    list: GrowingItems,
 }
 
 impl Model for Items {
-    ghost use Rattle.std.specs.Prelude.{List, map};
-    ghost use Rattle.std.specs.Arc.{arc_value};
+    ghost use Rattle.std.specs.Prelude.{List};
     ghost use Rattle.acc_message.specs.declared.item.Item.{Item};
 
     ghost Value = { List Item };
 
-    ghost view = { λ l. map arc_value l.items.items };
+    ghost view = { λ l. l.list.items };
 }
 
 impl Items {
@@ -30,52 +31,37 @@ impl Items {
         ensures { result ≡ [] }
     {
         Items {
-            items: Vec::new(alloc),
+            list: GrowingItems::new(alloc),
         }
     }
 
-    /// The items of a vector, in its own memory.
-    pub fn from_vec(items: Vec<Arc<Item>>) -> Items
-        ensures { result ≡ map arc_value items.items }
+    /// The items of a list that is to grow no more.
+    pub(crate) fn closed(list: GrowingItems) -> Items
+        ensures { result ≡ list.items }
     {
-        Items { items }
-    }
-
-    /// The vector that holds the items.
-    pub fn into_vec(self) -> Vec<Arc<Item>>
-        ensures { map arc_value result.items ≡ self }
-    {
-        let Items { items } = self;
-        items
-    }
-
-    /// The items as a slice.
-    pub fn as_slice(&self) -> &[Arc<Item>]
-        ensures { map arc_value result.now ≡ self.now }
-    {
-        self.items.as_slice()
+        Items { list }
     }
 
     /// How many items there are.
     pub fn len(&self) -> usize
         ensures { result ≡ length self.now }
     {
-        self.items.len()
+        self.list.len()
     }
 
     /// Whether there is no item.
     pub fn is_empty(&self) -> bool
         ensures { result ≡ (length self.now == 0) }
     {
-        self.items.is_empty()
+        self.list.len() == 0
     }
 
-    /// Makes room for so many more items, so that as many calls of `share` can't be refused. The items stay in any case.
-    pub fn reserve(&mut self, additional: usize) -> Result<(), OutOfMemory>
-        ensures { self.new ≡ self.old }
+    /// What the item at a place shows.
+    pub fn shown(&self, place: usize) -> Shown<'_>
+        requires { place < length self.now }
+        ensures { (out : List AMessage) × (slice_get self.now place ≡ Some (with_sent result out)) }
     {
-        self.items.reserve(additional)?;
-        Ok(())
+        self.list.shown(place)
     }
 
     /// Appends an item. Without memory for it the list is as before.
@@ -83,33 +69,8 @@ impl Items {
         ensures ok { OnOk result (self.new ≡ self.old ++ item ∷ []) }
         ensures err { OnErr result (self.new ≡ self.old) }
     {
-        let shared = Arc::new(*self.items.allocator(), item)?;
-        self.share(shared)
-    }
-
-    /// Appends an item that other lists may have too. Without memory for it the list is as before.
-    pub fn share(&mut self, item: Arc<Item>) -> Result<(), OutOfMemory>
-        ensures ok { OnOk result (self.new ≡ self.old ++ arc_value item ∷ []) }
-        ensures err { OnErr result (self.new ≡ self.old) }
-    {
-        self.items.push(item)?;
+        self.list.reserve(sent_by(&item).len())?;
+        self.list.push(item);
         Ok(())
-    }
-
-    /// An equal list, which shares its items with this one.
-    pub fn copy(&self) -> Result<Items, OutOfMemory>
-        ensures { IfOk result (λ copy. copy ≡ self.now) }
-    {
-        let mut items = Vec::with_capacity(*self.items.allocator(), self.items.len())?;
-        for item in &self.items {
-            items.push(Arc::try_clone(item)?)?;
-        }
-        Ok(Items { items })
-    }
-}
-
-impl Duplicate for Items {
-    fn copy(&self) -> Result<Items, OutOfMemory> {
-        Items::copy(self)
     }
 }

@@ -4,9 +4,9 @@
 #[derive(Clone, Copy, Debug, PartialEq, Eq)]
 pub struct Posting {
     /// The place of the item that sent it.
-    pub place: u64,
+    pub place: u32,
     /// Its place among the messages of that item.
-    pub index: u64,
+    pub index: u32,
     /// The actor to which it goes.
     pub to: u32,
     /// Whether it is still to be taken.

@@ -90,6 +90,7 @@ impl Posts {
     pub fn reserve(&mut self, messages: u64) -> Result<(), OutOfMemory>
         ensures ok { OnOk result (self.new ≡ record self.old { room = self.old.room + messages; takings = self.old.takings + 1 }) }
         ensures err { OnErr result (self.new ≡ self.old) }
+        ensures most { OnOk result (messages < 2 ^ 32) }
     {
         let room = self.room.checked_add(messages as usize).ok_or(OutOfMemory)?;
         if room > NOWHERE as usize - self.postings.len() {
@@ -107,7 +108,8 @@ impl Posts {
     /// Gives up room for so many messages and takings. What there is room for is only counted: no memory goes back.
     pub fn release(&mut self, messages: u64, takings: u64)
         requires { (messages ≤ self.old.room) × (takings ≤ self.old.takings) }
-        ensures { self.new ≡ record self.old { room = self.old.room - messages; takings = self.old.takings - takings } }
+        ensures released { self.new ≡ record self.old { room = self.old.room - messages; takings = self.old.takings - takings } }
+        ensures most { self.new.room < 2 ^ 32 }
     {
         self.room -= messages as usize;
         self.takings -= takings as usize;
@@ -124,7 +126,7 @@ impl Posts {
 
     /// Notes a message, the next by number, which the item at `place` sent as its message `index`. A lost one is never
     /// open, nor is one that was taken before.
-    pub fn add(&mut self, to: u32, place: u64, index: u64, is_lost: bool)
+    pub fn add(&mut self, to: u32, place: u32, index: u32, is_lost: bool)
         requires { 0 < self.old.room }
         ensures { self.new ≡ record self.old { sent = self.old.sent ++ record { to = to; place = place; index = index; is_open = not is_lost && not (list_any (λ n. n == length self.old.sent) self.old.early) } ∷ []; room = self.old.room - 1 } }
     {
@@ -235,8 +237,8 @@ impl Posts {
             if at as u64 >= from && posting.to == actor && posting.is_open {
                 return Some(Post {
                     number: at as u64,
-                    place: posting.place,
-                    index: posting.index,
+                    place: u64::from(posting.place),
+                    index: u64::from(posting.index),
                 });
             }
             at = self.links[at] as usize;

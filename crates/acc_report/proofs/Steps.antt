@@ -1,18 +1,19 @@
 -- What holds of the items so far, after one more.
-use Rattle.std.proofs.Common.{◌≡◌, ℕ, ◌+◌, ◌<◌, List, [], ◌∷◌, ◌++◌, length, get_or, take, map, reverse, Option, None, Some, cond, inl, inr, refl, sym, ap, ◌∙◌}
-use Rattle.std.proofs.lemmas.List.{take_more, reverse-append, map-append}
+use Rattle.std.proofs.Common.{◌≡◌, ℕ, ◌+◌, ◌<◌, List, [], ◌∷◌, ◌++◌, length, get_or, take, reverse, Option, None, Some, cond, inl, inr, refl, sym, ap, ◌∙◌}
+use Rattle.std.proofs.lemmas.List.{take_more, reverse-append}
+use Rattle.std.specs.List.{slice_get}
+use Rattle.std.proofs.lemmas.Option.{slice_get_within, get_or_from_slice_get}
 use Rattle.acc_base.specs.Faults.{or_else}
 use Rattle.std.proofs.lemmas.Bool.{cases_Bool}
 use Rattle.acc_stamp.specs.declared.stamps.TxnId.{TxnId}
 use Rattle.acc_stamp.specs.Stamp.{id_eq}
 use Rattle.acc_report.specs.Report.{number_in}
 
--- what the items so far show, the newest first, with one more
-pub reverse_more : {X Y : Type 0} (shown : X → Y) (items : List X) (i : ℕ) (item : X) → i < length items → item ≡ get_or items i item →
-    reverse (map shown (take (i + 1) items)) ≡ shown item ∷ reverse (map shown (take i items))
-reverse_more shown items i item h e =
-    ap (λ xs. reverse (map shown xs)) (take_more items i item h ∙ ap (λ y. take i items ++ y ∷ []) (sym e))
-    ∙ ap reverse (map-append shown (take i items) (item ∷ [])) ∙ reverse-append (map shown (take i items)) (shown item ∷ [])
+-- the items so far, the newest first, with one more
+pub reverse_more : {X : Type 0} (items : List X) (i : ℕ) (item : X) → slice_get items i ≡ Some item → reverse (take (i + 1) items) ≡ item ∷ reverse (take i items)
+reverse_more items i item at =
+    ap reverse (take_more items i item (slice_get_within items i item at) ∙ ap (λ y. take i items ++ y ∷ []) (get_or_from_slice_get items i item item at))
+    ∙ reverse-append (take i items) (item ∷ [])
 
 pub or_else-none : (a : Option ℕ) → or_else a None ≡ a
 or_else-none None = refl

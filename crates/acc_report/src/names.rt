@@ -5,14 +5,16 @@ ghost use Rattle.acc_base.specs.Faults.{or_else};
 ghost use Rattle.acc_stamp.specs.declared.stamps.TxnId.{TxnId};
 ghost use Rattle.acc_stamp.specs.Stamp.{id_eq};
 ghost use Rattle.acc_message.specs.Items.{begins, txn_in};
+ghost use Rattle.acc_message.specs.declared.message.Message.{Message};
 ghost use Rattle.acc_message.specs.declared.item.Item.{Item};
+ghost use Rattle.acc_message.specs.Shown.{with_sent};
 ghost use Rattle.acc_report.specs.Known.{number_at};
 ghost use Rattle.acc_report.specs.Numbers.{name_in, IsOf};
 ghost use Rattle.acc_report.specs.Report.{name_at, number_in, number_of};
 
 use crate::numbers::Numbers;
 use acc_base::OutOfMemory;
-use acc_message::{Event, Item, Items, Note, Roll};
+use acc_message::{Event, Item, Items, Note, Roll, Shown};
 use acc_report_line::Names;
 use acc_stamp::TxnId;
 use std::alloc::Global;
@@ -52,7 +54,7 @@ impl<'a> Directory<'a> {
             IsOf self.entry names roll items → IsOf directory names roll (item.now ∷ items)) }
     {
         let Directory { names, mut numbers } = self;
-        enter_item(&mut numbers, item)?;
+        enter_item(&mut numbers, Shown::of(item))?;
         Ok(Directory { names, numbers })
     }
 
@@ -83,8 +85,8 @@ fn numbers_of(alloc: Global, roll: &Roll, items: &Items) -> Result<Numbers, OutO
     ensures { IfOk result (λ numbers. (x : TxnId) → number_at numbers x ≡ number_of roll.now (reverse items.now) x) }
 {
     let mut numbers = numbers_in(alloc, roll)?;
-    for item in items.as_slice() {
-        enter_item(&mut numbers, item)?;
+    for place in 0..items.len() {
+        enter_item(&mut numbers, items.shown(place))?;
     }
     numbers.with_table(alloc)
 }
@@ -101,13 +103,16 @@ fn numbers_in(alloc: Global, roll: &Roll) -> Result<Numbers, OutOfMemory>
 }
 
 /// Enters the transaction that an item begins, if it begins one.
-fn enter_item(numbers: &mut Numbers, item: &Item) -> Result<(), OutOfMemory>
-    ensures { OnOk result ((x : TxnId) → number_at numbers.new x ≡ or_else (number_at numbers.old x) (txn_in x item.now)) }
+fn enter_item(numbers: &mut Numbers, item: Shown<'_>) -> Result<(), OutOfMemory>
+    ensures { OnOk result ((out : List Message) (x : TxnId) → number_at numbers.new x ≡ or_else (number_at numbers.old x) (txn_in x (with_sent item.entry out))) }
 {
-    if let Item::Step(entry) = item {
-        if let Event::Begin { txn } = entry.event {
-            enter_notes(numbers, txn, entry.emitted.notes.as_slice())?;
-        }
+    if let Shown::Step {
+        event: Event::Begin { txn },
+        notes,
+        ..
+    } = item
+    {
+        enter_notes(numbers, txn, notes)?;
     }
     Ok(())
 }

@@ -1,6 +1,8 @@
 //! The text of a report.
-ghost use Rattle.std.specs.Prelude.{◌≡◌, ◌+◌, [], ◌∷◌, ◌++◌, length, reverse, IfOk, OnOk};
+ghost use Rattle.std.specs.Prelude.{◌≡◌, ◌+◌, List, [], ◌∷◌, ◌++◌, length, reverse, IfOk, OnOk};
+ghost use Rattle.acc_message.specs.declared.message.Message.{Message};
 ghost use Rattle.acc_message.specs.Items.{notes_of};
+ghost use Rattle.acc_message.specs.Shown.{with_sent};
 ghost use Rattle.acc_report.specs.Counts.{last_line_of};
 ghost use Rattle.acc_report.specs.Numbers.{name_in};
 ghost use Rattle.acc_report.specs.Report.{name_at, last_line, lines_in, lines_from, lines_report, summary_report, report_text};
@@ -11,7 +13,7 @@ use crate::notes::push_notes;
 use crate::skips::{push_down, push_event, push_skip};
 use crate::summary::{Counts, push_decided, push_last};
 use acc_base::{Bytes, OutOfMemory};
-use acc_message::{Item, Items, Roll};
+use acc_message::{Items, Roll, Shown};
 use acc_report_line::Names;
 use acc_schedule::Print;
 use std::alloc::Global;
@@ -36,8 +38,8 @@ fn text_in_lines(items: &Items, roll: &Roll, names: &Names) -> Result<Bytes, Out
     let counts = Counts::of(items)?;
     let room = length_in_lines(alloc, items, &directory, &counts)?;
     let mut text = Vec::with_capacity(alloc, room)?;
-    for item in items.as_slice() {
-        push_item(&mut text, &directory, item)?;
+    for place in 0..items.len() {
+        push_item(&mut text, &directory, items.shown(place))?;
     }
     push_last(&mut text, &counts)?;
     Ok(Bytes::from_vec(text))
@@ -57,9 +59,9 @@ fn length_in_lines(
 {
     let mut count = 0;
     let mut part = Vec::new(alloc);
-    for item in items.as_slice() {
+    for place in 0..items.len() {
         part.clear();
-        push_item(&mut part, directory, item)?;
+        push_item(&mut part, directory, items.shown(place))?;
         count = sum(count, part.len())?;
     }
     part.clear();
@@ -88,16 +90,25 @@ fn text_in_summary(items: &Items, names: &Names) -> Result<Bytes, OutOfMemory>
 }
 
 /// Appends the lines of an item.
-fn push_item(text: &mut Vec<u8>, directory: &Directory<'_>, item: &Item) -> Result<(), OutOfMemory>
-    ensures { OnOk result (text.new.items
-        ≡ text.old.items ++ lines_text (lines_in (name_in directory.now) (name_at directory.now.names.now) item.now)) }
+fn push_item(
+    text: &mut Vec<u8>,
+    directory: &Directory<'_>,
+    item: Shown<'_>,
+) -> Result<(), OutOfMemory>
+    ensures { OnOk result ((out : List Message) → text.new.items
+        ≡ text.old.items ++ lines_text (lines_in (name_in directory.now) (name_at directory.now.names.now) (with_sent item.entry out))) }
 {
     match item {
-        Item::Step(entry) => {
-            push_event(text, entry.actor, entry.event)?;
-            push_notes(text, directory, entry.emitted.notes.as_slice())
+        Shown::Step {
+            actor,
+            lost: _,
+            event,
+            notes,
+        } => {
+            push_event(text, actor, event)?;
+            push_notes(text, directory, notes)
         }
-        Item::Skipped { step, cause } => push_skip(text, directory.names, *step, *cause),
-        Item::Down { actor } => push_down(text, *actor),
+        Shown::Skipped { step, cause } => push_skip(text, directory.names, step, cause),
+        Shown::Down { actor } => push_down(text, actor),
     }
 }

@@ -1,6 +1,8 @@
 //! The counts of a report, and the lines that give them.
-ghost use Rattle.std.specs.Prelude.{◌≡◌, ◌+◌, ◌++◌, count_by, decimal, reverse, IfOk, OnOk};
+ghost use Rattle.std.specs.Prelude.{◌≡◌, ◌+◌, List, ◌++◌, count_by, decimal, reverse, IfOk, OnOk};
+ghost use Rattle.acc_message.specs.declared.message.Message.{Message};
 ghost use Rattle.acc_message.specs.Items.{notes_of, noted_in};
+ghost use Rattle.acc_message.specs.Shown.{with_sent};
 ghost use Rattle.acc_report.specs.declared.summary.Tally.{Tally as AnyTally};
 ghost use Rattle.acc_report.specs.declared.summary.Tally.TheVariants.{Decisions};
 ghost use Rattle.acc_report.specs.Counts.{is_counted as counts, counted, counts_with, AreCounts, last_line_of, decided_line_of};
@@ -9,7 +11,7 @@ ghost use Rattle.acc_report_line.specs.Texts.{full_text};
 
 use crate::parts::push_number;
 use acc_base::OutOfMemory;
-use acc_message::{Item, Items, Note, Path};
+use acc_message::{Items, Note, Path, Shown};
 
 /// What is counted.
 #[derive(Clone, Copy, Debug)]
@@ -101,19 +103,19 @@ impl Counts {
         ensures { IfOk result (λ all. AreCounts all (notes_of (reverse items.now))) }
     {
         let mut all = Counts::none();
-        for item in items.as_slice() {
-            all.add_item(item)?;
+        for place in 0..items.len() {
+            all.add_item(items.shown(place))?;
         }
         Ok(all)
     }
 
     // Counts the notes of an item too.
-    fn add_item(&mut self, item: &Item) -> Result<(), OutOfMemory>
-        ensures { OnOk result ((what : AnyTally) → counted self.new what ≡ counted self.old what + count_by (counts what) (noted_in item.now)) }
+    fn add_item(&mut self, item: Shown<'_>) -> Result<(), OutOfMemory>
+        ensures { OnOk result ((out : List Message) (what : AnyTally) → counted self.new what ≡ counted self.old what + count_by (counts what) (noted_in (with_sent item.entry out))) }
     {
         match item {
-            Item::Step(entry) => self.add_notes(entry.emitted.notes.as_slice()),
-            Item::Skipped { .. } | Item::Down { .. } => Ok(()),
+            Shown::Step { notes, .. } => self.add_notes(notes),
+            Shown::Skipped { .. } | Shown::Down { .. } => Ok(()),
         }
     }
 

@@ -251,6 +251,7 @@ module _ {E : Type 0} (took : E → Option ℕ) (sent_to : E → List ℕ) (is_l
       rw (c, b, a, same) record {
         weighs = (λ k. i.weighs k + is k) ∙ sym (sum_by_push bytes items item);
         within_items = (let q = i.within_items in omega arith);
+        within_places = (let q = i.within_places in omega arith);
         within_weight = (let q = i.within_weight in omega arith);
         room = (let q = i.room in omega arith);
         messages = (let q = i.messages in let r0 = r.0 in omega arith);

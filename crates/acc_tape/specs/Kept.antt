@@ -28,6 +28,7 @@ module _ {E : Type 0} (took : E → Option ℕ) (sent_to : E → List ℕ) (is_l
   pub record IsKept (bytes : E → ℕ) (fits : List E → Type 0) (items : List E) (weight reserved reserved_weight : ℕ) (limits : Limits) (capacity : ℕ) (mail : Mail) : Type 0 where
     pub weighs : weight ≡ sum_by bytes items
     pub within_items : length items + reserved ≤ limits.items
+    pub within_places : length items + reserved ≤ 4294967295
     pub within_weight : weight + reserved_weight ≤ limits.weight
     pub room : length items + reserved ≤ capacity
     pub messages : mail.room ≡ reserved_weight

@@ -1,6 +1,6 @@
 //! What stands in the slot of a tape: the list, what is reserved, and the index of messages. Its calls are made by the
 //! seat that has the turn.
-ghost use Rattle.std.specs.Prelude.{◌≡◌, ℕ, ◌+◌, ◌-◌, ◌<◌, ◌≤◌, [], ◌∷◌, ◌++◌, length, sum_by, map, Some, slice_get, IfOk, IfErr, OnOk, OnErr, IsErr, MatchOption, MatchResult};
+ghost use Rattle.std.specs.Prelude.{◌≡◌, ℕ, ◌+◌, ◌-◌, ◌^◌, ◌<◌, ◌≤◌, [], ◌∷◌, ◌++◌, length, sum_by, map, Some, slice_get, IfOk, IfErr, OnOk, OnErr, IsErr, MatchOption, MatchResult};
 ghost use Rattle.std.specs.Arc.{arc_value};
 ghost use Rattle.acc_tape.specs.declared.error.PlaceError.TheVariants.{NoPlace};
 ghost use Rattle.acc_tape.specs.Messages.{IsOldest, HasNone, messages_from};
@@ -86,6 +86,9 @@ impl<E: Posted, R: Rules<E>> Board<E, R> {
                 number: most_weight,
             });
         }
+        if self.items.len() as u64 + self.reserved >= u64::from(u32::MAX) {
+            return Err(TapeError::OutOfMemory);
+        }
         if self.items.reserve(self.reserved as usize + 1).is_err() {
             return Err(TapeError::OutOfMemory);
         }
@@ -127,7 +130,7 @@ impl<E: Posted, R: Rules<E>> Board<E, R> {
         let place = self.items.len() as u64;
         note_taking(&mut self.posts, &*item);
         self.posts.release(weight - item.sent(), 0);
-        note_messages(&mut self.posts, &*item, place);
+        note_messages(&mut self.posts, &*item, place as u32);
         self.weight += bytes;
         self.reserved -= 1;
         self.reserved_weight -= weight;
@@ -211,12 +214,13 @@ fn note_taking<E: Posted>(posts: &mut Posts, item: &E)
 }
 
 // Notes the messages that the item at a place sent.
-fn note_messages<E: Posted>(posts: &mut Posts, item: &E, place: u64)
-    requires { length (E.sent_to item.now) ≤ posts.old.room }
+fn note_messages<E: Posted>(posts: &mut Posts, item: &E, place: u32)
+    requires few { length (E.sent_to item.now) < 2 ^ 32 }
+    requires room { length (E.sent_to item.now) ≤ posts.old.room }
     ensures { posts.new ≡ after_messages (messages_from place 0 (E.is_lost item.now) (E.sent_to item.now)) posts.old }
 {
     let is_lost = item.lost();
     for index in 0..item.sent() {
-        posts.add(item.goes_to(index), place, index, is_lost);
+        posts.add(item.goes_to(index), place, index as u32, is_lost);
     }
 }

@@ -1,5 +1,5 @@
 //! The messages that wait.
-ghost use Rattle.std.specs.Prelude.{◌≡◌, ◌≢◌, ℕ, ◌+◌, ◌-◌, ◌<◌, ◌≤◌, [], ◌∷◌, ◌++◌, length, not, nat_lt, IfOk, OnOk, OnErr, MatchOption, slice_set};
+ghost use Rattle.std.specs.Prelude.{◌≡◌, ◌≢◌, ℕ, ◌+◌, ◌-◌, ◌^◌, ◌<◌, ◌≤◌, [], ◌∷◌, ◌++◌, length, not, nat_lt, IfOk, OnOk, OnErr, MatchOption, slice_set};
 ghost use Rattle.acc_posts.specs.Mail.{posting_at, taken};
 ghost use Rattle.acc_waiting.specs.Trees.{leaf, IsTree};
 ghost use Rattle.acc_waiting.specs.Standing.{Standing, is_down_at, NothingWaits, IsOldest};
@@ -198,6 +198,7 @@ impl Waiting {
     pub fn reserve(&mut self, messages: u64) -> Result<(), OutOfMemory>
         ensures ok { OnOk result (self.new ≡ record self.old { room = self.old.room + messages }) }
         ensures err { OnErr result (self.new ≡ self.old) }
+        ensures most { OnOk result (messages < 2 ^ 32) }
     {
         if messages == 0 {
             return Ok(());
@@ -216,7 +217,7 @@ impl Waiting {
     }
 
     /// Notes a message, the next by number, which the item at `place` sent as its message `index`. A lost one is never open.
-    pub fn add(&mut self, to: u32, place: u64, index: u64, is_lost: bool)
+    pub fn add(&mut self, to: u32, place: u32, index: u32, is_lost: bool)
         requires room { 0 < self.old.room }
         requires covered { to < length self.old.downs }
         ensures { self.new ≡ record self.old { sent = self.old.sent ++ record { to = to; place = place; index = index; is_open = not is_lost } ∷ []; room = self.old.room - 1 } }

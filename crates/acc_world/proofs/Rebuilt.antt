@@ -1,7 +1,9 @@
 -- What was entered, taken again in its order.
-use Rattle.std.proofs.Common.{◌≡◌, ◌+◌, ◌-◌, ◌<◌, ◌≤◌, ℕ, zero, suc, Bool, true, false, not, List, [], ◌∷◌, ◌++◌, length, take, drop, drop-cons, get_or, reverse, map, Some, Result, Ok, Err, IfOk, is_err, refl, sym, ◌∙◌, ap, subst, arith}
+use Rattle.std.proofs.Common.{◌≡◌, ◌+◌, ◌-◌, ◌<◌, ◌≤◌, ℕ, suc, Bool, true, false, not, List, [], ◌∷◌, ◌++◌, length, take, drop, drop-cons, get_or, reverse, Some, Result, Ok, Err, IfOk, is_err, refl, sym, ◌∙◌, ap, subst, arith}
 use Rattle.std.proofs.lemmas.Bool.{true≢false}
-use Rattle.std.proofs.lemmas.List.{length-append, get_or-reverse, take-append-drop, drop_all, length-reverse, length-map}
+use Rattle.std.proofs.lemmas.List.{length-append, get_or-reverse, take-append-drop, drop_all, length-reverse}
+use Rattle.std.specs.List.{slice_get}
+use Rattle.std.proofs.lemmas.Option.{slice_get_within, get_or_from_slice_get}
 use Rattle.acc_stamp.specs.declared.actors.Actor.{Actor}
 use Rattle.acc_message.specs.declared.entry.Emitted.{Emitted}
 use Rattle.acc_message.specs.declared.entry.Entry.{Entry}
@@ -131,21 +133,17 @@ one_more items count item less is =
     ∙ ap (λ x. x ∷ drop (suc k) items) (ap (λ n. get_or items n item) (sym mirrored) ∙ sym (get_or-reverse items count item less) ∙ sym is)
     ∙ ap (λ n. item ∷ drop n items) next
 
-read_map : {T U : Type 0} (value : T → U) (read : List T) (count : ℕ) (x : T) → count < length read → x ≡ get_or read count x → value x ≡ get_or (map value read) count (value x)
-read_map value [] count x less at = refl
-read_map value (y ∷ read) zero x less at = ap value at
-read_map value (y ∷ read) (suc count) x less at = read_map value read count x (omega (arith, less)) at
-
 -- what is read of the history's items
-pub read_many : {T U : Type 0} (value : T → U) (read : List T) (items : List U) → map value read ≡ reverse items → length read ≡ length items
-read_many value read items all = sym (length-map read value) ∙ ap length all ∙ length-reverse items
+pub read_many : {U : Type 0} (read items : List U) → read ≡ reverse items → length read ≡ length items
+read_many read items all = ap length all ∙ length-reverse items
 
-pub item_read : {T U : Type 0} (value : T → U) (read : List T) (items : List U) (count : ℕ) (x : T) (item : U) → map value read ≡ reverse items → count < length read → x ≡ get_or read count x → item ≡ value x
+pub item_read : {U : Type 0} (read items : List U) (count : ℕ) (item : U) → read ≡ reverse items → slice_get read count ≡ Some item
     → (count < length items) × (item ≡ get_or (reverse items) count item)
-item_read value read items count x item all less at is = (
-  subst (λ n. count < n) (read_many value read items all) less,
-  subst (λ l. item ≡ get_or l count item) all (subst (λ i. i ≡ get_or (map value read) count i) (sym is) (read_map value read count x less at)),
-)
+item_read read items count item all at =
+    let there = ap (λ l. slice_get l count) (sym all) ∙ at in (
+      subst (λ n. count < n) (length-reverse items) (slice_get_within (reverse items) count item there),
+      sym (get_or_from_slice_get (reverse items) count item item there),
+    )
 
 pub redone_at : (setup : Setup) (history : History) (items : List Item) (count : ℕ) (item : Item) (a : Actor) (held : Held) → IsPast (cluster_of setup) history items
     → count < length items → item ≡ get_or (reverse items) count item → HeldStands (cluster_of setup) a (deeds_of (cluster_of setup) a (oldest count items)) held

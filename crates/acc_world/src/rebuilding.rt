@@ -1,6 +1,8 @@
 //! Actors that are built from what they did.
 ghost use Rattle.std.specs.Prelude.{◌≡◌, ℕ, List, ◌∷◌, [], IfOk, OnOk};
+ghost use Rattle.acc_message.specs.declared.message.Message.{Message};
 ghost use Rattle.acc_message.specs.declared.item.Item.{Item as AnItem};
+ghost use Rattle.acc_message.specs.Shown.{with_sent};
 ghost use Rattle.acc_message.specs.Run.{deeds_of};
 ghost use Rattle.acc_world.specs.Held.{cluster_of, HeldStands, IsPast, IsActorOf, IsRedone};
 
@@ -8,7 +10,7 @@ use crate::held::Held;
 use crate::setup::Setup;
 use acc_base::OutOfMemory;
 use acc_history::History;
-use acc_message::Item;
+use acc_message::Shown;
 use acc_node::Node;
 use acc_stamp::Actor;
 use acc_store::Store;
@@ -33,19 +35,24 @@ fn redo(
     setup: &Setup,
     history: &History,
     actor: Actor,
-    item: &Item,
+    item: Shown<'_>,
 ) -> Result<(), OutOfMemory>
-    requires { (items earlier : List AnItem) × IsRedone setup.now history.now items earlier item.now actor held.old }
-    ensures { OnOk result ((items earlier : List AnItem) → IsRedone setup.now history.now items earlier item.now actor held.old
-        → HeldStands (cluster_of setup.now) actor (deeds_of (cluster_of setup.now) actor (item.now ∷ earlier)) held.new) }
+    requires { (out : List Message) × (items earlier : List AnItem) × IsRedone setup.now history.now items earlier (with_sent item out) actor held.old }
+    ensures { OnOk result ((out : List Message) (items earlier : List AnItem) → IsRedone setup.now history.now items earlier (with_sent item.entry out) actor held.old
+        → HeldStands (cluster_of setup.now) actor (deeds_of (cluster_of setup.now) actor (with_sent item.entry out ∷ earlier)) held.new) }
 {
-    let Item::Step(entry) = item else {
+    let Shown::Step {
+        actor: stepped,
+        event,
+        ..
+    } = item
+    else {
         return Ok(());
     };
-    if entry.actor != actor {
+    if stepped != actor {
         return Ok(());
     }
-    if held.act(setup, history, actor, entry.event).is_err() {
+    if held.act(setup, history, actor, event).is_err() {
         return Err(OutOfMemory);
     }
     Ok(())
@@ -66,7 +73,7 @@ pub(crate) fn rebuild(
     let mut held = fresh(alloc, setup, actor);
     let items = history.items();
     for index in 0..items.len() {
-        redo(&mut held, setup, history, actor, &*items[index])?;
+        redo(&mut held, setup, history, actor, items.shown(index))?;
     }
     Ok(held)
 }

@@ -1,6 +1,7 @@
 -- What is left undone is done, and the disks go back.
 use Rattle.std.proofs.Common.{◌≡◌, Bool, true, false, List, ◌++◌, [], map, reverse, refl, sym, ◌∙◌, ap, append-nil}
 use Rattle.acc_message.specs.declared.error.RunError.{RunError}
+use Rattle.acc_message.specs.declared.error.RunError.TheVariants.{OutOfMemory}
 use Rattle.acc_message.specs.declared.item.Item.{Item}
 use Rattle.acc_schedule.specs.Content.{Content}
 use Rattle.acc_strict.specs.Disks.{fresh_disks}
@@ -50,3 +51,8 @@ returns-in_err-ended-clause-limit g c =
     (map_limit (EndsFreely strict plan items) (EndsFreely strict plan []) (λ which number ends. ends_later strict plan [] items which number (none_begins items) ends) error
     (either_limit plan items error strict (λ is. c.in_err-ended.ensures.strict_limit r.stopped fresh_disks r.resting (r.strictly is) (λ a. refl) (r.up is))
     c.in_err-ended.ensures.limit))
+
+-- disks that can't be given back for want of memory tell of no limit
+pub returns-in_err-give_back-clause-limit : goal.returns-in_err-give_back-clause-limit
+returns-in_err-give_back-clause-limit g c =
+    limit_told (EndsFreely g.J.Planned.strict c.args.plan.now []) OutOfMemory c.from_residual-in_err-give_back.result c.from_residual-in_err-give_back.ensures.1 tt

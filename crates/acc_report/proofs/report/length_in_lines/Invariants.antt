@@ -1,11 +1,10 @@
 -- The bytes of the items so far are counted.
-use Rattle.std.proofs.Common.{◌≡◌, length, take, map, reverse}
-use Rattle.std.specs.Arc.{arc_value}
+use Rattle.std.proofs.Common.{◌≡◌, length, take, reverse}
 use Rattle.acc_report.specs.Numbers.{name_in}
 use Rattle.acc_report.specs.Report.{name_at, lines_from}
 use Rattle.acc_report_line.specs.Texts.{lines_text}
 use Rattle.acc_report.proofs.report.length_in_lines.Given as goal
 
-abbrev pub invariant-loop-item : goal.invariant-loop-item
-invariant-loop-item l =
-    l.count ≡ length (lines_text (lines_from (name_in l.directory) (name_at l.directory.names.now) (reverse (map arc_value (take l.item-index l.item-items)))))
+abbrev pub invariant-loop-place : goal.invariant-loop-place
+invariant-loop-place l =
+    l.count ≡ length (lines_text (lines_from (name_in l.directory) (name_at l.directory.names.now) (reverse (take l.place l.items))))

@@ -1,4 +1,5 @@
 use Rattle.std.proofs.Common.{◌++◌, map, ◌∙◌, ap}
+use Rattle.acc_message.specs.declared.error.RunError.TheVariants.{OutOfMemory}
 use Rattle.acc_run.specs.Given.{numbered}
 use Rattle.acc_run.proofs.Whole.{obeys, obeys_strictly, gives, limit_told}
 use Rattle.acc_run.proofs.run.run_plan.Goals as goal
@@ -26,3 +27,12 @@ pub returns-in_err-take_all-clause-strict_limit : goal.returns-in_err-take_all-c
 returns-in_err-take_all-clause-strict_limit g c = λ strict.
     limit_told _ c.in_err-take_all.field-0.0 c.from_residual-in_err-take_all.result c.from_residual-in_err-take_all.ensures.1
     (c.in_err-take_all.ensures.strict_limit (c.in_ok-cluster.ensures.strict strict))
+
+-- disks that can't be given back for want of memory tell of no limit
+pub returns-in_err-give_back-clause-limit : goal.returns-in_err-give_back-clause-limit
+returns-in_err-give_back-clause-limit g c =
+    limit_told _ OutOfMemory c.from_residual-in_err-give_back.result c.from_residual-in_err-give_back.ensures.1 tt
+
+pub returns-in_err-give_back-clause-strict_limit : goal.returns-in_err-give_back-clause-strict_limit
+returns-in_err-give_back-clause-strict_limit g c = λ strict.
+    limit_told _ OutOfMemory c.from_residual-in_err-give_back.result c.from_residual-in_err-give_back.ensures.1 tt

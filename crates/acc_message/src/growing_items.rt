@@ -1,0 +1,144 @@
+//! Lists of items that still grow.
+ghost use Rattle.std.specs.Prelude.{◌≡◌, ℕ, List, ◌+◌, ◌<◌, ◌≤◌, [], ◌∷◌, ◌++◌, Some, length, map, slice_get, IfOk, OnOk, OnErr, vec_len, vec_capacity};
+ghost use Rattle.std.specs.Option.{option_copied};
+ghost use Rattle.std.specs.Arc.{arc_value};
+ghost use Rattle.acc_message.specs.declared.message.Message.{Message as AMessage};
+ghost use Rattle.acc_message.specs.Items.{sent_in};
+ghost use Rattle.acc_message.specs.Shown.{with_sent};
+ghost use Rattle.acc_message.specs.Growing.{message_in};
+
+use crate::head::{Head, message_at, put};
+use crate::item::{Item, sent_by};
+use crate::items::Items;
+use crate::message::Message;
+use crate::shown::Shown;
+use acc_base::OutOfMemory;
+use std::alloc::Global;
+use std::marker::Model;
+use std::sync::Arc;
+
+/// At most so many messages stand in one list, so that a number of 32 bits tells a place among them.
+const MOST: usize = u32::MAX as usize;
+
+/// A list of items to which others are added, for each of which room is made ahead. The first items may be shared with other
+/// lists. The others are the list's own, and are kept apart from their messages, which stand in one list, so that an item takes
+/// no memory of its own.
+#[derive(Debug, Drop)]
+pub struct GrowingItems {
+    shared: Vec<Arc<Item>>,
+    heads: Vec<Head>,
+    messages: Vec<Message>,
+    room: usize,
+}
+
+impl Model for GrowingItems {
+    ghost use Rattle.std.specs.Prelude.{◌+◌, ◌≤◌, ◌++◌, length, map};
+    ghost use Rattle.std.specs.Vec.{vec_len, vec_capacity};
+    ghost use Rattle.std.specs.Arc.{arc_value};
+    ghost use Rattle.acc_message.specs.Growing.{Growing};
+    ghost use Rattle.acc_message.specs.Joined.{joined, Stretch};
+
+    ghost Value = { Growing };
+
+    ghost view = { λ l. record { items = map arc_value l.shared.items ++ joined 0 l.heads.items l.messages.items; own = length l.heads.items; room = l.room } };
+
+    ghost invariant = { λ l. Stretch 0 l.heads.items (length l.messages.items) × (vec_len l.shared + l.room ≤ vec_capacity l.shared) × (vec_len l.heads + l.room ≤ vec_capacity l.heads) × (vec_len l.messages + l.room ≤ vec_capacity l.messages) × (vec_len l.messages + l.room ≤ 4294967295) };
+}
+
+impl GrowingItems {
+    /// An empty list, which takes no memory yet.
+    pub fn new(alloc: Global) -> GrowingItems
+        ensures { result ≡ record { items = []; own = 0; room = 0 } }
+    {
+        GrowingItems {
+            shared: Vec::new(alloc),
+            heads: Vec::new(alloc),
+            messages: Vec::new(alloc),
+            room: 0,
+        }
+    }
+
+    /// Makes room for an item with so many messages. Without memory for it, and where the messages of the list would pass 32 bits,
+    /// the items are as before, and there is room for none.
+    pub fn reserve(&mut self, messages: usize) -> Result<(), OutOfMemory>
+        ensures ok { OnOk result (self.new ≡ record self.old { room = messages + 1 }) }
+        ensures err { OnErr result (self.new ≡ record self.old { room = 0 }) }
+    {
+        self.room = 0;
+        let room = messages.checked_add(1).ok_or(OutOfMemory)?;
+        if room > MOST - self.messages.len() {
+            return Err(OutOfMemory);
+        }
+        self.shared.reserve(room)?;
+        self.heads.reserve(room)?;
+        self.messages.reserve(room)?;
+        self.room = room;
+        Ok(())
+    }
+
+    /// Appends an item for which there is room.
+    pub fn push(&mut self, item: Item)
+        requires { length (sent_in item) < self.old.room }
+        ensures { self.new ≡ record { items = self.old.items ++ item ∷ []; own = self.old.own + 1; room = 0 } }
+    {
+        self.room = 0;
+        put(&mut self.heads, &mut self.messages, item);
+    }
+
+    /// Appends an item that other lists may have too, where there is room and the list has no own item. It stands where it stood.
+    pub fn share(&mut self, item: Arc<Item>)
+        requires room { 0 < self.old.room }
+        requires own { self.old.own ≡ 0 }
+        ensures { self.new ≡ record self.old { items = self.old.items ++ arc_value item ∷ []; room = 0 } }
+    {
+        self.room = 0;
+        self.shared.push_reserved(item);
+    }
+
+    /// How many items there are.
+    pub fn len(&self) -> usize
+        ensures { result ≡ length self.now.items }
+    {
+        self.shared.len() + self.heads.len()
+    }
+
+    /// How many items, the last ones, no other list has.
+    pub fn own(&self) -> usize
+        ensures { result ≡ self.now.own }
+    {
+        self.heads.len()
+    }
+
+    /// What the item at a place shows.
+    pub fn shown(&self, place: usize) -> Shown<'_>
+        requires { place < length self.now.items }
+        ensures { (out : List AMessage) × (slice_get self.now.items place ≡ Some (with_sent result out)) }
+    {
+        if place < self.shared.len() {
+            return Shown::of(&*self.shared[place]);
+        }
+        self.heads[place - self.shared.len()].shown()
+    }
+
+    /// The message with this number among those that the item at a place sent, if there are so many items and messages.
+    pub fn message(&self, place: usize, index: usize) -> Option<&Message>
+        ensures { option_copied result ≡ message_in (slice_get self.now.items place) index }
+    {
+        if place < self.shared.len() {
+            return sent_by(&*self.shared[place]).get(index);
+        }
+        message_at(
+            self.heads.as_slice(),
+            self.messages.as_slice(),
+            place - self.shared.len(),
+            index,
+        )
+    }
+
+    /// The items, to which no others are added.
+    pub fn close(self) -> Items
+        ensures { result ≡ self.items }
+    {
+        Items::closed(self)
+    }
+}
