@@ -1,7 +1,7 @@
 -- Each production goes by the tokens from the left: selects, sums, conditions, updates and the whole text.
 use Rattle.std.proofs.Common.{◌≡◌, ◌≤◌, ◌==◌, ℕ, Bool, true, false, cond, List, [], ◌∷◌, ◌++◌, length, codes, pos, is_some, unwrap_or, Ok, Err, refl, sym, ap, ◌∙◌, arith, not, ◌&&◌}
 use Rattle.std.specs.Prelude.{neg_ℤ}
-use Rattle.acc_token.specs.Tokens.{token_at, left_at, behind}
+use Rattle.acc_token.specs.Tokens.{token_at, left_at, behind, says_word, says_mark}
 use Rattle.acc_txn.specs.declared.parts.Let.{Let}
 use Rattle.acc_txn.specs.declared.parts.Select.{Select}
 use Rattle.acc_txn.specs.declared.parts.Select.TheVariants.{Nothing, Names}
@@ -15,7 +15,7 @@ use Rattle.acc_txn.specs.declared.parts.Update.{Update}
 use Rattle.acc_txn.specs.declared.parts.BodyParts.{BodyParts}
 use Rattle.acc_lang.specs.declared.fault.Fault.{Fault}
 use Rattle.acc_lang.specs.Faults.{fault_behind_minus, fault_behind_end}
-use Rattle.acc_lang.specs.Reading.{◌>>=◌, passed, standing_of, take_word, is_word, is_mark, is_number, is_quoted, number_of, text_of, table, where_key, from_key, more_lets, named, items, begins_get, get, selected, select, negative, plain, null, text_value, term, is_sign, part_of, one_part, more_parts, expression, operator_of, operator, null_test, comparison, condition_from, condition, one_condition, more_conditions, conditions, assignment, removal, begins_update, update, one_update, more_updates, guarded, unguarded, action, opening, commit_word, commit, finish, closing, behind_lets, reading}
+use Rattle.acc_lang.specs.Reading.{◌>>=◌, passed, standing_of, take_word, is_number, is_quoted, number_of, text_of, table, where_key, from_key, more_lets, named, items, begins_get, get, selected, select, negative, plain, null, text_value, term, is_sign, part_of, one_part, more_parts, expression, operator_of, operator, null_test, comparison, condition_from, condition, one_condition, more_conditions, conditions, assignment, removal, begins_update, update, one_update, more_updates, guarded, unguarded, action, opening, commit_word, commit, finish, closing, behind_lets, reading}
 use Rattle.acc_lang.specs.First.{behind_all, SameTokens, Seen}
 use Rattle.acc_lang.proofs.Following.{pairs, places, Stops, Follows, in_sight, in_turn, then_stops, nothing, by_token, behind_one, loose, repeats, passed_follows, skip_follows, skip_place}
 use Rattle.acc_lang.proofs.FollowText.{Uses, word_follows, word_then, then_word, then_mark, token_then, step_then, value_then, then_value, then_some, table_follows, where_key_follows, from_key_follows, lets_follow, named_follows, items_follow, get_follows, begins_seen, begins_same}
@@ -63,7 +63,7 @@ module _ (texts : Bool) where
   unfolding select
   select_follows uses lets =
       let answer : Select × Uses = (Nothing, uses) in
-      by_token 0 (pairs {A = Select × Uses}) (is_word (codes "select")) (λ a. selected texts uses lets (behind a)) (λ a. Ok (answer, a))
+      by_token 0 (pairs {A = Select × Uses}) (says_word (codes "select")) (λ a. selected texts uses lets (behind a)) (λ a. Ok (answer, a))
       (behind_one pairs (selected texts uses lets) (selected_follows uses lets)) (nothing answer)
 
   negative_follows : (extra : Bool) → Follows 1 pairs (negative texts extra)
@@ -91,17 +91,17 @@ module _ (texts : Bool) where
   term_follows : (extra : Bool) (lets : List Let) → Follows 1 pairs (term texts extra lets)
   unfolding term
   term_follows extra lets =
-      by_token 1 pairs (is_mark (codes "-")) (negative texts extra) _ (negative_follows extra)
+      by_token 1 pairs (says_mark (codes "-")) (negative texts extra) _ (negative_follows extra)
       (by_token 1 pairs is_number (plain texts extra) _ (plain_follows extra)
       (by_token 1 pairs (λ token. is_quoted token && texts) (text_value texts extra) _ (text_follows extra)
-      (by_token 1 pairs (is_word (codes "null")) (null texts extra) _ (null_follows extra)
+      (by_token 1 pairs (says_word (codes "null")) (null texts extra) _ (null_follows extra)
       (value_then (named texts extra lets) pairs (λ name. Ok (NameTerm name.0, name.1)) (λ name. nothing (NameTerm name)) (named_follows texts extra lets)))))
 
   one_part_follows : (lets : List Let) (extra : Bool) (so_far : List Part) → Follows 1 pairs (one_part texts lets extra so_far)
   unfolding one_part
   one_part_follows lets extra so_far =
       token_then (not texts) pairs (λ token. standing_of (is_sign token) false true)
-      (λ token t. term texts extra lets t >>= (λ next. Ok (so_far ++ part_of (is_mark (codes "-") token) next.0 ∷ [], next.1)))
+      (λ token t. term texts extra lets t >>= (λ next. Ok (so_far ++ part_of (says_mark (codes "-") token) next.0 ∷ [], next.1)))
       (λ token. then_value (term texts extra lets) pairs _ (λ next. nothing _) (term_follows extra lets))
 
   more_parts_follow : (lets : List Let) (room : ℕ) (so_far : List Part) → Follows 0 pairs (more_parts texts lets room so_far)
@@ -121,7 +121,7 @@ module _ (texts : Bool) where
   null_test_follows : (name : ℕ) → Follows 0 pairs (null_test texts name)
   unfolding null_test
   null_test_follows name =
-      by_token 0 pairs (is_word (codes "not")) (λ a. take_word texts (codes "null") (behind a) >>= (λ t. Ok (IsNotNull name, t))) (λ a. take_word texts (codes "null") a >>= (λ t. Ok (IsNull name, t)))
+      by_token 0 pairs (says_word (codes "not")) (λ a. take_word texts (codes "null") (behind a) >>= (λ t. Ok (IsNotNull name, t))) (λ a. take_word texts (codes "null") a >>= (λ t. Ok (IsNull name, t)))
       (behind_one pairs (λ a. take_word texts (codes "null") a >>= (λ t. Ok (IsNotNull name, t))) (then_word texts pairs _ (nothing (IsNotNull name)) (codes "null")))
       (then_word texts pairs _ (nothing (IsNull name)) (codes "null"))
 
@@ -136,7 +136,7 @@ module _ (texts : Bool) where
   unfolding condition_from
   condition_from_follows lets (NumberTerm number) = comparison_follows lets (NumberTerm number)
   condition_from_follows lets (NameTerm name) =
-      by_token 0 pairs (is_word (codes "is")) (λ a. null_test texts name (behind a)) (comparison texts lets (NameTerm name))
+      by_token 0 pairs (says_word (codes "is")) (λ a. null_test texts name (behind a)) (comparison texts lets (NameTerm name))
       (behind_one pairs (null_test texts name) (null_test_follows name)) (comparison_follows lets (NameTerm name))
   condition_from_follows lets Null = comparison_follows lets Null
   condition_from_follows lets (TextTerm t) = comparison_follows lets (TextTerm t)
@@ -152,7 +152,7 @@ module _ (texts : Bool) where
   more_conditions_follow : (lets : List Let) (room : ℕ) (so_far : List Condition) → Follows 0 pairs (more_conditions texts lets room so_far)
   unfolding more_conditions
   more_conditions_follow lets room so_far =
-      repeats (is_word (codes "and")) (one_condition texts lets) (λ extra so_far. loose pairs (one_condition texts lets extra so_far) (one_condition_follows lets extra so_far)) room so_far
+      repeats (says_word (codes "and")) (one_condition texts lets) (λ extra so_far. loose pairs (one_condition texts lets extra so_far) (one_condition_follows lets extra so_far)) room so_far
 
   conditions_follow : (lets : List Let) → Follows 1 pairs (conditions texts lets)
   unfolding conditions
@@ -180,7 +180,7 @@ module _ (texts : Bool) where
   unfolding update
   update_follows extra uses lets =
       token_then (not texts) pairs (λ token. standing_of (begins_update token) extra true)
-      (λ token t. cond (is_word (codes "update") token) (assignment texts uses lets t) (removal texts uses t)) (λ token. either (is_word (codes "update") token)) where
+      (λ token t. cond (says_word (codes "update") token) (assignment texts uses lets t) (removal texts uses t)) (λ token. either (says_word (codes "update") token)) where
         either : (t : Bool) → Follows 0 pairs (λ a. cond t (assignment texts uses lets a) (removal texts uses a))
         either true = loose pairs (assignment texts uses lets) (assignment_follows uses lets)
         either false = loose pairs (removal texts uses) (removal_follows uses)
@@ -212,7 +212,7 @@ module _ (texts : Bool) where
   action_follows : (uses : Uses) (lets : List Let) → Follows 0 pairs (action texts uses lets)
   unfolding action
   action_follows uses lets =
-      by_token 0 pairs (is_word (codes "if")) (λ a. guarded texts uses lets (behind a)) (unguarded texts uses lets)
+      by_token 0 pairs (says_word (codes "if")) (λ a. guarded texts uses lets (behind a)) (unguarded texts uses lets)
       (behind_one pairs (guarded texts uses lets) (guarded_follows uses lets)) (unguarded_follows uses lets)
 
   opening_follows : Follows 1 places (opening texts)
@@ -222,7 +222,7 @@ module _ (texts : Bool) where
   commit_follows : (uses : Uses) → Follows 1 places (commit texts uses)
   unfolding commit commit_word
   commit_follows uses =
-      step_then (not texts) places (λ token. standing_of (is_word (codes "commit") token) (length uses == 0) true) _
+      step_then (not texts) places (λ token. standing_of (says_word (codes "commit") token) (length uses == 0) true) _
       (then_word texts places _ (skip_place (codes ";")) (codes "transaction"))
 
   closing_follows : (uses : Uses) → Follows 1 places (closing texts uses)

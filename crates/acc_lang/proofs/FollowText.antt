@@ -1,12 +1,12 @@
 -- Each production goes by the tokens from the left.
 use Rattle.std.proofs.Common.{◌≡◌, ◌≤◌, ℕ, zero, suc, Bool, true, false, ◌&&◌, not, List, [], ◌∷◌, codes, is_some, unwrap_or, Result, Ok, refl, sym, ap, ◌∙◌, arith}
-use Rattle.acc_token.specs.Tokens.{Token, token_at, behind}
+use Rattle.acc_token.specs.Tokens.{Token, token_at, behind, says_word, says_mark}
 use Rattle.acc_value.specs.declared.key.Key.{Key}
 use Rattle.acc_value.specs.Footprint.{used}
 use Rattle.acc_txn.specs.declared.parts.Let.{Let}
 use Rattle.acc_lang.specs.declared.fault.Fault.{Fault}
 use Rattle.acc_lang.specs.declared.fault.Standing.{Standing}
-use Rattle.acc_lang.specs.Reading.{Reads, ◌>>=◌, step, standing_of, take_word, take_mark, is_word, is_mark, is_quoted, is_free, word_of, text_of, table, key_of, are_many, key_text, where_key, from_key, let_of, new_name, binding, one_let, more_lets, bound_name, named, one_item, more_items, items, begins_get, get}
+use Rattle.acc_lang.specs.Reading.{Reads, ◌>>=◌, step, standing_of, take_word, take_mark, is_quoted, is_free, word_of, text_of, table, key_of, are_many, key_text, where_key, from_key, let_of, new_name, binding, one_let, more_lets, bound_name, named, one_item, more_items, items, begins_get, get}
 use Rattle.acc_lang.specs.First.{SameTokens, Seen}
 use Rattle.acc_lang.proofs.Following.{Shape, pairs, places, Follows, in_sight, in_turn, nothing, one_token, loose, repeats, same_first, seen_same}
 
@@ -26,16 +26,16 @@ module _ {A S : Type 0} (F : List ℕ → Reads A) (t : Shape S) (G : A × List 
 
 -- where the same two tokens begin a select, the same branch is read
 begins_alike : (a b : List ℕ) → token_at a ≡ token_at b → token_at (behind a) ≡ token_at (behind b) → begins_get a ≡ begins_get b
-begins_alike a b first second = λ i. is_word (codes "v") (first i) && is_word (codes "from") (second i)
+begins_alike a b first second = λ i. says_word (codes "v") (first i) && says_word (codes "from") (second i)
 
 pub begins_seen : (m : ℕ) (a b : List ℕ) → Seen m a b → begins_get a ≡ begins_get b
 begins_seen (suc m) a b seen = begins_alike a b seen.0 (same_first m (behind a) (behind b) (seen_same m (behind a) (behind b) seen.1))
-begins_seen zero a b seen = tested (is_word (codes "v") (token_at a)) refl where
-  tested : (t : Bool) → is_word (codes "v") (token_at a) ≡ t → begins_get a ≡ begins_get b
+begins_seen zero a b seen = tested (says_word (codes "v") (token_at a)) refl where
+  tested : (t : Bool) → says_word (codes "v") (token_at a) ≡ t → begins_get a ≡ begins_get b
   tested true is = begins_alike a b seen.0 (seen.1 is)
   tested false is =
-      ap (λ t. t && is_word (codes "from") (token_at (behind a))) is
-      ∙ ap (λ t. t && is_word (codes "from") (token_at (behind b))) (sym is ∙ ap (is_word (codes "v")) seen.0)
+      ap (λ t. t && says_word (codes "from") (token_at (behind a))) is
+      ∙ ap (λ t. t && says_word (codes "from") (token_at (behind b))) (sym is ∙ ap (says_word (codes "v")) seen.0)
 
 pub begins_same : (m : ℕ) (a b : List ℕ) → 1 ≤ m → SameTokens m a b → begins_get a ≡ begins_get b
 begins_same zero a b some same = absurd (omega arith)
@@ -53,11 +53,11 @@ step_then as_key t standing G second = token_then as_key t standing (λ token. G
 module _ (texts : Bool) where
   pub word_follows : (word : List ℕ) → Follows 1 places (take_word texts word)
   unfolding take_word
-  word_follows word = one_token (not texts) (λ token. standing_of (is_word word token) false true)
+  word_follows word = one_token (not texts) (λ token. standing_of (says_word word token) false true)
 
   mark_follows : (mark : List ℕ) → Follows 1 places (take_mark texts mark)
   unfolding take_mark
-  mark_follows mark = one_token (not texts) (λ token. standing_of (is_mark mark token) false true)
+  mark_follows mark = one_token (not texts) (λ token. standing_of (says_mark mark token) false true)
 
   -- a word or a mark, and what is read behind it
   module _ {S : Type 0} (t : Shape S) (G : List ℕ → Result S Fault) (second : Follows 0 t G) where
@@ -110,12 +110,12 @@ module _ (texts : Bool) where
   one_let_follows : (extra : Bool) (so_far : List Let × Uses) → Follows 1 pairs (one_let texts extra so_far)
   unfolding one_let
   one_let_follows extra so_far =
-      step_then (not texts) pairs (λ token. standing_of (is_word (codes "let") token) extra true) _
+      step_then (not texts) pairs (λ token. standing_of (says_word (codes "let") token) extra true) _
       (then_value (binding texts so_far.1 so_far.0) pairs _ (λ l. nothing _) (binding_follows so_far.1 so_far.0))
 
   pub lets_follow : (room : ℕ) (so_far : List Let × Uses) → Follows 0 pairs (more_lets texts room so_far)
   unfolding more_lets
-  lets_follow room so_far = repeats (is_word (codes "let")) (one_let texts) (λ extra so_far. loose pairs (one_let texts extra so_far) (one_let_follows extra so_far)) room so_far
+  lets_follow room so_far = repeats (says_word (codes "let")) (one_let texts) (λ extra so_far. loose pairs (one_let texts extra so_far) (one_let_follows extra so_far)) room so_far
 
   bound_name_follows : (extra : Bool) (lets : List Let) → Follows 1 pairs (bound_name texts extra lets)
   unfolding bound_name
@@ -135,7 +135,7 @@ module _ (texts : Bool) where
   more_items_follow : (lets : List Let) (room : ℕ) (so_far : List ℕ) → Follows 0 pairs (more_items texts lets room so_far)
   unfolding more_items
   more_items_follow lets room so_far =
-      repeats (is_mark (codes ",")) (one_item texts lets) (λ extra so_far. loose pairs (one_item texts lets extra so_far) (one_item_follows lets extra so_far)) room so_far
+      repeats (says_mark (codes ",")) (one_item texts lets) (λ extra so_far. loose pairs (one_item texts lets extra so_far) (one_item_follows lets extra so_far)) room so_far
 
   pub items_follow : (lets : List Let) → Follows 1 pairs (items texts lets)
   unfolding items

@@ -1,12 +1,12 @@
 -- Reading goes by the tokens from the left: texts that show the same tokens are read alike, and a fault is found as soon as
 -- its token is seen, or the one behind a word v.
 use Rattle.std.proofs.Common.{◌≡◌, ◌≤◌, ◌⊎◌, ℕ, zero, suc, Bool, true, false, cond, List, Option, Some, None, Result, Ok, Err, refl, sym, ap, ◌∙◌, subst, inl, inr, ⊎_elim, arith}
-use Rattle.acc_token.specs.Tokens.{Token, token_at, left_at, behind}
+use Rattle.acc_token.specs.Tokens.{Token, token_at, left_at, behind, says_mark}
 use Rattle.acc_lang.specs.declared.error.LangKind.{LangKind}
 use Rattle.acc_lang.specs.declared.fault.Fault.{Fault}
 use Rattle.acc_lang.specs.declared.fault.Standing.{Standing}
 use Rattle.acc_lang.specs.Faults.{fault_of}
-use Rattle.acc_lang.specs.Reading.{Reads, ◌>>=◌, passed, fault_at, step, skip_mark, is_mark, each}
+use Rattle.acc_lang.specs.Reading.{Reads, ◌>>=◌, passed, fault_at, step, skip_mark, each}
 use Rattle.acc_lang.specs.First.{behind_all, SameTokens, Seen}
 use Rattle.acc_lang.proofs.Steps.{both}
 
@@ -226,18 +226,18 @@ repeats again one first (suc room) so_far =
 -- a mark that may stand there
 skipped : (mark : List ℕ) (a : List ℕ) → (m : ℕ) × (skip_mark mark a ≡ behind_all m a) × ((b : List ℕ) → SameTokens m a b → skip_mark mark b ≡ behind_all m b)
 unfolding skip_mark
-skipped mark a = by_test (is_mark mark (token_at a)) refl where
-  by_test : (t : Bool) → is_mark mark (token_at a) ≡ t
-      → (m : ℕ) × (cond (is_mark mark (token_at a)) (behind a) a ≡ behind_all m a) × ((b : List ℕ) → SameTokens m a b → cond (is_mark mark (token_at b)) (behind b) b ≡ behind_all m b)
+skipped mark a = by_test (says_mark mark (token_at a)) refl where
+  by_test : (t : Bool) → says_mark mark (token_at a) ≡ t
+      → (m : ℕ) × (cond (says_mark mark (token_at a)) (behind a) a ≡ behind_all m a) × ((b : List ℕ) → SameTokens m a b → cond (says_mark mark (token_at b)) (behind b) b ≡ behind_all m b)
   by_test true is = (
     suc zero,
     ap (λ t. cond t (behind a) a) is,
-    λ b same. ap (λ t. cond t (behind b) b) (ap (is_mark mark) (sym same.0) ∙ is),
+    λ b same. ap (λ t. cond t (behind b) b) (ap (says_mark mark) (sym same.0) ∙ is),
   )
   by_test false is = (
     zero,
     ap (λ t. cond t (behind a) a) is,
-    λ b same. ap (λ t. cond t (behind b) b) (ap (is_mark mark) (sym same) ∙ is),
+    λ b same. ap (λ t. cond t (behind b) b) (ap (says_mark mark) (sym same) ∙ is),
   )
 
 pub skip_place : (mark : List ℕ) → Follows 0 places (λ a. Ok (skip_mark mark a))

@@ -1,12 +1,12 @@
 -- What is read from a whole text is spelled there, and was checked.
 use Rattle.std.proofs.Common.{◌≡◌, ◌≤◌, ◌==◌, ℕ, true, false, List, [], ◌∷◌, ◌++◌, length, codes, None, Ok, refl, sym, ap, ◌∙◌, subst, append_assoc, Bool, not}
 use Rattle.std.proofs.lemmas.List.{append-nil}
-use Rattle.acc_token.specs.Tokens.{Token, Word, Mark, Number as Digits, Quoted, Strange, End, token_at, behind}
+use Rattle.acc_token.specs.Tokens.{Token, Word, Mark, Number as Digits, Quoted, Strange, End, token_at, behind, says_word}
 use Rattle.acc_value.specs.Footprint.{used}
 use Rattle.acc_txn.specs.declared.parts.Let.{Let}
 use Rattle.acc_txn.specs.declared.parts.BodyParts.{BodyParts}
 use Rattle.acc_lang.specs.Faults.{fault_behind_end}
-use Rattle.acc_lang.specs.Reading.{step, standing_of, is_word, more_lets, select, action, opening, commit_word, commit, finish, closing, behind_lets, reading}
+use Rattle.acc_lang.specs.Reading.{step, standing_of, more_lets, select, action, opening, commit_word, commit, finish, closing, behind_lets, reading}
 use Rattle.acc_lang.specs.Grammar.{Spells, MaybeSemicolon, Each, LetSpelled, Spelled}
 use Rattle.acc_lang.proofs.Steps.{both, taken, word_found, word_token}
 use Rattle.acc_lang.proofs.Fits.{IsFitLet, IsFitUpdate, IsFitBody, Uses, after, InTurn, with_let, with_update}
@@ -42,8 +42,8 @@ module _ (texts : Bool) where
   unfolding closing commit commit_word finish
   closing_found uses text y is =
       let p = both (commit texts uses text) _ y is in
-      let q = both (step (not texts) (standing_of (is_word (codes "commit") (token_at text)) (length uses == 0) true) text) _ p.0 p.1 in
-      let t = taken (not texts) (is_word (codes "commit") (token_at text)) (length uses == 0) true text q.0 q.1 in
+      let q = both (step (not texts) (standing_of (says_word (codes "commit") (token_at text)) (length uses == 0) true) text) _ p.0 p.1 in
+      let t = taken (not texts) (says_word (codes "commit") (token_at text)) (length uses == 0) true text q.0 q.1 in
       let a = word_first texts (codes "transaction") q.0 _ p.0 q.2 in
       let e = passed_behind (fault_behind_end (token_at p.0)) p.0 y p.2 in
       record {

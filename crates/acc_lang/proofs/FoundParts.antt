@@ -5,10 +5,10 @@ use Rattle.std.specs.Str.{bytes_eq}
 use Rattle.std.proofs.lemmas.List.Quantifiers.{position-Some}
 use Rattle.std.proofs.lemmas.Option.{slice_get-get_or}
 use Rattle.std.proofs.lemmas.Slice.Eq.{bytes_eq-Decides}
-use Rattle.acc_token.specs.Tokens.{Token, Word, Mark, token_at, behind}
+use Rattle.acc_token.specs.Tokens.{Token, Word, Mark, token_at, behind, says_word}
 use Rattle.acc_txn.specs.declared.parts.Let.{Let}
 use Rattle.acc_lang.specs.declared.fault.Fault.{Fault}
-use Rattle.acc_lang.specs.Reading.{Reads, ◌>>=◌, step, standing_of, from_key, word_of, is_free, is_word, let_of, new_name, binding, one_let, more_lets, bound_name, named, each}
+use Rattle.acc_lang.specs.Reading.{Reads, ◌>>=◌, step, standing_of, from_key, word_of, is_free, let_of, new_name, binding, one_let, more_lets, bound_name, named, each}
 use Rattle.acc_lang.specs.Grammar.{Spells, Each, LetSpelled, NameSpelled}
 use Rattle.acc_lang.proofs.Steps.{both, taken, free_token, word_token, join}
 use Rattle.acc_lang.proofs.Fits.{IsFreeWord, IsFitLet, Uses, after, InTurn, with_let}
@@ -111,8 +111,8 @@ module _ (texts : Bool) where
       → (l : Let) × (y.0 ≡ with_let so_far l) × LetSpelled l text y.1 × IsFitLet so_far l
   unfolding one_let
   one_let_found so_far text y is =
-      let p = both (step (not texts) (standing_of (is_word (codes "let") (token_at text)) false true) text) _ y is in
-      let t = taken (not texts) (is_word (codes "let") (token_at text)) false true text p.0 p.1 in
+      let p = both (step (not texts) (standing_of (says_word (codes "let") (token_at text)) false true) text) _ y is in
+      let t = taken (not texts) (says_word (codes "let") (token_at text)) false true text p.0 p.1 in
       let b = both (binding texts so_far.1 so_far.0 p.0) _ y p.2 in
       let f = binding_found so_far.1 so_far.0 p.0 b.0 b.1 in
       let same = ok_same (with_let so_far b.0.0, b.0.1) y b.2 in
@@ -121,14 +121,14 @@ module _ (texts : Bool) where
   pub one_let_full : (so_far : List Let × Uses) (text : List ℕ) (y : (List Let × Uses) × List ℕ) → one_let texts true so_far text ≡ Ok y → ⊥
   unfolding one_let
   one_let_full so_far text y is =
-      let p = both (step (not texts) (standing_of (is_word (codes "let") (token_at text)) true true) text) _ y is in
-      let t = taken (not texts) (is_word (codes "let") (token_at text)) true true text p.0 p.1 in
+      let p = both (step (not texts) (standing_of (says_word (codes "let") (token_at text)) true true) text) _ y is in
+      let t = taken (not texts) (says_word (codes "let") (token_at text)) true true text p.0 p.1 in
       absurd (true≢false t.room)
 
   pub lets_found : (text : List ℕ) (y : (List Let × Uses) × List ℕ) → more_lets texts 16 ([], []) text ≡ Ok y
       → (lets : List Let) × (y.0 ≡ after with_let ([], []) lets) × Each LetSpelled lets text y.1 × InTurn with_let IsFitLet ([], []) lets × (length lets ≤ 16)
   unfolding more_lets
-  lets_found text y is = each_found (is_word (codes "let")) (one_let texts) with_let LetSpelled IsFitLet one_let_found one_let_full 16 ([], []) text y is
+  lets_found text y is = each_found (says_word (codes "let")) (one_let texts) with_let LetSpelled IsFitLet one_let_found one_let_full 16 ([], []) text y is
 
   pub named_found : (extra : Bool) (lets : List Let) (text : List ℕ) (y : ℕ × List ℕ) → named texts extra lets text ≡ Ok y → NameSpelled lets y.0 text y.1 × (extra ≡ false)
   unfolding named bound_name

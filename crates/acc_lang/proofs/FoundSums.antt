@@ -1,7 +1,7 @@
 -- What is read is spelled so, and was checked: selects and sums.
 use Rattle.std.proofs.Common.{◌≡◌, ◌≤◌, ℕ, Bool, true, false, not, ◌||◌, ◌&&◌, cond, List, [], ◌∷◌, ◌++◌, length, codes, Option, Some, None, pos, Ok, refl, sym, ap, ◌∙◌, subst, true≢false, inl, inr, arith}
 use Rattle.std.specs.Prelude.{neg_ℤ}
-use Rattle.acc_token.specs.Tokens.{Token, Word, Mark, Number as Digits, Quoted, Strange, End, token_at, behind}
+use Rattle.acc_token.specs.Tokens.{Token, Word, Mark, Number as Digits, Quoted, Strange, End, token_at, behind, says_word, says_mark}
 use Rattle.acc_value.specs.Footprint.{used}
 use Rattle.acc_txn.specs.declared.parts.Let.{Let}
 use Rattle.acc_txn.specs.declared.parts.Select.{Select}
@@ -12,7 +12,7 @@ use Rattle.acc_txn.specs.declared.parts.Part.{Part}
 use Rattle.acc_lang.specs.declared.error.LangKind.{LangKind}
 use Rattle.acc_lang.specs.declared.error.LangKind.TheVariants.{Number as NumberKind}
 use Rattle.acc_lang.specs.Faults.{fault_behind_minus, exceeds}
-use Rattle.acc_lang.specs.Reading.{◌>>=◌, passed, step, standing_of, from_key, is_word, is_mark, is_number, is_quoted, number_of, text_of, one_item, more_items, items, begins_get, get, selected, select, negative, plain, null, text_value, term, is_sign, part_of, one_part, more_parts, expression, named}
+use Rattle.acc_lang.specs.Reading.{◌>>=◌, passed, step, standing_of, from_key, is_number, is_quoted, number_of, text_of, one_item, more_items, items, begins_get, get, selected, select, negative, plain, null, text_value, term, is_sign, part_of, one_part, more_parts, expression, named}
 use Rattle.acc_lang.specs.Grammar.{Spells, Each, Behind, NameSpelled, SelectSpelled, TermSpelled, PartSpelled, ExpressionSpelled}
 use Rattle.acc_lang.proofs.Taking.{misplaced}
 use Rattle.acc_lang.proofs.Steps.{both, taken, word_token, mark_token, number_token, quoted_token, join}
@@ -34,12 +34,12 @@ passed_behind None text rest is = (refl, cc)
 passed_behind (Some kind) text rest is = cc
 
 -- a plus or a minus, which tells whether the term is taken away
-sign_token : (token : Token) → is_sign token ≡ true → token ≡ Mark (cond (is_mark (codes "-") token) (codes "-") (codes "+"))
-sign_token token is = minus (is_mark (codes "-") token) refl is where
-  minus : (b : Bool) → is_mark (codes "-") token ≡ b → (is_mark (codes "+") token || b) ≡ true → token ≡ Mark (cond b (codes "-") (codes "+"))
+sign_token : (token : Token) → is_sign token ≡ true → token ≡ Mark (cond (says_mark (codes "-") token) (codes "-") (codes "+"))
+sign_token token is = minus (says_mark (codes "-") token) refl is where
+  minus : (b : Bool) → says_mark (codes "-") token ≡ b → (says_mark (codes "+") token || b) ≡ true → token ≡ Mark (cond b (codes "-") (codes "+"))
   minus true begins is = mark_token (codes "-") token begins
-  minus false begins is = plus (is_mark (codes "+") token) refl is where
-    plus : (a : Bool) → is_mark (codes "+") token ≡ a → (a || false) ≡ true → token ≡ Mark (codes "+")
+  minus false begins is = plus (says_mark (codes "+") token) refl is where
+    plus : (a : Bool) → says_mark (codes "+") token ≡ a → (a || false) ≡ true → token ≡ Mark (codes "+")
     plus true begins is = mark_token (codes "+") token begins
     plus false begins is = cc
 
@@ -69,7 +69,7 @@ module _ (texts : Bool) where
       let p = both (named texts false lets text) _ y is in
       let n = named_found texts false lets text p.0 p.1 in
       let q = both (more_items texts lets 15 (p.0.0 ∷ []) p.0.1) _ y p.2 in
-      let e = each_found (is_mark (codes ",")) (one_item texts lets) at_end (Behind (Mark (codes ",") ∷ []) (NameSpelled lets)) Any (item_found lets) (item_full lets) 15 (p.0.0 ∷ []) p.0.1 q.0 q.1 in
+      let e = each_found (says_mark (codes ",")) (one_item texts lets) at_end (Behind (Mark (codes ",") ∷ []) (NameSpelled lets)) Any (item_found lets) (item_full lets) 15 (p.0.0 ∷ []) p.0.1 q.0 q.1 in
       let m = mark_first texts (codes ";") q.0.1 _ y q.2 in
       let same = ok_same (q.0.0, behind q.0.1) y m.1 in
       (p.0.0, e.0, sym (ap (λ y. y.0) same) ∙ e.1 ∙ after_at_end (p.0.0 ∷ []) e.0, p.0.1, q.0.1, n.0, e.2, (m.0, ap (λ y. y.1) same), e.4)
@@ -106,8 +106,8 @@ module _ (texts : Bool) where
   pub select_found : (uses : Uses) (lets : List Let) (text : List ℕ) (y : (Select × Uses) × List ℕ) → select texts uses lets text ≡ Ok y
       → SelectSpelled lets y.0.0 text y.1 × IsFitSelect uses y.0.0 × (y.0.1 ≡ uses_after_select uses y.0.0)
   unfolding select
-  select_found uses lets text y is = chosen (is_word (codes "select") (token_at text)) refl is where
-    chosen : (b : Bool) → is_word (codes "select") (token_at text) ≡ b → cond b (selected texts uses lets (behind text)) (Ok ((Nothing, uses), text)) ≡ Ok y
+  select_found uses lets text y is = chosen (says_word (codes "select") (token_at text)) refl is where
+    chosen : (b : Bool) → says_word (codes "select") (token_at text) ≡ b → cond b (selected texts uses lets (behind text)) (Ok ((Nothing, uses), text)) ≡ Ok y
         → SelectSpelled lets y.0.0 text y.1 × IsFitSelect uses y.0.0 × (y.0.1 ≡ uses_after_select uses y.0.0)
     chosen true begins is = selected_found uses lets text y (word_token (codes "select") (token_at text) begins) is
     chosen false begins is =
@@ -177,37 +177,37 @@ module _ (texts : Bool) where
 
   pub term_found : (extra : Bool) (lets : List Let) (text : List ℕ) (y : Term × List ℕ) → term texts extra lets text ≡ Ok y → TermSpelled texts lets y.0 text y.1 × IsFitTerm y.0 × (extra ≡ false)
   unfolding term
-  term_found extra lets text y is = signed (is_mark (codes "-") (token_at text)) refl is where
+  term_found extra lets text y is = signed (says_mark (codes "-") (token_at text)) refl is where
     name_found : (named texts extra lets text >>= (λ name. Ok (Name name.0, name.1))) ≡ Ok y → TermSpelled texts lets y.0 text y.1 × IsFitTerm y.0 × (extra ≡ false)
     name_found is =
         let p = both (named texts extra lets text) _ y is in
         let n = named_found texts extra lets text p.0 p.1 in
         subst (λ (y : Term × List ℕ). TermSpelled texts lets y.0 text y.1 × IsFitTerm y.0 × (extra ≡ false)) (ok_same (Name p.0.0, p.0.1) y p.2) (n.0, tt, n.1)
 
-    word : (b : Bool) → is_word (codes "null") (token_at text) ≡ b → cond b (null texts extra text) (named texts extra lets text >>= (λ name. Ok (Name name.0, name.1))) ≡ Ok y
+    word : (b : Bool) → says_word (codes "null") (token_at text) ≡ b → cond b (null texts extra text) (named texts extra lets text >>= (λ name. Ok (Name name.0, name.1))) ≡ Ok y
         → TermSpelled texts lets y.0 text y.1 × IsFitTerm y.0 × (extra ≡ false)
     word true begins is = null_found extra lets text y (word_token (codes "null") (token_at text) begins) is
     word false begins is = name_found is
 
     text_or_word : (b : Bool) → (is_quoted (token_at text) && texts) ≡ b
-        → cond b (text_value texts extra text) (cond (is_word (codes "null") (token_at text)) (null texts extra text) (named texts extra lets text >>= (λ name. Ok (Name name.0, name.1)))) ≡ Ok y
+        → cond b (text_value texts extra text) (cond (says_word (codes "null") (token_at text)) (null texts extra text) (named texts extra lets text >>= (λ name. Ok (Name name.0, name.1)))) ≡ Ok y
         → TermSpelled texts lets y.0 text y.1 × IsFitTerm y.0 × (extra ≡ false)
     text_or_word true begins is = let b = begins_parts (is_quoted (token_at text)) texts begins in text_found extra lets text y b.1 b.0 is
-    text_or_word false begins is = word (is_word (codes "null") (token_at text)) refl is
+    text_or_word false begins is = word (says_word (codes "null") (token_at text)) refl is
 
     unsigned : (b : Bool) → is_number (token_at text) ≡ b
         → cond b (plain texts extra text)
         (cond (is_quoted (token_at text) && texts) (text_value texts extra text)
-        (cond (is_word (codes "null") (token_at text)) (null texts extra text) (named texts extra lets text >>= (λ name. Ok (Name name.0, name.1))))) ≡ Ok y
+        (cond (says_word (codes "null") (token_at text)) (null texts extra text) (named texts extra lets text >>= (λ name. Ok (Name name.0, name.1))))) ≡ Ok y
         → TermSpelled texts lets y.0 text y.1 × IsFitTerm y.0 × (extra ≡ false)
     unsigned true begins is = plain_found extra lets text y begins is
     unsigned false begins is = text_or_word (is_quoted (token_at text) && texts) refl is
 
-    signed : (b : Bool) → is_mark (codes "-") (token_at text) ≡ b
+    signed : (b : Bool) → says_mark (codes "-") (token_at text) ≡ b
         → cond b (negative texts extra text)
         (cond (is_number (token_at text)) (plain texts extra text)
         (cond (is_quoted (token_at text) && texts) (text_value texts extra text)
-        (cond (is_word (codes "null") (token_at text)) (null texts extra text) (named texts extra lets text >>= (λ name. Ok (Name name.0, name.1)))))) ≡ Ok y
+        (cond (says_word (codes "null") (token_at text)) (null texts extra text) (named texts extra lets text >>= (λ name. Ok (Name name.0, name.1)))))) ≡ Ok y
         → TermSpelled texts lets y.0 text y.1 × IsFitTerm y.0 × (extra ≡ false)
     signed true begins is = negative_found extra lets text y (mark_token (codes "-") (token_at text) begins) is
     signed false begins is = unsigned (is_number (token_at text)) refl is
@@ -220,7 +220,7 @@ module _ (texts : Bool) where
       let t = taken (not texts) (is_sign (token_at text)) false true text p.0 p.1 in
       let q = both (term texts false lets p.0) _ y p.2 in
       let f = term_found false lets p.0 q.0 q.1 in
-      let part = part_of (is_mark (codes "-") (token_at text)) q.0.0 in
+      let part = part_of (says_mark (codes "-") (token_at text)) q.0.0 in
       let same = ok_same (so_far ++ part ∷ [], q.0.1) y q.2 in (
         part,
         sym (ap (λ y. y.0) same),

@@ -1,7 +1,7 @@
 -- What is read is spelled so, and was checked: conditions, updates and the whole text.
 use Rattle.std.proofs.Common.{◌≡◌, ◌≤◌, ℕ, Bool, true, false, not, ◌||◌, cond, List, [], ◌∷◌, ◌++◌, length, codes, Option, Some, None, is_some, unwrap_or, Ok, refl, sym, ap, ◌∙◌, subst, true≢false, inl, inr, append_assoc, arith}
 use Rattle.std.proofs.lemmas.List.{append-nil}
-use Rattle.acc_token.specs.Tokens.{Token, Word, Mark, token_at, behind}
+use Rattle.acc_token.specs.Tokens.{Token, Word, Mark, token_at, behind, says_word, says_mark}
 use Rattle.acc_value.specs.Footprint.{used}
 use Rattle.acc_txn.specs.declared.parts.Let.{Let}
 use Rattle.acc_txn.specs.declared.parts.Operator.{Operator}
@@ -12,7 +12,7 @@ use Rattle.acc_txn.specs.declared.parts.Condition.{Condition}
 use Rattle.acc_txn.specs.declared.parts.Condition.TheVariants.{Compare, IsNull, IsNotNull}
 use Rattle.acc_txn.specs.declared.parts.Update.{Update}
 use Rattle.acc_txn.specs.declared.parts.Update.TheVariants.{Set, Delete}
-use Rattle.acc_lang.specs.Reading.{◌>>=◌, step, standing_of, take_word, skip_mark, where_key, from_key, is_word, is_mark, term, more_parts, expression, operator_of, operator, null_test, comparison, condition_from, condition, one_condition, more_conditions, conditions, assignment, removal, begins_update, update, key_written, one_update, more_updates, guarded, unguarded, action}
+use Rattle.acc_lang.specs.Reading.{◌>>=◌, step, standing_of, take_word, skip_mark, where_key, from_key, term, more_parts, expression, operator_of, operator, null_test, comparison, condition_from, condition, one_condition, more_conditions, conditions, assignment, removal, begins_update, update, key_written, one_update, more_updates, guarded, unguarded, action}
 use Rattle.acc_lang.specs.Grammar.{Spells, Each, Behind, MaybeSemicolon, NameSpelled, TermSpelled, operator_mark, ConditionSpelled, UpdateSpelled, ActionSpelled}
 use Rattle.acc_lang.proofs.Steps.{both, taken, word_token, mark_token, join}
 use Rattle.acc_lang.proofs.Fits.{IsFitTerm, IsFitCondition, ThisCondition, IsFitUpdate, Uses, after, InTurn, at_end, after_at_end, with_update}
@@ -21,7 +21,7 @@ use Rattle.acc_lang.proofs.FoundParts.{each_found, some_is}
 use Rattle.acc_lang.proofs.FoundSums.{term_found, parts_found, expression_found}
 
 -- one mark of several
-this_mark : (token : Token) (mark : List ℕ) (this op : Operator) (others : Option Operator) (b : Bool) → is_mark mark token ≡ b → mark ≡ operator_mark this
+this_mark : (token : Token) (mark : List ℕ) (this op : Operator) (others : Option Operator) (b : Bool) → says_mark mark token ≡ b → mark ≡ operator_mark this
     → (others ≡ Some op → token ≡ Mark (operator_mark op)) → cond b (Some this) others ≡ Some op → token ≡ Mark (operator_mark op)
 this_mark token mark this op others true begins spelled rest is =
     let same : this ≡ op = cc in
@@ -30,12 +30,12 @@ this_mark token mark this op others false begins spelled rest is = rest is
 
 operator_token : (token : Token) (op : Operator) → operator_of token ≡ Some op → token ≡ Mark (operator_mark op)
 operator_token token op is =
-    this_mark token (codes "=") Equal op _ (is_mark (codes "=") token) refl refl
-    (λ is. this_mark token (codes "!=") Differs op _ (is_mark (codes "!=") token) refl refl
-    (λ is. this_mark token (codes "<") Less op _ (is_mark (codes "<") token) refl refl
-    (λ is. this_mark token (codes "<=") AtMost op _ (is_mark (codes "<=") token) refl refl
-    (λ is. this_mark token (codes ">") More op _ (is_mark (codes ">") token) refl refl
-    (λ is. this_mark token (codes ">=") AtLeast op None (is_mark (codes ">=") token) refl refl
+    this_mark token (codes "=") Equal op _ (says_mark (codes "=") token) refl refl
+    (λ is. this_mark token (codes "!=") Differs op _ (says_mark (codes "!=") token) refl refl
+    (λ is. this_mark token (codes "<") Less op _ (says_mark (codes "<") token) refl refl
+    (λ is. this_mark token (codes "<=") AtMost op _ (says_mark (codes "<=") token) refl refl
+    (λ is. this_mark token (codes ">") More op _ (says_mark (codes ">") token) refl refl
+    (λ is. this_mark token (codes ">=") AtLeast op None (says_mark (codes ">=") token) refl refl
     (λ none. cc) is) is) is) is) is) is
 
 other_word : (a b : Bool) → (a || b) ≡ true → a ≡ false → b ≡ true
@@ -45,8 +45,8 @@ other_word false b is none = is
 -- a semicolon that may stand there
 pub semicolon_found : (text : List ℕ) → MaybeSemicolon text (skip_mark (codes ";") text)
 unfolding skip_mark
-semicolon_found text = skipped (is_mark (codes ";") (token_at text)) refl where
-  skipped : (b : Bool) → is_mark (codes ";") (token_at text) ≡ b → MaybeSemicolon text (cond b (behind text) text)
+semicolon_found text = skipped (says_mark (codes ";") (token_at text)) refl where
+  skipped : (b : Bool) → says_mark (codes ";") (token_at text) ≡ b → MaybeSemicolon text (cond b (behind text) text)
   skipped true begins = inr (mark_token (codes ";") (token_at text) begins, refl)
   skipped false begins = inl refl
 
@@ -81,8 +81,8 @@ module _ (texts : Bool) where
   pub null_test_found : (lets : List Let) (name : ℕ) (start text : List ℕ) (y : Condition × List ℕ) → NameSpelled lets name start text → token_at text ≡ Word (codes "is")
       → null_test texts name (behind text) ≡ Ok y → ConditionSpelled texts lets y.0 start y.1 × IsFitCondition y.0
   unfolding null_test
-  null_test_found lets name start text y spelled begins is = negated (is_word (codes "not") (token_at (behind text))) refl is where
-    negated : (b : Bool) → is_word (codes "not") (token_at (behind text)) ≡ b
+  null_test_found lets name start text y spelled begins is = negated (says_word (codes "not") (token_at (behind text))) refl is where
+    negated : (b : Bool) → says_word (codes "not") (token_at (behind text)) ≡ b
         → cond b (take_word texts (codes "null") (behind (behind text)) >>= (λ t. Ok (IsNotNull name, t))) (take_word texts (codes "null") (behind text) >>= (λ t. Ok (IsNull name, t))) ≡ Ok y
         → ConditionSpelled texts lets y.0 start y.1 × IsFitCondition y.0
     negated true not is =
@@ -100,8 +100,8 @@ module _ (texts : Bool) where
   condition_from_found lets (Number number) start text y spelled fit is = comparison_found lets (Number number) start text y spelled fit is
   condition_from_found lets Null start text y spelled fit is = comparison_found lets Null start text y spelled fit is
   condition_from_found lets (Text t) start text y spelled fit is = comparison_found lets (Text t) start text y spelled fit is
-  condition_from_found lets (Name name) start text y spelled fit is = tested (is_word (codes "is") (token_at text)) refl is where
-    tested : (b : Bool) → is_word (codes "is") (token_at text) ≡ b → cond b (null_test texts name (behind text)) (comparison texts lets (Name name) text) ≡ Ok y
+  condition_from_found lets (Name name) start text y spelled fit is = tested (says_word (codes "is") (token_at text)) refl is where
+    tested : (b : Bool) → says_word (codes "is") (token_at text) ≡ b → cond b (null_test texts name (behind text)) (comparison texts lets (Name name) text) ≡ Ok y
         → ConditionSpelled texts lets y.0 start y.1 × IsFitCondition y.0
     tested true begins is = null_test_found lets name start text y spelled (word_token (codes "is") (token_at text) begins) is
     tested false begins is = comparison_found lets (Name name) start text y spelled fit is
@@ -141,7 +141,7 @@ module _ (texts : Bool) where
       let p = both (condition texts false lets text) _ y is in
       let c = condition_found false lets text p.0 p.1 in
       let q = both (more_conditions texts lets 15 (p.0.0 ∷ []) p.0.1) _ y p.2 in
-      let e = each_found (is_word (codes "and")) (one_condition texts lets) at_end (Behind (Word (codes "and") ∷ []) (ConditionSpelled texts lets)) ThisCondition (one_condition_found lets) (one_condition_full lets) 15 (p.0.0 ∷ []) p.0.1 q.0 q.1 in
+      let e = each_found (says_word (codes "and")) (one_condition texts lets) at_end (Behind (Word (codes "and") ∷ []) (ConditionSpelled texts lets)) ThisCondition (one_condition_found lets) (one_condition_full lets) 15 (p.0.0 ∷ []) p.0.1 q.0 q.1 in
       let w = word_first texts (codes "then") q.0.1 _ y q.2 in
       let same = ok_same (q.0.0, behind q.0.1) y w.1 in
       (p.0.0, e.0, sym (ap (λ y. y.0) same) ∙ e.1 ∙ after_at_end (p.0.0 ∷ []) e.0, p.0.1, q.0.1, c.0, e.2, (w.0, ap (λ y. y.1) same), e.4, c.1, e.3)
@@ -179,13 +179,13 @@ module _ (texts : Bool) where
   update_found extra uses all lets text y is =
       let p = both (step (not texts) (standing_of (begins_update (token_at text)) extra true) text) _ y is in
       let t = taken (not texts) (begins_update (token_at text)) extra true text p.0 p.1 in
-      let u = chosen t.allows (is_word (codes "update") (token_at text)) refl (subst (λ place. cond (is_word (codes "update") (token_at text)) (assignment texts uses lets place) (removal texts uses place) ≡ Ok y) (sym t.follows) p.2) in
+      let u = chosen t.allows (says_word (codes "update") (token_at text)) refl (subst (λ place. cond (says_word (codes "update") (token_at text)) (assignment texts uses lets place) (removal texts uses place) ≡ Ok y) (sym t.follows) p.2) in
       (u.0, u.1, t.room) where
-        chosen : begins_update (token_at text) ≡ true → (b : Bool) → is_word (codes "update") (token_at text) ≡ b
+        chosen : begins_update (token_at text) ≡ true → (b : Bool) → says_word (codes "update") (token_at text) ≡ b
             → cond b (assignment texts uses lets (behind text)) (removal texts uses (behind text)) ≡ Ok y → UpdateSpelled texts lets y.0 text y.1 × IsFitUpdate (all, uses) y.0
         chosen begins true word is = assignment_found uses all lets text y (word_token (codes "update") (token_at text) word) is
         chosen begins false word is =
-            removal_found uses all lets text y (word_token (codes "delete") (token_at text) (other_word (is_word (codes "update") (token_at text)) (is_word (codes "delete") (token_at text)) begins word)) is
+            removal_found uses all lets text y (word_token (codes "delete") (token_at text) (other_word (says_word (codes "update") (token_at text)) (says_word (codes "delete") (token_at text)) begins word)) is
 
   pub one_update_found : (lets : List Let) (so_far : List Update × Uses) (text : List ℕ) (y : (List Update × Uses) × List ℕ) → one_update texts lets false so_far text ≡ Ok y
       → (next : Update) × (y.0 ≡ with_update so_far next) × UpdateSpelled texts lets next text y.1 × IsFitUpdate so_far next
@@ -260,7 +260,7 @@ module _ (texts : Bool) where
 
   pub action_found : (uses : Uses) (lets : List Let) (text : List ℕ) (y : ((List Condition × List Update) × Uses) × List ℕ) → action texts uses lets text ≡ Ok y → ActionFound lets uses text y
   unfolding action
-  action_found uses lets text y is = chosen (is_word (codes "if") (token_at text)) refl is where
-    chosen : (b : Bool) → is_word (codes "if") (token_at text) ≡ b → cond b (guarded texts uses lets (behind text)) (unguarded texts uses lets text) ≡ Ok y → ActionFound lets uses text y
+  action_found uses lets text y is = chosen (says_word (codes "if") (token_at text)) refl is where
+    chosen : (b : Bool) → says_word (codes "if") (token_at text) ≡ b → cond b (guarded texts uses lets (behind text)) (unguarded texts uses lets text) ≡ Ok y → ActionFound lets uses text y
     chosen true begins is = guarded_found uses lets text y (word_token (codes "if") (token_at text) begins) is
     chosen false begins is = unguarded_found uses lets text y is

@@ -1,15 +1,15 @@
 -- What is spelled and fits is read: tokens, keys, LETs, names and the select.
 use Rattle.std.proofs.Common.{◌≡◌, ◌≤◌, ℕ, zero, suc, Bool, true, false, not, ◌&&◌, List, [], ◌∷◌, ◌++◌, length, codes, Some, None, is_some, Result, Ok, refl, sym, ap, ◌∙◌, subst, arith}
-use Rattle.acc_token.specs.Tokens.{Token, Word, Mark, Quoted, token_at, behind}
+use Rattle.acc_token.specs.Tokens.{Token, Word, Mark, Quoted, token_at, behind, says_word, says_mark}
 use Rattle.acc_value.specs.declared.key.Key.{Key}
 use Rattle.acc_value.specs.Footprint.{used}
 use Rattle.acc_txn.specs.declared.parts.Let.{Let}
 use Rattle.acc_txn.specs.declared.parts.Select.{Select}
 use Rattle.acc_txn.specs.declared.parts.Select.TheVariants.{Nothing, Names, Get}
 use Rattle.acc_lang.specs.declared.fault.Fault.{Fault}
-use Rattle.acc_lang.specs.Reading.{Reads, ◌>>=◌, step, standing_of, take_word, take_mark, table, key_text, where_key, from_key, word_of, is_free, is_word, is_mark, let_of, new_name, binding, one_let, more_lets, bound_name, named, one_item, more_items, items, begins_get, get, selected, select, each}
+use Rattle.acc_lang.specs.Reading.{Reads, ◌>>=◌, step, standing_of, take_word, take_mark, table, key_text, where_key, from_key, word_of, is_free, let_of, new_name, binding, one_let, more_lets, bound_name, named, one_item, more_items, items, begins_get, get, selected, select, each}
 use Rattle.acc_lang.specs.Grammar.{Spells, Each, Behind, LetSpelled, NameSpelled, SelectSpelled}
-use Rattle.acc_lang.proofs.Steps.{word_only, mark_only, takes_word, takes_quoted, is_word_same}
+use Rattle.acc_lang.proofs.Steps.{word_only, mark_only, takes_word, takes_quoted, says_word_same}
 use Rattle.acc_lang.proofs.Fits.{IsFreeWord, IsFitKey, IsFitLet, IsFitSelect, AreNamed, Uses, uses_after_select, after, InTurn, with_let, at_end, after_at_end}
 use Rattle.acc_lang.proofs.Found.{where_tokens, from_tokens}
 use Rattle.acc_lang.proofs.FoundSums.{Any}
@@ -85,10 +85,10 @@ module _ (texts : Bool) where
       rw allowed (rw suits (rw (takes_word (not texts) name text is free.short) (ap (λ token. Ok (word_of token, behind text)) is)))
 
   pub one_let_only : (so_far : List Let × Uses) (l : Let) (text rest : List ℕ) → LetSpelled l text rest → IsFitLet so_far l
-      → (is_word (codes "let") (token_at text) ≡ true) × (one_let texts false so_far text ≡ Ok (with_let so_far l, rest))
+      → (says_word (codes "let") (token_at text) ≡ true) × (one_let texts false so_far text ≡ Ok (with_let so_far l, rest))
   unfolding one_let binding
   one_let_only so_far l text rest spelled fit =
-      let is : is_word (codes "let") (token_at text) ≡ true = is_word_same (codes "let") (token_at text) spelled.0 in
+      let is : says_word (codes "let") (token_at text) ≡ true = says_word_same (codes "let") (token_at text) spelled.0 in
       let start = behind (behind (behind (behind (behind (behind text))))) in
       let f = front_of (from_tokens l.key) (Mark (codes ")") ∷ Mark (codes ";") ∷ []) start rest spelled.1.1.1.1.1.1 in
       let a = behind text in
@@ -97,7 +97,7 @@ module _ (texts : Bool) where
       let d = behind c in
       let e = behind d in (
         is,
-        then_ok (step (not texts) (standing_of (is_word (codes "let") (token_at text)) false true) text) _ a _ (rw is (takes_word (not texts) (codes "let") text spelled.0 refl))
+        then_ok (step (not texts) (standing_of (says_word (codes "let") (token_at text)) false true) text) _ a _ (rw is (takes_word (not texts) (codes "let") text spelled.0 refl))
             (then_ok (binding texts so_far.1 so_far.0 a) _ (l, rest) _
             (then_ok (new_name texts so_far.0 a) _ (l.name, b) _ (new_name_only so_far.0 l.name a spelled.1.0 fit.name fit.new)
             (then_ok (take_mark texts (codes "=") b) _ c _ (mark_only texts (codes "=") b spelled.1.1.0)
@@ -112,10 +112,10 @@ module _ (texts : Bool) where
       )
 
   pub lets_only : (lets : List Let) (text rest : List ℕ) → Each LetSpelled lets text rest → InTurn with_let IsFitLet ([], []) lets → length lets ≤ 16
-      → is_word (codes "let") (token_at rest) ≡ false → more_lets texts 16 ([], []) text ≡ Ok (after with_let ([], []) lets, rest)
+      → says_word (codes "let") (token_at rest) ≡ false → more_lets texts 16 ([], []) text ≡ Ok (after with_let ([], []) lets, rest)
   unfolding more_lets
   lets_only lets text rest spelled fit few ends =
-      each_only (is_word (codes "let")) (one_let texts) with_let LetSpelled IsFitLet one_let_only lets 16 ([], []) text rest spelled fit few ends
+      each_only (says_word (codes "let")) (one_let texts) with_let LetSpelled IsFitLet one_let_only lets 16 ([], []) text rest spelled fit few ends
 
   -- names that are bound
   pub named_only : (lets : List Let) (number : ℕ) (text rest : List ℕ) → AreNamed lets → NameSpelled lets number text rest → named texts false lets text ≡ Ok (number, rest)
@@ -134,10 +134,10 @@ module _ (texts : Bool) where
       (ap (λ place. Ok (number, place)) spelled.2.1.1.1)))
 
   pub item_only : (lets : List Let) → AreNamed lets → (so_far : List ℕ) (name : ℕ) (text rest : List ℕ) → Behind (Mark (codes ",") ∷ []) (NameSpelled lets) name text rest → Any so_far name
-      → (is_mark (codes ",") (token_at text) ≡ true) × (one_item texts lets false so_far text ≡ Ok (at_end so_far name, rest))
+      → (says_mark (codes ",") (token_at text) ≡ true) × (one_item texts lets false so_far text ≡ Ok (at_end so_far name, rest))
   unfolding one_item
   item_only lets names so_far name text rest spelled fit = (
-    ap (is_mark (codes ",")) spelled.1.0,
+    ap (says_mark (codes ",")) spelled.1.0,
     then_ok (take_mark texts (codes ",") text) _ (behind text) _ (mark_only texts (codes ",") text spelled.1.0)
         (then_ok (named texts false lets (behind text)) _ (name, rest) _
         (ap (named texts false lets) spelled.1.1 ∙ named_only lets name spelled.0 rest names spelled.2)
@@ -151,31 +151,31 @@ module _ (texts : Bool) where
   items_only lets name names text a b rest named_lets first others ends few =
       then_ok (named texts false lets text) _ (name, a) _ (named_only lets name text a named_lets first)
       (then_ok (more_items texts lets 15 (name ∷ []) a) _ (name ∷ names, b) _
-      (each_only (is_mark (codes ",")) (one_item texts lets) at_end (Behind (Mark (codes ",") ∷ []) (NameSpelled lets)) Any (item_only lets named_lets) names 15 (name ∷ []) a b others
-      (never_checked at_end (name ∷ []) names) few (ap (is_mark (codes ",")) ends.0)
+      (each_only (says_mark (codes ",")) (one_item texts lets) at_end (Behind (Mark (codes ",") ∷ []) (NameSpelled lets)) Any (item_only lets named_lets) names 15 (name ∷ []) a b others
+      (never_checked at_end (name ∷ []) names) few (ap (says_mark (codes ",")) ends.0)
       ∙ ap (λ all. Ok (all, b)) (after_at_end (name ∷ []) names))
       (then_ok (take_mark texts (codes ";") b) _ (behind b) _ (mark_only texts (codes ";") b ends.0)
       (ap (λ place. Ok (name ∷ names, place)) ends.1)))
 
   pub select_only : (uses : Uses) (lets : List Let) (s : Select) (text rest : List ℕ) → AreNamed lets → SelectSpelled lets s text rest → IsFitSelect uses s
-      → is_word (codes "select") (token_at rest) ≡ false → select texts uses lets text ≡ Ok ((s, uses_after_select uses s), rest)
+      → says_word (codes "select") (token_at rest) ≡ false → select texts uses lets text ≡ Ok ((s, uses_after_select uses s), rest)
   unfolding select selected get
   select_only uses lets Nothing text rest names spelled fit ends =
-      let other : is_word (codes "select") (token_at text) ≡ false = ap (λ place. is_word (codes "select") (token_at place)) spelled ∙ ends in
+      let other : says_word (codes "select") (token_at text) ≡ false = ap (λ place. says_word (codes "select") (token_at place)) spelled ∙ ends in
       rw other (ap (λ place. Ok ((Nothing, uses), place)) spelled)
   select_only uses lets (Names []) text rest names spelled fit ends = absurd spelled
   select_only uses lets (Names (name ∷ others)) text rest names spelled fit ends =
       let s = spelled.2 in
-      let here : is_word (codes "select") (token_at text) ≡ true = ap (is_word (codes "select")) s.1.0 in
+      let here : says_word (codes "select") (token_at text) ≡ true = ap (says_word (codes "select")) s.1.0 in
       let first : NameSpelled lets name (behind text) spelled.0 = subst (λ place. NameSpelled lets name place spelled.0) (sym s.1.1) s.2 in
       let other : begins_get (behind text) ≡ false =
-      ap (λ token. is_word (codes "v") (token_at (behind text)) && is_word (codes "from") token) first.2.1.0 ∙ neither (is_word (codes "v") (token_at (behind text))) in
+      ap (λ token. says_word (codes "v") (token_at (behind text)) && says_word (codes "from") token) first.2.1.0 ∙ neither (says_word (codes "v") (token_at (behind text))) in
       rw here (rw other
       (then_ok (items texts lets (behind text)) _ (name ∷ others, rest) _
       (items_only lets name others (behind text) spelled.0 spelled.1 rest names first spelled.3 spelled.4 (omega arith))
       refl))
   select_only uses lets (Get key) text rest names spelled fit ends =
-      let here : is_word (codes "select") (token_at text) ≡ true = ap (is_word (codes "select")) spelled.0 in
+      let here : says_word (codes "select") (token_at text) ≡ true = ap (says_word (codes "select")) spelled.0 in
       let both : begins_get (behind text) ≡ true = rw spelled.1.0 (rw spelled.1.1.0 refl) in
       let f = front_of (from_tokens key) (Mark (codes ";") ∷ []) (behind (behind text)) rest spelled.1.1 in
       rw here (rw both

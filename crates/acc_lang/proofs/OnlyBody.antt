@@ -1,6 +1,6 @@
 -- What is spelled and fits is read: updates, actions and whole texts.
 use Rattle.std.proofs.Common.{◌≡◌, ◌≤◌, ◌==◌, ℕ, Bool, true, false, List, [], ◌∷◌, ◌++◌, length, codes, Ok, refl, sym, ap, ◌∙◌, subst, ⊎_elim, arith, not}
-use Rattle.acc_token.specs.Tokens.{Token, Word, Mark, End, token_at, behind}
+use Rattle.acc_token.specs.Tokens.{Token, Word, Mark, End, token_at, behind, says_word, says_mark}
 use Rattle.acc_txn.specs.declared.parts.Let.{Let}
 use Rattle.acc_txn.specs.declared.parts.Select.{Select}
 use Rattle.acc_txn.specs.declared.parts.Select.TheVariants.{Nothing, Names, Get}
@@ -9,7 +9,7 @@ use Rattle.acc_txn.specs.declared.parts.Update.{Update}
 use Rattle.acc_txn.specs.declared.parts.Update.TheVariants.{Set, Delete}
 use Rattle.acc_txn.specs.declared.parts.BodyParts.{BodyParts}
 use Rattle.acc_lang.specs.Faults.{fault_behind_end}
-use Rattle.acc_lang.specs.Reading.{step, standing_of, take_word, take_mark, skip_mark, table, where_key, from_key, is_word, is_mark, is_sign, more_lets, select, expression, condition, one_condition, more_conditions, conditions, begins_update, assignment, removal, update, one_update, more_updates, guarded, unguarded, action, opening, commit_word, commit, finish, closing, behind_lets, reading}
+use Rattle.acc_lang.specs.Reading.{step, standing_of, take_word, take_mark, skip_mark, table, where_key, from_key, is_sign, more_lets, select, expression, condition, one_condition, more_conditions, conditions, begins_update, assignment, removal, update, one_update, more_updates, guarded, unguarded, action, opening, commit_word, commit, finish, closing, behind_lets, reading}
 use Rattle.acc_lang.specs.Grammar.{Spells, Each, Behind, MaybeSemicolon, SelectSpelled, ConditionSpelled, UpdateSpelled, GuardedSpelled, ActionSpelled, Spelled}
 use Rattle.acc_lang.proofs.Steps.{word_only, mark_only, takes_word}
 use Rattle.acc_lang.proofs.Fits.{ThisCondition, IsFitCondition, IsFitUpdate, IsFitBody, AreNamed, Uses, uses_after_select, after, InTurn, at_end, after_at_end, with_let, with_update}
@@ -19,23 +19,23 @@ use Rattle.acc_lang.proofs.FoundBody.{lets_alone}
 use Rattle.acc_lang.proofs.Only.{then_ok, each_only, table_only, where_key_only, from_key_only, front_of, lets_only, select_only}
 use Rattle.acc_lang.proofs.OnlyText.{expression_only, condition_only}
 
-semicolon_only : (text rest : List ℕ) → MaybeSemicolon text rest → is_mark (codes ";") (token_at rest) ≡ false → skip_mark (codes ";") text ≡ rest
+semicolon_only : (text rest : List ℕ) → MaybeSemicolon text rest → says_mark (codes ";") (token_at rest) ≡ false → skip_mark (codes ";") text ≡ rest
 unfolding skip_mark
 semicolon_only text rest spelled other =
     ⊎_elim
     (λ same.
-    let none : is_mark (codes ";") (token_at text) ≡ false = ap (λ place. is_mark (codes ";") (token_at place)) same ∙ other in
+    let none : says_mark (codes ";") (token_at text) ≡ false = ap (λ place. says_mark (codes ";") (token_at place)) same ∙ other in
     rw none same)
     (λ one. rw one.0 one.1)
     spelled
 
 -- a select begins with no LET
-pub select_head : (lets : List Let) (s : Select) (text rest : List ℕ) → SelectSpelled lets s text rest → is_word (codes "let") (token_at rest) ≡ false
-    → is_word (codes "let") (token_at text) ≡ false
-select_head lets Nothing text rest spelled ends = ap (λ place. is_word (codes "let") (token_at place)) spelled ∙ ends
+pub select_head : (lets : List Let) (s : Select) (text rest : List ℕ) → SelectSpelled lets s text rest → says_word (codes "let") (token_at rest) ≡ false
+    → says_word (codes "let") (token_at text) ≡ false
+select_head lets Nothing text rest spelled ends = ap (λ place. says_word (codes "let") (token_at place)) spelled ∙ ends
 select_head lets (Names []) text rest spelled ends = absurd spelled
-select_head lets (Names (name ∷ names)) text rest spelled ends = ap (is_word (codes "let")) spelled.2.1.0
-select_head lets (Get key) text rest spelled ends = ap (is_word (codes "let")) spelled.0
+select_head lets (Names (name ∷ names)) text rest spelled ends = ap (says_word (codes "let")) spelled.2.1.0
+select_head lets (Get key) text rest spelled ends = ap (says_word (codes "let")) spelled.0
 
 module _ (texts : Bool) where
   pub one_condition_only : (lets : List Let) → AreNamed lets → (so_far : List Condition) (c : Condition) (text rest : List ℕ) → is_sign (token_at rest) ≡ false
@@ -58,10 +58,10 @@ module _ (texts : Bool) where
       → InTurn at_end ThisCondition so_far guards → length guards ≤ room → token_at rest ≡ Word (codes "then") → more_conditions texts lets room so_far text ≡ Ok (so_far ++ guards, rest)
   unfolding more_conditions
   more_conditions_only lets guards so_far room text rest names spelled fit few ends =
-      each_only (is_word (codes "and")) (one_condition texts lets) at_end
+      each_only (says_word (codes "and")) (one_condition texts lets) at_end
       (λ c from to. Behind (Word (codes "and") ∷ []) (ConditionSpelled texts lets) c from to × (is_sign (token_at to) ≡ false)) ThisCondition
-      (λ so_far c text rest spelled fit. (ap (is_word (codes "and")) spelled.0.1.0, one_condition_only lets names so_far c text rest spelled.1 spelled.0 fit))
-      guards room so_far text rest (unsigned guards text spelled) fit few (ap (is_word (codes "and")) ends)
+      (λ so_far c text rest spelled fit. (ap (says_word (codes "and")) spelled.0.1.0, one_condition_only lets names so_far c text rest spelled.1 spelled.0 fit))
+      guards room so_far text rest (unsigned guards text spelled) fit few (ap (says_word (codes "and")) ends)
       ∙ ap (λ all. Ok (all, rest)) (after_at_end so_far guards) where
         unsigned : (guards : List Condition) (text : List ℕ) → Each (Behind (Word (codes "and") ∷ []) (ConditionSpelled texts lets)) guards text rest
             → Each (λ c from to. Behind (Word (codes "and") ∷ []) (ConditionSpelled texts lets) c from to × (is_sign (token_at to) ≡ false)) guards text rest
@@ -149,7 +149,7 @@ module _ (texts : Bool) where
             (then_ok (take_word texts (codes "if") (behind d)) _ (behind (behind d)) _ (word_only texts (codes "if") (behind d) spelled.9.1.0 refl)
             (λ i. Ok (
               ((guard ∷ guards, updates_alone [] (u ∷ updates) uses i), all.1),
-              (ap (skip_mark (codes ";")) spelled.9.1.1 ∙ semicolon_only spelled.4 rest spelled.10 (ap (is_mark (codes ";")) ends)) i,
+              (ap (skip_mark (codes ";")) spelled.9.1.1 ∙ semicolon_only spelled.4 rest spelled.10 (ap (says_mark (codes ";")) ends)) i,
             )))))),
       )
 
@@ -164,10 +164,10 @@ module _ (texts : Bool) where
       (then_ok (more_updates texts lets 16 ([], uses) text) _ (after with_update ([], uses) updates, rest) _
       (updates_only lets updates 16 ([], uses) text rest names spelled fits few_updates (ap begins_update ends))
       (ap (λ all. Ok ((([], all), (after with_update ([], uses) updates).1), rest)) (updates_alone [] updates uses))) where
-        no_if : (updates : List Update) (text : List ℕ) → Each (UpdateSpelled texts lets) updates text rest → is_word (codes "if") (token_at text) ≡ false
-        no_if [] text spelled = ap (λ place. is_word (codes "if") (token_at place)) spelled ∙ ap (is_word (codes "if")) ends
-        no_if (Set key value ∷ updates) text spelled = ap (is_word (codes "if")) spelled.1.1.1.0
-        no_if (Delete key ∷ updates) text spelled = ap (is_word (codes "if")) spelled.1.0
+        no_if : (updates : List Update) (text : List ℕ) → Each (UpdateSpelled texts lets) updates text rest → says_word (codes "if") (token_at text) ≡ false
+        no_if [] text spelled = ap (λ place. says_word (codes "if") (token_at place)) spelled ∙ ap (says_word (codes "if")) ends
+        no_if (Set key value ∷ updates) text spelled = ap (says_word (codes "if")) spelled.1.1.1.0
+        no_if (Delete key ∷ updates) text spelled = ap (says_word (codes "if")) spelled.1.0
   action_only uses lets (guard ∷ guards) updates text rest names spelled few fit few_updates fits ends =
       let g = guarded_only uses lets guard guards updates text rest names spelled few fit few_updates fits ends in
       rw g.0 g.1
@@ -190,7 +190,7 @@ module _ (texts : Bool) where
       (rw some (rw spelled.0
       (then_ok (step (not texts) (standing_of true false true) text) _ (behind text) _ (takes_word (not texts) (codes "commit") text spelled.0 refl)
       (then_ok (take_word texts (codes "transaction") (behind text)) _ (behind (behind text)) _ (word_only texts (codes "transaction") (behind text) spelled.1.0 refl)
-      (ap Ok (ap (skip_mark (codes ";")) spelled.1.1 ∙ semicolon_only place last semicolon (ap (is_mark (codes ";")) ends)))))))
+      (ap Ok (ap (skip_mark (codes ";")) spelled.1.1 ∙ semicolon_only place last semicolon (ap (says_mark (codes ";")) ends)))))))
       (rw ends refl)
 
   pub reading_only : (text : List ℕ) (parts : BodyParts) → AreNamed parts.lets → Spelled texts text parts → IsFitBody parts → reading texts text ≡ Ok parts
@@ -207,11 +207,11 @@ module _ (texts : Bool) where
       (ap (more_lets texts 16 ([], [])) spelled.begins.1.1
       ∙ lets_only texts lets spelled.lets_place spelled.select_place spelled.lets fit.lets fit.few_lets
       (select_head lets parts.select spelled.select_place spelled.action_place spelled.select
-      (action_head (is_word (codes "let")) lets parts.guards parts.updates spelled.action_place spelled.commit_place refl refl refl refl spelled.action commits))
+      (action_head (says_word (codes "let")) lets parts.guards parts.updates spelled.action_place spelled.commit_place refl refl refl refl spelled.action commits))
       ∙ ap (λ all. Ok ((all, uses), spelled.select_place)) (lets_alone [] lets []))
       (then_ok (select texts uses lets spelled.select_place) _ ((parts.select, others), spelled.action_place) _
       (select_only texts uses lets parts.select spelled.select_place spelled.action_place names spelled.select fit.select
-      (action_head (is_word (codes "select")) lets parts.guards parts.updates spelled.action_place spelled.commit_place refl refl refl refl spelled.action commits))
+      (action_head (says_word (codes "select")) lets parts.guards parts.updates spelled.action_place spelled.commit_place refl refl refl refl spelled.action commits))
       (then_ok (action texts others lets spelled.action_place) _ (((parts.guards, parts.updates), all.1), spelled.commit_place) _
       (action_only others lets parts.guards parts.updates spelled.action_place spelled.commit_place names spelled.action fit.few_guards fit.guards fit.few_updates fit.updates commits)
       (then_ok (closing texts all.1 spelled.commit_place) _ (behind spelled.last_place) _

@@ -3,7 +3,7 @@ use Rattle.std.proofs.Common.{◌≡◌, ◌≤◌, ℕ, Bool, true, false, cond
 use Rattle.std.specs.Prelude.{ℤ}
 use Rattle.std.specs.Str.{bytes_eq}
 use Rattle.std.proofs.lemmas.Slice.Eq.{bytes_eq-Decides}
-use Rattle.acc_token.specs.Tokens.{Mark, token_at, behind}
+use Rattle.acc_token.specs.Tokens.{Mark, token_at, behind, says_word, says_mark}
 use Rattle.acc_txn.specs.declared.parts.Let.{Let}
 use Rattle.acc_txn.specs.declared.parts.Operator.{Operator}
 use Rattle.acc_txn.specs.declared.parts.Operator.TheVariants.{Equal, Differs, Less, AtMost, More, AtLeast}
@@ -14,7 +14,7 @@ use Rattle.acc_txn.specs.declared.parts.Condition.{Condition}
 use Rattle.acc_txn.specs.declared.parts.Condition.TheVariants.{Compare, IsNull, IsNotNull}
 use Rattle.acc_txn.specs.Words.{is_reserved}
 use Rattle.acc_lang.specs.Faults.{fault_behind_minus}
-use Rattle.acc_lang.specs.Reading.{step, standing_of, take_word, is_word, is_mark, named, negative, plain, null, text_value, term, is_sign, part_of, one_part, more_parts, expression, operator_of, operator, null_test, comparison, condition_from, condition}
+use Rattle.acc_lang.specs.Reading.{step, standing_of, take_word, named, negative, plain, null, text_value, term, is_sign, part_of, one_part, more_parts, expression, operator_of, operator, null_test, comparison, condition_from, condition}
 use Rattle.acc_lang.specs.Grammar.{Spells, Each, Behind, NumberSpelled, TermSpelled, PartSpelled, ExpressionSpelled, operator_mark, ConditionSpelled}
 use Rattle.acc_lang.proofs.Steps.{word_only, takes_word, takes_mark, takes_number, takes_quoted}
 use Rattle.acc_lang.proofs.Fits.{IsFitTerm, IsFitPart, IsFitSum, IsFitCondition, AreNamed, InTurn, at_end, after_at_end}
@@ -28,7 +28,7 @@ sign_mark : (minus : Bool) → is_sign (Mark (cond minus (codes "-") (codes "+")
 sign_mark true = refl
 sign_mark false = refl
 
-sign_minus : (minus : Bool) → is_mark (codes "-") (Mark (cond minus (codes "-") (codes "+"))) ≡ minus
+sign_minus : (minus : Bool) → says_mark (codes "-") (Mark (cond minus (codes "-") (codes "+"))) ≡ minus
 sign_minus true = refl
 sign_minus false = refl
 
@@ -103,7 +103,7 @@ module _ (texts : Bool) where
   part_only lets names so_far part text rest spelled fit =
       let is = spelled.1.0 in
       let sign : is_sign (token_at text) ≡ true = ap is_sign is ∙ sign_mark part.minus in
-      let minus : is_mark (codes "-") (token_at text) ≡ part.minus = ap (is_mark (codes "-")) is ∙ sign_minus part.minus in (
+      let minus : says_mark (codes "-") (token_at text) ≡ part.minus = ap (says_mark (codes "-")) is ∙ sign_minus part.minus in (
         sign,
         then_ok (step (not texts) (standing_of (is_sign (token_at text)) false true) text) _ (behind text) _
             (rw sign (takes_mark (not texts) (cond part.minus (codes "-") (codes "+")) text is))
@@ -152,9 +152,9 @@ module _ (texts : Bool) where
 
   -- behind the first term of a comparison stands a sign or an operator, and not IS
   not_is : (lets : List Let) (op : Operator) (left right : List Part) (text place rest : List ℕ) → Each (PartSpelled texts lets) left text place
-      → Behind (Mark (operator_mark op) ∷ []) (ExpressionSpelled texts lets) right place rest → is_word (codes "is") (token_at text) ≡ false
-  not_is lets op [] right text place rest spelled behind_op = ap (λ at. is_word (codes "is") (token_at at)) spelled ∙ ap (is_word (codes "is")) behind_op.1.0
-  not_is lets op (part ∷ left) right text place rest spelled behind_op = ap (is_word (codes "is")) spelled.1.1.0
+      → Behind (Mark (operator_mark op) ∷ []) (ExpressionSpelled texts lets) right place rest → says_word (codes "is") (token_at text) ≡ false
+  not_is lets op [] right text place rest spelled behind_op = ap (λ at. says_word (codes "is") (token_at at)) spelled ∙ ap (says_word (codes "is")) behind_op.1.0
+  not_is lets op (part ∷ left) right text place rest spelled behind_op = ap (says_word (codes "is")) spelled.1.1.0
 
   condition_from_only : (lets : List Let) (op : Operator) (first : Part) (left right : List Part) (t : Term) (text place rest : List ℕ) → AreNamed lets → first.minus ≡ false → first.term ≡ t
       → Each (PartSpelled texts lets) left text place → Behind (Mark (operator_mark op) ∷ []) (ExpressionSpelled texts lets) right place rest

@@ -4,27 +4,11 @@ use Rattle.std.proofs.lemmas.Bool.Decides.{nat_tests}
 use Rattle.std.proofs.lemmas.Slice.Eq.{bytes_eq-Decides}
 use Rattle.acc_token.specs.Tokens.{Token, Word, Mark, Number, Quoted, Strange, End, token_at, behind, says_word, says_mark}
 use Rattle.acc_lang.specs.Faults.{fault_of}
-use Rattle.acc_lang.specs.Reading.{is_word, is_mark, step, standing_of, passed, take_word, take_mark}
-
-pub word_seen : (word : List ℕ) (token : Token) → says_word word token ≡ is_word word token
-word_seen word (Word letters) = refl
-word_seen word (Mark mark) = refl
-word_seen word (Number number) = refl
-word_seen word (Quoted text closed) = refl
-word_seen word Strange = refl
-word_seen word End = refl
-
-pub mark_seen : (mark : List ℕ) (token : Token) → says_mark mark token ≡ is_mark mark token
-mark_seen mark (Word letters) = refl
-mark_seen mark (Mark bytes) = refl
-mark_seen mark (Number number) = refl
-mark_seen mark (Quoted text closed) = refl
-mark_seen mark Strange = refl
-mark_seen mark End = refl
+use Rattle.acc_lang.specs.Reading.{step, standing_of, passed, take_word, take_mark}
 
 -- a word that is allowed and not too long is at no fault
 word_fits : (as_key : Bool) (word : List ℕ) (token : Token) → says_word word token ≡ true → length word ≤ 32
-    → fault_of as_key (standing_of (is_word word token) false true) token ≡ None
+    → fault_of as_key (standing_of (says_word word token) false true) token ≡ None
 unfolding fault_of standing_of
 word_fits as_key word (Word letters) is short =
     let same : letters ≡ word = (bytes_eq-Decides letters word).0 is in
@@ -36,7 +20,7 @@ word_fits as_key word (Quoted text closed) is short = cc
 word_fits as_key word Strange is short = cc
 word_fits as_key word End is short = cc
 
-mark_fits : (as_key : Bool) (mark : List ℕ) (token : Token) → says_mark mark token ≡ true → fault_of as_key (standing_of (is_mark mark token) false true) token ≡ None
+mark_fits : (as_key : Bool) (mark : List ℕ) (token : Token) → says_mark mark token ≡ true → fault_of as_key (standing_of (says_mark mark token) false true) token ≡ None
 unfolding fault_of standing_of
 mark_fits as_key mark (Word letters) is = cc
 mark_fits as_key mark (Mark bytes) is = rw is refl

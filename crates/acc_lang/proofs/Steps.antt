@@ -1,13 +1,13 @@
 -- One token, taken or not: what was taken, and what can be.
 use Rattle.std.proofs.Common.{◌≡◌, ◌≤◌, ℕ, Bool, true, false, not, ◌&&◌, cond, List, [], ◌∷◌, ◌++◌, length, nat_lt, Option, Some, None, Result, Ok, Err, refl, sym, ap, subst, arith}
 use Rattle.std.proofs.lemmas.Slice.Eq.{bytes_eq-Decides}
-use Rattle.acc_token.specs.Tokens.{Token, Word, Mark, Number, Quoted, Strange, End, token_at, behind}
+use Rattle.acc_token.specs.Tokens.{Token, Word, Mark, Number, Quoted, Strange, End, token_at, behind, says_word, says_mark}
 use Rattle.acc_txn.specs.Words.{is_reserved}
 use Rattle.acc_lang.specs.declared.fault.Fault.{Fault}
 use Rattle.acc_lang.specs.declared.fault.Standing.{Standing}
 use Rattle.acc_lang.specs.declared.fault.Standing.TheVariants.{Misplaced, Fits, Unfit, Extra}
 use Rattle.acc_lang.specs.Faults.{fault_of, has_form, is_long, is_broken, is_large, greatest_fault}
-use Rattle.acc_lang.specs.Reading.{◌>>=◌, passed, standing_of, step, take_word, take_mark, is_word, is_mark, is_free, is_quoted, is_number, word_of, text_of, number_of}
+use Rattle.acc_lang.specs.Reading.{◌>>=◌, passed, standing_of, step, take_word, take_mark, is_free, is_quoted, is_number, word_of, text_of, number_of}
 use Rattle.acc_lang.specs.Grammar.{Spells}
 use Rattle.acc_lang.proofs.Taking.{misplaced}
 
@@ -131,7 +131,7 @@ module _ (as_key : Bool) where
   quoted_token Strange is whole = cc
   quoted_token End is whole = cc
 
-pub word_token : (word : List ℕ) (token : Token) → is_word word token ≡ true → token ≡ Word word
+pub word_token : (word : List ℕ) (token : Token) → says_word word token ≡ true → token ≡ Word word
 word_token word (Word letters) is = ap Word ((bytes_eq-Decides letters word).0 is)
 word_token word (Mark mark) is = cc
 word_token word (Number number) is = cc
@@ -139,7 +139,7 @@ word_token word (Quoted text closed) is = cc
 word_token word Strange is = cc
 word_token word End is = cc
 
-pub mark_token : (mark : List ℕ) (token : Token) → is_mark mark token ≡ true → token ≡ Mark mark
+pub mark_token : (mark : List ℕ) (token : Token) → says_mark mark token ≡ true → token ≡ Mark mark
 mark_token mark (Word letters) is = cc
 mark_token mark (Mark bytes) is = ap Mark ((bytes_eq-Decides bytes mark).0 is)
 mark_token mark (Number number) is = cc
@@ -147,34 +147,34 @@ mark_token mark (Quoted text closed) is = cc
 mark_token mark Strange is = cc
 mark_token mark End is = cc
 
-pub is_word_same : (word : List ℕ) (token : Token) → token ≡ Word word → is_word word token ≡ true
-is_word_same word token is = rw is ((bytes_eq-Decides word word).1 refl)
+pub says_word_same : (word : List ℕ) (token : Token) → token ≡ Word word → says_word word token ≡ true
+says_word_same word token is = rw is ((bytes_eq-Decides word word).1 refl)
 
-pub is_mark_same : (mark : List ℕ) (token : Token) → token ≡ Mark mark → is_mark mark token ≡ true
-is_mark_same mark token is = rw is ((bytes_eq-Decides mark mark).1 refl)
+pub says_mark_same : (mark : List ℕ) (token : Token) → token ≡ Mark mark → says_mark mark token ≡ true
+says_mark_same mark token is = rw is ((bytes_eq-Decides mark mark).1 refl)
 
 module _ (texts : Bool) where
   -- a word or a mark that was taken stands there
   pub word_found : (word text rest : List ℕ) → take_word texts word text ≡ Ok rest → (token_at text ≡ Word word) × (behind text ≡ rest)
   unfolding take_word
   word_found word text rest is =
-      let t = taken (not texts) (is_word word (token_at text)) false true text rest is in
+      let t = taken (not texts) (says_word word (token_at text)) false true text rest is in
       (word_token word (token_at text) t.allows, t.follows)
 
   pub mark_found : (mark text rest : List ℕ) → take_mark texts mark text ≡ Ok rest → (token_at text ≡ Mark mark) × (behind text ≡ rest)
   unfolding take_mark
   mark_found mark text rest is =
-      let t = taken (not texts) (is_mark mark (token_at text)) false true text rest is in
+      let t = taken (not texts) (says_mark mark (token_at text)) false true text rest is in
       (mark_token mark (token_at text) t.allows, t.follows)
 
   -- and one that stands there is taken
   pub word_only : (word text : List ℕ) → token_at text ≡ Word word → nat_lt 32 (length word) ≡ false → take_word texts word text ≡ Ok (behind text)
   unfolding take_word
-  word_only word text is short = rw (is_word_same word (token_at text) is) (takes_word (not texts) word text is short)
+  word_only word text is short = rw (says_word_same word (token_at text) is) (takes_word (not texts) word text is short)
 
   pub mark_only : (mark text : List ℕ) → token_at text ≡ Mark mark → take_mark texts mark text ≡ Ok (behind text)
   unfolding take_mark
-  mark_only mark text is = rw (is_mark_same mark (token_at text) is) (takes_mark (not texts) mark text is)
+  mark_only mark text is = rw (says_mark_same mark (token_at text) is) (takes_mark (not texts) mark text is)
 
 not_true : (b : Bool) → not b ≡ true → b ≡ false
 not_true true is = cc

@@ -1,7 +1,6 @@
 -- Texts that show the same tokens from the left.
 use Rattle.std.specs.Prelude.{◌≡◌, ℕ, zero, suc, true, List, codes}
-use Rattle.acc_token.specs.Tokens.{token_at, behind}
-use Rattle.acc_lang.specs.Reading.{is_word}
+use Rattle.acc_token.specs.Tokens.{token_at, behind, says_word}
 
 -- what follows so many tokens
 abbrev pub behind_all : ℕ → List ℕ → List ℕ
@@ -16,5 +15,5 @@ SameTokens (suc count) text other = (token_at text ≡ token_at other) × SameTo
 -- and, where that one is the word v, the same behind it, since a FROM there makes it the column
 abbrev pub Seen : ℕ → List ℕ → List ℕ → Type 0
 Seen zero text other =
-    (token_at text ≡ token_at other) × (is_word (codes "v") (token_at text) ≡ true → token_at (behind text) ≡ token_at (behind other))
+    (token_at text ≡ token_at other) × (says_word (codes "v") (token_at text) ≡ true → token_at (behind text) ≡ token_at (behind other))
 Seen (suc count) text other = (token_at text ≡ token_at other) × Seen count (behind text) (behind other)

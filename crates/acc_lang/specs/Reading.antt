@@ -2,7 +2,7 @@
 -- the flag `texts` tells.
 use Rattle.std.specs.Prelude.{ℕ, zero, suc, ◌-◌, Bool, true, false, not, ◌&&◌, ◌||◌, ◌==◌, nat_lt, pos, neg_ℤ, List, [], ◌∷◌, ◌++◌, length, codes, Option, Some, None, is_some, unwrap_or, position, Result, Ok, Err, if◌then◌else◌}
 use Rattle.std.specs.Str.{bytes_eq}
-use Rattle.acc_token.specs.Tokens.{Token, Word, Mark, Number, Quoted, Strange, End, token_at, left_at, behind}
+use Rattle.acc_token.specs.Tokens.{Token, Word, Mark, Number, Quoted, Strange, End, token_at, left_at, behind, says_word, says_mark}
 use Rattle.acc_value.specs.declared.key.Key.{Key}
 use Rattle.acc_value.specs.Footprint.{used}
 use Rattle.acc_txn.specs.declared.parts.Let.{Let}
@@ -35,22 +35,6 @@ abbrev pub ◌>>=◌ : {A B : Type 0} → Result A Fault → (A → Result B Fau
 (Err fault) >>= next = Err fault
 
 -- Tokens
-
-abbrev pub is_word : List ℕ → Token → Bool
-is_word word (Word letters) = bytes_eq letters word
-is_word word (Mark mark) = false
-is_word word (Number number) = false
-is_word word (Quoted text closed) = false
-is_word word Strange = false
-is_word word End = false
-
-abbrev pub is_mark : List ℕ → Token → Bool
-is_mark mark (Word letters) = false
-is_mark mark (Mark bytes) = bytes_eq bytes mark
-is_mark mark (Number number) = false
-is_mark mark (Quoted text closed) = false
-is_mark mark Strange = false
-is_mark mark End = false
 
 abbrev pub is_number : Token → Bool
 is_number (Word letters) = false
@@ -123,7 +107,7 @@ standing_of allowed extra suits =
 
 -- a mark that may stand there or not
 unfoldable pub skip_mark : List ℕ → List ℕ → List ℕ
-skip_mark mark text = if is_mark mark (token_at text) then behind text else text
+skip_mark mark text = if says_mark mark (token_at text) then behind text else text
 
 -- Repetitions
 
@@ -147,26 +131,26 @@ let_of lets name = position (λ l. bytes_eq name l.name) lets
 
 -- a word v that FROM follows
 abbrev pub begins_get : List ℕ → Bool
-begins_get text = is_word (codes "v") (token_at text) && is_word (codes "from") (token_at (behind text))
+begins_get text = says_word (codes "v") (token_at text) && says_word (codes "from") (token_at (behind text))
 
 abbrev pub is_sign : Token → Bool
-is_sign token = is_mark (codes "+") token || is_mark (codes "-") token
+is_sign token = says_mark (codes "+") token || says_mark (codes "-") token
 
 abbrev pub part_of : Bool → Term → Part
 part_of minus term = record { minus = minus; term = term }
 
 abbrev pub operator_of : Token → Option Operator
 operator_of token =
-    if is_mark (codes "=") token then Some Equal
-    else (if is_mark (codes "!=") token then Some Differs
-    else (if is_mark (codes "<") token then Some Less
-    else (if is_mark (codes "<=") token then Some AtMost
-    else (if is_mark (codes ">") token then Some More
-    else (if is_mark (codes ">=") token then Some AtLeast
+    if says_mark (codes "=") token then Some Equal
+    else (if says_mark (codes "!=") token then Some Differs
+    else (if says_mark (codes "<") token then Some Less
+    else (if says_mark (codes "<=") token then Some AtMost
+    else (if says_mark (codes ">") token then Some More
+    else (if says_mark (codes ">=") token then Some AtLeast
     else None)))))
 
 abbrev pub begins_update : Token → Bool
-begins_update token = is_word (codes "update") token || is_word (codes "delete") token
+begins_update token = says_word (codes "update") token || says_word (codes "delete") token
 
 abbrev pub key_written : Update → Key
 key_written (Set key value) = key
@@ -183,10 +167,10 @@ placed text (Err fault) = Some (fault.kind, length text - fault.left)
 
 module _ (texts : Bool) where
   unfoldable pub take_word : List ℕ → List ℕ → Result (List ℕ) Fault
-  take_word word text = step (not texts) (standing_of (is_word word (token_at text)) false true) text
+  take_word word text = step (not texts) (standing_of (says_word word (token_at text)) false true) text
 
   unfoldable pub take_mark : List ℕ → List ℕ → Result (List ℕ) Fault
-  take_mark mark text = step (not texts) (standing_of (is_mark mark (token_at text)) false true) text
+  take_mark mark text = step (not texts) (standing_of (says_mark mark (token_at text)) false true) text
 
   -- Keys and tables
 
@@ -239,12 +223,12 @@ module _ (texts : Bool) where
 
   unfoldable pub one_let : Bool → List Let × List (Key × Bool) → List ℕ → Reads (List Let × List (Key × Bool))
   one_let extra so_far text = do
-    t ← step (not texts) (standing_of (is_word (codes "let") (token_at text)) extra true) text
+    t ← step (not texts) (standing_of (says_word (codes "let") (token_at text)) extra true) text
     l ← binding so_far.1 so_far.0 t
     Ok ((so_far.0 ++ l.0 ∷ [], used so_far.1 l.0.key false), l.1)
 
   unfoldable pub more_lets : ℕ → List Let × List (Key × Bool) → List ℕ → Reads (List Let × List (Key × Bool))
-  more_lets room so_far text = each (is_word (codes "let")) one_let room so_far text
+  more_lets room so_far text = each (says_word (codes "let")) one_let room so_far text
 
   -- Names and the select
 
@@ -270,7 +254,7 @@ module _ (texts : Bool) where
     Ok (so_far ++ name.0 ∷ [], name.1)
 
   unfoldable pub more_items : List Let → ℕ → List ℕ → List ℕ → Reads (List ℕ)
-  more_items lets room so_far text = each (is_mark (codes ",")) (one_item lets) room so_far text
+  more_items lets room so_far text = each (says_mark (codes ",")) (one_item lets) room so_far text
 
   -- name . v { , name . v } ;
   unfoldable pub items : List Let → List ℕ → Reads (List ℕ)
@@ -293,7 +277,7 @@ module _ (texts : Bool) where
       if begins_get text then get uses text else (items lets text >>= (λ names. Ok ((Names names.0, uses), names.1)))
 
   unfoldable pub select : List (Key × Bool) → List Let → List ℕ → Reads (Select × List (Key × Bool))
-  select uses lets text = if is_word (codes "select") (token_at text) then selected uses lets (behind text) else Ok ((Nothing, uses), text)
+  select uses lets text = if says_word (codes "select") (token_at text) then selected uses lets (behind text) else Ok ((Nothing, uses), text)
 
   -- Expressions
 
@@ -323,10 +307,10 @@ module _ (texts : Bool) where
   -- [ - ] number | text | NULL | name . v
   unfoldable pub term : Bool → List Let → List ℕ → Reads Term
   term extra lets text =
-      if is_mark (codes "-") (token_at text) then negative extra text
+      if says_mark (codes "-") (token_at text) then negative extra text
       else (if is_number (token_at text) then plain extra text
       else (if is_quoted (token_at text) && texts then text_value extra text
-      else (if is_word (codes "null") (token_at text) then null extra text
+      else (if says_word (codes "null") (token_at text) then null extra text
       else (named extra lets text >>= (λ name. Ok (NameTerm name.0, name.1))))))
 
   -- ( + | - ) term
@@ -334,7 +318,7 @@ module _ (texts : Bool) where
   one_part lets extra so_far text = do
     t ← step (not texts) (standing_of (is_sign (token_at text)) false true) text
     next ← term extra lets t
-    Ok (so_far ++ part_of (is_mark (codes "-") (token_at text)) next.0 ∷ [], next.1)
+    Ok (so_far ++ part_of (says_mark (codes "-") (token_at text)) next.0 ∷ [], next.1)
 
   -- the terms that follow the first
   unfoldable pub more_parts : List Let → ℕ → List Part → List ℕ → Reads (List Part)
@@ -355,7 +339,7 @@ module _ (texts : Bool) where
   -- NULL or NOT NULL, behind IS
   unfoldable pub null_test : ℕ → List ℕ → Reads Condition
   null_test name text =
-      if is_word (codes "not") (token_at text) then (take_word (codes "null") (behind text) >>= (λ t. Ok (IsNotNull name, t)))
+      if says_word (codes "not") (token_at text) then (take_word (codes "null") (behind text) >>= (λ t. Ok (IsNotNull name, t)))
       else (take_word (codes "null") text >>= (λ t. Ok (IsNull name, t)))
 
   -- a comparison, behind the first term of its left side
@@ -370,7 +354,7 @@ module _ (texts : Bool) where
   unfoldable pub condition_from : List Let → Term → List ℕ → Reads Condition
   condition_from lets (NumberTerm number) text = comparison lets (NumberTerm number) text
   condition_from lets (NameTerm name) text =
-      if is_word (codes "is") (token_at text) then null_test name (behind text) else comparison lets (NameTerm name) text
+      if says_word (codes "is") (token_at text) then null_test name (behind text) else comparison lets (NameTerm name) text
   condition_from lets Null text = comparison lets Null text
   condition_from lets (TextTerm t) text = comparison lets (TextTerm t) text
 
@@ -387,7 +371,7 @@ module _ (texts : Bool) where
     Ok (so_far ++ next.0 ∷ [], next.1)
 
   unfoldable pub more_conditions : List Let → ℕ → List Condition → List ℕ → Reads (List Condition)
-  more_conditions lets room so_far text = each (is_word (codes "and")) (one_condition lets) room so_far text
+  more_conditions lets room so_far text = each (says_word (codes "and")) (one_condition lets) room so_far text
 
   -- condition { AND condition } THEN
   unfoldable pub conditions : List Let → List ℕ → Reads (List Condition)
@@ -421,7 +405,7 @@ module _ (texts : Bool) where
   unfoldable pub update : Bool → List (Key × Bool) → List Let → List ℕ → Reads Update
   update extra uses lets text = do
     t ← step (not texts) (standing_of (begins_update (token_at text)) extra true) text
-    if is_word (codes "update") (token_at text) then assignment uses lets t else removal uses t
+    if says_word (codes "update") (token_at text) then assignment uses lets t else removal uses t
 
   unfoldable pub one_update : List Let → Bool → List Update × List (Key × Bool) → List ℕ → Reads (List Update × List (Key × Bool))
   one_update lets extra so_far text = do
@@ -449,7 +433,7 @@ module _ (texts : Bool) where
     Ok ((([], all.0.0), all.0.1), all.1)
 
   unfoldable pub action : List (Key × Bool) → List Let → List ℕ → Reads ((List Condition × List Update) × List (Key × Bool))
-  action uses lets text = if is_word (codes "if") (token_at text) then guarded uses lets (behind text) else unguarded uses lets text
+  action uses lets text = if says_word (codes "if") (token_at text) then guarded uses lets (behind text) else unguarded uses lets text
 
   -- BEGIN TRANSACTION
   unfoldable pub opening : List ℕ → Result (List ℕ) Fault
@@ -459,7 +443,7 @@ module _ (texts : Bool) where
 
   -- COMMIT, where there is a key
   unfoldable pub commit_word : List (Key × Bool) → List ℕ → Result (List ℕ) Fault
-  commit_word uses text = step (not texts) (standing_of (is_word (codes "commit") (token_at text)) (length uses == 0) true) text
+  commit_word uses text = step (not texts) (standing_of (says_word (codes "commit") (token_at text)) (length uses == 0) true) text
 
   -- COMMIT, TRANSACTION and [ ; ]
   unfoldable pub commit : List (Key × Bool) → List ℕ → Result (List ℕ) Fault

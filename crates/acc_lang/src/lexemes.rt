@@ -5,7 +5,8 @@ ghost use Rattle.std.specs.Char.{to_ascii_lowercase};
 ghost use Rattle.std.specs.Str.{bytes_eq};
 ghost use Rattle.acc_token.specs.Lexemes.{token_shown};
 ghost use Rattle.acc_txn.specs.Words.{is_reserved as is_reserved_word};
-ghost use Rattle.acc_lang.specs.Reading.{is_word as is_word_of, is_mark as is_mark_of, is_number as is_number_of, is_quoted as is_quoted_of, is_free as is_free_of, is_sign as is_sign_of, begins_update as begins_update_of, word_of, number_of as number_of_token, text_of as text_of_token};
+ghost use Rattle.acc_token.specs.Tokens.{says_word, says_mark};
+ghost use Rattle.acc_lang.specs.Reading.{is_number as is_number_of, is_quoted as is_quoted_of, is_free as is_free_of, is_sign as is_sign_of, begins_update as begins_update_of, word_of, number_of as number_of_token, text_of as text_of_token};
 
 use acc_base::{OutOfMemory, Sequence, Text};
 use acc_token::Lexeme;
@@ -30,7 +31,7 @@ fn begins_alike(letters: &[u8], word: &[u8]) -> bool
 
 /// Whether the token is this word, which is given in small letters.
 pub fn is_word(lexeme: &Lexeme<'_>, word: &str) -> bool
-    ensures { result ≡ is_word_of word.now (token_shown lexeme.now) }
+    ensures { result ≡ says_word word.now (token_shown lexeme.now) }
 {
     match lexeme {
         Lexeme::Word(letters) => spells(letters, word.as_bytes()),
@@ -40,7 +41,7 @@ pub fn is_word(lexeme: &Lexeme<'_>, word: &str) -> bool
 
 /// Whether the token is this mark.
 pub fn is_mark(lexeme: &Lexeme<'_>, mark: &str) -> bool
-    ensures { result ≡ is_mark_of mark.now (token_shown lexeme.now) }
+    ensures { result ≡ says_mark mark.now (token_shown lexeme.now) }
 {
     match lexeme {
         Lexeme::Mark(bytes) => *bytes == mark.as_bytes(),

@@ -1,8 +1,8 @@
 //! Takes one token from the text.
 ghost use Rattle.std.specs.Prelude.{◌≡◌};
-ghost use Rattle.acc_token.specs.Tokens.{token_at};
+ghost use Rattle.acc_token.specs.Tokens.{token_at, says_word, says_mark};
 ghost use Rattle.acc_lang.specs.Answer.{Passes};
-ghost use Rattle.acc_lang.specs.Reading.{take_word as take_word_from, take_mark as take_mark_from, skip_mark as skip_mark_from, is_word as is_word_of, is_mark as is_mark_of, is_sign as is_sign_of, begins_update as begins_update_of};
+ghost use Rattle.acc_lang.specs.Reading.{take_word as take_word_from, take_mark as take_mark_from, skip_mark as skip_mark_from, is_sign as is_sign_of, begins_update as begins_update_of};
 
 use crate::fault::ReadError;
 use crate::judge::{LONGEST_WORD, check, standing_of};
@@ -10,17 +10,15 @@ use crate::lexemes::{is_mark, is_word};
 use acc_token::Cursor;
 
 /// Whether this word, which is given in small letters, stands next.
-#[tactic(auto, using(crate::proofs::Seeing::word_seen))]
 pub fn sees_word(cursor: &Cursor<'_>, word: &str) -> bool
-    ensures { result ≡ is_word_of word.now (token_at cursor.now.rest.now) }
+    ensures { result ≡ says_word word.now (token_at cursor.now.rest.now) }
 {
     cursor.is_word(word.as_bytes())
 }
 
 /// Whether this mark stands next.
-#[tactic(auto, using(crate::proofs::Seeing::mark_seen))]
 pub fn sees_mark(cursor: &Cursor<'_>, mark: &str) -> bool
-    ensures { result ≡ is_mark_of mark.now (token_at cursor.now.rest.now) }
+    ensures { result ≡ says_mark mark.now (token_at cursor.now.rest.now) }
 {
     cursor.is_mark(mark.as_bytes())
 }
@@ -90,7 +88,7 @@ fn judged_mark(cursor: &mut Cursor<'_>, texts: bool, mark: &str) -> Result<(), R
 }
 
 /// Takes this mark where it stands next.
-#[tactic(auto, using(crate::proofs::Seeing::mark_seen), unfolding(crate::specs::Reading::skip_mark))]
+#[tactic(auto, unfolding(crate::specs::Reading::skip_mark))]
 pub fn skip_mark(cursor: &mut Cursor<'_>, mark: &str)
     ensures { cursor.new.rest.now ≡ skip_mark_from mark.now cursor.old.rest.now }
 {

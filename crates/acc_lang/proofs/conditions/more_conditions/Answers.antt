@@ -1,7 +1,7 @@
 use Rattle.std.proofs.Common.{◌≡◌, ◌<◌, ◌+◌, length, true, codes, sym, subst, ◌∙◌, arith}
-use Rattle.acc_token.specs.Tokens.{token_at}
+use Rattle.acc_token.specs.Tokens.{token_at, says_word}
 use Rattle.acc_lang.specs.Answer.{Fails}
-use Rattle.acc_lang.specs.Reading.{is_word, one_condition, more_conditions}
+use Rattle.acc_lang.specs.Reading.{one_condition, more_conditions}
 use Rattle.acc_lang.proofs.Looping.{handed_on, below, one_more}
 use Rattle.acc_lang.proofs.Repeating.{ended, continued, failed}
 use Rattle.acc_lang.proofs.conditions.more_conditions.Goals as goal
@@ -9,21 +9,21 @@ use Rattle.acc_lang.proofs.conditions.more_conditions.Goals as goal
 pub returns-in_err-next : goal.returns-in_err-next
 unfolding more_conditions
 returns-in_err-next c =
-    let begins : is_word (codes "and") (token_at c.conditions.cursor.rest.now) ≡ true = cc in
+    let begins : says_word (codes "and") (token_at c.conditions.cursor.rest.now) ≡ true = cc in
     handed_on _ _ _ _ _ c.from_residual-in_err-next.ensures.1
     (subst (Fails c.in_err-next.field-0.0) c.conditions.invariant.goes_on
-    (failed (is_word (codes "and")) (one_condition c.args.texts c.args.lets.now) 16 (length c.conditions.all) c.conditions.all c.conditions.cursor.rest.now c.in_err-next.field-0.0
+    (failed (says_word (codes "and")) (one_condition c.args.texts c.args.lets.now) 16 (length c.conditions.all) c.conditions.all c.conditions.cursor.rest.now c.in_err-next.field-0.0
     begins c.conditions.invariant.few (rw c.len-extra.ensures at c.in_err-next.ensures.next c.conditions.all)))
 
 pub conditions-preserved : goal.conditions-preserved
 conditions-preserved c =
-    let begins : is_word (codes "and") (token_at c.conditions.cursor.rest.now) ≡ true = cc in
+    let begins : says_word (codes "and") (token_at c.conditions.cursor.rest.now) ≡ true = cc in
     let few : length c.conditions.all < 16 = below _ 16 c.conditions.invariant.few (rw c.len-extra.ensures at c.in_ok-next.ensures.room) in
     let more : length c.push-in-conditions.new.self ≡ length c.conditions.all + 1 = one_more c.conditions.all c.push-in-conditions.new.self c.in_ok-next.next c.in_ok-push-2.ensures.ok in
     record {
       goes_on =
           sym
-          (continued (is_word (codes "and")) (one_condition c.args.texts c.args.lets.now) 16 (length c.conditions.all) c.conditions.all c.conditions.cursor.rest.now
+          (continued (says_word (codes "and")) (one_condition c.args.texts c.args.lets.now) 16 (length c.conditions.all) c.conditions.all c.conditions.cursor.rest.now
           (c.push-in-conditions.new.self, c.one_condition.new.cursor.rest.now) (length c.push-in-conditions.new.self) begins few more
           (cc (c.in_ok-next.ensures.next c.conditions.all, c.in_ok-next.ensures.room, c.in_ok-push-2.ensures.ok)))
           ∙ c.conditions.invariant.goes_on;
@@ -34,4 +34,4 @@ pub returns : goal.returns
 unfolding more_conditions
 returns c =
     rw (sym c.fitted.ensures) at
-    (sym c.conditions.invariant.goes_on ∙ ended (is_word (codes "and")) (one_condition c.args.texts c.args.lets.now) 16 (length c.conditions.all) c.conditions.all c.conditions.cursor.rest.now cc)
+    (sym c.conditions.invariant.goes_on ∙ ended (says_word (codes "and")) (one_condition c.args.texts c.args.lets.now) 16 (length c.conditions.all) c.conditions.all c.conditions.cursor.rest.now cc)

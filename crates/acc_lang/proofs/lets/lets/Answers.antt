@@ -1,7 +1,7 @@
 use Rattle.std.proofs.Common.{◌≡◌, ◌<◌, ◌+◌, length, true, codes, sym, subst, ◌∙◌, arith}
-use Rattle.acc_token.specs.Tokens.{token_at}
+use Rattle.acc_token.specs.Tokens.{token_at, says_word}
 use Rattle.acc_lang.specs.Answer.{Fails}
-use Rattle.acc_lang.specs.Reading.{is_word, one_let, more_lets}
+use Rattle.acc_lang.specs.Reading.{one_let, more_lets}
 use Rattle.acc_lang.proofs.Looping.{handed_on, below, one_more}
 use Rattle.acc_lang.proofs.Repeating.{ended, continued, failed}
 use Rattle.acc_lang.proofs.lets.lets.Goals as goal
@@ -9,21 +9,21 @@ use Rattle.acc_lang.proofs.lets.lets.Goals as goal
 pub returns-in_err-next-clause-lets : goal.returns-in_err-next-clause-lets
 unfolding more_lets
 returns-in_err-next-clause-lets c =
-    let begins : is_word (codes "let") (token_at c.lets.cursor.rest.now) ≡ true = cc in
+    let begins : says_word (codes "let") (token_at c.lets.cursor.rest.now) ≡ true = cc in
     handed_on _ _ _ _ _ c.from_residual.ensures.1
     (subst (Fails c.in_err-next.field-0.0) c.lets.invariant.goes_on
-    (failed (is_word (codes "let")) (one_let c.args.texts) 16 (length c.lets.lets) (c.lets.lets, c.lets.uses) c.lets.cursor.rest.now c.in_err-next.field-0.0
+    (failed (says_word (codes "let")) (one_let c.args.texts) 16 (length c.lets.lets) (c.lets.lets, c.lets.uses) c.lets.cursor.rest.now c.in_err-next.field-0.0
     begins c.lets.invariant.few (rw (c.len-extra.ensures, c.as_slice.ensures) at c.in_err-next.ensures.next)))
 
 pub lets-preserved : goal.lets-preserved
 lets-preserved c =
-    let begins : is_word (codes "let") (token_at c.lets.cursor.rest.now) ≡ true = cc in
+    let begins : says_word (codes "let") (token_at c.lets.cursor.rest.now) ≡ true = cc in
     let few : length c.lets.lets < 16 = below _ 16 c.lets.invariant.few (rw c.len-extra.ensures at c.in_ok-next.ensures.room) in
     let more : length c.push.new.self ≡ length c.lets.lets + 1 = one_more c.lets.lets c.push.new.self c.in_ok-next.next c.in_ok-push.ensures.ok in
     record {
       goes_on =
           sym
-          (continued (is_word (codes "let")) (one_let c.args.texts) 16 (length c.lets.lets) (c.lets.lets, c.lets.uses) c.lets.cursor.rest.now
+          (continued (says_word (codes "let")) (one_let c.args.texts) 16 (length c.lets.lets) (c.lets.lets, c.lets.uses) c.lets.cursor.rest.now
           ((c.push.new.self, c.one_let.new.uses), c.one_let.new.cursor.rest.now) (length c.push.new.self) begins few more
           (cc (c.in_ok-next.ensures.next, c.in_ok-next.ensures.room, c.in_ok-push.ensures.ok)))
           ∙ c.lets.invariant.goes_on;
@@ -34,4 +34,4 @@ pub returns-clause-lets : goal.returns-clause-lets
 unfolding more_lets
 returns-clause-lets c =
     rw (sym c.fitted.ensures) at
-    (sym c.lets.invariant.goes_on ∙ ended (is_word (codes "let")) (one_let c.args.texts) 16 (length c.lets.lets) (c.lets.lets, c.lets.uses) c.lets.cursor.rest.now cc)
+    (sym c.lets.invariant.goes_on ∙ ended (says_word (codes "let")) (one_let c.args.texts) 16 (length c.lets.lets) (c.lets.lets, c.lets.uses) c.lets.cursor.rest.now cc)
