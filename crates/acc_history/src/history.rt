@@ -218,7 +218,7 @@ impl History {
         ensures still_stands { OnErr result ((s : Situation) → StandsFor self.old s → StandsFor self.new s) }
         ensures still_weighed { OnErr result ((s : Situation) → IsWeighed self.old s → IsWeighed self.new s) }
     {
-        if self.items.own() > 0 {
+        if self.items.own_len() > 0 {
             return self.add(item.copy()?, weight);
         }
         let weight = self.weight.checked_add(weight).ok_or(OutOfMemory)?;

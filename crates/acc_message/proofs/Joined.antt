@@ -10,7 +10,7 @@ use Rattle.acc_message.specs.declared.item.Item.{Item}
 use Rattle.acc_message.specs.declared.head.Head.{Head}
 use Rattle.acc_message.specs.Items.{sent_in}
 use Rattle.acc_message.specs.Growing.{message_in}
-use Rattle.acc_message.specs.Joined.{until_of, item_of, joined, Stretch, begin_of}
+use Rattle.acc_message.specs.Joined.{until_of, item_of, joined, IsStretch, begin_of}
 
 -- ---- ranges
 
@@ -26,15 +26,15 @@ range_last messages more from to f t =
 
 -- ---- one head more
 
-reaches : (heads : List Head) (from to : ℕ) → Stretch from heads to → from ≤ to
+reaches : (heads : List Head) (from to : ℕ) → IsStretch from heads to → from ≤ to
 reaches [] from to s = omega (arith, s)
 reaches (h ∷ heads) from to s = omega (arith, s.0, reaches heads (until_of h) to s.1)
 
-pub stretch_more : (heads : List Head) (h : Head) (from to : ℕ) → Stretch from heads to → to ≤ until_of h → Stretch from (heads ++ h ∷ []) (until_of h)
+pub stretch_more : (heads : List Head) (h : Head) (from to : ℕ) → IsStretch from heads to → to ≤ until_of h → IsStretch from (heads ++ h ∷ []) (until_of h)
 stretch_more [] h from to s low = (omega (arith, s, low), refl)
 stretch_more (g ∷ heads) h from to s low = (s.0, stretch_more heads h (until_of g) to s.1 low)
 
-pub joined_more : (heads : List Head) (h : Head) (from : ℕ) (messages more : List Message) → Stretch from heads (length messages) → until_of h ≡ length messages + length more
+pub joined_more : (heads : List Head) (h : Head) (from : ℕ) (messages more : List Message) → IsStretch from heads (length messages) → until_of h ≡ length messages + length more
     → joined from (heads ++ h ∷ []) (messages ++ more) ≡ joined from heads messages ++ item_of h more ∷ []
 joined_more [] h from messages more s u = ap (λ out. item_of h out ∷ []) (range_last messages more from (until_of h) s u)
 joined_more (g ∷ heads) h from messages more s u =
@@ -58,7 +58,7 @@ there_is [] place low e = absurd (omega (arith, low))
 there_is (x ∷ xs) zero low e = let none : Some x ≡ None = e in cc
 there_is (x ∷ xs) (suc place) low e = there_is xs place (omega (arith, low)) e
 
-pub within : (heads : List Head) (h : Head) (from to place : ℕ) → Stretch from heads to → slice_get heads place ≡ Some h → (begin_of from heads place ≤ until_of h) × (until_of h ≤ to)
+pub within : (heads : List Head) (h : Head) (from to place : ℕ) → IsStretch from heads to → slice_get heads place ≡ Some h → (begin_of from heads place ≤ until_of h) × (until_of h ≤ to)
 within [] h from to place s at = let none : None ≡ Some h = at in cc
 within (g ∷ heads) h from to zero s at = let is = same g h at in (subst (λ x. from ≤ until_of x) is s.0, subst (λ x. until_of x ≤ to) is (reaches heads (until_of g) to s.1))
 within (g ∷ heads) h from to (suc place) s at = within heads h (until_of g) to place s.1 at

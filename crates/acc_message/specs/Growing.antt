@@ -13,7 +13,7 @@ pub record Growing : Type 0 where
   pub own : ℕ
   pub room : ℕ
 
--- the message with this number among those that an item sent
+-- the message with this index among those that an item sent
 abbrev pub message_in : Option Item → ℕ → Option Message
 message_in None index = None
 message_in (Some item) index = slice_get (sent_in item) index

@@ -25,9 +25,9 @@ joined from [] messages = []
 joined from (h ∷ heads) messages = item_of h (slice_range messages from (until_of h)) ∷ joined (until_of h) heads messages
 
 -- the messages of the heads stand from one place to another, those of each head behind those of the head before it
-abbrev pub Stretch : ℕ → List Head → ℕ → Type 0
-Stretch from [] to = from ≡ to
-Stretch from (h ∷ heads) to = (from ≤ until_of h) × Stretch (until_of h) heads to
+abbrev pub IsStretch : ℕ → List Head → ℕ → Type 0
+IsStretch from [] to = from ≡ to
+IsStretch from (h ∷ heads) to = (from ≤ until_of h) × IsStretch (until_of h) heads to
 
 -- where the messages of the head with this number begin
 abbrev pub begin_of : ℕ → List Head → ℕ → ℕ

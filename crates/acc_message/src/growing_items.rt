@@ -12,17 +12,17 @@ use crate::item::{Item, sent_by};
 use crate::items::Items;
 use crate::message::Message;
 use crate::shown::Shown;
-use acc_base::OutOfMemory;
+use acc_base::{Duplicate, OutOfMemory};
 use std::alloc::Global;
 use std::marker::Model;
 use std::sync::Arc;
 
-/// At most so many messages stand in one list, so that a number of 32 bits tells a place among them.
+/// At most so many messages stand in one list or have room there, so that a number of 32 bits tells a place among them.
 const MOST: usize = u32::MAX as usize;
 
 /// A list of items to which others are added, for each of which room is made ahead. The first items may be shared with other
 /// lists. The others are the list's own, and are kept apart from their messages, which stand in one list, so that an item takes
-/// no memory of its own.
+/// no memory of its own but for its notes.
 #[derive(Debug, Drop)]
 pub struct GrowingItems {
     shared: Vec<Arc<Item>>,
@@ -36,13 +36,24 @@ impl Model for GrowingItems {
     ghost use Rattle.std.specs.Vec.{vec_len, vec_capacity};
     ghost use Rattle.std.specs.Arc.{arc_value};
     ghost use Rattle.acc_message.specs.Growing.{Growing};
-    ghost use Rattle.acc_message.specs.Joined.{joined, Stretch};
+    ghost use Rattle.acc_message.specs.Joined.{joined, IsStretch};
 
     ghost Value = { Growing };
 
     ghost view = { λ l. record { items = map arc_value l.shared.items ++ joined 0 l.heads.items l.messages.items; own = length l.heads.items; room = l.room } };
 
-    ghost invariant = { λ l. Stretch 0 l.heads.items (length l.messages.items) × (vec_len l.shared + l.room ≤ vec_capacity l.shared) × (vec_len l.heads + l.room ≤ vec_capacity l.heads) × (vec_len l.messages + l.room ≤ vec_capacity l.messages) × (vec_len l.messages + l.room ≤ 4294967295) };
+    ghost invariant = { λ l. IsStretch 0 l.heads.items (length l.messages.items) × (vec_len l.shared + l.room ≤ vec_capacity l.shared) × (vec_len l.heads + l.room ≤ vec_capacity l.heads) × (vec_len l.messages + l.room ≤ vec_capacity l.messages) × (vec_len l.messages + l.room ≤ 4294967295) };
+}
+
+// A list that shares all items of another.
+fn share_all(alloc: Global, items: &[Arc<Item>]) -> Result<Vec<Arc<Item>>, OutOfMemory>
+    ensures { IfOk result (λ shared. map arc_value shared.items ≡ map arc_value items.now) }
+{
+    let mut shared = Vec::with_capacity(alloc, items.len())?;
+    for item in items {
+        shared.push(Arc::try_clone(item)?)?;
+    }
+    Ok(shared)
 }
 
 impl GrowingItems {
@@ -58,8 +69,8 @@ impl GrowingItems {
         }
     }
 
-    /// Makes room for an item with so many messages. Without memory for it, and where the messages of the list would pass 32 bits,
-    /// the items are as before, and there is room for none.
+    /// Makes room for an item with so many messages. Without memory for it, and where the list's own items would have 2^32 - 1
+    /// messages or more, the items are as before, and there is room for none.
     pub fn reserve(&mut self, messages: usize) -> Result<(), OutOfMemory>
         ensures ok { OnOk result (self.new ≡ record self.old { room = messages + 1 }) }
         ensures err { OnErr result (self.new ≡ record self.old { room = 0 }) }
@@ -76,7 +87,7 @@ impl GrowingItems {
         Ok(())
     }
 
-    /// Appends an item for which there is room.
+    /// Appends an item for which there is room. The room is used up.
     pub fn push(&mut self, item: Item)
         requires { length (sent_in item) < self.old.room }
         ensures { self.new ≡ record { items = self.old.items ++ item ∷ []; own = self.old.own + 1; room = 0 } }
@@ -86,6 +97,7 @@ impl GrowingItems {
     }
 
     /// Appends an item that other lists may have too, where there is room and the list has no own item. It stands where it stood.
+    /// The room is used up.
     pub fn share(&mut self, item: Arc<Item>)
         requires room { 0 < self.old.room }
         requires own { self.old.own ≡ 0 }
@@ -103,7 +115,7 @@ impl GrowingItems {
     }
 
     /// How many items, the last ones, no other list has.
-    pub fn own(&self) -> usize
+    pub fn own_len(&self) -> usize
         ensures { result ≡ self.now.own }
     {
         self.heads.len()
@@ -120,7 +132,7 @@ impl GrowingItems {
         self.heads[place - self.shared.len()].shown()
     }
 
-    /// The message with this number among those that the item at a place sent, if there are so many items and messages.
+    /// The message with this index among those that the item at a place sent, if there are so many items and messages.
     pub fn message(&self, place: usize, index: usize) -> Option<&Message>
         ensures { option_copied result ≡ message_in (slice_get self.now.items place) index }
     {
@@ -133,6 +145,22 @@ impl GrowingItems {
             place - self.shared.len(),
             index,
         )
+    }
+
+    /// A list of equal items with room for none. It shares those items with this one that other lists may have too.
+    pub(crate) fn copy(&self) -> Result<GrowingItems, OutOfMemory>
+        ensures { IfOk result (λ copy. copy ≡ record self.now { room = 0 }) }
+    {
+        let alloc = *self.messages.allocator();
+        let shared = share_all(alloc, self.shared.as_slice())?;
+        let heads = Head::copy_all(alloc, self.heads.as_slice())?;
+        let messages = Message::copy_all(alloc, self.messages.as_slice())?;
+        Ok(GrowingItems {
+            shared,
+            heads,
+            messages,
+            room: 0,
+        })
     }
 
     /// The items, to which no others are added.

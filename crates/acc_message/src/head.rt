@@ -8,14 +8,14 @@ ghost use Rattle.acc_message.specs.declared.item.Item.{Item as AnItem};
 ghost use Rattle.acc_message.specs.Items.{sent_in};
 ghost use Rattle.acc_message.specs.Shown.{with_sent};
 ghost use Rattle.acc_message.specs.Growing.{message_in};
-ghost use Rattle.acc_message.specs.Joined.{item_of, until_of, joined, Stretch, begin_of};
+ghost use Rattle.acc_message.specs.Joined.{item_of, until_of, joined, IsStretch, begin_of};
 
 use crate::entry::{Emitted, Entry, Event};
 use crate::item::{Item, Skip};
 use crate::message::{Message, Messages};
 use crate::note::Notes;
 use crate::shown::Shown;
-use acc_base::Sequence;
+use acc_base::{Duplicate, OutOfMemory, Sequence};
 use acc_stamp::Actor;
 use std::alloc::Global;
 
@@ -82,6 +82,35 @@ impl Head {
     }
 }
 
+impl Duplicate for Head {
+    fn copy(&self) -> Result<Head, OutOfMemory> {
+        match self {
+            Head::Step {
+                actor,
+                lost,
+                until,
+                event,
+                notes,
+            } => Ok(Head::Step {
+                actor: *actor,
+                lost: *lost,
+                until: *until,
+                event: *event,
+                notes: notes.copy()?,
+            }),
+            Head::Skipped { until, step, cause } => Ok(Head::Skipped {
+                until: *until,
+                step: *step,
+                cause: *cause,
+            }),
+            Head::Down { until, actor } => Ok(Head::Down {
+                until: *until,
+                actor: *actor,
+            }),
+        }
+    }
+}
+
 // An item apart from its messages, which begin at a place in the list of messages.
 fn parted(alloc: Global, item: Item, from: u32) -> (Head, Messages)
     requires { from + length (sent_in item) ≤ 4294967295 }
@@ -132,12 +161,12 @@ fn append(messages: &mut Vec<Message>, more: Messages)
 
 /// Puts an item behind the others, where there is room for it.
 pub(crate) fn put(heads: &mut Vec<Head>, messages: &mut Vec<Message>, item: Item)
-    requires stretch { Stretch 0 heads.old.items (length messages.old.items) }
+    requires stretch { IsStretch 0 heads.old.items (length messages.old.items) }
     requires place { vec_len heads.old < vec_capacity heads.old }
     requires room { vec_len messages.old + length (sent_in item) ≤ vec_capacity messages.old }
     requires few { vec_len messages.old + length (sent_in item) ≤ 4294967295 }
     ensures items { joined 0 heads.new.items messages.new.items ≡ joined 0 heads.old.items messages.old.items ++ item ∷ [] }
-    ensures stretch { Stretch 0 heads.new.items (length messages.new.items) }
+    ensures stretch { IsStretch 0 heads.new.items (length messages.new.items) }
     ensures count { length heads.new.items ≡ length heads.old.items + 1 }
     ensures capacities { (vec_capacity heads.new ≡ vec_capacity heads.old) × (vec_capacity messages.new ≡ vec_capacity messages.old) }
     ensures few { length messages.new.items ≤ 4294967295 }
@@ -161,7 +190,7 @@ fn begin(heads: &[Head], place: usize) -> u32
 
 // Where the messages of the head at a place begin and end.
 fn range(heads: &[Head], messages: &[Message], place: usize) -> (usize, usize)
-    requires stretch { Stretch 0 heads.now (length messages.now) }
+    requires stretch { IsStretch 0 heads.now (length messages.now) }
     requires place { place < length heads.now }
     ensures ordered { result.0 ≤ result.1 }
     ensures within { result.1 ≤ length messages.now }
@@ -174,7 +203,7 @@ fn range(heads: &[Head], messages: &[Message], place: usize) -> (usize, usize)
 
 // The messages of the head at a place.
 fn sent_at<'a>(heads: &[Head], messages: &'a [Message], place: usize) -> &'a [Message]
-    requires stretch { Stretch 0 heads.now (length messages.now) }
+    requires stretch { IsStretch 0 heads.now (length messages.now) }
     requires place { place < length heads.now }
     ensures { (head : AHead) → slice_get heads.now place ≡ Some head → result.now ≡ slice_range messages.now (begin_of 0 heads.now place) (until_of head) }
 {
@@ -184,7 +213,7 @@ fn sent_at<'a>(heads: &[Head], messages: &'a [Message], place: usize) -> &'a [Me
 
 // What the item of the head at a place sent.
 fn sent_by_head<'a>(heads: &[Head], messages: &'a [Message], place: usize) -> &'a [Message]
-    requires stretch { Stretch 0 heads.now (length messages.now) }
+    requires stretch { IsStretch 0 heads.now (length messages.now) }
     requires place { place < length heads.now }
     ensures { (item : AnItem) → slice_get (joined 0 heads.now messages.now) place ≡ Some item → result.now ≡ sent_in item }
 {
@@ -195,14 +224,14 @@ fn sent_by_head<'a>(heads: &[Head], messages: &'a [Message], place: usize) -> &'
     }
 }
 
-/// The message with this number among those of the head at a place, if there are so many.
+/// The message with this index among those of the head at a place, if there are so many.
 pub(crate) fn message_at<'a>(
     heads: &[Head],
     messages: &'a [Message],
     place: usize,
     index: usize,
 ) -> Option<&'a Message>
-    requires { Stretch 0 heads.now (length messages.now) }
+    requires { IsStretch 0 heads.now (length messages.now) }
     ensures { option_copied result ≡ message_in (slice_get (joined 0 heads.now messages.now) place) index }
 {
     if place >= heads.len() {

@@ -1,12 +1,15 @@
 //! Lists of items.
-ghost use Rattle.std.specs.Prelude.{◌≡◌, ◌==◌, List, ◌<◌, [], ◌∷◌, ◌++◌, Some, length, slice_get, OnOk, OnErr};
+ghost use Rattle.std.specs.Prelude.{◌≡◌, List, ◌<◌, [], ◌∷◌, ◌++◌, Some, length, slice_get, IfOk, OnOk, OnErr};
+ghost use Rattle.std.specs.Option.{option_copied};
 ghost use Rattle.acc_message.specs.declared.message.Message.{Message as AMessage};
 ghost use Rattle.acc_message.specs.Shown.{with_sent};
+ghost use Rattle.acc_message.specs.Growing.{message_in};
 
 use crate::growing_items::GrowingItems;
 use crate::item::{Item, sent_by};
+use crate::message::Message;
 use crate::shown::Shown;
-use acc_base::OutOfMemory;
+use acc_base::{Duplicate, OutOfMemory};
 use std::alloc::Global;
 use std::marker::Model;
 
@@ -49,19 +52,19 @@ impl Items {
         self.list.len()
     }
 
-    /// Whether there is no item.
-    pub fn is_empty(&self) -> bool
-        ensures { result ≡ (length self.now == 0) }
-    {
-        self.list.len() == 0
-    }
-
     /// What the item at a place shows.
     pub fn shown(&self, place: usize) -> Shown<'_>
         requires { place < length self.now }
         ensures { (out : List AMessage) × (slice_get self.now place ≡ Some (with_sent result out)) }
     {
         self.list.shown(place)
+    }
+
+    /// The message with this index among those that the item at a place sent, if there are so many items and messages.
+    pub fn message(&self, place: usize, index: usize) -> Option<&Message>
+        ensures { option_copied result ≡ message_in (slice_get self.now place) index }
+    {
+        self.list.message(place, index)
     }
 
     /// Appends an item. Without memory for it the list is as before.
@@ -72,5 +75,20 @@ impl Items {
         self.list.reserve(sent_by(&item).len())?;
         self.list.push(item);
         Ok(())
+    }
+
+    /// An equal list. It shares those items with this one that other lists may have too.
+    pub fn copy(&self) -> Result<Items, OutOfMemory>
+        ensures { IfOk result (λ copy. copy ≡ self.now) }
+    {
+        Ok(Items {
+            list: self.list.copy()?,
+        })
+    }
+}
+
+impl Duplicate for Items {
+    fn copy(&self) -> Result<Items, OutOfMemory> {
+        Items::copy(self)
     }
 }

@@ -1,6 +1,6 @@
 -- The head stands behind the others, and its messages behind theirs.
 use Rattle.std.proofs.Common.{◌≡◌, ◌+◌, ◌++◌, ◌∷◌, [], length, sym, ap, ap₂, ◌∙◌, subst, arith, length-append}
-use Rattle.acc_message.specs.Joined.{until_of, item_of, joined, Stretch}
+use Rattle.acc_message.specs.Joined.{until_of, item_of, joined, IsStretch}
 use Rattle.acc_message.proofs.Joined.{stretch_more, joined_more}
 use Rattle.acc_message.proofs.head.put.Goals as goal
 
@@ -23,5 +23,5 @@ returns-clause-stretch c =
     let out = c.parted-head.result.1 in
     let all = ap length c.append.ensures.items ∙ length-append messages out in
     let until : until_of head ≡ length c.append.new.messages.items = omega (arith, c.parted-head.ensures.until, ap length c.parted-head.ensures.messages, c.len.ensures, all) in
-    subst (λ l. Stretch 0 l (length c.append.new.messages.items)) (sym c.push_reserved.ensures.items)
-    (subst (Stretch 0 (heads ++ head ∷ [])) until (stretch_more heads head 0 (length messages) c.requires.stretch (omega (arith, until, all))))
+    subst (λ l. IsStretch 0 l (length c.append.new.messages.items)) (sym c.push_reserved.ensures.items)
+    (subst (IsStretch 0 (heads ++ head ∷ [])) until (stretch_more heads head 0 (length messages) c.requires.stretch (omega (arith, until, all))))
