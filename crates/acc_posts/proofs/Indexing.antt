@@ -9,10 +9,7 @@ use mathlib.Core.Logic.{dite}
 use native.Mathlib.Decide.{dec_lt, ℕ_discrete}
 use Rattle.acc_posts.specs.declared.posting.Posting.{Posting}
 use Rattle.acc_posts.specs.Mail.{posting_at, nothing, taken}
-use Rattle.acc_posts.specs.Indexed.{lane_at, AreNowhere, Indexed}
-
-abbrev none : ℕ
-none = 4294967295
+use Rattle.acc_posts.specs.Indexed.{none, lane_at, AreNowhere, Indexed}
 
 -- no messages, and a place of none for each lane
 pub of_nothing : (sent : List Posting) (links firsts lasts : List ℕ) → sent ≡ [] → links ≡ [] → AreNowhere 1024 firsts → AreNowhere 1024 lasts → Indexed sent links firsts lasts

@@ -34,13 +34,13 @@ impl Model for Posts {
     ghost use Rattle.std.specs.Prelude.{◌+◌, ◌≤◌, length};
     ghost use Rattle.std.specs.Vec.{vec_len, vec_capacity};
     ghost use Rattle.acc_posts.specs.Mail.{Mail};
-    ghost use Rattle.acc_posts.specs.Indexed.{Indexed};
+    ghost use Rattle.acc_posts.specs.Indexed.{none, Indexed};
 
     ghost Value = { Mail };
 
     ghost view = { λ p. record { sent = p.postings.items; early = p.early.items; room = p.room; takings = p.takings } };
 
-    ghost invariant = { λ p. Indexed p.postings.items p.links.items p.firsts.items p.lasts.items × (vec_len p.postings + p.room ≤ vec_capacity p.postings) × (vec_len p.postings + p.room ≤ vec_capacity p.links) × (vec_len p.postings + p.room ≤ 4294967295) × (vec_len p.early + p.takings ≤ vec_capacity p.early) };
+    ghost invariant = { λ p. Indexed p.postings.items p.links.items p.firsts.items p.lasts.items × (vec_len p.postings + p.room ≤ vec_capacity p.postings) × (vec_len p.postings + p.room ≤ vec_capacity p.links) × (vec_len p.postings + p.room ≤ none) × (vec_len p.early + p.takings ≤ vec_capacity p.early) };
 }
 
 // Closes the message at a place.
@@ -86,7 +86,7 @@ impl Posts {
     }
 
     /// Makes room for so many more messages and for one more taking. Without memory for it, and where the messages and the room
-    /// for more would pass 32 bits, all is as before.
+    /// for more would be 2^32 or more, all is as before.
     pub fn reserve(&mut self, messages: u64) -> Result<(), OutOfMemory>
         ensures ok { OnOk result (self.new ≡ record self.old { room = self.old.room + messages; takings = self.old.takings + 1 }) }
         ensures err { OnErr result (self.new ≡ self.old) }
@@ -105,11 +105,12 @@ impl Posts {
         Ok(())
     }
 
-    /// Gives up room for so many messages and takings. What there is room for is only counted: no memory goes back.
+    /// Gives up room for so many messages and takings. What there is room for is only counted: no memory goes back. The messages
+    /// and the room for more are always fewer than 2^32.
     pub fn release(&mut self, messages: u64, takings: u64)
         requires { (messages ≤ self.old.room) × (takings ≤ self.old.takings) }
         ensures released { self.new ≡ record self.old { room = self.old.room - messages; takings = self.old.takings - takings } }
-        ensures most { self.new.room < 2 ^ 32 }
+        ensures most { length self.new.sent + self.new.room < 2 ^ 32 }
     {
         self.room -= messages as usize;
         self.takings -= takings as usize;
