@@ -31,9 +31,6 @@ fn cover_entry(waiting: &mut Waiting, entry: &Entry) -> Result<(), OutOfMemory>
     ensures receivers { OnOk result (AreCovered (length waiting.new.downs) entry.now.emitted.out) }
 {
     let greatest = greatest_of(entry.actor.0, entry.emitted.out.as_slice());
-    if waiting.covers(greatest) {
-        return Ok(());
-    }
     waiting.cover(greatest)
 }
 

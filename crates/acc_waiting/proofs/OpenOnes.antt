@@ -10,8 +10,8 @@ use native.Mathlib.Decide.{dec_lt, ℕ_discrete}
 use Rattle.acc_posts.specs.declared.posting.Posting.{Posting}
 use Rattle.acc_posts.specs.Mail.{Mail, nothing, posting_at, taken, IsOpenTo}
 use Rattle.acc_waiting.specs.Trees.{none, leaf, IsTree}
-use Rattle.acc_waiting.specs.Standing.{is_down_at}
-use Rattle.acc_waiting.specs.Heads.{waits_in, AreCovered, IsNextWaiting, IsFirst, IsHead, Kept}
+use Rattle.acc_waiting.specs.Standing.{is_down_at, waits_in}
+use Rattle.acc_waiting.specs.Heads.{AreCovered, IsNextWaiting, IsFirst, IsHead, Kept}
 
 -- ---- a message is added
 

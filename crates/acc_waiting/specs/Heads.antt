@@ -1,13 +1,9 @@
 -- The first message that waits and isn't late, and for each actor that is up the first late message to it.
-use Rattle.std.specs.Prelude.{◌≡◌, ◌⊎◌, ℕ, ◌<◌, ◌≤◌, Bool, true, false, not, ◌&&◌, List, [], length}
+use Rattle.std.specs.Prelude.{◌≡◌, ◌⊎◌, ℕ, ◌<◌, ◌≤◌, Bool, true, false, List, [], length}
 use Rattle.acc_posts.specs.declared.posting.Posting.{Posting}
 use Rattle.acc_posts.specs.Mail.{Mail, posting_at, IsOpenTo}
 use Rattle.acc_waiting.specs.Trees.{none, leaf, IsTree}
-use Rattle.acc_waiting.specs.Standing.{is_down_at}
-
--- the message is open, and its actor is up
-abbrev pub waits_in : List Posting → List Bool → ℕ → Bool
-waits_in sent downs number = (posting_at sent number).is_open && not (is_down_at downs (posting_at sent number).to)
+use Rattle.acc_waiting.specs.Standing.{is_down_at, waits_in}
 
 -- each message goes to an actor that has room
 abbrev pub AreCovered : List Posting → ℕ → Type 0
@@ -29,7 +25,8 @@ abbrev pub IsHead : List Posting → ℕ → ℕ → Bool → ℕ → Type 0
 IsHead sent first actor true head = head ≡ none
 IsHead sent first actor false head = ((head ≡ none) × ((number : ℕ) → number < first → ¬ IsOpenTo sent actor number)) ⊎ (IsFirst sent actor head × (head < first))
 
--- each message goes to an actor that has room, and each of these actors has its head
+-- each message goes to an actor that has room, each of these actors has its head, and `first` is the number of a message that waits, or
+-- that behind all messages
 pub record Kept (mail : Mail) (downs : List Bool) (heads : List ℕ) (first : ℕ) : Type 0 where
   pub early : mail.early ≡ []
   pub takings : mail.takings ≡ 0

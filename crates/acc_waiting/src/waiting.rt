@@ -1,9 +1,9 @@
 //! The messages that wait.
-ghost use Rattle.std.specs.Prelude.{◌≡◌, ◌≢◌, ℕ, ◌+◌, ◌-◌, ◌^◌, ◌<◌, ◌≤◌, [], ◌∷◌, ◌++◌, length, not, nat_lt, IfOk, OnOk, OnErr, MatchOption, slice_set};
+ghost use Rattle.std.specs.Prelude.{◌≡◌, ◌≢◌, ℕ, ◌+◌, ◌-◌, ◌^◌, ◌<◌, ◌≤◌, [], ◌∷◌, ◌++◌, length, not, IfOk, OnOk, OnErr, MatchOption, slice_set};
 ghost use Rattle.acc_posts.specs.Mail.{posting_at, taken};
 ghost use Rattle.acc_waiting.specs.Trees.{leaf, IsTree};
-ghost use Rattle.acc_waiting.specs.Standing.{Standing, is_down_at, NothingWaits, IsOldest};
-ghost use Rattle.acc_waiting.specs.Heads.{IsHead, IsNextWaiting, AreCovered, waits_in};
+ghost use Rattle.acc_waiting.specs.Standing.{Standing, is_down_at, waits_in, NothingWaits, IsOldest};
+ghost use Rattle.acc_waiting.specs.Heads.{IsHead, IsNextWaiting, AreCovered};
 
 use crate::least::{NOTHING, grown, least, set_leaf};
 use acc_base::OutOfMemory;
@@ -157,13 +157,6 @@ impl Waiting {
         self.downs[actor as usize]
     }
 
-    /// Whether there is room for an actor.
-    pub fn covers(&self, actor: u32) -> bool
-        ensures { result ≡ nat_lt actor (length self.now.downs) }
-    {
-        (actor as usize) < self.downs.len()
-    }
-
     /// Makes room for an actor, so that it can go down, and messages can be sent to it. In any case nothing else changes.
     pub fn cover(&mut self, actor: u32) -> Result<(), OutOfMemory>
         ensures same { (self.new.sent ≡ self.old.sent) × (self.new.room ≡ self.old.room) }
@@ -171,7 +164,7 @@ impl Waiting {
         ensures more { length self.old.downs ≤ length self.new.downs }
         ensures covered { OnOk result (actor < length self.new.downs) }
     {
-        if self.covers(actor) {
+        if (actor as usize) < self.downs.len() {
             return Ok(());
         }
         self.grow(actor)
@@ -194,7 +187,8 @@ impl Waiting {
         Ok(())
     }
 
-    /// Makes room for so many more messages. Without memory for it all is as before.
+    /// Makes room for so many more messages. Without memory for it, and where the messages and the room for more would be 2^32 or
+    /// more, all is as before.
     pub fn reserve(&mut self, messages: u64) -> Result<(), OutOfMemory>
         ensures ok { OnOk result (self.new ≡ record self.old { room = self.old.room + messages }) }
         ensures err { OnErr result (self.new ≡ self.old) }

@@ -1,5 +1,5 @@
 use Rattle.std.proofs.Common.{◌≡◌, ℕ, ◌-◌, ◌<◌, ◌≤◌, false, length}
-use Rattle.acc_waiting.specs.Heads.{waits_in}
+use Rattle.acc_waiting.specs.Standing.{waits_in}
 use Rattle.acc_waiting.proofs.waiting.next_waiting.Given as goal
 
 abbrev pub invariant-loop-number : goal.invariant-loop-number
