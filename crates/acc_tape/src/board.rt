@@ -63,7 +63,8 @@ impl<E: Posted, R: Rules<E>> Board<E, R> {
         })
     }
 
-    /// Reserves an item and so many bytes, so that entering it takes no memory. Otherwise all is as before.
+    /// Reserves an item and so many bytes, so that entering it takes no memory. Otherwise, and where the items, or the messages with
+    /// the bytes that are reserved, would be 2^32 or more, all is as before.
     pub fn reserve(&mut self, weight: u64) -> Result<(), TapeError>
         ensures ok { OnOk result (self.new ≡ record self.old { reserved = self.old.reserved + 1; reserved_weight = self.old.reserved_weight + weight }) }
         ensures err { OnErr result (self.new ≡ self.old) }

@@ -20,7 +20,8 @@ use std::sync::{Arc, Wait};
 
 impl<E: Posted, R: Rules<E>> Tape<E, R> {
     /// Reserves an item and so many bytes for a seat with an actor, so that entering it can't be refused. Full tells which
-    /// limit it is, and its number. After a refusal nothing more is reserved.
+    /// limit it is, and its number. Where the items, or the messages with the bytes that are reserved, would be 2^32 or more, it
+    /// is refused as memory is. After a refusal nothing more is reserved.
     pub fn reserve<W: Wait>(
         &self,
         rt: &W,

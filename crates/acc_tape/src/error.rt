@@ -9,7 +9,7 @@ use std::fmt;
 pub enum TapeError {
     /// The items or the bytes that are entered or reserved would pass this number.
     Full { which: Which, number: u64 },
-    /// Memory was refused.
+    /// Memory was refused, or the items, or the messages with the bytes that are reserved, would be 2^32 or more.
     OutOfMemory,
 }
 

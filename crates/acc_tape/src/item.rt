@@ -1,20 +1,7 @@
 //! The items of a run, as a tape holds them.
-ghost use Rattle.std.specs.Prelude.{◌≡◌};
-ghost use Rattle.acc_message.specs.Items.{sent_in};
-
 use crate::posted::Posted;
-use acc_message::{Event, Item, Message};
+use acc_message::{Event, Item, sent_by};
 use acc_message_code::messages_length;
-
-// The messages that an item sent, those of a lost entry too.
-fn messages_of_item(item: &Item) -> &[Message]
-    ensures { result.now ≡ sent_in item.now }
-{
-    match item {
-        Item::Step(entry) => entry.emitted.out.as_slice(),
-        Item::Skipped { .. } | Item::Down { .. } => &[],
-    }
-}
 
 impl Posted for Item {
     ghost use Rattle.std.specs.Prelude.{map, All};
@@ -54,11 +41,11 @@ impl Posted for Item {
     }
 
     fn sent(&self) -> u64 {
-        messages_of_item(self).len() as u64
+        sent_by(self).len() as u64
     }
 
     fn goes_to(&self, i: u64) -> u32 {
-        messages_of_item(self)[i as usize].to().0
+        sent_by(self)[i as usize].to().0
     }
 
     fn lost(&self) -> bool {
@@ -69,7 +56,7 @@ impl Posted for Item {
     }
 
     fn weight(&self) -> u64 {
-        messages_length(messages_of_item(self))
+        messages_length(sent_by(self))
     }
 
     ghost enough = { weighs_enough };
