@@ -40,7 +40,7 @@ disk_in (Shut disk) = disk
 abbrev pub disk_of : {D : Type 0} → NodeActor D → D
 disk_of actor = disk_in actor.state
 
--- the node over the disk
+-- the node over the disk, where the state isn't Shut: also one that its disk's fault took down
 abbrev pub node_in : {D : Type 0} → NodeState D → Option Node
 node_in (Open n) = Some n.node
 node_in (Shut disk) = None

@@ -41,7 +41,7 @@ disk_in (Shut disk) = disk
 abbrev pub disk_of : {D : Type 0} → StoreActor D → D
 disk_of actor = disk_in actor.state
 
--- the store over the disk
+-- the store over the disk, where the state isn't Shut: also one that its disk's fault took down
 abbrev pub store_in : {D : Type 0} → StoreState D → Option Store
 store_in (Open s) = Some s.store
 store_in (Shut disk) = None

@@ -257,7 +257,8 @@ impl<D: Rig> NodeActor<D> {
         }
     }
 
-    /// Its disk, and the node over it where it is up. Each image of the disk holds the payloads of the past, and breaks no rule on marks.
+    /// Its disk, and the node over it where it isn't shut: also one that its disk's fault took down. Each image of the disk holds
+    /// the payloads of the past, and breaks no rule on marks.
     pub fn into_parts(self) -> (D, Option<Node>)
         ensures disk { result.0 ≡ disk_of self }
         ensures node { result.1 ≡ node_in self.state }

@@ -276,7 +276,8 @@ impl<D: Rig> StoreActor<D> {
         }
     }
 
-    /// Its disk, and the store over it where it is up. Each image of the disk holds the payloads of the past, without what is staged, and breaks no rule on marks.
+    /// Its disk, and the store over it where it isn't shut: also one that its disk's fault took down. Each image of the disk holds
+    /// the payloads of the past, without what is staged, and breaks no rule on marks.
     pub fn into_parts(self) -> (D, Option<Store>)
         ensures disk { result.0 ≡ disk_of self }
         ensures store { result.1 ≡ store_in self.state }
