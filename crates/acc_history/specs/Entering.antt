@@ -1,5 +1,5 @@
 -- What an item changes in what waits.
-use Rattle.std.specs.Prelude.{◌≡◌, ℕ, ◌+◌, ◌<◌, ◌≤◌, Bool, not, List, [], ◌∷◌, length, Some}
+use Rattle.std.specs.Prelude.{◌≡◌, ◌⊎◌, ℕ, ◌+◌, ◌<◌, ◌≤◌, Bool, not, List, [], ◌∷◌, length, Some}
 use Rattle.std.specs.List.{slice_get}
 use Rattle.acc_posts.specs.declared.posting.Posting.{Posting}
 use Rattle.acc_posts.specs.Mail.{taken}
@@ -18,6 +18,10 @@ pub record IsAsBefore (before after : Standing) : Type 0 where
   pub sent : after.sent ≡ before.sent
   pub downs : (actor : ℕ) → is_down_at after.downs actor ≡ is_down_at before.downs actor
   pub more : length before.downs ≤ length after.downs
+
+-- the number is that of the actor or of one to which a message goes
+abbrev pub IsNamed : ℕ → List Message → ℕ → Type 0
+IsNamed actor messages number = (number ≡ actor) ⊎ ((index : ℕ) × (m : Message) × (slice_get messages index ≡ Some m) × (number ≡ (to_of m).0))
 
 -- the actors to which the messages go are below the count
 abbrev pub AreCovered : ℕ → List Message → Type 0

@@ -4,7 +4,7 @@ ghost use Rattle.acc_stamp.specs.declared.actors.Actor.{Actor as AnActor};
 ghost use Rattle.acc_message.specs.Items.{same_actor, sent_in};
 ghost use Rattle.acc_message.specs.Run.{down_after};
 ghost use Rattle.acc_waiting.specs.Standing.{is_down_at};
-ghost use Rattle.acc_history.specs.Entering.{IsAsBefore, AreCovered, IsCovered, without_event, without_item, postings_of, postings_in};
+ghost use Rattle.acc_history.specs.Entering.{IsAsBefore, IsNamed, AreCovered, IsCovered, without_event, without_item, postings_of, postings_in};
 
 use acc_base::OutOfMemory;
 use acc_message::{Entry, Event, Item, Message};
@@ -15,6 +15,7 @@ use acc_waiting::Waiting;
 fn greatest_of(actor: u32, messages: &[Message]) -> u32
     ensures actor { actor ≤ result }
     ensures receivers { AreCovered (result + 1) messages.now }
+    ensures named { IsNamed actor messages.now result }
 {
     let mut greatest = actor;
     for index in 0..messages.len() {

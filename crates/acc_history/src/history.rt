@@ -25,8 +25,8 @@ use std::alloc::Global;
 use std::collections::BTreeMap;
 use std::sync::Arc;
 
-/// The items of a cluster, in the order in which they were entered, and which messages were dropped. A message stands in the
-/// item that sent it, and nowhere else. Messages are numbered from 0.
+/// The items of a cluster, in the order in which they were entered, and which messages were dropped. Each message stands once,
+/// with the items. Messages are numbered from 0.
 #[derive(Debug, Drop)]
 pub struct History {
     items: GrowingItems,
@@ -194,7 +194,7 @@ impl History {
     }
 
     /// Enters an item, whose messages have so many bytes. A message that it takes was sent before. All memory is taken first:
-    /// without it, and where the bytes of all messages pass 64 bits or the items 32 bits, the past is as before.
+    /// without it, and where the bytes of all messages pass 64 bits or the items or messages 32 bits, the past is as before.
     pub fn add(&mut self, item: Item, weight: u64) -> Result<(), OutOfMemory>
         ensures stands { OnOk result ((s : Situation) → StandsFor self.old s → TakesSent s item → StandsFor self.new (with_item item s)) }
         ensures weighed { OnOk result ((s : Situation) → IsWeighed self.old s → weight ≡ weight_of item → IsWeighed self.new (with_item item s)) }
