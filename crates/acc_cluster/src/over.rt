@@ -15,7 +15,7 @@ use crate::slot::Slot;
 use acc_base::OutOfMemory;
 use acc_history::History;
 use acc_history::laws::stopped_steps_are_apart;
-use acc_message::{Item, SharedItems};
+use acc_message::{Item, SharedItems, sent_by};
 use acc_message_code::messages_length;
 use acc_ports::Rig;
 use acc_schedule::Plan;
@@ -86,8 +86,5 @@ fn weight_of_item(item: &Item) -> u64
     requires { AreSendable (sent_in item.now) }
     ensures { result ≡ weight_of item.now }
 {
-    match item {
-        Item::Step(entry) => messages_length(entry.emitted.out.as_slice()),
-        Item::Skipped { .. } | Item::Down { .. } => 0,
-    }
+    messages_length(sent_by(item))
 }
