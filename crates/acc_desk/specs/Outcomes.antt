@@ -27,7 +27,7 @@ HasNoRoom plan tape a left seat =
     × (tape.limits.weight < sum_by weight_of seat.seen + seat.out_weight + weight_of (entering (cluster_of plan) (newest seat) a event false)))
 
 -- What a turn came to, of the items that the actor had entered and its commands that had gone by. Taken: it entered an item or more.
--- Idle: it entered none, and no command went by. Full: it entered what it had staged, or nothing, as the tape has no room.
+-- Idle: it entered none, and no command went by. Full: it entered some, or nothing as the tape has no room.
 abbrev pub CameTo : Content → TapeName → Actor → List Step → Turned → List Item → ℕ → SeatView Item → ℕ → Type 0
 CameTo plan tape a commands Taken mine gone seat later = length mine < length seat.mine
 CameTo plan tape a commands Idle mine gone seat later = (seat.mine ≡ mine) × (later ≡ gone)

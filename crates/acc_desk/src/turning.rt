@@ -21,7 +21,7 @@ use crate::floor::Floor;
 use crate::rules::{PlanTape, Planned};
 use acc_base::OutOfMemory;
 use acc_cluster::Slot;
-use acc_message::{Item, Message};
+use acc_message::{Item, Message, sent_by};
 use acc_ports::{Gate, Rig};
 use acc_schedule::{Plan, Step};
 use acc_topology::sets::contains;
@@ -31,29 +31,19 @@ use std::sync::Wait;
 /// What a turn came to.
 #[derive(Clone, Copy, Debug, PartialEq, Eq)]
 pub enum Turned {
-    /// The desk took something.
+    /// The desk entered an item or more.
     Taken,
-    /// There was nothing to take.
+    /// The desk entered nothing, and no command went by.
     Idle,
-    /// The tape has no room for what the desk would enter.
+    /// It entered some items, or nothing as the tape has no room.
     Full,
 }
 
-// The messages that an item sent.
-fn messages_of(item: &Item) -> &[Message]
-    ensures { result.now ≡ sent_in item.now }
-{
-    match item {
-        Item::Step(entry) => entry.emitted.out.as_slice(),
-        Item::Skipped { .. } | Item::Down { .. } => &[],
-    }
-}
-
-/// The message with this place among those that an item sent.
+/// The message with this index among those that an item sent.
 pub(crate) fn message_in(item: &Item, index: u64) -> Option<&Message>
     ensures { option_copied result ≡ slice_get (sent_in item.now) index }
 {
-    messages_of(item).get(index as usize)
+    sent_by(item).get(index as usize)
 }
 
 // The command at a place.
