@@ -141,7 +141,7 @@ module _ (old : Shelf) (cells : Cells) (same : (key : Key) → cell_at cells key
     pub executed_here : IsExecuted layout old new own body share stamp top first step.sent
     executed_here =
         record {
-          changes = changes_in step.plan.done.items;
+          changes = changes_in step.plan.done;
           plan = p.planned.turns;
           released = p.released;
           releases = p.releases;
@@ -162,7 +162,7 @@ module _ (old : Shelf) (cells : Cells) (same : (key : Key) → cell_at cells key
           greatest = q.greatest;
           records =
               λ y. q.records y
-              ∙ ap (option_map (executed (changes_in step.plan.done.items) y)) (lookup_learnt old.records mid.records own known l.learns.records y);
+              ∙ ap (option_map (executed (changes_in step.plan.done) y)) (lookup_learnt old.records mid.records own known l.learns.records y);
           waiting =
-              subst (AreWatches (shard_of old.actor) (after_changes (lookup old.records own) (changes_in step.plan.done.items))) lists_are p.planned.waiting;
+              subst (AreWatches (shard_of old.actor) (after_changes (lookup old.records own) (changes_in step.plan.done))) lists_are p.planned.waiting;
         }

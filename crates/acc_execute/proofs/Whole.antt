@@ -56,9 +56,9 @@ module _ (layout : Layout) (old : Shelf) (m : Message) (body : BodyParts) (share
   answered_by step same p messages stands =
       p.sends
       ∙ ap (λ list. first ++ list)
-      (sends layout messages m old own stands (is_own old m body own b.brings b.owned) (changes_in step.plan.done.items)
+      (sends layout messages m old own stands (is_own old m body own b.brings b.owned) (changes_in step.plan.done)
       (subst (λ (o : Record). IsPlanned (shard_of old.actor) old.records o old.waits step.plan) same p.planned).turns p.released
-      (subst (λ (o : Record). IsReleased layout old.actor (lookup old.records o) (changes_in step.plan.done.items) (cell_at old.cells) p.released) same p.releases))
+      (subst (λ (o : Record). IsReleased layout old.actor (lookup old.records o) (changes_in step.plan.done) (cell_at old.cells) p.released) same p.releases))
       ∙ b.answers messages stands
 
   answered_here : {E : Type 0} (result : Result PreparedStep E) → IfOk result (λ step. step.own ≡ own) → IfOk result (IsReadyBehind layout old first)

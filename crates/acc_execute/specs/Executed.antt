@@ -79,7 +79,7 @@ pub record IsReadyBehind (layout : Layout) (shelf : Shelf) (first : List Message
   pub planned : IsPlanned (shard_of shelf.actor) shelf.records step.own shelf.waits step.plan
   pub released : Released
   pub releases :
-      IsReleased layout shelf.actor (lookup shelf.records step.own) (changes_in step.plan.done.items) (cell_at shelf.cells) released
+      IsReleased layout shelf.actor (lookup shelf.records step.own) (changes_in step.plan.done) (cell_at shelf.cells) released
   pub sends : step.sent ≡ first ++ released.sent
   pub writes : step.writes ≡ released.writes
 
@@ -100,7 +100,7 @@ pub record IsCommitted (old new : Shelf) (own : Record) (plan : Plan) (writes : 
   pub index : new.index ≡ old.index
   pub greatest : new.greatest ≡ old.greatest
   pub records :
-      (y : TxnId) → record_at new.records y ≡ option_map (executed (changes_in plan.done.items) y) (lookup old.records own y)
+      (y : TxnId) → record_at new.records y ≡ option_map (executed (changes_in plan.done) y) (lookup old.records own y)
   pub waits : (y : TxnId) → watchers new.waits y ≡ watches_now plan.touched old.waits y
   pub cells : (key : Key) → cell_at new.cells key ≡ applied (cell_at old.cells) writes key
 

@@ -223,7 +223,7 @@ fn prepare(
         shelf.actor,
         &shelf.cells,
         &known,
-        &plan.done,
+        plan.done.as_slice(),
     )?;
     let Released { sent, writes } = released;
     let sent = join(first, sent)?;
@@ -295,13 +295,9 @@ fn commit(shelf: &mut Shelf, own: KeptRecord, plan: Plan, writes: CellList)
     requires written { shelf.old.cells.pending ≡ [] }
     ensures { IsCommitted shelf.old shelf.new own plan writes }
 {
-    let Plan {
-        done,
-        queue: _queue,
-        touched,
-    } = plan;
+    let Plan { done, touched } = plan;
     keep(&mut shelf.records, own);
-    take_turns(&mut shelf.records, &done);
+    take_turns(&mut shelf.records, done.as_slice());
     change_lists(&mut shelf.waits, touched);
     shelf.cells.write(writes);
 }

@@ -5,8 +5,7 @@ use Rattle.acc_deps.specs.declared.records.Settled.{Settled}
 use Rattle.acc_record.specs.declared.record.Record.{Record}
 use Rattle.acc_record.specs.Shelf.{Records, Waits, record_at}
 use Rattle.acc_record.specs.Waits.{AreWaits}
-use Rattle.acc_opening.specs.declared.plan.Plan.{Plan}
-use Rattle.acc_opening.specs.Queue.{turns_in}
+use Rattle.acc_opening.specs.declared.plan.Planning.{Planning}
 
 -- The lists are of who waits for whom; what is opened is stable, and what is opened with an outcome is applied. The own record is
 -- stable, and is what the store keeps of the transaction with what the step brings.
@@ -22,7 +21,7 @@ pub record IsKnown (shard : ℕ) (records : Records) (own : Record) (waits : Wai
   pub new_applied : record_at records own.id ≡ None → own.applied ≡ false
 
 -- nothing is planned yet
-pub record IsEmptyPlan (plan : Plan) : Type 0 where
-  pub done : plan.done.items ≡ []
-  pub queue : turns_in plan.queue ≡ []
+pub record IsEmptyPlan (plan : Planning) : Type 0 where
+  pub done : plan.done ≡ []
+  pub queue : plan.queue ≡ []
   pub touched : plan.touched.entries ≡ []

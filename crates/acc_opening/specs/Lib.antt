@@ -1,6 +1,6 @@
 pub mod Lookup
 pub mod Turns
-pub mod Queue
+pub mod TurnList
 pub mod Scan
 pub mod Touched
 pub mod State

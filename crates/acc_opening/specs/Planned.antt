@@ -34,5 +34,5 @@ pub record AreWatches (shard : ℕ) (at : Lookup) (watching : TxnId → List Wat
 
 -- the turns are the plan of the step, and the lists are those behind it
 pub record IsPlanned (shard : ℕ) (records : Records) (own : Record) (waits : Waits) (plan : Plan) : Type 0 where
-  pub turns : IsPlan shard (lookup records own) (changes_in plan.done.items)
-  pub waiting : AreWatches shard (after_changes (lookup records own) (changes_in plan.done.items)) (watches_now plan.touched waits)
+  pub turns : IsPlan shard (lookup records own) (changes_in plan.done)
+  pub waiting : AreWatches shard (after_changes (lookup records own) (changes_in plan.done)) (watches_now plan.touched waits)

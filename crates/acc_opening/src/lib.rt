@@ -7,10 +7,11 @@ mod plan;
 mod queue;
 mod scan;
 mod touched;
+mod turn_list;
 mod turns;
 
 pub use lookup::record_of;
 pub use plan::{Known, Plan, planned};
-pub use queue::Queue;
 pub use touched::{Touched, TouchedWaits};
+pub use turn_list::TurnList;
 pub use turns::Turn;

@@ -2,7 +2,6 @@
 ghost use Rattle.std.specs.Prelude.{◌≡◌, ◌&&◌, not, IsTrue, is_some, ◌<◌, ◌++◌, [], ◌∷◌, ◌+◌, length, drop, OnOk, IfOk};
 ghost use Rattle.acc_opening.specs.Lookup.{lookup};
 ghost use Rattle.acc_opening.specs.Touched.{watches_now};
-ghost use Rattle.acc_opening.specs.Queue.{turns_in};
 ghost use Rattle.acc_opening.specs.State.{IsUnderWay};
 ghost use Rattle.acc_opening.specs.Planned.{IsPlanned};
 ghost use Rattle.acc_opening.specs.Known.{IsKnown, IsEmptyPlan};
@@ -10,9 +9,10 @@ ghost use Rattle.acc_opening_laws.specs.Plan.{settled_in};
 ghost use Rattle.acc_record.specs.Shelf.{record_at};
 
 use crate::lookup::record_of;
-use crate::queue::{Queue, insert, note, take_first};
+use crate::queue::insert;
 use crate::scan::last_held;
 use crate::touched::{TouchedWaits, add_watch, take_watches};
+use crate::turn_list::TurnList;
 use crate::turns::{Turn, turn_of};
 use acc_base::OutOfMemory;
 use acc_record::{Record, Records, Waits, Watch};
@@ -33,24 +33,33 @@ pub struct Known<'a> {
     pub shard: u32,
 }
 
-/// The plan of a step, as far as it has come.
+/// The plan of a step.
 #[derive(Debug, Drop)]
 pub struct Plan {
-    /// The turns so far.
-    pub done: Vec<Turn>,
-    /// The transactions whose turn comes.
-    pub queue: Queue,
+    /// The turns.
+    pub done: TurnList,
     /// What changes in the lists of who waits for whom.
     pub touched: TouchedWaits,
 }
 
-impl Plan {
+/// The plan of a step, as far as it has come.
+#[derive(Debug, Drop)]
+pub(crate) struct Planning {
+    /// The turns so far.
+    done: TurnList,
+    /// The transactions whose turn comes.
+    queue: TurnList,
+    /// What changes in the lists of who waits for whom.
+    touched: TouchedWaits,
+}
+
+impl Planning {
     // Looks at one that no longer waits where it did: it waits for the last dependency that holds it back, or its turn comes.
     fn wake(&mut self, known: &Known<'_>, woken: &[Watch], place: usize) -> Result<(), OutOfMemory>
         requires one { place < length woken.now }
-        requires before { IsUnderWay known.now.shard (lookup known.now.records.now known.now.own.now) (watches_now self.old.touched known.now.waits.now) (drop place woken.now) self.old.done.items (turns_in self.old.queue) }
-        ensures after { OnOk result (IsUnderWay known.now.shard (lookup known.now.records.now known.now.own.now) (watches_now self.new.touched known.now.waits.now) (drop (place + 1) woken.now) self.new.done.items (turns_in self.new.queue)) }
-        ensures done { self.new.done.items ≡ self.old.done.items }
+        requires before { IsUnderWay known.now.shard (lookup known.now.records.now known.now.own.now) (watches_now self.old.touched known.now.waits.now) (drop place woken.now) self.old.done self.old.queue }
+        ensures after { OnOk result (IsUnderWay known.now.shard (lookup known.now.records.now known.now.own.now) (watches_now self.new.touched known.now.waits.now) (drop (place + 1) woken.now) self.new.done self.new.queue) }
+        ensures done { self.new.done ≡ self.old.done }
     {
         let watch = woken[place];
         let Some(there) = record_of(known.records, known.own, watch.id) else {
@@ -63,13 +72,13 @@ impl Plan {
         match last_held(
             known.records,
             known.own,
-            &self.done,
+            self.done.as_slice(),
             settled.t,
             ids,
             watch.place,
         ) {
             Some(held) => {
-                let alloc = *self.done.allocator();
+                let alloc = self.done.allocator();
                 let watch = Watch {
                     id: watch.id,
                     place: held,
@@ -82,9 +91,9 @@ impl Plan {
 
     // Looks at all that no longer wait where they did.
     fn wake_all(&mut self, known: &Known<'_>, woken: &[Watch]) -> Result<(), OutOfMemory>
-        requires before { IsUnderWay known.now.shard (lookup known.now.records.now known.now.own.now) (watches_now self.old.touched known.now.waits.now) woken.now self.old.done.items (turns_in self.old.queue) }
-        ensures after { OnOk result (IsUnderWay known.now.shard (lookup known.now.records.now known.now.own.now) (watches_now self.new.touched known.now.waits.now) [] self.new.done.items (turns_in self.new.queue)) }
-        ensures done { self.new.done.items ≡ self.old.done.items }
+        requires before { IsUnderWay known.now.shard (lookup known.now.records.now known.now.own.now) (watches_now self.old.touched known.now.waits.now) woken.now self.old.done self.old.queue }
+        ensures after { OnOk result (IsUnderWay known.now.shard (lookup known.now.records.now known.now.own.now) (watches_now self.new.touched known.now.waits.now) [] self.new.done self.new.queue) }
+        ensures done { self.new.done ≡ self.old.done }
     {
         for place in 0..woken.len() {
             self.wake(known, woken, place)?;
@@ -94,13 +103,13 @@ impl Plan {
 
     // The turn of a transaction is taken.
     fn advance(&mut self, known: &Known<'_>, turn: Turn) -> Result<(), OutOfMemory>
-        requires { IsUnderWay known.now.shard (lookup known.now.records.now known.now.own.now) (watches_now self.old.touched known.now.waits.now) [] self.old.done.items (turn ∷ turns_in self.old.queue) }
-        ensures after { OnOk result (IsUnderWay known.now.shard (lookup known.now.records.now known.now.own.now) (watches_now self.new.touched known.now.waits.now) [] self.new.done.items (turns_in self.new.queue)) }
-        ensures done { OnOk result (self.new.done.items ≡ self.old.done.items ++ turn ∷ []) }
+        requires { IsUnderWay known.now.shard (lookup known.now.records.now known.now.own.now) (watches_now self.old.touched known.now.waits.now) [] self.old.done (turn ∷ self.old.queue) }
+        ensures after { OnOk result (IsUnderWay known.now.shard (lookup known.now.records.now known.now.own.now) (watches_now self.new.touched known.now.waits.now) [] self.new.done self.new.queue) }
+        ensures done { OnOk result (self.new.done ≡ self.old.done ++ turn ∷ []) }
     {
-        note(&mut self.done, &mut self.queue, turn)?;
+        self.done.push(turn)?;
         if turn.applies {
-            let alloc = *self.done.allocator();
+            let alloc = self.done.allocator();
             let woken = take_watches(alloc, &mut self.touched, known.waits, turn.id)?;
             self.wake_all(known, &woken)?;
         }
@@ -109,10 +118,10 @@ impl Plan {
 
     // All turns that come are taken, the least one first.
     fn run(&mut self, known: &Known<'_>) -> Result<(), OutOfMemory>
-        requires { IsUnderWay known.now.shard (lookup known.now.records.now known.now.own.now) (watches_now self.old.touched known.now.waits.now) [] self.old.done.items (turns_in self.old.queue) }
-        ensures { OnOk result (IsUnderWay known.now.shard (lookup known.now.records.now known.now.own.now) (watches_now self.new.touched known.now.waits.now) [] self.new.done.items []) }
+        requires { IsUnderWay known.now.shard (lookup known.now.records.now known.now.own.now) (watches_now self.old.touched known.now.waits.now) [] self.old.done self.old.queue }
+        ensures { OnOk result (IsUnderWay known.now.shard (lookup known.now.records.now known.now.own.now) (watches_now self.new.touched known.now.waits.now) [] self.new.done []) }
     {
-        while let Some(turn) = take_first(&mut self.queue) {
+        while let Some(turn) = self.queue.take_first() {
             self.advance(known, turn)?;
         }
         Ok(())
@@ -123,13 +132,13 @@ impl Plan {
         requires starts { IsEmptyPlan self.old }
         requires known { IsKnown known.now.shard known.now.records.now known.now.own.now known.now.waits.now }
         requires fresh { settled_in (record_at known.now.records.now known.now.own.now.id) ≡ None }
-        ensures { OnOk result (IsUnderWay known.now.shard (lookup known.now.records.now known.now.own.now) (watches_now self.new.touched known.now.waits.now) [] self.new.done.items (turns_in self.new.queue)) }
+        ensures { OnOk result (IsUnderWay known.now.shard (lookup known.now.records.now known.now.own.now) (watches_now self.new.touched known.now.waits.now) [] self.new.done self.new.queue) }
     {
         let Some(settled) = &known.own.stable else {
             return Ok(());
         };
         let place = settled.deps.of_shard(known.shard).len();
-        let alloc = *self.done.allocator();
+        let alloc = self.done.allocator();
         let id = known.own.id;
         let mut woken = take_watches(alloc, &mut self.touched, known.waits, id)?;
         let own = Watch { id, place };
@@ -145,7 +154,7 @@ impl Plan {
         requires starts { IsEmptyPlan self.old }
         requires known { IsKnown known.now.shard known.now.records.now known.now.own.now known.now.waits.now }
         requires stable { IsTrue (is_some (settled_in (record_at known.now.records.now known.now.own.now.id))) }
-        ensures { OnOk result (IsUnderWay known.now.shard (lookup known.now.records.now known.now.own.now) (watches_now self.new.touched known.now.waits.now) [] self.new.done.items (turns_in self.new.queue)) }
+        ensures { OnOk result (IsUnderWay known.now.shard (lookup known.now.records.now known.now.own.now) (watches_now self.new.touched known.now.waits.now) [] self.new.done self.new.queue) }
     {
         let own = known.own;
         let Some(settled) = &own.stable else {
@@ -180,9 +189,9 @@ pub fn planned(alloc: Global, known: &Known<'_>) -> Result<Plan, OutOfMemory>
     requires { IsKnown known.now.shard known.now.records.now known.now.own.now known.now.waits.now }
     ensures { IfOk result (IsPlanned known.now.shard known.now.records.now known.now.own.now known.now.waits.now) }
 {
-    let mut plan = Plan {
-        done: Vec::new(alloc),
-        queue: Vec::new(alloc),
+    let mut plan = Planning {
+        done: TurnList::new(alloc),
+        queue: TurnList::new(alloc),
         touched: BTreeMap::new(alloc),
     };
     if is_stable(known.records, known.own.id) {
@@ -191,5 +200,8 @@ pub fn planned(alloc: Global, known: &Known<'_>) -> Result<Plan, OutOfMemory>
         plan.arrive(known)?;
     }
     plan.run(known)?;
-    Ok(plan)
+    Ok(Plan {
+        done: plan.done,
+        touched: plan.touched,
+    })
 }

@@ -14,8 +14,8 @@ returns c =
       index = refl;
       greatest = refl;
       records =
-          records_then c.args.shelf.now.records c.keep.new.records c.take_turns.new.records c.args.own (changes_in c.args.plan.done.items) c.requires.known c.keep.ensures
-          (subst (λ turns. (y : TxnId) → record_at c.take_turns.new.records y ≡ option_map (executed (changes_in turns) y) (record_at c.keep.new.records y)) c.deref.ensures.value c.take_turns.ensures);
+          records_then c.args.shelf.now.records c.keep.new.records c.take_turns.new.records c.args.own (changes_in c.args.plan.done) c.requires.known c.keep.ensures
+          (subst (λ turns. (y : TxnId) → record_at c.take_turns.new.records y ≡ option_map (executed (changes_in turns) y) (record_at c.keep.new.records y)) c.as_slice.ensures c.take_turns.ensures);
       waits = c.change_lists.ensures;
       cells = c.write.ensures;
     }

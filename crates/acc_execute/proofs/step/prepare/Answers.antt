@@ -11,8 +11,8 @@ use Rattle.acc_execute.proofs.step.prepare.Goals as goal
 
 pub release-requires : goal.release-requires
 release-requires c =
-    subst (AllByRecursion (IsKept (lookup c.args.shelf.now.records c.get.result.now))) (sym c.deref.ensures.value)
-    (all_kept c.shard.result (lookup c.args.shelf.now.records c.get.result.now) [] c.in_ok-plan.plan.done.items c.in_ok-plan.ensures.turns.each)
+    subst (AllByRecursion (IsKept (lookup c.args.shelf.now.records c.get.result.now))) (sym c.as_slice.ensures)
+    (all_kept c.shard.result (lookup c.args.shelf.now.records c.get.result.now) [] c.in_ok-plan.plan.done c.in_ok-plan.ensures.turns.each)
 
 pub returns-clause-ready : goal.returns-clause-ready
 returns-clause-ready c =
@@ -22,9 +22,9 @@ returns-clause-ready c =
           (subst (λ shard. IsPlanned shard c.args.shelf.now.records c.get.result.now c.args.shelf.now.waits c.in_ok-plan.plan) c.shard.ensures c.in_ok-plan.ensures);
       released = c.in_ok-released.released;
       releases =
-          subst (λ own. IsReleased c.args.topology.now c.args.shelf.now.actor (lookup c.args.shelf.now.records own) (changes_in c.in_ok-plan.plan.done.items) (cell_at c.args.shelf.now.cells) c.in_ok-released.released) c.get.ensures
+          subst (λ own. IsReleased c.args.topology.now c.args.shelf.now.actor (lookup c.args.shelf.now.records own) (changes_in c.in_ok-plan.plan.done) (cell_at c.args.shelf.now.cells) c.in_ok-released.released) c.get.ensures
           (subst (λ turns. IsReleased c.args.topology.now c.args.shelf.now.actor (lookup c.args.shelf.now.records c.get.result.now) (changes_in turns) (cell_at c.args.shelf.now.cells) c.in_ok-released.released)
-          c.deref.ensures.value c.in_ok-released.ensures);
+          c.as_slice.ensures c.in_ok-released.ensures);
       sends = c.in_ok-sent.ensures;
       writes = refl;
     }

@@ -9,6 +9,6 @@ returns c =
     let at = lookup known.records.now known.own.now in
     let watching = watches_now c.run.new.self.touched known.waits.now in
     record {
-      turns = is_plan known.shard at watching c.run.new.self.done.items c.in_ok-run.ensures;
-      waiting = are_watches known.shard at watching c.run.new.self.done.items c.in_ok-run.ensures;
+      turns = is_plan known.shard at watching c.run.new.self.done c.in_ok-run.ensures;
+      waiting = are_watches known.shard at watching c.run.new.self.done c.in_ok-run.ensures;
     }

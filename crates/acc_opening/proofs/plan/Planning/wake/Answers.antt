@@ -7,12 +7,11 @@ use Rattle.acc_record.specs.declared.shelf.Watch.{Watch}
 use Rattle.acc_deps.specs.Deps.{of_shard}
 use Rattle.acc_opening_laws.specs.Plan.{Lookup}
 use Rattle.acc_opening.specs.Lookup.{lookup}
-use Rattle.acc_opening.specs.Queue.{turns_in}
 use Rattle.acc_opening.specs.Scan.{AllPastUpTo, IsLastHeld}
 use Rattle.acc_opening.specs.Touched.{watches_now}
 use Rattle.acc_opening.specs.Turns.{changes_in, HasTurn}
 use Rattle.acc_opening.proofs.Woken.{front, unknown, unsettled, to_queue, to_watch}
-use Rattle.acc_opening.proofs.plan.Plan.wake.Goals as goal
+use Rattle.acc_opening.proofs.plan.Planning.wake.Goals as goal
 
 abbrev no_id : TxnId
 no_id = record { 0 = record { h = 0; origin = 0 } }
@@ -36,8 +35,8 @@ returns-in-Some-last_held-clause-after c =
     let w : Watch = get_or c.args.woken.now c.args.place (record { id = no_id; place = 0 }) in
     let r = c.in-Some.there.now in
     let settled = c.in-Some-stable.settled in
-    let next = subst (λ ids. IsLastHeld at (changes_in c.deref.result.now) settled.t ids w.place c.in-Some-last_held.held) c.of_shard-ids.ensures.ids c.in-Some-last_held.ensures in
-    let next_done = subst (λ turns. IsLastHeld at (changes_in turns) settled.t (of_shard settled.deps known.shard) w.place c.in-Some-last_held.held) c.deref.ensures.value next in
+    let next = subst (λ ids. IsLastHeld at (changes_in c.as_slice.result.now) settled.t ids w.place c.in-Some-last_held.held) c.of_shard-ids.ensures.ids c.in-Some-last_held.ensures in
+    let next_done = subst (λ turns. IsLastHeld at (changes_in turns) settled.t (of_shard settled.deps known.shard) w.place c.in-Some-last_held.held) c.as_slice.ensures next in
     IfOk-weaker _ _ _
     (λ _ adds.
     to_watch known.shard at _ _ _ _ _ s r (sym c.in-Some.ensures) settled c.in-Some-stable.is c.in-Some-last_held.held next_done
@@ -54,10 +53,10 @@ returns-in-None-clause-after c =
     let w : Watch = get_or c.args.woken.now c.args.place (record { id = no_id; place = 0 }) in
     let r = c.in-Some.there.now in
     let settled = c.in-Some-stable.settled in
-    let past = subst (λ ids. AllPastUpTo at (changes_in c.deref.result.now) settled.t ids w.place) c.of_shard-ids.ensures.ids c.in-None.ensures in
-    let past_done = subst (λ turns. AllPastUpTo at (changes_in turns) settled.t (of_shard settled.deps known.shard) w.place) c.deref.ensures.value past in
+    let past = subst (λ ids. AllPastUpTo at (changes_in c.as_slice.result.now) settled.t ids w.place) c.of_shard-ids.ensures.ids c.in-None.ensures in
+    let past_done = subst (λ turns. AllPastUpTo at (changes_in turns) settled.t (of_shard settled.deps known.shard) w.place) c.as_slice.ensures past in
     IfOk-weaker _ _ _
     (λ _ has.
-    to_queue known.shard at _ _ _ _ _ s r (sym c.in-Some.ensures) settled c.in-Some-stable.is past_done (turns_in c.insert.new.queue)
-    (subst (λ turn. HasTurn turn (turns_in c.args.self.now.queue) (turns_in c.insert.new.queue)) c.turn_of.ensures has))
+    to_queue known.shard at _ _ _ _ _ s r (sym c.in-Some.ensures) settled c.in-Some-stable.is past_done c.insert.new.queue
+    (subst (λ turn. HasTurn turn c.args.self.now.queue c.insert.new.queue) c.turn_of.ensures has))
     c.insert.ensures

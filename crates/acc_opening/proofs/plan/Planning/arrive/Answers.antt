@@ -8,7 +8,7 @@ use Rattle.acc_opening.specs.Lookup.{lookup}
 use Rattle.acc_opening.specs.Touched.{watches_now, is_same}
 use Rattle.acc_opening.specs.State.{IsUnderWay}
 use Rattle.acc_opening.proofs.Start.{arrived, untouched}
-use Rattle.acc_opening.proofs.plan.Plan.arrive.Goals as goal
+use Rattle.acc_opening.proofs.plan.Planning.arrive.Goals as goal
 
 no_items : (list : List Watch) → (length list == 0) ≡ true → list ≡ []
 no_items [] h = refl
@@ -31,7 +31,7 @@ wake_all-requires c =
     let are : own ∷ [] ≡ watchers waits id ++ own ∷ [] = ap (λ list. list ++ own ∷ []) (sym none ∙ c.in_ok-woken.ensures.taken ∙ untouched c.args.self.now.touched waits id c.requires.starts.touched) in
     let s = arrived known.shard known.records.now known.own.now waits c.requires.known c.requires.fresh after takes c.in-Some.settled (length c.of_shard-place.result.now) c.in-Some.is end (own ∷ []) are in
     let t = subst (λ list. IsUnderWay known.shard at after (own ∷ []) list []) (sym c.requires.starts.done) s in
-    record { before = subst (λ list. IsUnderWay known.shard at after (own ∷ []) c.args.self.now.done.items list) (sym c.requires.starts.queue) t }
+    record { before = subst (λ list. IsUnderWay known.shard at after (own ∷ []) c.args.self.now.done list) (sym c.requires.starts.queue) t }
 
 pub wake_all-requires-2 : goal.wake_all-requires-2
 wake_all-requires-2 c =
@@ -47,4 +47,4 @@ wake_all-requires-2 c =
     let s = arrived known.shard known.records.now known.own.now waits c.requires.known c.requires.fresh after takes c.in-Some.settled (length c.of_shard-place.result.now) c.in-Some.is end c.push.new.self.items are in
     let t = subst (λ list. IsUnderWay known.shard at after list [] []) (sym c.deref.ensures.value) s in
     let u = subst (λ list. IsUnderWay known.shard at after c.deref.result.now list []) (sym c.requires.starts.done) t in
-    record { before = subst (λ list. IsUnderWay known.shard at after c.deref.result.now c.args.self.now.done.items list) (sym c.requires.starts.queue) u }
+    record { before = subst (λ list. IsUnderWay known.shard at after c.deref.result.now c.args.self.now.done list) (sym c.requires.starts.queue) u }
