@@ -1,6 +1,6 @@
 //! Looking for the begin of a transaction that a desk is to recover.
 ghost use Rattle.std.specs.Prelude.{◌≡◌, ◌≤◌, [], Some, IfSome, IfOk, OnOk, OnErr};
-ghost use Rattle.acc_message.specs.Items.{id_drawn, id_of_txn};
+ghost use Rattle.acc_message.specs.Items.{id_drawn, id_begun as begun_by, id_of_txn};
 ghost use Rattle.acc_limits.specs.Limits.{most_items};
 ghost use Rattle.acc_desk.specs.Desks.{newest, IsSeated, IsSound, BeginsAs};
 
@@ -31,7 +31,8 @@ fn drawn(notes: &[Note]) -> Option<TxnId>
 
 // The id of the transaction, where the item begins it.
 fn id_begun(item: &Item, txn: u32) -> Option<TxnId>
-    ensures { IfSome result (λ id. BeginsAs txn id item.now) }
+    ensures id { result ≡ begun_by txn item.now }
+    ensures begins { IfSome result (λ id. BeginsAs txn id item.now) }
 {
     let Item::Step(entry) = item else {
         return None;

@@ -91,7 +91,8 @@ fn body_of(plan: &Plan, txn: u32) -> Option<&Body>
 
 // Whether a store stands in the slot.
 fn is_store<D: Rig>(slot: &Slot<D>) -> bool
-    ensures { result ≡ true → (plan : Content) (s : Situation) (a : AnActor) → SlotStands D.is_image D.faults plan s a slot.now → is_node a ≡ false }
+    ensures store { result ≡ true → (plan : Content) (s : Situation) (a : AnActor) → SlotStands D.is_image D.faults plan s a slot.now → is_node a ≡ false }
+    ensures node { result ≡ false → (plan : Content) (s : Situation) (a : AnActor) → SlotStands D.is_image D.faults plan s a slot.now → is_node a ≡ true }
 {
     match slot {
         Slot::Store(_) => true,

@@ -23,7 +23,7 @@ returns-in-Some-clause-ok g c =
 pub returns-in-Some-clause-found : goal.returns-in-Some-clause-found
 returns-in-Some-clause-found g c =
     let turns = subst (λ p. Turns actor_of_item weight_of (fits_plan p) c.loop-place.self.seat c.fetch.new.seat) (sym c.requires.plan) c.fetch.ensures.turn in
-    id_at (cluster_of c.args.plan.now) c.fetch.new.seat.seen c.loop-place.place c.deref.result.now c.args.txn c.in-Some.id turns.fitting.run.stands (c.in-Ok.ensures.ok ∙ ap Some (sym c.deref.ensures)) c.in-Some.ensures
+    id_at (cluster_of c.args.plan.now) c.fetch.new.seat.seen c.loop-place.place c.deref.result.now c.args.txn c.in-Some.id turns.fitting.run.stands (c.in-Ok.ensures.ok ∙ ap Some (sym c.deref.ensures)) c.in-Some.ensures.begins
 
 pub loop-place-preserved : goal.loop-place-preserved
 loop-place-preserved g c =

@@ -7,7 +7,7 @@ pub group-requires-clause-kind : goal.group-requires-clause-kind
 group-requires-clause-kind g c =
     let self = c.args.self.now in
     let at = c.requires.desk.at in
-    c.is_store.ensures c.if-is_store.true c.args.plan.now (alone (newest self.seat) at.stopped) self.actor at.stands
+    c.is_store.ensures.store c.if-is_store.true c.args.plan.now (alone (newest self.seat) at.stopped) self.actor at.stands
 
 pub group-requires-clause-up : goal.group-requires-clause-up
 group-requires-clause-up g c = sym (c.is_down.ensures c.args.plan.now c.args.tape.now c.requires.desk) ∙ c.if-is_down.false
