@@ -1,6 +1,7 @@
 //! Looking into JSON values, and the rules on one value.
-ghost use Rattle.std.specs.Prelude.{◌≡◌, ◌≤◌, ◌||◌, find, is_some, length, map, not, option_map, ◌<◌, IsTrue, Some, None, if◌then◌else◌};
+ghost use Rattle.std.specs.Prelude.{◌≡◌, ◌==◌, ◌≤◌, ◌&&◌, ◌||◌, find, is_some, length, map, not, option_map, zip, ◌<◌, IsTrue, Some, None, if◌then◌else◌};
 ghost use Rattle.std.specs.List.{list_all};
+ghost use Rattle.std.specs.Str.{bytes_eq};
 ghost use Rattle.std.specs.BTreeMap.{keys};
 ghost use Rattle.std.specs.Prelude.{string_bytes};
 ghost use Rattle.serde_json.specs.Find.{as_null, as_str, get};
@@ -156,6 +157,9 @@ pub(crate) fn object(
     let Some(members) = value.as_object() else {
         return Err(wrong(alloc, PlanKind::Shape, path));
     };
+    if are_named(members, needed) {
+        return Ok(());
+    }
     if !has_each(value, needed) {
         return Err(wrong(alloc, PlanKind::Shape, path));
     }
@@ -163,6 +167,23 @@ pub(crate) fn object(
         Some(name) => Err(unknown(alloc, path, name)),
         None => Ok(()),
     }
+}
+
+// Whether the fields are these and no others, in the order of their names.
+fn are_named(members: &Map<String, Value>, names: &[&str]) -> bool
+    ensures { result ≡ (length (keys members.now) == length names.now && list_all (λ pair. bytes_eq (string_bytes pair.0) pair.1.now) (zip (keys members.now) names.now)) }
+{
+    members.len() == names.len() && begin_alike(members, names)
+}
+
+// Whether each field has the name at its place, up to where one of the two ends.
+fn begin_alike(members: &Map<String, Value>, names: &[&str]) -> bool
+    ensures { result ≡ list_all (λ pair. bytes_eq (string_bytes pair.0) pair.1.now) (zip (keys members.now) names.now) }
+{
+    members
+        .keys()
+        .zip(names)
+        .all(|(key, name)| key.as_str() == *name)
 }
 
 fn has_each(value: &Value, names: &[&str]) -> bool

@@ -2,8 +2,14 @@ use Rattle.std.proofs.Common.{Some, None, map, sym, subst}
 use Rattle.serde_json.specs.View.{view}
 use Rattle.acc_schedule.specs.Faults.{Fault, IsFault}
 use Rattle.acc_schedule.specs.Parts.{part_text}
-use Rattle.acc_schedule.proofs.FieldFacts.{object_fault-found, object_fault-missing}
+use Rattle.acc_schedule.proofs.FieldFacts.{object_fault-found, object_fault-missing, object_fault-named}
 use Rattle.acc_schedule.proofs.fields.object.Goals as goal
+
+pub returns-then-are_named : goal.returns-then-are_named
+returns-then-are_named c = (
+  object_fault-named (view c.args.value.now) _ c.args.needed.now c.args.optional.now (map part_text c.args.path.now) c.in-Some.ensures c.if-are_named.ensures,
+  tt,
+)
 
 pub returns-then-not-has_each : goal.returns-then-not-has_each
 returns-then-not-has_each c =
