@@ -43,6 +43,7 @@ impl<'a> Cursor<'a> {
 
     /// Goes behind the next token. At the end, and in front of a byte that begins no token, it stays.
     #[tactic(auto, unfolding(crate::specs::Tokens::token_at, crate::specs::Tokens::left_at, crate::specs::Tokens::behind))]
+    #[inline(never)]
     pub fn next(&mut self) -> Shown<'a>
         ensures token { token_shown result.lexeme ≡ token_at self.old.rest.now }
         ensures left { result.left ≡ left_at self.old.rest.now }
@@ -59,6 +60,7 @@ impl<'a> Cursor<'a> {
 
     /// Whether the next token is this word, which is given in small letters.
     #[tactic(auto, unfolding(crate::specs::Tokens::token_at))]
+    #[inline(always)]
     pub fn is_word(&self, word: &[u8]) -> bool
         ensures { result ≡ says_word word.now (token_at self.now.rest.now) }
     {
@@ -67,6 +69,7 @@ impl<'a> Cursor<'a> {
 
     /// Whether the next token is this mark.
     #[tactic(auto, unfolding(crate::specs::Tokens::token_at))]
+    #[inline(always)]
     pub fn is_mark(&self, mark: &[u8]) -> bool
         ensures { result ≡ says_mark mark.now (token_at self.now.rest.now) }
     {
@@ -75,6 +78,7 @@ impl<'a> Cursor<'a> {
 
     /// Goes behind the next token where it is this word, which is given in small letters, and tells whether it is.
     #[tactic(auto, using(crate::proofs::Words::len_of_word, crate::proofs::Words::word_within), unfolding(crate::specs::Tokens::token_at, crate::specs::Tokens::behind))]
+    #[inline(always)]
     pub fn skip_word(&mut self, word: &[u8]) -> bool
         ensures word { result ≡ says_word word.now (token_at self.old.rest.now) }
         ensures behind { self.new.rest.now ≡ (if result then behind_of self.old.rest.now else self.old.rest.now) }
@@ -89,6 +93,7 @@ impl<'a> Cursor<'a> {
 
     /// Goes behind the next token where it is this mark, and tells whether it is.
     #[tactic(auto, using(crate::proofs::Words::len_of_mark, crate::proofs::Words::mark_fits), unfolding(crate::specs::Tokens::token_at, crate::specs::Tokens::behind))]
+    #[inline(always)]
     pub fn skip_mark(&mut self, mark: &[u8]) -> bool
         ensures mark { result ≡ says_mark mark.now (token_at self.old.rest.now) }
         ensures behind { self.new.rest.now ≡ (if result then behind_of self.old.rest.now else self.old.rest.now) }
@@ -104,6 +109,7 @@ impl<'a> Cursor<'a> {
 
 // The text from its first token on.
 #[tactic(auto, unfolding(crate::specs::Tokens::after_blanks))]
+#[inline(always)]
 fn begun(text: &[u8]) -> &[u8]
     ensures { result.now ≡ after_blanks text.now }
 {
@@ -112,6 +118,7 @@ fn begun(text: &[u8]) -> &[u8]
 
 // The token that a text without blanks in front begins with, and how many bytes it has.
 #[tactic(auto, unfolding(crate::specs::Tokens::token_of, crate::specs::Tokens::token_len))]
+#[inline(always)]
 fn first(text: &[u8]) -> (Lexeme<'_>, usize)
     ensures token { token_shown result.0 ≡ token_of text.now }
     ensures len { result.1 ≡ token_len text.now }

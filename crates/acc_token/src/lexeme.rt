@@ -1,8 +1,9 @@
 //! A token as it stands in the text.
-ghost use Rattle.std.specs.Prelude.{◌≡◌, false, IfOk};
+ghost use Rattle.std.specs.Prelude.{◌≡◌, ◌==◌, false, IfOk, IfSome, not};
+ghost use Rattle.std.specs.List.{list_all};
 ghost use Rattle.acc_token.specs.Tokens.{content, content_len, says_plain};
 
-use acc_base::{OutOfMemory, Text};
+use acc_base::{InlineText, OutOfMemory, Text};
 use std::alloc::Global;
 
 /// A token as it stands in the text, which it borrows.
@@ -36,6 +37,24 @@ pub struct QuotedText<'a> {
 }
 
 impl QuotedText<'_> {
+    /// What the quoted text says, in place if it is short.
+    pub fn says_inline(&self, alloc: Global) -> Result<InlineText, OutOfMemory>
+        ensures { IfOk result (λ text. text ≡ content false self.now.behind_quote.now) }
+    {
+        match self.as_written() {
+            Some(text) => InlineText::from_slice(alloc, text),
+            None => InlineText::from_slice(alloc, self.says(alloc)?.as_slice()),
+        }
+    }
+
+    // What it says, where that stands in the text as it is, since no quote is doubled.
+    fn as_written(&self) -> Option<&[u8]>
+        ensures { IfSome result (λ text. text.now ≡ content false self.now.behind_quote.now) }
+    {
+        let front = &self.behind_quote[..self.len?];
+        if has_no_quote(front) { Some(front) } else { None }
+    }
+
     /// What the quoted text says.
     pub fn says(&self, alloc: Global) -> Result<Text, OutOfMemory>
         ensures { IfOk result (λ text. text ≡ content false self.now.behind_quote.now) }
@@ -54,4 +73,10 @@ impl QuotedText<'_> {
         }
         Ok(text)
     }
+}
+
+fn has_no_quote(text: &[u8]) -> bool
+    ensures { result ≡ list_all (λ c. not (c == 39)) text.now }
+{
+    text.iter().all(|byte| *byte != b'\'')
 }

@@ -5,6 +5,7 @@ ghost use Rattle.std.specs.List.{prefix_len, list_all};
 ghost use Rattle.acc_token.specs.Tokens.{is_blank as is_blank_of, begins_word as begins_word_of, continues_word as continues_word_of, mark_len as mark_len_of, number_of as number_of_digits, content, is_closed, is_plain as is_plain_byte, says_plain, quoted_len, spells as spells_of, first_passes, says_word, says_mark, token_of};
 
 /// How many blanks the text begins with.
+#[inline(always)]
 pub fn blanks(text: &[u8]) -> usize
     ensures count { result ≡ prefix_len is_blank_of text.now }
     ensures within { result ≤ length text.now }
@@ -12,6 +13,7 @@ pub fn blanks(text: &[u8]) -> usize
     text.iter().take_while(|byte| is_blank(**byte)).count()
 }
 
+#[inline(always)]
 fn is_blank(byte: u8) -> bool
     ensures { result ≡ is_blank_of byte }
 {
@@ -19,12 +21,14 @@ fn is_blank(byte: u8) -> bool
 }
 
 /// Whether a word may begin with the byte.
+#[inline(always)]
 pub fn begins_word(byte: u8) -> bool
     ensures { result ≡ begins_word_of byte }
 {
     byte.is_ascii_alphabetic() || byte == b'_'
 }
 
+#[inline(always)]
 fn continues_word(byte: u8) -> bool
     ensures { result ≡ continues_word_of byte }
 {
@@ -42,6 +46,7 @@ pub fn word_len(text: &[u8]) -> usize
 }
 
 // Whether the byte is this one of a word in small letters.
+#[inline(always)]
 fn spells(byte: u8, small: u8) -> bool
     ensures { result ≡ spells_of byte small }
 {
@@ -54,6 +59,7 @@ fn spells(byte: u8, small: u8) -> bool
 }
 
 // Whether each byte is that of the word at its place, up to where one of the two ends.
+#[inline(always)]
 fn begins_alike(text: &[u8], word: &[u8]) -> bool
     ensures { result ≡ list_all (λ pair. spells_of pair.0 pair.1) (zip text.now word.now) }
 {
@@ -63,6 +69,7 @@ fn begins_alike(text: &[u8], word: &[u8]) -> bool
 }
 
 // Whether a word may begin with the text.
+#[inline(always)]
 fn begins(text: &[u8]) -> bool
     ensures { result ≡ first_passes begins_word_of text.now }
 {
@@ -73,6 +80,7 @@ fn begins(text: &[u8]) -> bool
 }
 
 // Whether a word that reaches up to the text goes on in it.
+#[inline(always)]
 fn goes_on(text: &[u8]) -> bool
     ensures { result ≡ first_passes continues_word_of text.now }
 {
@@ -83,6 +91,7 @@ fn goes_on(text: &[u8]) -> bool
 }
 
 /// What follows so many bytes.
+#[inline(always)]
 pub fn without_front(text: &[u8], len: usize) -> &[u8]
     requires { len ≤ length text.now }
     ensures { result.now ≡ drop len text.now }
@@ -92,6 +101,7 @@ pub fn without_front(text: &[u8], len: usize) -> &[u8]
 
 /// Whether the text begins with this word, which is given in small letters, and the word ends there.
 #[tactic(auto, using(crate::proofs::Words::word_tested))]
+#[inline(always)]
 pub fn is_word(text: &[u8], word: &[u8]) -> bool
     ensures { result ≡ says_word word.now (token_of text.now) }
 {
@@ -103,6 +113,7 @@ pub fn is_word(text: &[u8], word: &[u8]) -> bool
 
 /// Whether the text begins with this mark.
 #[tactic(auto, using(crate::proofs::Words::mark_in_front))]
+#[inline(always)]
 pub fn is_mark(text: &[u8], mark: &[u8]) -> bool
     ensures { result ≡ says_mark mark.now (token_of text.now) }
 {
@@ -119,6 +130,7 @@ pub fn digits_len(text: &[u8]) -> usize
 }
 
 /// How many bytes the mark has that the text begins with, and 0 where it begins with none.
+#[inline(always)]
 pub fn mark_len(text: &[u8]) -> usize
     ensures count { result ≡ mark_len_of text.now }
     ensures within { result ≤ length text.now }
