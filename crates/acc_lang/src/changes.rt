@@ -6,12 +6,10 @@ ghost use Rattle.acc_lang.specs.Answer.{Gives};
 ghost use Rattle.acc_lang.specs.Reading.{assignment as assignment_from, removal as removal_from, update as update_from, one_update as one_update_from, more_updates as more_updates_from, key_written};
 
 use crate::fault::ReadError;
-use crate::fit::fitted;
-use crate::judge::{check, standing_of};
+use crate::fit::{fitted, push};
 use crate::keys::{from_key, table, where_key};
-use crate::lexemes::{begins_update, is_word};
 use crate::sums::expression;
-use crate::take::{sees_update, take_mark, take_word};
+use crate::take::{sees_update, take_mark, take_update, take_word};
 use acc_token::Cursor;
 use acc_txn::{Let, Update, Updates};
 use acc_value::Footprint;
@@ -37,13 +35,13 @@ pub fn more_updates(
     'updates: while sees_update(cursor) {
         let extra = all.len() == MOST_UPDATES;
         let next = update(alloc, cursor, texts, uses, lets, extra)?;
-        all.push(next)?;
+        push(&mut all, next)?;
     }
     Ok(fitted(all))
 }
 
 /// One update, with the key that it writes.
-#[tactic(auto, using(crate::proofs::Taking::fails_at_once), unfolding(crate::specs::Reading::update, crate::specs::Reading::step))]
+#[tactic(auto, using(crate::proofs::Taking::fails_on), unfolding(crate::specs::Reading::update))]
 pub fn update(
     alloc: Global,
     cursor: &mut Cursor<'_>,
@@ -57,13 +55,8 @@ pub fn update(
     ensures uses { IfOk result (λ update. uses.new ≡ used uses.old (key_written update) true) }
     ensures room { OnOk result (extra ≡ false) }
 {
-    let shown = cursor.next();
-    check(
-        &shown,
-        !texts,
-        standing_of(begins_update(&shown.lexeme), extra, true),
-    )?;
-    if is_word(&shown.lexeme, "update") {
+    let sets = take_update(cursor, texts, extra)?;
+    if sets {
         assignment(alloc, cursor, texts, uses, lets)
     } else {
         removal(alloc, cursor, texts, uses)

@@ -6,12 +6,11 @@ ghost use Rattle.acc_lang.specs.Answer.{Gives};
 ghost use Rattle.acc_lang.specs.Reading.{operator_of as operator_of_token, operator as operator_from, null_test as null_test_from, comparison as comparison_from, condition_from as condition_from_term, condition as condition_from, one_condition as one_condition_from, more_conditions as more_conditions_from, conditions as conditions_from};
 
 use crate::fault::ReadError;
-use crate::fit::fitted;
+use crate::fit::{alone, fitted};
 use crate::judge::{check, standing_of};
 use crate::lexemes::is_mark;
 use crate::sums::{expression, more_parts, term};
-use crate::take::{sees_word, take_word};
-use acc_base::Sequence;
+use crate::take::{sees_word, skip_word, take_word};
 use acc_token::{Cursor, Lexeme};
 use acc_txn::{Condition, Conditions, Let, Operator, Term};
 use std::alloc::Global;
@@ -46,8 +45,7 @@ fn more_conditions(
     requires { length lets.now ≤ 16 }
     ensures { Gives (λ all. all) result cursor.new.rest.now (more_conditions_from texts lets.now 15 (first ∷ []) cursor.old.rest.now) }
 {
-    let mut all = Sequence::new(alloc);
-    all.push(first)?;
+    let mut all = alone(alloc, first)?;
     'conditions: while sees_word(cursor, "and") {
         let extra = all.len() == MOST_CONDITIONS;
         let next = one_condition(alloc, cursor, texts, lets, extra)?;
@@ -102,10 +100,7 @@ fn condition_from(
     ensures { Gives (λ condition. condition) result cursor.new.rest.now (condition_from_term texts lets.now first cursor.old.rest.now) }
 {
     match first {
-        Term::Name(name) if sees_word(cursor, "is") => {
-            cursor.next();
-            null_test(cursor, texts, name)
-        }
+        Term::Name(name) if skip_word(cursor, "is") => null_test(cursor, texts, name),
         _ => comparison(alloc, cursor, texts, lets, first),
     }
 }
@@ -115,8 +110,7 @@ fn condition_from(
 fn null_test(cursor: &mut Cursor<'_>, texts: bool, name: u8) -> Result<Condition, ReadError>
     ensures { Gives (λ condition. condition) result cursor.new.rest.now (null_test_from texts name cursor.old.rest.now) }
 {
-    if sees_word(cursor, "not") {
-        cursor.next();
+    if skip_word(cursor, "not") {
         take_word(cursor, texts, "null")?;
         Ok(Condition::IsNotNull(name))
     } else {

@@ -1,9 +1,31 @@
-//! Lists that were read to their ends.
-ghost use Rattle.std.specs.Prelude.{◌≡◌};
+//! Lists that have no room for more than they hold: a body is kept for long, and most of its lists have one element.
+ghost use Rattle.std.specs.Prelude.{◌≡◌, [], ◌∷◌, ◌++◌, IfOk, OnOk, OnErr};
 
-use acc_base::Sequence;
+use acc_base::{OutOfMemory, Sequence};
+use std::alloc::Global;
 
-/// The same list, without room for more: a body is kept for long, and most of its lists have one element.
+/// A list of one value, with room for it alone.
+pub(crate) fn alone<T: Drop>(alloc: Global, value: T) -> Result<Sequence<T>, OutOfMemory>
+    ensures { IfOk result (λ list. list ≡ value ∷ []) }
+{
+    let mut items = Vec::with_capacity(alloc, 1)?;
+    items.push_reserved(value);
+    Ok(Sequence::from_vec(items))
+}
+
+/// Appends a value. The first one takes memory for itself alone. Without memory for it the list is as before.
+pub(crate) fn push<T: Drop>(list: &mut Sequence<T>, value: T) -> Result<(), OutOfMemory>
+    ensures ok { OnOk result (list.new ≡ list.old ++ value ∷ []) }
+    ensures err { OnErr result (list.new ≡ list.old) }
+{
+    if !list.is_empty() {
+        return list.push(value);
+    }
+    *list = alone(list.allocator(), value)?;
+    Ok(())
+}
+
+/// The same list, without room for more.
 pub(crate) fn fitted<T>(list: Sequence<T>) -> Sequence<T>
     ensures { result ≡ list }
 {

@@ -6,9 +6,9 @@ ghost use Rattle.acc_lang.specs.Reading.{table as table_from, key_text as key_te
 
 use crate::fault::ReadError;
 use crate::judge::{check, standing_of};
-use crate::lexemes::{folded, is_free, is_quoted, letters_of, text_of};
+use crate::lexemes::{folded_inline, is_free, is_quoted, letters_of, text_inline};
 use crate::take::{take_mark, take_word};
-use acc_base::{InlineText, Text};
+use acc_base::InlineText;
 use acc_token::Cursor;
 use acc_value::{Footprint, Key};
 use std::alloc::Global;
@@ -18,7 +18,7 @@ const MOST_KEYS: usize = 16;
 
 /// The name of a table.
 #[tactic(auto, using(crate::proofs::Taking::fails_at_once), unfolding(crate::specs::Reading::table, crate::specs::Reading::step))]
-pub fn table(alloc: Global, cursor: &mut Cursor<'_>, texts: bool) -> Result<Text, ReadError>
+pub fn table(alloc: Global, cursor: &mut Cursor<'_>, texts: bool) -> Result<InlineText, ReadError>
     ensures { Gives (λ name. name) result cursor.new.rest.now (table_from texts cursor.old.rest.now) }
 {
     let shown = cursor.next();
@@ -27,7 +27,7 @@ pub fn table(alloc: Global, cursor: &mut Cursor<'_>, texts: bool) -> Result<Text
         !texts,
         standing_of(is_free(&shown.lexeme), false, true),
     )?;
-    Ok(folded(alloc, letters_of(&shown.lexeme))?)
+    Ok(folded_inline(alloc, letters_of(&shown.lexeme))?)
 }
 
 /// The text of a key of a table, which is read or written.
@@ -37,16 +37,15 @@ fn key_text(
     cursor: &mut Cursor<'_>,
     uses: &mut Footprint,
     writes: bool,
-    table: Text,
+    table: InlineText,
 ) -> Result<Key, ReadError>
     ensures key { (texts : Bool) → Gives (λ key. key) result cursor.new.rest.now (key_text_from texts writes uses.old table cursor.old.rest.now) }
     ensures uses { IfOk result (λ key. uses.new ≡ used uses.old key writes) }
 {
     let shown = cursor.next();
-    let text = text_of(alloc, &shown.lexeme)?;
     let key = Key {
-        table: InlineText::from_slice(alloc, table.as_slice())?,
-        key: InlineText::from_slice(alloc, text.as_slice())?,
+        table,
+        key: text_inline(alloc, &shown.lexeme)?,
     };
     uses.add(&key, writes)?;
     let extra = uses.len() > MOST_KEYS;
@@ -66,7 +65,7 @@ pub fn where_key(
     texts: bool,
     uses: &mut Footprint,
     writes: bool,
-    table: Text,
+    table: InlineText,
 ) -> Result<Key, ReadError>
     ensures key { Gives (λ key. key) result cursor.new.rest.now (where_key_from texts writes uses.old table cursor.old.rest.now) }
     ensures uses { IfOk result (λ key. uses.new ≡ used uses.old key writes) }

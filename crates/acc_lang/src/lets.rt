@@ -5,12 +5,10 @@ ghost use Rattle.acc_lang.specs.Answer.{Gives};
 ghost use Rattle.acc_lang.specs.Reading.{binding as binding_from, one_let as one_let_from, more_lets};
 
 use crate::fault::ReadError;
-use crate::fit::fitted;
-use crate::judge::{check, standing_of};
+use crate::fit::{fitted, push};
 use crate::keys::from_key;
-use crate::lexemes::is_word;
 use crate::names::new_name;
-use crate::take::{sees_word, take_mark, take_word};
+use crate::take::{sees_word, take_first, take_mark, take_word};
 use acc_base::Sequence;
 use acc_token::Cursor;
 use acc_txn::{Let, Lets};
@@ -34,12 +32,12 @@ pub fn lets(
     'lets: while sees_word(cursor, "let") {
         let extra = lets.len() == MOST_LETS;
         let next = one_let(alloc, cursor, texts, uses, lets.as_slice(), extra)?;
-        lets.push(next)?;
+        push(&mut lets, next)?;
     }
     Ok(fitted(lets))
 }
 
-#[tactic(auto, using(crate::proofs::Taking::fails_at_once, crate::proofs::Taking::fails_on, crate::proofs::Taking::fits), unfolding(crate::specs::Reading::one_let, crate::specs::Reading::step))]
+#[tactic(auto, using(crate::proofs::Taking::fails_on), unfolding(crate::specs::Reading::one_let))]
 fn one_let(
     alloc: Global,
     cursor: &mut Cursor<'_>,
@@ -51,12 +49,7 @@ fn one_let(
     ensures next { Gives (λ l. (lets.now ++ l ∷ [], uses.new)) result cursor.new.rest.now (one_let_from texts extra (lets.now, uses.old) cursor.old.rest.now) }
     ensures room { OnOk result (extra ≡ false) }
 {
-    let shown = cursor.next();
-    check(
-        &shown,
-        !texts,
-        standing_of(is_word(&shown.lexeme, "let"), extra, true),
-    )?;
+    take_first(cursor, texts, "let", extra)?;
     binding(alloc, cursor, texts, uses, lets)
 }
 

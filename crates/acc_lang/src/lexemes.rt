@@ -1,14 +1,14 @@
 //! What a token is, and what it says.
-ghost use Rattle.std.specs.Prelude.{◌≡◌, ◌==◌, map, zip, IfOk};
+ghost use Rattle.std.specs.Prelude.{◌≡◌, ◌==◌, map, not, zip, IfOk};
 ghost use Rattle.std.specs.List.{list_any, list_all};
-ghost use Rattle.std.specs.Char.{to_ascii_lowercase};
+ghost use Rattle.std.specs.Char.{is_ascii_uppercase, to_ascii_lowercase};
 ghost use Rattle.std.specs.Str.{bytes_eq};
 ghost use Rattle.acc_token.specs.Lexemes.{token_shown};
 ghost use Rattle.acc_txn.specs.Words.{is_reserved as is_reserved_word};
 ghost use Rattle.acc_token.specs.Tokens.{says_word, says_mark};
 ghost use Rattle.acc_lang.specs.Reading.{is_number as is_number_of, is_quoted as is_quoted_of, is_free as is_free_of, is_sign as is_sign_of, begins_update as begins_update_of, word_of, number_of as number_of_token, text_of as text_of_token};
 
-use acc_base::{OutOfMemory, Sequence, Text};
+use acc_base::{InlineText, OutOfMemory, Sequence, Text};
 use acc_token::Lexeme;
 use std::alloc::Global;
 
@@ -137,6 +137,34 @@ pub fn folded(alloc: Global, letters: &[u8]) -> Result<Text, OutOfMemory>
         .map(|letter| letter.to_ascii_lowercase())
         .collect(alloc)?;
     Ok(Sequence::from_vec(word))
+}
+
+/// A word in small letters, in place if it is short.
+#[tactic(auto, using(crate::proofs::Spelling::small_stay))]
+pub fn folded_inline(alloc: Global, letters: &[u8]) -> Result<InlineText, OutOfMemory>
+    ensures { IfOk result (λ word. word ≡ map to_ascii_lowercase letters.now) }
+{
+    if are_small(letters) {
+        InlineText::from_slice(alloc, letters)
+    } else {
+        InlineText::from_slice(alloc, folded(alloc, letters)?.as_slice())
+    }
+}
+
+fn are_small(letters: &[u8]) -> bool
+    ensures { result ≡ list_all (λ letter. not (is_ascii_uppercase letter)) letters.now }
+{
+    letters.iter().all(|letter| !letter.is_ascii_uppercase())
+}
+
+/// What a text in quotes says, in place if it is short, and nothing for another token.
+pub fn text_inline(alloc: Global, lexeme: &Lexeme<'_>) -> Result<InlineText, OutOfMemory>
+    ensures { IfOk result (λ text. text ≡ text_of_token (token_shown lexeme.now)) }
+{
+    match lexeme {
+        Lexeme::Quoted(text) => text.says_inline(alloc),
+        _ => InlineText::from_slice(alloc, &[]),
+    }
 }
 
 /// What a text in quotes says, and nothing for another token.

@@ -7,11 +7,11 @@ ghost use Rattle.acc_lang.specs.Reading.{guarded as guarded_from, unguarded as u
 use crate::changes::{more_updates, update};
 use crate::conditions::conditions;
 use crate::fault::ReadError;
-use crate::judge::{check, check_behind_end, standing_of};
+use crate::fit::alone;
+use crate::judge::check_behind_end;
 use crate::lets::lets;
-use crate::lexemes::is_word;
 use crate::selects::select;
-use crate::take::{sees_word, skip_mark, take_word};
+use crate::take::{skip_mark, skip_word, take_first, take_word};
 use acc_base::Sequence;
 use acc_token::Cursor;
 use acc_txn::{BodyParts, Conditions, Let, Lets, Updates};
@@ -90,8 +90,7 @@ fn action(
     requires { length lets.now ≤ 16 }
     ensures { Gives (λ both. (both, uses.new)) result cursor.new.rest.now (action_from texts uses.old lets.now cursor.old.rest.now) }
 {
-    if sees_word(cursor, "if") {
-        cursor.next();
+    if skip_word(cursor, "if") {
         guarded(alloc, cursor, texts, uses, lets)
     } else {
         unguarded(alloc, cursor, texts, uses, lets)
@@ -111,9 +110,8 @@ fn guarded(
     ensures { Gives (λ both. (both, uses.new)) result cursor.new.rest.now (guarded_from texts uses.old lets.now cursor.old.rest.now) }
 {
     let guards = conditions(alloc, cursor, texts, lets)?;
-    let mut first = Sequence::new(alloc);
-    first.push(update(alloc, cursor, texts, uses, lets, false)?)?;
-    let updates = more_updates(alloc, cursor, texts, uses, lets, first)?;
+    let first = update(alloc, cursor, texts, uses, lets, false)?;
+    let updates = more_updates(alloc, cursor, texts, uses, lets, alone(alloc, first)?)?;
     take_word(cursor, texts, "end")?;
     take_word(cursor, texts, "if")?;
     skip_mark(cursor, ";");
@@ -147,17 +145,11 @@ fn commit(cursor: &mut Cursor<'_>, texts: bool, uses: &Footprint) -> Result<(), 
 }
 
 /// `COMMIT`, where there is a key.
-#[tactic(auto, using(crate::proofs::Taking::passes), unfolding(crate::specs::Reading::commit_word, crate::specs::Reading::step))]
+#[tactic(auto, unfolding(crate::specs::Reading::commit_word))]
 fn commit_word(cursor: &mut Cursor<'_>, texts: bool, uses: &Footprint) -> Result<(), ReadError>
     ensures { Passes result cursor.new.rest.now (commit_word_from texts uses.now cursor.old.rest.now) }
 {
-    let shown = cursor.next();
-    let keyless = uses.is_empty();
-    check(
-        &shown,
-        !texts,
-        standing_of(is_word(&shown.lexeme, "commit"), keyless, true),
-    )
+    take_first(cursor, texts, "commit", uses.is_empty())
 }
 
 #[tactic(auto, using(crate::proofs::Taking::passes), unfolding(crate::specs::Reading::finish))]

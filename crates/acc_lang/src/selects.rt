@@ -4,10 +4,10 @@ ghost use Rattle.acc_lang.specs.Answer.{Gives};
 ghost use Rattle.acc_lang.specs.Reading.{one_item as one_item_from, more_items as more_items_from, items as items_from, get as get_from, selected as selected_from, select as select_from, begins_get as begins_get_of};
 
 use crate::fault::ReadError;
+use crate::fit::alone;
 use crate::keys::from_key;
 use crate::names::named;
-use crate::take::{sees_mark, sees_word, take_mark, take_word};
-use acc_base::Sequence;
+use crate::take::{sees_mark, sees_word, skip_word, take_mark, take_word};
 use acc_token::Cursor;
 use acc_txn::{Let, Numbers, Select};
 use acc_value::Footprint;
@@ -28,8 +28,7 @@ pub fn select(
     requires { length lets.now ≤ 16 }
     ensures { Gives (λ select. (select, uses.new)) result cursor.new.rest.now (select_from texts uses.old lets.now cursor.old.rest.now) }
 {
-    if sees_word(cursor, "select") {
-        cursor.next();
+    if skip_word(cursor, "select") {
         selected(alloc, cursor, texts, uses, lets)
     } else {
         Ok(Select::Nothing)
@@ -110,8 +109,7 @@ fn more_items(
     requires { length lets.now ≤ 16 }
     ensures { Gives (λ names. names) result cursor.new.rest.now (more_items_from texts lets.now 15 (first ∷ []) cursor.old.rest.now) }
 {
-    let mut names = Sequence::new(alloc);
-    names.push(first)?;
+    let mut names = alone(alloc, first)?;
     'items: while sees_mark(cursor, ",") {
         let extra = names.len() == MOST_ITEMS;
         let next = one_item(cursor, texts, lets, extra)?;

@@ -5,12 +5,11 @@ ghost use Rattle.acc_lang.specs.Answer.{Gives};
 ghost use Rattle.acc_lang.specs.Reading.{term as term_from, text_value as text_value_from, negative as negative_from, plain as plain_from, null as null_from, one_part as one_part_from, more_parts as more_parts_from, expression as expression_from, part_of};
 
 use crate::fault::ReadError;
-use crate::fit::fitted;
+use crate::fit::{alone, fitted};
 use crate::judge::{check, check_behind_minus, standing_of};
-use crate::lexemes::{is_mark, is_number, is_quoted, is_sign, is_word, number_of, text_of};
+use crate::lexemes::{is_mark, is_number, is_quoted, is_word, number_of, text_of};
 use crate::names::named;
-use crate::take::sees_sign;
-use acc_base::Sequence;
+use crate::take::{sees_sign, take_sign};
 use acc_token::Cursor;
 use acc_txn::{Expr, Let, Part, Term};
 use std::alloc::Global;
@@ -47,11 +46,11 @@ pub fn more_parts(
     requires { length lets.now ≤ 16 }
     ensures { Gives (λ sum. sum) result cursor.new.rest.now (more_parts_from texts lets.now 15 (part_of false first ∷ []) cursor.old.rest.now) }
 {
-    let mut sum = Sequence::new(alloc);
-    sum.push(Part {
+    let first = Part {
         minus: false,
         term: first,
-    })?;
+    };
+    let mut sum = alone(alloc, first)?;
     'parts: while sees_sign(cursor) {
         let extra = sum.len() == MOST_TERMS;
         let next = one_part(alloc, cursor, texts, lets, extra)?;
@@ -61,7 +60,7 @@ pub fn more_parts(
 }
 
 /// `( + | - ) term`
-#[tactic(auto, using(crate::proofs::Taking::fails_at_once, crate::proofs::Taking::fails_on), unfolding(crate::specs::Reading::one_part, crate::specs::Reading::step))]
+#[tactic(auto, using(crate::proofs::Taking::fails_on), unfolding(crate::specs::Reading::one_part))]
 fn one_part(
     alloc: Global,
     cursor: &mut Cursor<'_>,
@@ -73,17 +72,9 @@ fn one_part(
     ensures next { (sum : List Part) → Gives (λ part. sum ++ part ∷ []) result cursor.new.rest.now (one_part_from texts lets.now extra sum cursor.old.rest.now) }
     ensures room { OnOk result (extra ≡ false) }
 {
-    let shown = cursor.next();
-    check(
-        &shown,
-        !texts,
-        standing_of(is_sign(&shown.lexeme), false, true),
-    )?;
+    let minus = take_sign(cursor, texts)?;
     let term = term(alloc, cursor, texts, lets, extra)?;
-    Ok(Part {
-        minus: is_mark(&shown.lexeme, "-"),
-        term,
-    })
+    Ok(Part { minus, term })
 }
 
 /// `[ - ] number | text | NULL | name . v`, a text where text values are allowed.

@@ -52,7 +52,11 @@ impl QuotedText<'_> {
         ensures { IfSome result (λ text. text.now ≡ content false self.now.behind_quote.now) }
     {
         let front = &self.behind_quote[..self.len?];
-        if has_no_quote(front) { Some(front) } else { None }
+        if has_no_quote(front) {
+            Some(front)
+        } else {
+            None
+        }
     }
 
     /// What the quoted text says.

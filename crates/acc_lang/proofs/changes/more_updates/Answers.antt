@@ -21,14 +21,14 @@ unfolding one_update
 updates-preserved c =
     let begins : begins_update (token_at c.updates.cursor.rest.now) ≡ true = cc in
     let few : length c.updates.all < 16 = below _ 16 c.updates.invariant.few (rw c.len-extra.ensures at c.in_ok-next.ensures.room) in
-    let more : length c.push.new.self ≡ length c.updates.all + 1 = one_more c.updates.all c.push.new.self c.in_ok-next.next c.in_ok-push.ensures.ok in
+    let more : length c.push.new.list ≡ length c.updates.all + 1 = one_more c.updates.all c.push.new.list c.in_ok-next.next c.in_ok-push.ensures.ok in
     let read : update c.args.texts false c.updates.uses c.args.lets.now c.updates.cursor.rest.now ≡ Ok (c.in_ok-next.next, c.update.new.cursor.rest.now) =
     cc (c.in_ok-next.ensures.update, c.in_ok-next.ensures.room) in
     record {
       goes_on =
           sym
           (continued begins_update (one_update c.args.texts c.args.lets.now) 16 (length c.updates.all) (c.updates.all, c.updates.uses) c.updates.cursor.rest.now
-          ((c.push.new.self, c.update.new.uses), c.update.new.cursor.rest.now) (length c.push.new.self) begins few more
+          ((c.push.new.list, c.update.new.uses), c.update.new.cursor.rest.now) (length c.push.new.list) begins few more
           (rw read (cc (c.in_ok-next.ensures.uses, c.in_ok-push.ensures.ok))))
           ∙ c.updates.invariant.goes_on;
       few = omega arith;

@@ -19,13 +19,13 @@ pub conditions-preserved : goal.conditions-preserved
 conditions-preserved c =
     let begins : says_word (codes "and") (token_at c.conditions.cursor.rest.now) ≡ true = cc in
     let few : length c.conditions.all < 16 = below _ 16 c.conditions.invariant.few (rw c.len-extra.ensures at c.in_ok-next.ensures.room) in
-    let more : length c.push-in-conditions.new.self ≡ length c.conditions.all + 1 = one_more c.conditions.all c.push-in-conditions.new.self c.in_ok-next.next c.in_ok-push-2.ensures.ok in
+    let more : length c.push.new.self ≡ length c.conditions.all + 1 = one_more c.conditions.all c.push.new.self c.in_ok-next.next c.in_ok-push.ensures.ok in
     record {
       goes_on =
           sym
           (continued (says_word (codes "and")) (one_condition c.args.texts c.args.lets.now) 16 (length c.conditions.all) c.conditions.all c.conditions.cursor.rest.now
-          (c.push-in-conditions.new.self, c.one_condition.new.cursor.rest.now) (length c.push-in-conditions.new.self) begins few more
-          (cc (c.in_ok-next.ensures.next c.conditions.all, c.in_ok-next.ensures.room, c.in_ok-push-2.ensures.ok)))
+          (c.push.new.self, c.one_condition.new.cursor.rest.now) (length c.push.new.self) begins few more
+          (cc (c.in_ok-next.ensures.next c.conditions.all, c.in_ok-next.ensures.room, c.in_ok-push.ensures.ok)))
           ∙ c.conditions.invariant.goes_on;
       few = omega arith;
     }

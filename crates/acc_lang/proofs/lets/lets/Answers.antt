@@ -19,12 +19,12 @@ pub lets-preserved : goal.lets-preserved
 lets-preserved c =
     let begins : says_word (codes "let") (token_at c.lets.cursor.rest.now) ≡ true = cc in
     let few : length c.lets.lets < 16 = below _ 16 c.lets.invariant.few (rw c.len-extra.ensures at c.in_ok-next.ensures.room) in
-    let more : length c.push.new.self ≡ length c.lets.lets + 1 = one_more c.lets.lets c.push.new.self c.in_ok-next.next c.in_ok-push.ensures.ok in
+    let more : length c.push.new.list ≡ length c.lets.lets + 1 = one_more c.lets.lets c.push.new.list c.in_ok-next.next c.in_ok-push.ensures.ok in
     record {
       goes_on =
           sym
           (continued (says_word (codes "let")) (one_let c.args.texts) 16 (length c.lets.lets) (c.lets.lets, c.lets.uses) c.lets.cursor.rest.now
-          ((c.push.new.self, c.one_let.new.uses), c.one_let.new.cursor.rest.now) (length c.push.new.self) begins few more
+          ((c.push.new.list, c.one_let.new.uses), c.one_let.new.cursor.rest.now) (length c.push.new.list) begins few more
           (cc (c.in_ok-next.ensures.next, c.in_ok-next.ensures.room, c.in_ok-push.ensures.ok)))
           ∙ c.lets.invariant.goes_on;
       few = omega arith;

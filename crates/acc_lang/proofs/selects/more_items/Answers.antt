@@ -19,13 +19,13 @@ pub items-preserved : goal.items-preserved
 items-preserved c =
     let begins : says_mark (codes ",") (token_at c.items.cursor.rest.now) ≡ true = cc in
     let few : length c.items.names < 16 = below _ 16 c.items.invariant.few (rw c.len-extra.ensures at c.in_ok-next.ensures.room) in
-    let more : length c.push-in-items.new.self ≡ length c.items.names + 1 = one_more c.items.names c.push-in-items.new.self c.in_ok-next.next c.in_ok-push-2.ensures.ok in
+    let more : length c.push.new.self ≡ length c.items.names + 1 = one_more c.items.names c.push.new.self c.in_ok-next.next c.in_ok-push.ensures.ok in
     record {
       goes_on =
           sym
           (continued (says_mark (codes ",")) (one_item c.args.texts c.args.lets.now) 16 (length c.items.names) c.items.names c.items.cursor.rest.now
-          (c.push-in-items.new.self, c.one_item.new.cursor.rest.now) (length c.push-in-items.new.self) begins few more
-          (cc (c.in_ok-next.ensures.next c.items.names, c.in_ok-next.ensures.room, c.in_ok-push-2.ensures.ok)))
+          (c.push.new.self, c.one_item.new.cursor.rest.now) (length c.push.new.self) begins few more
+          (cc (c.in_ok-next.ensures.next c.items.names, c.in_ok-next.ensures.room, c.in_ok-push.ensures.ok)))
           ∙ c.items.invariant.goes_on;
       few = omega arith;
     }

@@ -19,13 +19,13 @@ pub parts-preserved : goal.parts-preserved
 parts-preserved c =
     let begins : is_sign (token_at c.parts.cursor.rest.now) ≡ true = cc in
     let few : length c.parts.sum < 16 = below _ 16 c.parts.invariant.few (rw c.len-extra.ensures at c.in_ok-next.ensures.room) in
-    let more : length c.push-in-parts.new.self ≡ length c.parts.sum + 1 = one_more c.parts.sum c.push-in-parts.new.self c.in_ok-next.next c.in_ok-push-2.ensures.ok in
+    let more : length c.push.new.self ≡ length c.parts.sum + 1 = one_more c.parts.sum c.push.new.self c.in_ok-next.next c.in_ok-push.ensures.ok in
     record {
       goes_on =
           sym
           (continued is_sign (one_part c.args.texts c.args.lets.now) 16 (length c.parts.sum) c.parts.sum c.parts.cursor.rest.now
-          (c.push-in-parts.new.self, c.one_part.new.cursor.rest.now) (length c.push-in-parts.new.self) begins few more
-          (cc (c.in_ok-next.ensures.next c.parts.sum, c.in_ok-next.ensures.room, c.in_ok-push-2.ensures.ok)))
+          (c.push.new.self, c.one_part.new.cursor.rest.now) (length c.push.new.self) begins few more
+          (cc (c.in_ok-next.ensures.next c.parts.sum, c.in_ok-next.ensures.room, c.in_ok-push.ensures.ok)))
           ∙ c.parts.invariant.goes_on;
       few = omega arith;
     }
