@@ -6,7 +6,7 @@ ghost use Rattle.acc_lang.specs.Answer.{Gives};
 ghost use Rattle.acc_lang.specs.Reading.{operator_of as operator_of_token, operator as operator_from, null_test as null_test_from, comparison as comparison_from, condition_from as condition_from_term, condition as condition_from, one_condition as one_condition_from, more_conditions as more_conditions_from, conditions as conditions_from};
 
 use crate::fault::ReadError;
-use crate::fit::{alone, fitted};
+use crate::fit::{begun, fitted};
 use crate::judge::{check, standing_of};
 use crate::lexemes::is_mark;
 use crate::sums::{expression, more_parts, term};
@@ -45,7 +45,7 @@ fn more_conditions(
     requires { length lets.now ≤ 16 }
     ensures { Gives (λ all. all) result cursor.new.rest.now (more_conditions_from texts lets.now 15 (first ∷ []) cursor.old.rest.now) }
 {
-    let mut all = alone(alloc, first)?;
+    let mut all = begun(alloc, first, sees_word(cursor, "and"))?;
     'conditions: while sees_word(cursor, "and") {
         let extra = all.len() == MOST_CONDITIONS;
         let next = one_condition(alloc, cursor, texts, lets, extra)?;

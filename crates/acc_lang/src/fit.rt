@@ -4,11 +4,16 @@ ghost use Rattle.std.specs.Prelude.{◌≡◌, [], ◌∷◌, ◌++◌, IfOk, On
 use acc_base::{OutOfMemory, Sequence};
 use std::alloc::Global;
 
-/// A list of one value, with room for it alone.
-pub(crate) fn alone<T: Drop>(alloc: Global, value: T) -> Result<Sequence<T>, OutOfMemory>
+/// A list of one value, with room for it alone, or for one more where the list goes on.
+pub(crate) fn begun<T: Drop>(
+    alloc: Global,
+    value: T,
+    goes_on: bool,
+) -> Result<Sequence<T>, OutOfMemory>
     ensures { IfOk result (λ list. list ≡ value ∷ []) }
 {
-    let mut items = Vec::with_capacity(alloc, 1)?;
+    let room = if goes_on { 2 } else { 1 };
+    let mut items = Vec::with_capacity(alloc, room)?;
     items.push_reserved(value);
     Ok(Sequence::from_vec(items))
 }
@@ -21,7 +26,7 @@ pub(crate) fn push<T: Drop>(list: &mut Sequence<T>, value: T) -> Result<(), OutO
     if !list.is_empty() {
         return list.push(value);
     }
-    *list = alone(list.allocator(), value)?;
+    *list = begun(list.allocator(), value, false)?;
     Ok(())
 }
 

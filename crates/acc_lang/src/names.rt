@@ -1,6 +1,8 @@
 //! Names of LETs.
-ghost use Rattle.std.specs.Prelude.{◌≡◌, ◌<◌, ◌≤◌, length, false, map, OnOk, IfSome};
+ghost use Rattle.std.specs.Prelude.{◌≡◌, ◌<◌, ◌≤◌, ℕ, List, length, false, map, OnOk, IfSome};
 ghost use Rattle.std.specs.Char.{to_ascii_lowercase};
+ghost use Rattle.acc_token.specs.Tokens.{behind, left_at, token_at};
+ghost use Rattle.acc_token.specs.Lexemes.{token_shown};
 ghost use Rattle.acc_lang.specs.Answer.{Gives};
 ghost use Rattle.acc_lang.specs.Reading.{let_of as let_of_name, new_name as new_name_from, bound_name as bound_name_from, named as named_from};
 
@@ -9,7 +11,7 @@ use crate::judge::{check, standing_of};
 use crate::lexemes::{folded, is_free, letters_of, spells};
 use crate::take::{take_mark, take_word};
 use acc_base::Text;
-use acc_token::Cursor;
+use acc_token::{Cursor, Shown};
 use acc_txn::Let;
 use std::alloc::Global;
 
@@ -44,7 +46,6 @@ pub fn new_name(
 }
 
 /// `name . v`, which gives the number of the LET that binds the name.
-#[tactic(auto, using(crate::proofs::Taking::fails_on), unfolding(crate::specs::Reading::named))]
 pub fn named(
     cursor: &mut Cursor<'_>,
     texts: bool,
@@ -55,7 +56,25 @@ pub fn named(
     ensures name { Gives (λ number. number) result cursor.new.rest.now (named_from texts extra lets.now cursor.old.rest.now) }
     ensures room { OnOk result (extra ≡ false) }
 {
-    let number = bound_name(cursor, texts, lets, extra)?;
+    let shown = cursor.next();
+    named_by(&shown, cursor, texts, lets, extra)
+}
+
+/// The same behind the name, which was taken from the text.
+#[tactic(auto, using(crate::proofs::Taking::fails_on), unfolding(crate::specs::Reading::named))]
+pub fn named_by(
+    shown: &Shown<'_>,
+    cursor: &mut Cursor<'_>,
+    texts: bool,
+    lets: &[Let],
+    extra: bool,
+) -> Result<u8, ReadError>
+    requires { length lets.now ≤ 16 }
+    ensures name { (text : List ℕ) → token_shown shown.now.lexeme ≡ token_at text → shown.now.left ≡ left_at text → cursor.old.rest.now ≡ behind text
+        → Gives (λ number. number) result cursor.new.rest.now (named_from texts extra lets.now text) }
+    ensures room { OnOk result (extra ≡ false) }
+{
+    let number = bound_name(shown, texts, lets, extra)?;
     take_mark(cursor, texts, ".")?;
     take_word(cursor, texts, "v")?;
     Ok(number)
@@ -63,20 +82,15 @@ pub fn named(
 
 // The name alone.
 #[tactic(auto, using(crate::proofs::Taking::fails_at_once, crate::proofs::Taking::fits), unfolding(crate::specs::Reading::bound_name, crate::specs::Reading::step))]
-fn bound_name(
-    cursor: &mut Cursor<'_>,
-    texts: bool,
-    lets: &[Let],
-    extra: bool,
-) -> Result<u8, ReadError>
+fn bound_name(shown: &Shown<'_>, texts: bool, lets: &[Let], extra: bool) -> Result<u8, ReadError>
     requires { length lets.now ≤ 16 }
-    ensures name { Gives (λ number. number) result cursor.new.rest.now (bound_name_from texts extra lets.now cursor.old.rest.now) }
+    ensures name { (text : List ℕ) → token_shown shown.now.lexeme ≡ token_at text → shown.now.left ≡ left_at text
+        → Gives (λ number. number) result (behind text) (bound_name_from texts extra lets.now text) }
     ensures room { OnOk result (extra ≡ false) }
 {
-    let shown = cursor.next();
     let number = let_of(lets, letters_of(&shown.lexeme));
     check(
-        &shown,
+        shown,
         !texts,
         standing_of(is_free(&shown.lexeme), extra, number.is_some()),
     )?;

@@ -7,11 +7,11 @@ ghost use Rattle.acc_lang.specs.Reading.{guarded as guarded_from, unguarded as u
 use crate::changes::{more_updates, update};
 use crate::conditions::conditions;
 use crate::fault::ReadError;
-use crate::fit::alone;
+use crate::fit::begun;
 use crate::judge::check_behind_end;
 use crate::lets::lets;
 use crate::selects::select;
-use crate::take::{skip_mark, skip_word, take_first, take_word};
+use crate::take::{sees_update, skip_mark, skip_word, take_first, take_word};
 use acc_base::Sequence;
 use acc_token::Cursor;
 use acc_txn::{BodyParts, Conditions, Let, Lets, Updates};
@@ -111,7 +111,8 @@ fn guarded(
 {
     let guards = conditions(alloc, cursor, texts, lets)?;
     let first = update(alloc, cursor, texts, uses, lets, false)?;
-    let updates = more_updates(alloc, cursor, texts, uses, lets, alone(alloc, first)?)?;
+    let first = begun(alloc, first, sees_update(cursor))?;
+    let updates = more_updates(alloc, cursor, texts, uses, lets, first)?;
     take_word(cursor, texts, "end")?;
     take_word(cursor, texts, "if")?;
     skip_mark(cursor, ";");

@@ -4,7 +4,7 @@ ghost use Rattle.acc_lang.specs.Answer.{Gives};
 ghost use Rattle.acc_lang.specs.Reading.{one_item as one_item_from, more_items as more_items_from, items as items_from, get as get_from, selected as selected_from, select as select_from, begins_get as begins_get_of};
 
 use crate::fault::ReadError;
-use crate::fit::alone;
+use crate::fit::begun;
 use crate::keys::from_key;
 use crate::names::named;
 use crate::take::{sees_mark, sees_word, skip_word, take_mark, take_word};
@@ -109,7 +109,7 @@ fn more_items(
     requires { length lets.now ≤ 16 }
     ensures { Gives (λ names. names) result cursor.new.rest.now (more_items_from texts lets.now 15 (first ∷ []) cursor.old.rest.now) }
 {
-    let mut names = alone(alloc, first)?;
+    let mut names = begun(alloc, first, sees_mark(cursor, ","))?;
     'items: while sees_mark(cursor, ",") {
         let extra = names.len() == MOST_ITEMS;
         let next = one_item(cursor, texts, lets, extra)?;

@@ -1,16 +1,18 @@
 //! Expressions, which are sums of terms.
-ghost use Rattle.std.specs.Prelude.{◌≡◌, ◌≤◌, [], ◌∷◌, ◌++◌, Bool, List, length, false, pos, neg_ℤ, OnOk};
+ghost use Rattle.std.specs.Prelude.{◌≡◌, ◌≤◌, [], ◌∷◌, ◌++◌, ℕ, Bool, List, length, false, pos, neg_ℤ, OnOk};
 ghost use Rattle.acc_txn.specs.declared.parts.Part.{Part};
+ghost use Rattle.acc_token.specs.Tokens.{behind, left_at, token_at};
+ghost use Rattle.acc_token.specs.Lexemes.{token_shown};
 ghost use Rattle.acc_lang.specs.Answer.{Gives};
 ghost use Rattle.acc_lang.specs.Reading.{term as term_from, text_value as text_value_from, negative as negative_from, plain as plain_from, null as null_from, one_part as one_part_from, more_parts as more_parts_from, expression as expression_from, part_of};
 
 use crate::fault::ReadError;
-use crate::fit::{alone, fitted};
+use crate::fit::{begun, fitted};
 use crate::judge::{check, check_behind_minus, standing_of};
 use crate::lexemes::{is_mark, is_number, is_quoted, is_word, number_of, text_of};
-use crate::names::named;
+use crate::names::named_by;
 use crate::take::{sees_sign, take_sign};
-use acc_token::Cursor;
+use acc_token::{Cursor, Shown};
 use acc_txn::{Expr, Let, Part, Term};
 use std::alloc::Global;
 
@@ -50,7 +52,7 @@ pub fn more_parts(
         minus: false,
         term: first,
     };
-    let mut sum = alone(alloc, first)?;
+    let mut sum = begun(alloc, first, sees_sign(cursor))?;
     'parts: while sees_sign(cursor) {
         let extra = sum.len() == MOST_TERMS;
         let next = one_part(alloc, cursor, texts, lets, extra)?;
@@ -90,17 +92,21 @@ pub fn term(
     ensures term { Gives (λ term. term) result cursor.new.rest.now (term_from texts extra lets.now cursor.old.rest.now) }
     ensures room { OnOk result (extra ≡ false) }
 {
-    let first = cursor.peek();
+    let mut ahead = *cursor;
+    let shown = ahead.next();
+    let first = shown.lexeme;
     if is_mark(&first, "-") {
         negative(cursor, texts, extra)
     } else if is_number(&first) {
-        plain(cursor, texts, extra)
+        *cursor = ahead;
+        plain(&shown, texts, extra)
     } else if is_quoted(&first) && texts {
         text_value(alloc, cursor, extra)
     } else if is_word(&first, "null") {
         null(cursor, texts, extra)
     } else {
-        let name = named(cursor, texts, lets, extra)?;
+        *cursor = ahead;
+        let name = named_by(&shown, cursor, texts, lets, extra)?;
         Ok(Term::Name(name))
     }
 }
@@ -130,12 +136,12 @@ fn negated(number: u64) -> i64
 }
 
 #[tactic(auto, using(crate::proofs::Taking::fails_at_once, crate::proofs::Taking::fits, crate::proofs::Numbers::fits_plain), unfolding(crate::specs::Reading::plain, crate::specs::Reading::step))]
-fn plain(cursor: &mut Cursor<'_>, texts: bool, extra: bool) -> Result<Term, ReadError>
-    ensures term { Gives (λ term. term) result cursor.new.rest.now (plain_from texts extra cursor.old.rest.now) }
+fn plain(digits: &Shown<'_>, texts: bool, extra: bool) -> Result<Term, ReadError>
+    ensures term { (text : List ℕ) → token_shown digits.now.lexeme ≡ token_at text → digits.now.left ≡ left_at text
+        → Gives (λ term. term) result (behind text) (plain_from texts extra text) }
     ensures room { OnOk result (extra ≡ false) }
 {
-    let digits = cursor.next();
-    check(&digits, !texts, standing_of(true, extra, true))?;
+    check(digits, !texts, standing_of(true, extra, true))?;
     Ok(Term::Number(number_of(&digits.lexeme) as i64))
 }
 
