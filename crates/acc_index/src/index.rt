@@ -5,7 +5,7 @@ ghost use Rattle.acc_index.specs.Noted.{Noted, IsGreatestStamp, rival_stamps, ri
 
 use crate::columns::{Columns, put};
 use crate::order::rising;
-use crate::questions::{all_below, all_of, greatest_stamp};
+use crate::questions::{all_below, all_of, both, greatest_stamp};
 use crate::share::Share;
 use crate::users::{Users, add_all, reserve_all, users_of};
 use acc_base::OutOfMemory;
@@ -79,6 +79,25 @@ impl Index {
         let found = all_below(alloc, &self.columns, &self.users, share.pairs(), id, bound)?;
         let ids = rising(found)?;
         Ok(ids)
+    }
+
+    /// Both: the greatest stamp of the others that conflict, and those whose own stamp is smaller than the bound. The users of a
+    /// key are looked for once.
+    pub fn rivals_below(
+        &self,
+        id: TxnId,
+        share: &Share,
+        bound: Stamp,
+    ) -> Result<(Option<Stamp>, Ids), OutOfMemory>
+        ensures greatest { IfOk result (λ found. IsGreatestStamp (rival_stamps self.now id share.now) found.0) }
+        ensures ids { IfOk result (λ found. found.1 ≡ rival_ids_below self.now id share.now bound) }
+        ensures rises { IfOk result (λ found. IsRising found.1) }
+    {
+        let alloc = *self.shares.allocator();
+        let uses = share.pairs();
+        let (greatest, found) = both(alloc, &self.columns, &self.users, uses, id, bound)?;
+        let ids = rising(found)?;
+        Ok((greatest, ids))
     }
 
     /// The other transactions that conflict with this one, rising.

@@ -77,3 +77,31 @@ pub(crate) fn all_below(
     }
     Ok(found)
 }
+
+/// Both: the greatest stamp of the other transactions whose use of a key conflicts, and those whose own stamp is smaller than the
+/// bound.
+pub(crate) fn both(
+    alloc: Global,
+    columns: &Columns,
+    users: &HashMap<Key, Users>,
+    uses: &[(Key, bool)],
+    id: TxnId,
+    bound: Stamp,
+) -> Result<(Option<Stamp>, Vec<TxnId>), OutOfMemory>
+    requires even { IsEven columns.now }
+    requires in_range { (k : Key) → (w : Bool) → InRange columns.now (places_at users.now k w) }
+    ensures greatest { IfOk result (λ both. IsGreatestStamp (stamps_of columns.now (others columns.now id (asked (places_at users.now) uses.now))) both.0) }
+    ensures found { IfOk result (λ both. both.1.items ≡ ids_of columns.now (those_below columns.now bound (others columns.now id (asked (places_at users.now) uses.now)))) }
+{
+    let mut greatest = None;
+    let mut found = Vec::new(alloc);
+    for (key, writes) in uses {
+        let (writers, readers) = users_of(users, key, *writes);
+        greatest = columns.greatest_of(writers, id, greatest);
+        greatest = columns.greatest_of(readers, id, greatest);
+        found.reserve(writers.len().saturating_add(readers.len()))?;
+        columns.collect_below(writers, id, bound, &mut found)?;
+        columns.collect_below(readers, id, bound, &mut found)?;
+    }
+    Ok((greatest, found))
+}

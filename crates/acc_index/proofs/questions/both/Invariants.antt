@@ -1,0 +1,11 @@
+-- The greatest stamp of the users of the keys so far, and those with small stamps.
+use Rattle.std.proofs.Common.{◌≡◌, take}
+use Rattle.acc_index.specs.Users.{places_at}
+use Rattle.acc_index.specs.Noted.{IsGreatestStamp}
+use Rattle.acc_index.specs.Places.{asked, others, those_below, stamps_of, ids_of}
+use Rattle.acc_index.proofs.questions.both.Given as goal
+
+abbrev pub invariant-loop-key : goal.invariant-loop-key
+invariant-loop-key l =
+    IsGreatestStamp (stamps_of l.columns (others l.columns l.id (asked (places_at l.users) (take l.key-index l.uses)))) l.greatest
+    × (l.found.items ≡ ids_of l.columns (those_below l.columns l.bound (others l.columns l.id (asked (places_at l.users) (take l.key-index l.uses)))))
