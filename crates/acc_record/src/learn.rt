@@ -2,6 +2,7 @@
 ghost use Rattle.std.specs.Prelude.{◌≡◌, ◌++◌, cond, Some, None, is_some, IsTrue, IfOk, OnOk, OnErr};
 ghost use Rattle.acc_stamp.specs.declared.stamps.TxnId.{TxnId};
 ghost use Rattle.acc_stamp.specs.Stamp.{id_eq};
+ghost use Rattle.std.specs.Option.{option_copied};
 ghost use Rattle.acc_record.specs.Shelf.{IsSame, record_at};
 ghost use Rattle.acc_record.specs.Steps.{fresh};
 ghost use Rattle.acc_record.specs.Learning.{IsLearnt, is_covered_by, is_below_accepted, is_below_settled, later_of, share_at, stamp_to_note, notes_with};
@@ -15,6 +16,15 @@ use acc_index::{Index, Share};
 use acc_stamp::{Ballot, Ballots, Stamp, TxnId};
 use acc_topology::Topology;
 use acc_txn::Body;
+
+/// What a step has to note of its transaction.
+#[derive(Clone, Copy, Debug)]
+pub struct Noting {
+    /// Whether the transaction is known.
+    pub is_known: bool,
+    /// The stamp that is to be noted, if any.
+    pub stamp: Option<Stamp>,
+}
 
 impl Shelf {
     /// Makes a transaction known, with the body where it was not, notes a stamp of it that isn't covered by those that its
@@ -31,12 +41,30 @@ impl Shelf {
         ensures ok { OnOk result (IsLearnt self.old self.new id body.now share.now stamp top) }
         ensures err { OnErr result (IsSame self.old self.new) }
     {
-        let (is_known, stamp) = self.stamp_to_note(id, stamp);
-        if is_known {
-            note(&mut self.index, id, share, stamp)?;
+        let noting = self.noting(self.find(id), id, stamp);
+        self.learn_noting(id, body, share, stamp, noting, top)
+    }
+
+    /// Learns as `learn` does, where `noting` has told already what is to be noted.
+    pub fn learn_noting(
+        &mut self,
+        id: TxnId,
+        body: &Body,
+        share: &Share,
+        stamp: Option<Stamp>,
+        noting: Noting,
+        top: u64,
+    ) -> Result<(), OutOfMemory>
+        requires known { noting.is_known ≡ is_some (record_at self.old.records id) }
+        requires stamp { noting.stamp ≡ stamp_to_note (record_at self.old.records id) id stamp }
+        ensures ok { OnOk result (IsLearnt self.old self.new id body.now share.now stamp top) }
+        ensures err { OnErr result (IsSame self.old self.new) }
+    {
+        if noting.is_known {
+            note(&mut self.index, id, share, noting.stamp)?;
         } else {
             let record = Record::new(id, body)?;
-            add(&mut self.records, &mut self.index, record, share, stamp)?;
+            add(&mut self.records, &mut self.index, record, share, noting.stamp)?;
         }
         self.greatest = self.greatest.max(top);
         Ok(())
@@ -68,22 +96,25 @@ impl Shelf {
         ensures known { IsTrue result → IsTrue (is_some (record_at self.now.records id)) }
         ensures none { IsTrue result → stamp_to_note (record_at self.now.records id) id stamp ≡ None }
     {
-        let (is_known, stamp) = self.stamp_to_note(id, stamp);
-        is_known && stamp.is_none()
+        let noting = self.noting(self.find(id), id, stamp);
+        noting.is_known && noting.stamp.is_none()
     }
 
-    // Whether a transaction is known, and the stamp of it that is to be noted, where a step brings this one.
-    fn stamp_to_note(&self, id: TxnId, stamp: Option<Stamp>) -> (bool, Option<Stamp>)
-        ensures known { result.0 ≡ is_some (record_at self.now.records id) }
-        ensures stamp { result.1 ≡ stamp_to_note (record_at self.now.records id) id stamp }
+    /// What a step has to note that brings this stamp of a transaction, which has this record, if any.
+    pub fn noting(&self, there: Option<&Record>, id: TxnId, stamp: Option<Stamp>) -> Noting
+        requires { option_copied there ≡ record_at self.now.records id }
+        ensures known { result.is_known ≡ is_some (record_at self.now.records id) }
+        ensures stamp { result.stamp ≡ stamp_to_note (record_at self.now.records id) id stamp }
     {
-        match (self.find(id), stamp) {
+        let (is_known, stamp) = match (there, stamp) {
             (None, stamp) => (false, Some(later(id.0, stamp))),
             (Some(record), Some(stamp)) if !record.covers(id, stamp) => (true, Some(stamp)),
             (Some(_), _) => (true, None),
-        }
+        };
+        Noting { is_known, stamp }
     }
 }
+
 
 impl Record {
     // The record of a transaction that was just heard of.

@@ -10,6 +10,7 @@ mod shelf;
 mod vote;
 
 pub use cells::Cells;
+pub use learn::Noting;
 pub use record::{KeptRecord, Record, Records};
 pub use shared_accepted::SharedAccepted;
 pub use shelf::{Shelf, Waits, Watch};
