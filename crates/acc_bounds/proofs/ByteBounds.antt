@@ -29,11 +29,11 @@ use Rattle.acc_txn.specs.declared.parts.BodyParts.{BodyParts}
 use Rattle.acc_txn.specs.declared.outcome.Outcome.{Outcome}
 use Rattle.acc_txn.specs.Rules.{IsBody}
 use Rattle.acc_code.specs.Spelling.{listed, cell_bytes, key_bytes, pair_bytes, cells_bytes, verdict_number, outcome_bytes}
-use Rattle.acc_code.specs.BodySpelling.{let_bytes, select_bytes, term_bytes, sign_number, part_bytes, sum_bytes, operator_number, condition_bytes, update_bytes, body_bytes}
+use Rattle.acc_txn.specs.BodySpelling.{let_bytes, select_bytes, term_bytes, sign_number, part_bytes, sum_bytes, operator_number, condition_bytes, update_bytes, body_bytes}
 use Rattle.acc_code.specs.Short.{IsShortKey, IsShortLet, IsShortSelect, IsShortTerm, IsShortSum, IsShortCondition, IsShortUpdate, HoldsText, AreShortCells, IsShortOutcome}
 use Rattle.acc_code.proofs.Shortness.{short_text}
 use Rattle.acc_code.proofs.BodyFacts.{short_body}
-use Rattle.acc_code.proofs.ByteCounts.{length-bytes}
+use Rattle.acc_txn.proofs.ByteCounts.{length-bytes}
 use Rattle.acc_message.specs.declared.answer.ReadAnswer.{ReadAnswer}
 use Rattle.acc_message.specs.declared.answer.ReadAnswer.TheVariants.{Values, Known}
 use Rattle.acc_stamp.specs.declared.actors.Actor.{Actor}

@@ -22,7 +22,7 @@ use Rattle.acc_txn.specs.declared.parts.BodyParts.{BodyParts}
 use Rattle.acc_txn.specs.Words.{is_name, is_key_text, is_text_value}
 use Rattle.acc_txn.specs.Uses.{with_keys, updated_key}
 use Rattle.acc_txn.specs.Rules.{is_many}
-use Rattle.acc_code.specs.BodySpelling.{sign_number}
+use Rattle.acc_txn.specs.BodySpelling.{sign_number}
 use Rattle.acc_code.specs.BodyReading.{let_uses, greatest_sign, least_updates, read_uses}
 use Rattle.acc_code.proofs.Formats.{EachFits}
 

@@ -19,7 +19,7 @@ use Rattle.acc_txn.specs.declared.parts.Update.{Update}
 use Rattle.acc_txn.specs.declared.parts.Update.TheVariants.{Set, Delete}
 use Rattle.acc_txn.specs.Uses.{with_keys, updated_key}
 use Rattle.acc_code.specs.Spelling.{listed, key_bytes}
-use Rattle.acc_code.specs.BodySpelling.{let_bytes, select_bytes, sum_bytes, operator_number, condition_bytes, update_bytes}
+use Rattle.acc_txn.specs.BodySpelling.{let_bytes, select_bytes, sum_bytes, operator_number, condition_bytes, update_bytes}
 use Rattle.acc_code.specs.BodyReading.{use_at, let_uses, new_name_at, let_at, lets_at, select_behind, select_at, operator_of, condition_behind, condition_at, conditions_at, update_with, update_at, next_update_at, least_updates, updates_at, read_uses}
 use Rattle.acc_code.proofs.Formats.{made_field, made_of_two, tagged_field, done_field, same_field, passing_field, listed_field}
 use Rattle.acc_code.proofs.CellFormats.{alike_field}

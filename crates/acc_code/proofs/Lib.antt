@@ -1,5 +1,3 @@
-pub mod ByteCounts
-pub mod Kept
 pub mod Shortness
 pub mod Loops
 pub mod Rising

@@ -14,7 +14,7 @@ use Rattle.acc_txn.specs.declared.parts.Update.TheVariants.{Set, Delete}
 use Rattle.acc_txn.specs.declared.parts.BodyParts.{BodyParts}
 use Rattle.acc_txn.specs.Rules.{has_no_key}
 use Rattle.acc_code.specs.Short.{IsTerm, AreTerms, HasTerms, SetsTerms, IsNumberedBody}
-use Rattle.acc_code.specs.BodySpelling.{body_bytes}
+use Rattle.acc_txn.specs.BodySpelling.{body_bytes}
 use Rattle.acc_code.specs.BodyReading.{body_at, read_uses}
 use Rattle.acc_code.proofs.Formats.{EachFits, same_field}
 use Rattle.acc_code.proofs.BodyFits.{FitsTerm, FitsPart, FitsSum, FitsCondition, FitsUpdate, FitsNextUpdate, FitsParts}

@@ -9,7 +9,7 @@ use Rattle.acc_txn.specs.declared.parts.Update.{Update}
 use Rattle.acc_txn.specs.declared.parts.BodyParts.{BodyParts}
 use Rattle.acc_txn.specs.Rules.{has_no_key}
 use Rattle.acc_code.specs.Spelling.{listed}
-use Rattle.acc_code.specs.BodySpelling.{let_bytes, select_bytes, condition_bytes, update_bytes, body_bytes}
+use Rattle.acc_txn.specs.BodySpelling.{let_bytes, select_bytes, condition_bytes, update_bytes, body_bytes}
 use Rattle.acc_code.specs.BodyReading.{select_at, conditions_at, least_updates, updates_at, read_uses, parts_at, body_at}
 use Rattle.acc_code.proofs.Formats.{IsThen, then_field, made_field, same_field, passing_field}
 use Rattle.acc_code.proofs.BodyFits.{FitsSelect, FitLets, FitConditions, FitUpdates, FitsParts}

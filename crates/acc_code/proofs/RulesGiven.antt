@@ -1,10 +1,10 @@
 -- Parts that keep the rules of bodies are read, where their numbers have 64 bits.
-use Rattle.std.proofs.Common.{◌≡◌, ℕ, ◌≤◌, Bool, true, false, cond, not, ◌&&◌, ◌||◌, List, [], ◌∷◌, ◌++◌, length, append_assoc, map, Option, Some, refl, sym, ap, subst, ◌∙◌, arith, IsTrue, is_none}
-use Rattle.std.specs.Prelude.{nat_lt, nat_le, ◌==◌}
+use Rattle.std.proofs.Common.{◌≡◌, ℕ, ◌≤◌, Bool, true, false, not, ◌&&◌, List, [], ◌∷◌, ◌++◌, length, append_assoc, map, refl, sym, ap, subst, ◌∙◌, arith, IsTrue}
+use Rattle.std.specs.Prelude.{nat_lt, ◌==◌}
 use Rattle.std.specs.Cmp.{first_so, second_so}
 use Rattle.std.specs.List.{list_any, AllByRecursion}
 use Rattle.std.specs.Str.{bytes_eq}
-use Rattle.std.proofs.lemmas.Bool.{ltb-false, leb-true, leb-false, lt-ltb, eqb-false, not-false, or_parts}
+use Rattle.std.proofs.lemmas.Bool.{leb-false, lt-ltb, eqb-false, not-false, or_parts}
 use Rattle.std.proofs.lemmas.List.Folds.{list_any-append}
 use Rattle.acc_value.specs.declared.key.Key.{Key}
 use Rattle.acc_value.specs.Footprint.{used}
@@ -19,58 +19,26 @@ use Rattle.acc_txn.specs.declared.parts.Condition.TheVariants.{Compare, IsNull, 
 use Rattle.acc_txn.specs.declared.parts.Update.{Update}
 use Rattle.acc_txn.specs.declared.parts.Update.TheVariants.{Set, Delete}
 use Rattle.acc_txn.specs.declared.parts.BodyParts.{BodyParts}
-use Rattle.acc_txn.specs.declared.error.BodyError.{BodyError}
 use Rattle.acc_txn.specs.Words.{is_name, is_key, is_key_text}
 use Rattle.acc_txn.specs.Uses.{with_keys, selected_keys, updated_key, footprint_of}
-use Rattle.acc_txn.specs.Rules.{is_many, selected_names, condition_has, update_has, some_expression, is_long, has_too_many, is_unbound, term_is_unbound, mentions_unbound, asks_unbound, has_unbound_name, has_name_twice, has_no_key, has_bad_name, has_bad_key, is_malformed, selects_nothing, has_bad_shape, mentions_bad_text, IsBody}
+use Rattle.acc_txn.specs.Rules.{is_many, selected_names, condition_has, update_has, some_expression, is_long, is_unbound, term_is_unbound, mentions_unbound, asks_unbound, has_name_twice, has_no_key, has_bad_name, has_bad_key, is_malformed, selects_nothing}
+use Rattle.acc_txn.proofs.BodyShortness.{short_word, short_key_text}
+pub use Rattle.acc_txn.proofs.BodyShortness.{few, KeepsRules, keeps}
 use Rattle.acc_code.specs.Short.{IsTerm, AreTerms, HasTerms, SetsTerms, IsNumberedBody}
-use Rattle.acc_code.specs.BodySpelling.{sign_number}
+use Rattle.acc_txn.specs.BodySpelling.{sign_number}
 use Rattle.acc_code.specs.BodyReading.{let_uses, greatest_sign, least_updates, read_uses}
 use Rattle.acc_code.proofs.Formats.{EachFits}
 use Rattle.acc_code.proofs.Uses.{with_keys-map}
 use Rattle.acc_code.proofs.UseCounts.{Few, of_few, few_before, few_read, few_lets, footprint_is}
 use Rattle.acc_code.proofs.BodyFits.{FitsWord, FitsKeyText, FitsKey, FitsUse, FitsLet, FitsName, FitsSelect, FitsTerm, FitsPart, FitsSum, FitsCondition, FitsUpdate, FitsNextUpdate, FitsParts}
 
--- ---- what keeping the rules says
-
-pub few : (n : ℕ) → is_many n ≡ false → n ≤ 16
-few n h = ltb-false 16 n h
-
-not_refused : (b : Bool) (e : BodyError) (rest : Option BodyError) → IsTrue (is_none (cond b (Some e) rest)) → (b ≡ false) × IsTrue (is_none rest)
-not_refused true e rest h = absurd cc
-not_refused false e rest h = (refl, h)
-
-pub record KeepsRules (parts : BodyParts) : Type 0 where
-  pub size : has_too_many parts ≡ false
-  pub bound : has_unbound_name parts ≡ false
-  pub once : has_name_twice parts.lets ≡ false
-  pub keys : has_no_key parts ≡ false
-  pub words : (has_bad_name parts.lets || has_bad_key parts) ≡ false
-  pub shape : has_bad_shape parts ≡ false
-  pub texts : some_expression mentions_bad_text parts ≡ false
-
-pub keeps : (parts : BodyParts) → IsBody parts → KeepsRules parts
-keeps parts h =
-    let a = not_refused (has_too_many parts) _ _ h in
-    let b = not_refused (has_unbound_name parts) _ _ a.1 in
-    let c = not_refused (has_name_twice parts.lets) _ _ b.1 in
-    let d = not_refused (has_no_key parts) _ _ c.1 in
-    let e = not_refused (has_bad_name parts.lets || has_bad_key parts) _ _ d.1 in
-    let f = not_refused (has_bad_shape parts) _ _ e.1 in
-    let g = not_refused (some_expression mentions_bad_text parts) _ _ f.1 in
-    record { size = a.0; bound = b.0; once = c.0; keys = d.0; words = e.0; shape = f.0; texts = g.0 }
-
 -- ---- words and keys
 
 pub word_fits : (word : List ℕ) → IsTrue (is_name word) → FitsWord word
-word_fits word h =
-    let len = leb-true (length word) 32 (first_so (nat_le (length word) 32) _ (first_so _ _ h)) in
-    (omega (arith, len), h)
+word_fits word h = (short_word word h, h)
 
 key_text_fits : (text : List ℕ) → IsTrue (is_key_text text) → FitsKeyText text
-key_text_fits text h =
-    let len = leb-true (length text) 64 (second_so (nat_le 1 (length text)) _ (first_so _ _ h)) in
-    (omega (arith, len), h)
+key_text_fits text h = (short_key_text text h, h)
 
 pub key_fits : (key : Key) → not (is_key key) ≡ false → FitsKey key
 key_fits key h =

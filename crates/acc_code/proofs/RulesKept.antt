@@ -23,7 +23,7 @@ use Rattle.acc_txn.specs.declared.parts.BodyParts.{BodyParts}
 use Rattle.acc_txn.specs.Words.{is_name, is_key, is_key_text}
 use Rattle.acc_txn.specs.Uses.{with_keys, selected_keys, updated_key, footprint_of}
 use Rattle.acc_txn.specs.Rules.{is_many, selected_names, condition_has, update_has, some_expression, is_long, has_too_many, is_unbound, term_is_unbound, mentions_unbound, asks_unbound, has_unbound_name, has_name_twice, has_no_key, has_bad_name, has_bad_key, is_malformed, selects_nothing, has_bad_shape, is_bad_text, mentions_bad_text, refusal_of}
-use Rattle.acc_code.specs.BodySpelling.{sign_number}
+use Rattle.acc_txn.specs.BodySpelling.{sign_number}
 use Rattle.acc_code.specs.BodyReading.{let_uses, least_updates, read_uses}
 use Rattle.acc_code.proofs.Formats.{EachFits}
 use Rattle.acc_code.proofs.Uses.{with_keys-map}

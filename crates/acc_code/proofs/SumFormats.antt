@@ -13,7 +13,7 @@ use Rattle.acc_txn.specs.declared.parts.Part.{Part}
 use Rattle.acc_txn.specs.Words.{is_name, is_key_text, is_text_value}
 use Rattle.acc_txn.specs.Rules.{is_many}
 use Rattle.acc_code.specs.Spelling.{key_bytes}
-use Rattle.acc_code.specs.BodySpelling.{term_bytes, sign_number, part_bytes, sum_bytes}
+use Rattle.acc_txn.specs.BodySpelling.{term_bytes, sign_number, part_bytes, sum_bytes}
 use Rattle.acc_code.specs.BodyReading.{word_at, key_text_at, key_at, use_at, let_number_at, term_behind, term_at, greatest_sign, part_at, sum_at}
 use Rattle.acc_code.proofs.Formats.{made_field, made_of_two, tagged_field, done_field, same_field, passing_field, between_field, listed_field}
 use Rattle.acc_code.proofs.CellFormats.{key_of_texts, text_value_field}

@@ -1,6 +1,5 @@
 -- The spelling of cells, of lists of them, and of outcomes.
-use Rattle.std.specs.Prelude.{ℕ, List, ◌++◌, length, Option, Some, None}
-use Rattle.std.specs.List.{flat_map}
+use Rattle.std.specs.Prelude.{ℕ, List, ◌++◌, Option, Some, None}
 use Rattle.acc_wire.specs.Spelling.{u8_bytes, i64_bytes, text_bytes}
 use Rattle.acc_value.specs.declared.key.Key.{Key}
 use Rattle.acc_value.specs.declared.value.Value.{Value}
@@ -8,20 +7,13 @@ use Rattle.acc_value.specs.declared.value.Value.TheVariants.{Number as NumberVal
 use Rattle.acc_txn.specs.declared.outcome.Verdict.{Verdict}
 use Rattle.acc_txn.specs.declared.outcome.Verdict.TheVariants.{Ok as Done, Skipped, Overflow}
 use Rattle.acc_txn.specs.declared.outcome.Outcome.{Outcome}
-
--- a list is its count in one byte, and its elements
-unfoldable pub listed : {A : Type 0} → (A → List ℕ) → List A → List ℕ
-listed spelling xs = u8_bytes (length xs) ++ flat_map spelling xs
+unfoldable pub use Rattle.acc_txn.specs.BodySpelling.{listed, key_bytes}
 
 -- a cell is 0, or 1 and its number, or 2 and its text
 unfoldable pub cell_bytes : Option Value → List ℕ
 cell_bytes None = u8_bytes 0
 cell_bytes (Some (NumberValue number)) = u8_bytes 1 ++ i64_bytes number
 cell_bytes (Some (TextValue text)) = u8_bytes 2 ++ text_bytes text
-
--- a key is its table and its text
-unfoldable pub key_bytes : Key → List ℕ
-key_bytes key = text_bytes key.table ++ text_bytes key.key
 
 unfoldable pub pair_bytes : Key × Option Value → List ℕ
 pair_bytes pair = key_bytes pair.0 ++ cell_bytes pair.1

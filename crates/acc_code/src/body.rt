@@ -1,39 +1,23 @@
 //! Bodies.
-ghost use Rattle.std.specs.Prelude.{◌≡◌, not, ◌++◌, Ok, OnOk, OnErr, IfOk};
-ghost use Rattle.std.specs.List.{AllByRecursion};
+ghost use Rattle.std.specs.Prelude.{◌≡◌, ◌<◌, ◌++◌, ◌^◌, not, length, Ok, OnOk, OnErr, IfOk};
 ghost use Rattle.acc_wire.specs.Reading.{Unread, Passes, AreBytes};
 ghost use Rattle.acc_txn.specs.declared.parts.BodyParts.{BodyParts};
 ghost use Rattle.acc_txn.specs.Rules.{has_no_key};
-ghost use Rattle.acc_code.specs.BodySpelling.{body_bytes};
-ghost use Rattle.acc_code.specs.Short.{IsShortBody, IsNumberedBody, HasTerms, SetsTerms};
+ghost use Rattle.acc_txn.specs.BodySpelling.{body_bytes};
+ghost use Rattle.acc_code.specs.Short.{IsNumberedBody};
 ghost use Rattle.acc_code.specs.Reading.{Reads};
 ghost use Rattle.acc_code.specs.BodyReading.{parts_at, body_at};
-ghost use Rattle.acc_code.specs.Writing.{Keeps};
 
-use crate::conditions::{put_conditions, take_conditions};
+use crate::conditions::take_conditions;
 use crate::error::CodeError;
 use crate::fields::out_of_range;
-use crate::lets::{put_lets, take_lets};
-use crate::select::{put_select, take_select};
-use crate::updates::{put_updates, take_updates};
+use crate::lets::take_lets;
+use crate::select::take_select;
+use crate::updates::take_updates;
 use acc_base::{Bytes, OutOfMemory};
 use acc_txn::{Body, BodyParts, Select};
 use acc_wire::Reader;
 use std::alloc::Global;
-
-#[tactic(auto, using(crate::proofs::Kept::keeps_all, crate::proofs::Kept::keeps_front, crate::proofs::Kept::keeps_more), unfolding(crate::specs::BodySpelling::body_bytes))]
-fn put_parts(out: &mut Bytes, parts: &BodyParts) -> Result<(), OutOfMemory>
-    requires { IsShortBody parts.now }
-    ensures ok { OnOk result (out.new ≡ out.old ++ body_bytes parts.now) }
-    ensures kept { OnErr result (Keeps out.old out.new) }
-    ensures guards { OnOk result (AllByRecursion HasTerms parts.now.guards) }
-    ensures updates { OnOk result (AllByRecursion SetsTerms parts.now.updates) }
-{
-    put_lets(out, &parts.lets)?;
-    put_select(out, &parts.select)?;
-    put_conditions(out, &parts.guards)?;
-    put_updates(out, &parts.updates)
-}
 
 #[tactic(auto, unfolding(crate::specs::BodyReading::parts_at))]
 fn take_parts(alloc: Global, reader: &mut Reader<'_>) -> Result<BodyParts, CodeError>
@@ -101,12 +85,7 @@ pub fn put_body(out: &mut Bytes, body: &Body) -> Result<(), OutOfMemory>
     // What is written can be read.
     ensures fits { OnOk result (IsNumberedBody body.now) }
 {
-    let before = out.len();
-    let appended = put_parts(out, body.parts());
-    if appended.is_err() {
-        out.truncate(before);
-    }
-    appended
+    out.extend_from_slice(body.code())
 }
 
 /// A body. The error is that of the first field at fault, with the place of its first byte: Short where the bytes end
@@ -127,4 +106,12 @@ pub fn take_body(alloc: Global, reader: &mut Reader<'_>) -> Result<Body, CodeErr
     ensures kept { OnErr result (reader.new ≡ reader.old) }
 {
     take_ahead(alloc, reader)
+}
+
+/// How many bytes a body takes.
+pub fn body_length(body: &Body) -> u64
+    ensures exact { result ≡ length (body_bytes body.now) }
+    ensures most { result < 2 ^ 27 }
+{
+    body.code().len() as u64
 }

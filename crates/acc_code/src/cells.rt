@@ -10,19 +10,19 @@ ghost use Rattle.acc_code.specs.Spelling.{listed, cell_bytes, pair_bytes, cells_
 ghost use Rattle.acc_code.specs.Short.{IsShortKey, HoldsText, AreShortCells, AreCells, IsCell};
 ghost use Rattle.acc_code.specs.Reading.{Reads, each_at, listed_at};
 ghost use Rattle.acc_code.specs.CellReading.{text_value_at, cell_at, next_key_at, pair_at, cells_at};
-ghost use Rattle.acc_code.specs.Writing.{Keeps};
+ghost use Rattle.acc_txn.specs.Writing.{Keeps};
 
 use crate::error::CodeError;
 use crate::fields::{out_of_range, take_between};
-use crate::keys::{put_key, take_any_key};
+use crate::keys::take_any_key;
 use acc_base::{Bytes, OutOfMemory, Text};
-use acc_txn::is_free_text_value;
+use acc_txn::{is_free_text_value, put_key};
 use acc_value::{CellList, Cells, Key, Value};
 use acc_wire::{Reader, put_marked_i64, put_text, put_u8};
 use std::alloc::Global;
 
 /// Appends a cell: 0, or 1 and its number, or 2 and its text.
-#[tactic(auto, using(crate::proofs::Kept::keeps_all, crate::proofs::Kept::keeps_front, crate::proofs::Kept::keeps_more, crate::proofs::Shortness::short_text), unfolding(crate::specs::Spelling::cell_bytes))]
+#[tactic(auto, using(acc_txn::proofs::Kept::keeps_all, acc_txn::proofs::Kept::keeps_front, acc_txn::proofs::Kept::keeps_more, acc_txn::proofs::BodyShortness::short_text), unfolding(crate::specs::Spelling::cell_bytes))]
 fn put_cell(out: &mut Bytes, cell: &Option<Value>) -> Result<(), OutOfMemory>
     requires { HoldsText cell.now }
     ensures ok { OnOk result (out.new ≡ out.old ++ cell_bytes cell.now) }
@@ -39,7 +39,7 @@ fn put_cell(out: &mut Bytes, cell: &Option<Value>) -> Result<(), OutOfMemory>
     }
 }
 
-#[tactic(auto, using(crate::proofs::Kept::keeps_all, crate::proofs::Kept::keeps_front, crate::proofs::Kept::keeps_more), unfolding(crate::specs::Spelling::pair_bytes))]
+#[tactic(auto, using(acc_txn::proofs::Kept::keeps_all, acc_txn::proofs::Kept::keeps_front, acc_txn::proofs::Kept::keeps_more), unfolding(crate::specs::Spelling::pair_bytes))]
 fn put_pair(out: &mut Bytes, key: &Key, cell: &Option<Value>) -> Result<(), OutOfMemory>
     requires key { IsShortKey key.now }
     requires text { HoldsText cell.now }
@@ -51,7 +51,7 @@ fn put_pair(out: &mut Bytes, key: &Key, cell: &Option<Value>) -> Result<(), OutO
     put_cell(out, cell)
 }
 
-#[tactic(auto, using(crate::proofs::Kept::keeps_all, crate::proofs::Kept::keeps_front, crate::proofs::Kept::keeps_more))]
+#[tactic(auto, using(acc_txn::proofs::Kept::keeps_all, acc_txn::proofs::Kept::keeps_front, acc_txn::proofs::Kept::keeps_more))]
 fn put_pairs(out: &mut Bytes, pairs: &[(Key, Option<Value>)]) -> Result<(), OutOfMemory>
     requires keys { AllByRecursion (λ p. IsShortKey p.0) pairs.now }
     requires texts { AllByRecursion (λ p. HoldsText p.1) pairs.now }
@@ -65,7 +65,7 @@ fn put_pairs(out: &mut Bytes, pairs: &[(Key, Option<Value>)]) -> Result<(), OutO
     Ok(())
 }
 
-#[tactic(auto, using(crate::proofs::Kept::keeps_all, crate::proofs::Kept::keeps_front, crate::proofs::Kept::keeps_more), unfolding(crate::specs::Spelling::cells_bytes, crate::specs::Spelling::listed))]
+#[tactic(auto, using(acc_txn::proofs::Kept::keeps_all, acc_txn::proofs::Kept::keeps_front, acc_txn::proofs::Kept::keeps_more), unfolding(crate::specs::Spelling::cells_bytes, acc_txn::specs::BodySpelling::listed))]
 fn put_counted_pairs(out: &mut Bytes, cells: &CellList) -> Result<(), OutOfMemory>
     requires { AreShortCells cells.now }
     ensures ok { OnOk result (out.new ≡ out.old ++ cells_bytes cells.now) }
@@ -199,7 +199,7 @@ pub fn take_cells(alloc: Global, reader: &mut Reader<'_>) -> Result<CellList, Co
 }
 
 /// Appends cells one after the other.
-#[tactic(auto, using(crate::proofs::Kept::keeps_all, crate::proofs::Kept::keeps_front, crate::proofs::Kept::keeps_more))]
+#[tactic(auto, using(acc_txn::proofs::Kept::keeps_all, acc_txn::proofs::Kept::keeps_front, acc_txn::proofs::Kept::keeps_more))]
 fn put_each_cell(out: &mut Bytes, cells: &[Option<Value>]) -> Result<(), OutOfMemory>
     requires { AllByRecursion HoldsText cells.now }
     ensures ok { OnOk result (out.new ≡ out.old ++ flat_map cell_bytes cells.now) }
@@ -213,7 +213,7 @@ fn put_each_cell(out: &mut Bytes, cells: &[Option<Value>]) -> Result<(), OutOfMe
 }
 
 /// Appends a count in one byte, and as many cells.
-#[tactic(auto, using(crate::proofs::Kept::keeps_all, crate::proofs::Kept::keeps_front, crate::proofs::Kept::keeps_more), unfolding(crate::specs::Spelling::listed))]
+#[tactic(auto, using(acc_txn::proofs::Kept::keeps_all, acc_txn::proofs::Kept::keeps_front, acc_txn::proofs::Kept::keeps_more), unfolding(acc_txn::specs::BodySpelling::listed))]
 pub(crate) fn put_values(out: &mut Bytes, values: &Cells) -> Result<(), OutOfMemory>
     requires count { length values.now < 256 }
     requires texts { AllByRecursion HoldsText values.now }

@@ -1,108 +1,23 @@
 //! Keys.
-ghost use Rattle.std.specs.Prelude.{◌≡◌, ◌+◌, ◌≤◌, ◌++◌, Bool, length, vec_len, vec_capacity, OnOk, OnErr, IfOk};
+ghost use Rattle.std.specs.Prelude.{◌≡◌, ◌+◌, ◌≤◌, Bool, length, IfOk};
 ghost use Rattle.std.specs.List.{list_any};
-ghost use Rattle.acc_wire.specs.Spelling.{u8_bytes};
 ghost use Rattle.acc_value.specs.Key.{key_eq};
 ghost use Rattle.acc_value.specs.Footprint.{used};
 ghost use Rattle.acc_txn.specs.Uses.{selected_keys, updated_key};
-ghost use Rattle.acc_code.specs.Spelling.{key_bytes};
-ghost use Rattle.acc_code.specs.Short.{IsShortKey};
 ghost use Rattle.acc_code.specs.Reading.{Reads, ReadsBy};
 ghost use Rattle.acc_code.specs.CellReading.{any_key_at};
 ghost use Rattle.acc_code.specs.BodyReading.{word_at, key_text_at, key_at, use_at, uses_so_far, is_among};
-ghost use Rattle.acc_code.specs.Writing.{Keeps};
 
 use crate::error::CodeError;
 use crate::fields::out_of_range;
-use acc_base::{Bytes, InlineText, OutOfMemory};
+use acc_base::InlineText;
 use acc_txn::{Let, Select, Update, is_free_key_text, is_free_word};
 use acc_value::Key;
-use acc_wire::{Reader, push_text};
+use acc_wire::Reader;
 use std::alloc::Global;
-use std::mem;
 
 /// The greatest number of different keys of a body.
 const MOST_KEYS: usize = 16;
-
-/// The vector of some bytes, to append to it in place.
-#[inline(always)]
-pub(crate) fn taken_out(out: &mut Bytes) -> Vec<u8>
-    ensures { result.items ≡ out.old }
-{
-    let alloc = out.allocator();
-    mem::replace(out, Bytes::new(alloc)).into_vec()
-}
-
-/// The room that a key takes.
-#[inline(always)]
-pub(crate) fn key_room(key: &Key) -> usize
-    requires { IsShortKey key.now }
-    ensures exact { result ≡ 2 + length key.now.table + length key.now.key }
-    ensures most { result ≤ 512 }
-{
-    2 + key.table.len() + key.key.len()
-}
-
-/// Appends a key where there is room for it.
-#[inline(always)]
-#[tactic(auto, unfolding(crate::specs::Spelling::key_bytes))]
-pub(crate) fn push_key(out: &mut Vec<u8>, key: &Key)
-    requires short { IsShortKey key.now }
-    requires room { vec_len out.old + (2 + length key.now.table + length key.now.key) ≤ vec_capacity out.old }
-    ensures { out.new.items ≡ out.old.items ++ key_bytes key.now }
-{
-    push_text(out, key.table.as_slice());
-    push_text(out, key.key.as_slice());
-}
-
-#[inline(always)]
-fn append_key(out: &mut Vec<u8>, key: &Key) -> Result<(), OutOfMemory>
-    requires { IsShortKey key.now }
-    ensures ok { OnOk result (out.new.items ≡ out.old.items ++ key_bytes key.now) }
-    ensures err { OnErr result (out.new.items ≡ out.old.items) }
-{
-    out.reserve(key_room(key))?;
-    push_key(out, key);
-    Ok(())
-}
-
-/// Appends a key: its table and its text.
-#[tactic(auto, using(crate::proofs::Kept::keeps_all))]
-pub(crate) fn put_key(out: &mut Bytes, key: &Key) -> Result<(), OutOfMemory>
-    requires { IsShortKey key.now }
-    ensures ok { OnOk result (out.new ≡ out.old ++ key_bytes key.now) }
-    ensures kept { OnErr result (Keeps out.old out.new) }
-{
-    let mut bytes = taken_out(out);
-    let appended = append_key(&mut bytes, key);
-    *out = Bytes::from_vec(bytes);
-    appended
-}
-
-#[inline(always)]
-fn append_marked_key(out: &mut Vec<u8>, mark: u8, key: &Key) -> Result<(), OutOfMemory>
-    requires { IsShortKey key.now }
-    ensures ok { OnOk result (out.new.items ≡ out.old.items ++ u8_bytes mark ++ key_bytes key.now) }
-    ensures err { OnErr result (out.new.items ≡ out.old.items) }
-{
-    out.reserve(1 + key_room(key))?;
-    out.push_reserved(mark);
-    push_key(out, key);
-    Ok(())
-}
-
-/// Appends a byte and a key at once.
-#[tactic(auto, using(crate::proofs::Kept::keeps_all))]
-pub(crate) fn put_marked_key(out: &mut Bytes, mark: u8, key: &Key) -> Result<(), OutOfMemory>
-    requires { IsShortKey key.now }
-    ensures ok { OnOk result (out.new ≡ out.old ++ u8_bytes mark ++ key_bytes key.now) }
-    ensures kept { OnErr result (Keeps out.old out.new) }
-{
-    let mut bytes = taken_out(out);
-    let appended = append_marked_key(&mut bytes, mark, key);
-    *out = Bytes::from_vec(bytes);
-    appended
-}
 
 /// A key of any two texts.
 #[tactic(auto, unfolding(crate::specs::CellReading::any_key_at))]

@@ -7,7 +7,7 @@ ghost use Rattle.acc_value.specs.declared.value.Value.{Value};
 ghost use Rattle.acc_txn.specs.declared.outcome.Outcome.{Outcome};
 ghost use Rattle.acc_txn.specs.declared.parts.BodyParts.{BodyParts};
 ghost use Rattle.acc_txn.specs.Meaning.{outcome_of};
-ghost use Rattle.acc_code.specs.BodySpelling.{body_bytes};
+ghost use Rattle.acc_txn.specs.BodySpelling.{body_bytes};
 ghost use Rattle.acc_code.specs.Spelling.{cells_bytes, outcome_bytes};
 ghost use Rattle.acc_code.specs.Short.{AreShortCells, IsCell, AreCells, IsShortOutcome, IsOutcome, IsNumberedBody};
 

@@ -1,34 +1,13 @@
 //! How many bytes keys, cells, lists of cells and outcomes take.
 ghost use Rattle.std.specs.Prelude.{◌≡◌, ◌<◌, ◌≤◌, ◌*◌, ◌^◌, length};
 ghost use Rattle.std.specs.List.{flat_map, AllByRecursion};
-ghost use Rattle.acc_wire.specs.Spelling.{text_bytes, IsShortText};
-ghost use Rattle.acc_code.specs.Spelling.{listed, cell_bytes, key_bytes, pair_bytes, cells_bytes, outcome_bytes};
+ghost use Rattle.acc_code.specs.Spelling.{listed, cell_bytes, pair_bytes, cells_bytes, outcome_bytes};
 ghost use Rattle.acc_code.specs.Short.{IsShortKey, HoldsText, AreShortCells, IsShortOutcome};
 
-use acc_txn::Outcome;
+use acc_txn::{Outcome, key_length, text_length};
 use acc_value::{CellList, Cells, Key, Value};
 
-/// How many bytes a text takes.
-#[tactic(auto, unfolding(acc_wire::specs::Spelling::text_bytes))]
-pub(crate) fn text_length(text: &[u8]) -> u64
-    requires { IsShortText text.now }
-    ensures exact { result ≡ length (text_bytes text.now) }
-    ensures most { result ≤ 256 }
-{
-    1 + text.len() as u64
-}
-
-/// How many bytes a key takes.
-#[tactic(auto, unfolding(crate::specs::Spelling::key_bytes))]
-pub(crate) fn key_length(key: &Key) -> u64
-    requires { IsShortKey key.now }
-    ensures exact { result ≡ length (key_bytes key.now) }
-    ensures most { result ≤ 512 }
-{
-    text_length(key.table.as_slice()) + text_length(key.key.as_slice())
-}
-
-#[tactic(auto, using(crate::proofs::Shortness::short_text), unfolding(crate::specs::Spelling::cell_bytes, acc_wire::specs::Spelling::i64_bytes, acc_wire::specs::Spelling::u64_bytes))]
+#[tactic(auto, using(acc_txn::proofs::BodyShortness::short_text), unfolding(crate::specs::Spelling::cell_bytes, acc_wire::specs::Spelling::i64_bytes, acc_wire::specs::Spelling::u64_bytes))]
 fn cell_length(cell: &Option<Value>) -> u64
     requires { HoldsText cell.now }
     ensures exact { result ≡ length (cell_bytes cell.now) }
@@ -66,7 +45,7 @@ fn pairs_length(pairs: &[(Key, Option<Value>)]) -> u64
 }
 
 /// How many bytes a list of cells takes.
-#[tactic(auto, unfolding(crate::specs::Spelling::cells_bytes, crate::specs::Spelling::listed))]
+#[tactic(auto, unfolding(crate::specs::Spelling::cells_bytes, acc_txn::specs::BodySpelling::listed))]
 pub fn cells_length(cells: &CellList) -> u64
     requires { AreShortCells cells.now }
     ensures exact { result ≡ length (cells_bytes cells.now) }
@@ -89,7 +68,7 @@ fn each_cell_length(cells: &[Option<Value>]) -> u64
 }
 
 /// How many bytes the selected cells take.
-#[tactic(auto, unfolding(crate::specs::Spelling::listed))]
+#[tactic(auto, unfolding(acc_txn::specs::BodySpelling::listed))]
 fn values_length(values: &Cells) -> u64
     requires count { length values.now < 256 }
     requires texts { AllByRecursion HoldsText values.now }

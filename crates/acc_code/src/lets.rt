@@ -1,71 +1,18 @@
 //! The LETs of a body.
-ghost use Rattle.std.specs.Prelude.{◌≡◌, ◌<◌, ◌≤◌, ◌++◌, ◌∷◌, [], length, OnOk, OnErr, IfOk};
-ghost use Rattle.std.specs.List.{flat_map, list_any, AllByRecursion};
+ghost use Rattle.std.specs.Prelude.{◌≡◌, ◌<◌, ◌≤◌, ◌++◌, ◌∷◌, [], length, IfOk};
+ghost use Rattle.std.specs.List.{list_any};
 ghost use Rattle.std.specs.Str.{bytes_eq};
 ghost use Rattle.acc_wire.specs.Reading.{AreBytes};
-ghost use Rattle.acc_code.specs.BodySpelling.{let_bytes};
-ghost use Rattle.acc_code.specs.Spelling.{listed};
-ghost use Rattle.acc_code.specs.Short.{IsShortLet};
 ghost use Rattle.acc_code.specs.Reading.{Reads, ReadsBy, each_at};
 ghost use Rattle.acc_code.specs.BodyReading.{new_name_at, let_at, lets_at, let_uses};
-ghost use Rattle.acc_code.specs.Writing.{Keeps};
 
 use crate::error::CodeError;
 use crate::fields::{out_of_range, take_between};
-use crate::keys::{key_room, push_key, take_use, take_word, taken_out};
-use acc_base::{Bytes, OutOfMemory, Text};
+use crate::keys::{take_use, take_word};
+use acc_base::Text;
 use acc_txn::{Let, Lets, Select};
-use acc_wire::{Reader, push_text, put_u8};
+use acc_wire::Reader;
 use std::alloc::Global;
-
-#[inline(always)]
-#[tactic(auto, unfolding(crate::specs::BodySpelling::let_bytes))]
-fn append_let(out: &mut Vec<u8>, binding: &Let) -> Result<(), OutOfMemory>
-    requires { IsShortLet binding.now }
-    ensures ok { OnOk result (out.new.items ≡ out.old.items ++ let_bytes binding.now) }
-    ensures err { OnErr result (out.new.items ≡ out.old.items) }
-{
-    out.reserve(1 + binding.name.len() + key_room(&binding.key))?;
-    push_text(out, binding.name.as_slice());
-    push_key(out, &binding.key);
-    Ok(())
-}
-
-#[tactic(auto, using(crate::proofs::Kept::keeps_all))]
-fn put_let(out: &mut Bytes, binding: &Let) -> Result<(), OutOfMemory>
-    requires { IsShortLet binding.now }
-    ensures ok { OnOk result (out.new ≡ out.old ++ let_bytes binding.now) }
-    ensures kept { OnErr result (Keeps out.old out.new) }
-{
-    let mut bytes = taken_out(out);
-    let appended = append_let(&mut bytes, binding);
-    *out = Bytes::from_vec(bytes);
-    appended
-}
-
-#[tactic(auto, using(crate::proofs::Kept::keeps_all, crate::proofs::Kept::keeps_front, crate::proofs::Kept::keeps_more))]
-fn put_each_let(out: &mut Bytes, lets: &[Let]) -> Result<(), OutOfMemory>
-    requires { AllByRecursion IsShortLet lets.now }
-    ensures ok { OnOk result (out.new ≡ out.old ++ flat_map let_bytes lets.now) }
-    ensures kept { OnErr result (Keeps out.old out.new) }
-{
-    for binding in lets {
-        put_let(out, binding)?;
-    }
-    Ok(())
-}
-
-/// Appends LETs: a count, and each a name and a key.
-#[tactic(auto, using(crate::proofs::Kept::keeps_all, crate::proofs::Kept::keeps_front, crate::proofs::Kept::keeps_more), unfolding(crate::specs::Spelling::listed))]
-pub(crate) fn put_lets(out: &mut Bytes, lets: &Lets) -> Result<(), OutOfMemory>
-    requires count { length lets.now < 256 }
-    requires short { AllByRecursion IsShortLet lets.now }
-    ensures ok { OnOk result (out.new ≡ out.old ++ listed let_bytes lets.now) }
-    ensures kept { OnErr result (Keeps out.old out.new) }
-{
-    put_u8(out, lets.len() as u8)?;
-    put_each_let(out, lets.as_slice())
-}
 
 fn binds(lets: &[Let], name: &[u8]) -> bool
     ensures { result ≡ list_any (λ l. bytes_eq l.name name.now) lets.now }

@@ -2,7 +2,6 @@
 #![tactic(auto)]
 
 mod body;
-mod body_lengths;
 mod cells;
 mod conditions;
 mod error;
@@ -16,8 +15,7 @@ mod select;
 mod sums;
 mod updates;
 
-pub use body::{put_body, take_body};
-pub use body_lengths::body_length;
+pub use body::{body_length, put_body, take_body};
 pub use cells::{put_cells, take_cells};
 pub use error::CodeError;
 pub use fields::{out_of_range, take_between};

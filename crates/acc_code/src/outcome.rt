@@ -5,7 +5,7 @@ ghost use Rattle.acc_txn.specs.declared.outcome.Outcome.{Outcome};
 ghost use Rattle.acc_code.specs.Spelling.{verdict_number, outcome_bytes};
 ghost use Rattle.acc_code.specs.Short.{IsShortOutcome, IsOutcome};
 ghost use Rattle.acc_code.specs.Reading.{Reads};
-ghost use Rattle.acc_code.specs.Writing.{Keeps};
+ghost use Rattle.acc_txn.specs.Writing.{Keeps};
 ghost use Rattle.acc_code.specs.CellReading.{verdict_of, outcome_at};
 
 use crate::cells::{put_cells, put_values, take_cells, take_values};
@@ -22,7 +22,7 @@ fn number_of(verdict: Verdict) -> u8
     verdict as u8
 }
 
-#[tactic(auto, using(crate::proofs::Kept::keeps_all, crate::proofs::Kept::keeps_front, crate::proofs::Kept::keeps_more), unfolding(crate::specs::Spelling::outcome_bytes))]
+#[tactic(auto, using(acc_txn::proofs::Kept::keeps_all, acc_txn::proofs::Kept::keeps_front, acc_txn::proofs::Kept::keeps_more), unfolding(crate::specs::Spelling::outcome_bytes))]
 fn put_fields(out: &mut Bytes, outcome: &Outcome) -> Result<(), OutOfMemory>
     requires { IsShortOutcome outcome.now }
     ensures ok { OnOk result (out.new ≡ out.old ++ outcome_bytes outcome.now) }

@@ -1,76 +1,14 @@
 //! Sums of terms.
-ghost use Rattle.std.specs.Prelude.{◌≡◌, ◌++◌, [], OnOk, OnErr};
-ghost use Rattle.std.specs.List.{flat_map, AllByRecursion};
-ghost use Rattle.acc_code.specs.BodySpelling.{term_bytes, part_bytes, sum_bytes, sign_number};
-ghost use Rattle.acc_code.specs.Short.{IsShortTerm, IsShortSum, IsTerm, AreTerms};
+ghost use Rattle.std.specs.Prelude.{◌≡◌, []};
 ghost use Rattle.acc_code.specs.Reading.{Reads, each_at};
 ghost use Rattle.acc_code.specs.BodyReading.{let_number_at, term_at, part_at, sum_at, greatest_sign};
-ghost use Rattle.acc_code.specs.Writing.{Keeps};
 
 use crate::cells::take_text_value;
 use crate::error::CodeError;
 use crate::fields::{out_of_range, take_between};
-use acc_base::{Bytes, OutOfMemory};
 use acc_txn::{Expr, Part, Term};
-use acc_wire::{Reader, put_marked_i64, put_text, put_u8};
+use acc_wire::Reader;
 use std::alloc::Global;
-
-#[tactic(auto, using(crate::proofs::Kept::keeps_all, crate::proofs::Kept::keeps_front, crate::proofs::Kept::keeps_more, crate::proofs::Shortness::short_text), unfolding(crate::specs::BodySpelling::term_bytes))]
-fn put_term(out: &mut Bytes, term: &Term) -> Result<(), OutOfMemory>
-    requires { IsShortTerm term.now }
-    ensures ok { OnOk result (out.new ≡ out.old ++ term_bytes term.now) }
-    ensures kept { OnErr result (Keeps out.old out.new) }
-    ensures fits { OnOk result (IsTerm term.now) }
-{
-    match term {
-        Term::Number(number) => put_marked_i64(out, 0, *number),
-        Term::Name(name) => {
-            put_u8(out, 1)?;
-            put_u8(out, *name)
-        }
-        Term::Null => put_u8(out, 2),
-        Term::Text(text) => {
-            put_u8(out, 3)?;
-            put_text(out, text.as_slice())
-        }
-    }
-}
-
-#[tactic(auto, using(crate::proofs::Kept::keeps_all, crate::proofs::Kept::keeps_front, crate::proofs::Kept::keeps_more), unfolding(crate::specs::BodySpelling::part_bytes))]
-fn put_part(out: &mut Bytes, part: &Part) -> Result<(), OutOfMemory>
-    requires { IsShortTerm part.now.term }
-    ensures ok { OnOk result (out.new ≡ out.old ++ part_bytes part.now) }
-    ensures kept { OnErr result (Keeps out.old out.new) }
-    ensures fits { OnOk result (IsTerm part.now.term) }
-{
-    put_u8(out, u8::from(part.minus))?;
-    put_term(out, &part.term)
-}
-
-#[tactic(auto, using(crate::proofs::Kept::keeps_all, crate::proofs::Kept::keeps_front, crate::proofs::Kept::keeps_more))]
-fn put_each_part(out: &mut Bytes, parts: &[Part]) -> Result<(), OutOfMemory>
-    requires { AllByRecursion (λ part. IsShortTerm part.term) parts.now }
-    ensures ok { OnOk result (out.new ≡ out.old ++ flat_map part_bytes parts.now) }
-    ensures kept { OnErr result (Keeps out.old out.new) }
-    ensures fits { OnOk result (AreTerms parts.now) }
-{
-    for part in parts {
-        put_part(out, part)?;
-    }
-    Ok(())
-}
-
-/// Appends a sum: a count, and each term with its sign.
-#[tactic(auto, using(crate::proofs::Kept::keeps_all, crate::proofs::Kept::keeps_front, crate::proofs::Kept::keeps_more), unfolding(crate::specs::BodySpelling::sum_bytes, crate::specs::Spelling::listed))]
-pub(crate) fn put_sum(out: &mut Bytes, sum: &Expr) -> Result<(), OutOfMemory>
-    requires { IsShortSum sum.now }
-    ensures ok { OnOk result (out.new ≡ out.old ++ sum_bytes sum.now) }
-    ensures kept { OnErr result (Keeps out.old out.new) }
-    ensures fits { OnOk result (AreTerms sum.now) }
-{
-    put_u8(out, sum.len() as u8)?;
-    put_each_part(out, sum.as_slice())
-}
 
 /// The number of one of so many LETs.
 #[tactic(auto, unfolding(crate::specs::BodyReading::let_number_at))]

@@ -1,23 +1,17 @@
 //! The updates of a body.
-ghost use Rattle.std.specs.Prelude.{◌≡◌, ◌==◌, ◌<◌, ◌≤◌, ◌++◌, [], true, length, OnOk, OnErr, IfOk};
-ghost use Rattle.std.specs.List.{flat_map, AllByRecursion};
+ghost use Rattle.std.specs.Prelude.{◌≡◌, ◌==◌, ◌<◌, ◌≤◌, [], true, length, IfOk};
 ghost use Rattle.acc_value.specs.Footprint.{used};
 ghost use Rattle.acc_txn.specs.Uses.{updated_key};
-ghost use Rattle.acc_code.specs.Spelling.{listed};
-ghost use Rattle.acc_code.specs.BodySpelling.{update_bytes};
-ghost use Rattle.acc_code.specs.Short.{IsShortUpdate, SetsTerms};
 ghost use Rattle.acc_code.specs.Reading.{Reads, each_at};
 ghost use Rattle.acc_code.specs.BodyReading.{update_with, update_at, next_update_at, updates_at, least_updates, read_uses, uses_so_far};
-ghost use Rattle.acc_code.specs.Writing.{Keeps};
 
 use crate::error::CodeError;
 use crate::fields::take_between;
-use crate::keys::{put_marked_key, take_use};
-use crate::sums::{put_sum, take_sum};
-use acc_base::{Bytes, OutOfMemory};
+use crate::keys::take_use;
+use crate::sums::take_sum;
 use acc_txn::{Condition, Let, Select, Update, Updates};
 use acc_value::Key;
-use acc_wire::{Reader, put_u8};
+use acc_wire::Reader;
 use std::alloc::Global;
 
 /// The number of an update that sets its key.
@@ -25,48 +19,6 @@ const SET: u8 = 1;
 
 /// The number of an update that deletes its key.
 const DELETE: u8 = 2;
-
-#[tactic(auto, using(crate::proofs::Kept::keeps_all, crate::proofs::Kept::keeps_front, crate::proofs::Kept::keeps_more), unfolding(crate::specs::BodySpelling::update_bytes))]
-fn put_update(out: &mut Bytes, update: &Update) -> Result<(), OutOfMemory>
-    requires { IsShortUpdate update.now }
-    ensures ok { OnOk result (out.new ≡ out.old ++ update_bytes update.now) }
-    ensures kept { OnErr result (Keeps out.old out.new) }
-    ensures fits { OnOk result (SetsTerms update.now) }
-{
-    match update {
-        Update::Set { key, value } => {
-            put_marked_key(out, SET, key)?;
-            put_sum(out, value)
-        }
-        Update::Delete { key } => put_marked_key(out, DELETE, key),
-    }
-}
-
-#[tactic(auto, using(crate::proofs::Kept::keeps_all, crate::proofs::Kept::keeps_front, crate::proofs::Kept::keeps_more))]
-fn put_each_update(out: &mut Bytes, updates: &[Update]) -> Result<(), OutOfMemory>
-    requires { AllByRecursion IsShortUpdate updates.now }
-    ensures ok { OnOk result (out.new ≡ out.old ++ flat_map update_bytes updates.now) }
-    ensures kept { OnErr result (Keeps out.old out.new) }
-    ensures fits { OnOk result (AllByRecursion SetsTerms updates.now) }
-{
-    for update in updates {
-        put_update(out, update)?;
-    }
-    Ok(())
-}
-
-/// Appends updates: a count, and each update.
-#[tactic(auto, using(crate::proofs::Kept::keeps_all, crate::proofs::Kept::keeps_front, crate::proofs::Kept::keeps_more), unfolding(crate::specs::Spelling::listed))]
-pub(crate) fn put_updates(out: &mut Bytes, updates: &Updates) -> Result<(), OutOfMemory>
-    requires count { length updates.now < 256 }
-    requires short { AllByRecursion IsShortUpdate updates.now }
-    ensures ok { OnOk result (out.new ≡ out.old ++ listed update_bytes updates.now) }
-    ensures kept { OnErr result (Keeps out.old out.new) }
-    ensures fits { OnOk result (AllByRecursion SetsTerms updates.now) }
-{
-    put_u8(out, updates.len() as u8)?;
-    put_each_update(out, updates.as_slice())
-}
 
 /// What stands behind the key of an update.
 fn take_update_with(

@@ -16,7 +16,7 @@ use Rattle.acc_message.specs.Fields.{envelope_of}
 use Rattle.acc_txn.specs.declared.outcome.Outcome.{Outcome}
 use Rattle.acc_stamp.specs.declared.actors.Actor.{Actor}
 use Rattle.acc_code.specs.Spelling.{outcome_bytes}
-use Rattle.acc_code.specs.BodySpelling.{body_bytes}
+use Rattle.acc_txn.specs.BodySpelling.{body_bytes}
 use Rattle.acc_message_code.specs.Spelling.{actor_bytes, stamp_bytes, id_bytes, ids_bytes, deps_bytes, accepted_bytes, settled_bytes, optional, flag_bytes, view_bytes}
 use Rattle.acc_message_code.specs.MessageSpelling.{number_of, envelope_bytes, dated_bytes, proposal_bytes, content_bytes, message_bytes}
 

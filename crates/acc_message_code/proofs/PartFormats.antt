@@ -15,7 +15,7 @@ use Rattle.acc_message.specs.declared.answer.ReadAnswer.{ReadAnswer}
 use Rattle.acc_message.specs.declared.answer.ReadAnswer.TheVariants.{Values, Known}
 use Rattle.acc_message.specs.declared.envelope.Envelope.{Envelope}
 use Rattle.acc_code.specs.Spelling.{cells_bytes, outcome_bytes}
-use Rattle.acc_code.specs.BodySpelling.{body_bytes}
+use Rattle.acc_txn.specs.BodySpelling.{body_bytes}
 use Rattle.acc_code.specs.Short.{AreCells, IsOutcome, IsNumberedBody}
 use Rattle.acc_code.proofs.Formats.{made_field, tagged_field, same_field}
 use Rattle.acc_code.proofs.CellFormats.{cells_field, outcome_field}

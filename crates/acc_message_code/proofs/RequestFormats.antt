@@ -11,7 +11,7 @@ use Rattle.acc_message.specs.declared.message.Message.{Message}
 use Rattle.acc_message.specs.declared.message.Message.TheVariants.{PreAccept, Accept, Commit, Stable, Apply, Recover}
 use Rattle.acc_message.specs.Fields.{envelope_of}
 use Rattle.acc_code.specs.Spelling.{outcome_bytes}
-use Rattle.acc_code.specs.BodySpelling.{body_bytes}
+use Rattle.acc_txn.specs.BodySpelling.{body_bytes}
 use Rattle.acc_code.specs.Short.{IsOutcome, IsNumberedBody}
 use Rattle.acc_code.proofs.Formats.{made_field, made_of_two, same_field}
 use Rattle.acc_code.proofs.CellFormats.{outcome_field}

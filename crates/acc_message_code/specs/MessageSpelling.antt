@@ -11,7 +11,7 @@ use Rattle.acc_message.specs.declared.message.Message.{Message}
 use Rattle.acc_message.specs.declared.message.Message.TheVariants.{PreAccept, PreAcceptOk, Accept, AcceptOk, Commit, CommitOk, Stable, ReadOk, Apply, Recover, RecoverOk, Nack, Decided, Inform}
 use Rattle.acc_message.specs.Fields.{envelope_of}
 use Rattle.acc_code.specs.Spelling.{cells_bytes, outcome_bytes}
-use Rattle.acc_code.specs.BodySpelling.{body_bytes}
+use Rattle.acc_txn.specs.BodySpelling.{body_bytes}
 use Rattle.acc_message_code.specs.Spelling.{actor_bytes, id_bytes, ballot_bytes, deps_bytes, settled_bytes, view_bytes}
 
 -- what all messages have in common

@@ -5,7 +5,7 @@ ghost use Rattle.acc_message_code.specs.Short.{IsShortAnswer};
 ghost use Rattle.acc_message_code.specs.Fitting.{FitsAnswer};
 ghost use Rattle.acc_message_code.specs.MessageSpelling.{answer_bytes};
 ghost use Rattle.acc_message_code.specs.MessageReading.{answer_behind, answer_at};
-ghost use Rattle.acc_code.specs.Writing.{Keeps};
+ghost use Rattle.acc_txn.specs.Writing.{Keeps};
 
 use acc_base::{Bytes, OutOfMemory};
 use acc_code::{CodeError, put_cells, put_outcome, take_between, take_cells, take_outcome};
@@ -20,7 +20,7 @@ const VALUES: u8 = 1;
 const KNOWN: u8 = 2;
 
 /// Appends an answer: 1 and cells, or 2 and an outcome.
-#[tactic(auto, using(acc_code::proofs::Kept::keeps_all, acc_code::proofs::Kept::keeps_front, acc_code::proofs::Kept::keeps_more), unfolding(crate::specs::MessageSpelling::answer_bytes))]
+#[tactic(auto, using(acc_txn::proofs::Kept::keeps_all, acc_txn::proofs::Kept::keeps_front, acc_txn::proofs::Kept::keeps_more), unfolding(crate::specs::MessageSpelling::answer_bytes))]
 pub(crate) fn put_answer(out: &mut Bytes, answer: &ReadAnswer) -> Result<(), OutOfMemory>
     requires { IsShortAnswer answer.now }
     ensures spelled { OnOk result (out.new ≡ out.old ++ answer_bytes answer.now) }

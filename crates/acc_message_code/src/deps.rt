@@ -7,7 +7,7 @@ ghost use Rattle.acc_message_code.specs.Spelling.{shard_bytes, deps_bytes};
 ghost use Rattle.acc_message_code.specs.Short.{IsShortShard, AreShortDeps};
 ghost use Rattle.acc_message_code.specs.Fitting.{FitStamps, FitDeps};
 ghost use Rattle.acc_message_code.specs.Reading.{next_shard_at, shard_at, deps_at};
-ghost use Rattle.acc_code.specs.Writing.{Keeps};
+ghost use Rattle.acc_txn.specs.Writing.{Keeps};
 
 use crate::ids::{put_ids, take_ids};
 use acc_base::{Bytes, OutOfMemory};
@@ -19,7 +19,7 @@ use std::alloc::Global;
 /// The greatest number of a shard.
 const LAST_SHARD: u8 = 15;
 
-#[tactic(auto, using(acc_code::proofs::Kept::keeps_all, acc_code::proofs::Kept::keeps_front, acc_code::proofs::Kept::keeps_more), unfolding(crate::specs::Spelling::shard_bytes))]
+#[tactic(auto, using(acc_txn::proofs::Kept::keeps_all, acc_txn::proofs::Kept::keeps_front, acc_txn::proofs::Kept::keeps_more), unfolding(crate::specs::Spelling::shard_bytes))]
 fn put_shard(out: &mut Bytes, shard: &ShardDeps) -> Result<(), OutOfMemory>
     requires { IsShortShard shard.now }
     ensures spelled { OnOk result (out.new ≡ out.old ++ shard_bytes shard.now) }
@@ -30,7 +30,7 @@ fn put_shard(out: &mut Bytes, shard: &ShardDeps) -> Result<(), OutOfMemory>
     put_ids(out, shard.ids.as_slice())
 }
 
-#[tactic(auto, using(acc_code::proofs::Kept::keeps_all, acc_code::proofs::Kept::keeps_front, acc_code::proofs::Kept::keeps_more))]
+#[tactic(auto, using(acc_txn::proofs::Kept::keeps_all, acc_txn::proofs::Kept::keeps_front, acc_txn::proofs::Kept::keeps_more))]
 fn put_each_shard(out: &mut Bytes, shards: &[ShardDeps]) -> Result<(), OutOfMemory>
     requires { AllByRecursion IsShortShard shards.now }
     ensures spelled { OnOk result (out.new ≡ out.old ++ flat_map shard_bytes shards.now) }
@@ -43,7 +43,7 @@ fn put_each_shard(out: &mut Bytes, shards: &[ShardDeps]) -> Result<(), OutOfMemo
     Ok(())
 }
 
-#[tactic(auto, using(acc_code::proofs::Kept::keeps_all, acc_code::proofs::Kept::keeps_front, acc_code::proofs::Kept::keeps_more), unfolding(crate::specs::Spelling::deps_bytes, acc_code::specs::Spelling::listed))]
+#[tactic(auto, using(acc_txn::proofs::Kept::keeps_all, acc_txn::proofs::Kept::keeps_front, acc_txn::proofs::Kept::keeps_more), unfolding(crate::specs::Spelling::deps_bytes, acc_txn::specs::BodySpelling::listed))]
 fn put_shards(out: &mut Bytes, shards: &[ShardDeps]) -> Result<(), OutOfMemory>
     requires { AreShortDeps shards.now }
     ensures spelled { OnOk result (out.new ≡ out.old ++ deps_bytes shards.now) }
@@ -55,7 +55,7 @@ fn put_shards(out: &mut Bytes, shards: &[ShardDeps]) -> Result<(), OutOfMemory>
 }
 
 /// Appends dependencies: a count, and each shard with its transactions.
-#[tactic(auto, using(acc_code::proofs::Kept::keeps_all, acc_code::proofs::Kept::keeps_front, acc_code::proofs::Kept::keeps_more))]
+#[tactic(auto, using(acc_txn::proofs::Kept::keeps_all, acc_txn::proofs::Kept::keeps_front, acc_txn::proofs::Kept::keeps_more))]
 pub(crate) fn put_deps(out: &mut Bytes, deps: &Deps) -> Result<(), OutOfMemory>
     requires { AreShortDeps deps.now }
     ensures spelled { OnOk result (out.new ≡ out.old ++ deps_bytes deps.now) }

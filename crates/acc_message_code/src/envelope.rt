@@ -7,7 +7,7 @@ ghost use Rattle.acc_message_code.specs.Spelling.{actor_bytes, id_bytes, ballot_
 ghost use Rattle.acc_message_code.specs.Fitting.{FitsStamp, FitsEnvelope};
 ghost use Rattle.acc_message_code.specs.MessageSpelling.{envelope_bytes};
 ghost use Rattle.acc_message_code.specs.MessageReading.{envelope_at};
-ghost use Rattle.acc_code.specs.Writing.{Keeps};
+ghost use Rattle.acc_txn.specs.Writing.{Keeps};
 
 use crate::stamps::{take_actor, take_ballot, take_id, write_actor, write_stamp};
 use acc_base::{Bytes, OutOfMemory};
@@ -55,7 +55,7 @@ fn write_envelope(field: &mut [u8], envelope: Envelope)
 }
 
 /// Appends the number of a message, and what all messages have in common.
-#[tactic(auto, using(acc_code::proofs::Kept::keeps_all))]
+#[tactic(auto, using(acc_txn::proofs::Kept::keeps_all))]
 pub(crate) fn put_head(out: &mut Bytes, number: u8, envelope: Envelope) -> Result<(), OutOfMemory>
     requires from { IsShortActor envelope.from }
     requires to { IsShortActor envelope.to }

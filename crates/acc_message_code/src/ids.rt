@@ -8,7 +8,7 @@ ghost use Rattle.acc_message_code.specs.Spelling.{id_bytes, ids_bytes};
 ghost use Rattle.acc_message_code.specs.Short.{AreShortIds};
 ghost use Rattle.acc_message_code.specs.Fitting.{FitStamps};
 ghost use Rattle.acc_message_code.specs.Reading.{next_id_at, ids_at};
-ghost use Rattle.acc_code.specs.Writing.{Keeps};
+ghost use Rattle.acc_txn.specs.Writing.{Keeps};
 
 use crate::stamps::{STAMP, take_id, write_stamp};
 use acc_base::{Bytes, OutOfMemory};
@@ -68,7 +68,7 @@ fn append_ids(out: &mut Vec<u8>, ids: &[TxnId]) -> Result<(), OutOfMemory>
 }
 
 /// Appends transactions: a count in two bytes, and their ids.
-#[tactic(auto, using(acc_code::proofs::Kept::keeps_all))]
+#[tactic(auto, using(acc_txn::proofs::Kept::keeps_all))]
 pub(crate) fn put_ids(out: &mut Bytes, ids: &[TxnId]) -> Result<(), OutOfMemory>
     requires { AreShortIds ids.now }
     ensures spelled { OnOk result (out.new ≡ out.old ++ ids_bytes ids.now) }

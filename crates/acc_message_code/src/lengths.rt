@@ -39,7 +39,7 @@ fn shards_length(shards: &[ShardDeps]) -> u64
     total
 }
 
-#[tactic(auto, unfolding(crate::specs::Spelling::deps_bytes, acc_code::specs::Spelling::listed))]
+#[tactic(auto, unfolding(crate::specs::Spelling::deps_bytes, acc_txn::specs::BodySpelling::listed))]
 fn counted_shards_length(shards: &[ShardDeps]) -> u64
     requires { AreShortDeps shards.now }
     ensures exact { result ≡ length (deps_bytes shards.now) }

@@ -7,7 +7,7 @@ ghost use Rattle.acc_message_code.specs.Short.{HasShortContent, IsShortMessage};
 ghost use Rattle.acc_message_code.specs.Fitting.{HasFittingContent, FitsMessage};
 ghost use Rattle.acc_message_code.specs.MessageSpelling.{number_of as number_of_message, content_bytes, message_bytes};
 ghost use Rattle.acc_message_code.specs.MessageReading.{is_request as has_request, content_at, message_at, message_of, Gives};
-ghost use Rattle.acc_code.specs.Writing.{Keeps};
+ghost use Rattle.acc_txn.specs.Writing.{Keeps};
 
 use crate::answer::put_answer;
 use crate::deps::put_deps;
@@ -45,7 +45,7 @@ fn number_of(m: &Message) -> u8
     }
 }
 
-#[tactic(auto, using(acc_code::proofs::Kept::keeps_all, acc_code::proofs::Kept::keeps_front, acc_code::proofs::Kept::keeps_more), unfolding(crate::specs::MessageSpelling::content_bytes))]
+#[tactic(auto, using(acc_txn::proofs::Kept::keeps_all, acc_txn::proofs::Kept::keeps_front, acc_txn::proofs::Kept::keeps_more), unfolding(crate::specs::MessageSpelling::content_bytes))]
 fn put_content(out: &mut Bytes, m: &Message) -> Result<(), OutOfMemory>
     requires { HasShortContent m.now }
     ensures spelled { OnOk result (out.new ≡ out.old ++ content_bytes m.now) }
@@ -79,7 +79,7 @@ fn put_content(out: &mut Bytes, m: &Message) -> Result<(), OutOfMemory>
     }
 }
 
-#[tactic(auto, using(acc_code::proofs::Kept::keeps_all, acc_code::proofs::Kept::keeps_front, acc_code::proofs::Kept::keeps_more), unfolding(crate::specs::MessageSpelling::message_bytes))]
+#[tactic(auto, using(acc_txn::proofs::Kept::keeps_all, acc_txn::proofs::Kept::keeps_front, acc_txn::proofs::Kept::keeps_more), unfolding(crate::specs::MessageSpelling::message_bytes))]
 fn put_parts(out: &mut Bytes, m: &Message) -> Result<(), OutOfMemory>
     requires { IsShortMessage m.now }
     ensures spelled { OnOk result (out.new ≡ out.old ++ message_bytes m.now) }

@@ -1,6 +1,6 @@
 //! How many bytes a message takes.
 ghost use Rattle.std.specs.Prelude.{◌≡◌, ◌<◌, ◌+◌, ◌^◌, length};
-ghost use Rattle.acc_code.specs.BodySpelling.{body_bytes};
+ghost use Rattle.acc_txn.specs.BodySpelling.{body_bytes};
 ghost use Rattle.acc_message_code.specs.Spelling.{deps_bytes};
 ghost use Rattle.acc_message_code.specs.Short.{AreShortDeps, IsShortAnswer, HasShortContent, IsShortMessage};
 ghost use Rattle.acc_message_code.specs.MessageSpelling.{answer_bytes, content_bytes, message_bytes};

@@ -5,7 +5,7 @@ ghost use Rattle.acc_message_code.specs.Spelling.{settled_bytes, accepted_bytes,
 ghost use Rattle.acc_message_code.specs.Short.{IsShortSettled, IsShortAccepted};
 ghost use Rattle.acc_message_code.specs.Fitting.{FitsSettled, FitsAccepted};
 ghost use Rattle.acc_message_code.specs.Reading.{settled_at, accepted_at, optional_at, flag_at};
-ghost use Rattle.acc_code.specs.Writing.{Keeps};
+ghost use Rattle.acc_txn.specs.Writing.{Keeps};
 
 use crate::deps::{put_deps, take_deps};
 use crate::stamps::{put_stamp, take_ballot, take_stamp};
@@ -17,7 +17,7 @@ use acc_wire::{Reader, put_u8};
 use std::alloc::Global;
 
 /// Appends a timestamp and dependencies.
-#[tactic(auto, using(acc_code::proofs::Kept::keeps_all, acc_code::proofs::Kept::keeps_front, acc_code::proofs::Kept::keeps_more), unfolding(crate::specs::Spelling::settled_bytes))]
+#[tactic(auto, using(acc_txn::proofs::Kept::keeps_all, acc_txn::proofs::Kept::keeps_front, acc_txn::proofs::Kept::keeps_more), unfolding(crate::specs::Spelling::settled_bytes))]
 pub(crate) fn put_settled(out: &mut Bytes, t: Stamp, deps: &Deps) -> Result<(), OutOfMemory>
     requires { IsShortSettled (record { t = t; deps = deps.now }) }
     ensures spelled { OnOk result (out.new ≡ out.old ++ settled_bytes (record { t = t; deps = deps.now })) }
@@ -28,7 +28,7 @@ pub(crate) fn put_settled(out: &mut Bytes, t: Stamp, deps: &Deps) -> Result<(), 
     put_deps(out, deps)
 }
 
-#[tactic(auto, using(acc_code::proofs::Kept::keeps_all, acc_code::proofs::Kept::keeps_front, acc_code::proofs::Kept::keeps_more), unfolding(crate::specs::Spelling::accepted_bytes, crate::specs::Spelling::settled_bytes))]
+#[tactic(auto, using(acc_txn::proofs::Kept::keeps_all, acc_txn::proofs::Kept::keeps_front, acc_txn::proofs::Kept::keeps_more), unfolding(crate::specs::Spelling::accepted_bytes, crate::specs::Spelling::settled_bytes))]
 fn put_accepted(out: &mut Bytes, accepted: &Accepted) -> Result<(), OutOfMemory>
     requires { IsShortAccepted accepted.now }
     ensures spelled { OnOk result (out.new ≡ out.old ++ accepted_bytes accepted.now) }
@@ -40,7 +40,7 @@ fn put_accepted(out: &mut Bytes, accepted: &Accepted) -> Result<(), OutOfMemory>
 }
 
 /// Appends 0, or 1 and what was accepted.
-#[tactic(auto, using(acc_code::proofs::Kept::keeps_all, acc_code::proofs::Kept::keeps_front, acc_code::proofs::Kept::keeps_more), unfolding(crate::specs::Spelling::optional))]
+#[tactic(auto, using(acc_txn::proofs::Kept::keeps_all, acc_txn::proofs::Kept::keeps_front, acc_txn::proofs::Kept::keeps_more), unfolding(crate::specs::Spelling::optional))]
 pub(crate) fn put_optional_accepted(
     out: &mut Bytes,
     accepted: &Option<Accepted>,
@@ -60,7 +60,7 @@ pub(crate) fn put_optional_accepted(
 }
 
 /// Appends 0, or 1 and what is settled.
-#[tactic(auto, using(acc_code::proofs::Kept::keeps_all, acc_code::proofs::Kept::keeps_front, acc_code::proofs::Kept::keeps_more), unfolding(crate::specs::Spelling::optional))]
+#[tactic(auto, using(acc_txn::proofs::Kept::keeps_all, acc_txn::proofs::Kept::keeps_front, acc_txn::proofs::Kept::keeps_more), unfolding(crate::specs::Spelling::optional))]
 pub(crate) fn put_optional_settled(
     out: &mut Bytes,
     settled: &Option<Settled>,
@@ -80,7 +80,7 @@ pub(crate) fn put_optional_settled(
 }
 
 /// Appends 0 or 1.
-#[tactic(auto, using(acc_code::proofs::Kept::keeps_all, acc_code::proofs::Kept::keeps_front, acc_code::proofs::Kept::keeps_more), unfolding(crate::specs::Spelling::flag_bytes))]
+#[tactic(auto, using(acc_txn::proofs::Kept::keeps_all, acc_txn::proofs::Kept::keeps_front, acc_txn::proofs::Kept::keeps_more), unfolding(crate::specs::Spelling::flag_bytes))]
 pub(crate) fn put_flag(out: &mut Bytes, flag: bool) -> Result<(), OutOfMemory>
     ensures spelled { OnOk result (out.new ≡ out.old ++ flag_bytes flag) }
     ensures kept { OnErr result (Keeps out.old out.new) }

@@ -6,7 +6,7 @@ ghost use Rattle.acc_message_code.specs.Short.{AreShortDeps};
 ghost use Rattle.acc_message_code.specs.Fitting.{FitsDated};
 ghost use Rattle.acc_message_code.specs.MessageSpelling.{proposal_bytes};
 ghost use Rattle.acc_message_code.specs.MessageReading.{proposal_at, pre_accept_at, accept_at, commit_at, stable_at, apply_at, recover_at, request_at};
-ghost use Rattle.acc_code.specs.Writing.{Keeps};
+ghost use Rattle.acc_txn.specs.Writing.{Keeps};
 
 use crate::records::{put_settled, take_settled};
 use acc_base::{Bytes, OutOfMemory};
@@ -19,7 +19,7 @@ use acc_wire::Reader;
 use std::alloc::Global;
 
 /// Appends a body with a timestamp and dependencies.
-#[tactic(auto, using(acc_code::proofs::Kept::keeps_all, acc_code::proofs::Kept::keeps_front, acc_code::proofs::Kept::keeps_more), unfolding(crate::specs::MessageSpelling::proposal_bytes))]
+#[tactic(auto, using(acc_txn::proofs::Kept::keeps_all, acc_txn::proofs::Kept::keeps_front, acc_txn::proofs::Kept::keeps_more), unfolding(crate::specs::MessageSpelling::proposal_bytes))]
 pub(crate) fn put_proposal(
     out: &mut Bytes,
     body: &Body,

@@ -5,7 +5,7 @@ ghost use Rattle.acc_message_code.specs.Short.{IsShortActor};
 ghost use Rattle.acc_message_code.specs.Fitting.{FitsStamp};
 ghost use Rattle.acc_code.specs.Reading.{Reads};
 ghost use Rattle.acc_message_code.specs.Reading.{actor_at, stamp_at, id_at, ballot_at};
-ghost use Rattle.acc_code.specs.Writing.{Keeps};
+ghost use Rattle.acc_txn.specs.Writing.{Keeps};
 
 use acc_base::{Bytes, OutOfMemory};
 use acc_code::CodeError;
@@ -17,7 +17,7 @@ use byteorder::{BigEndian, ByteOrder};
 pub(crate) const STAMP: u64 = 12;
 
 /// Appends the number of an actor.
-#[tactic(auto, using(acc_code::proofs::Kept::keeps_all, acc_code::proofs::Kept::keeps_front, acc_code::proofs::Kept::keeps_more), unfolding(crate::specs::Spelling::actor_bytes))]
+#[tactic(auto, using(acc_txn::proofs::Kept::keeps_all, acc_txn::proofs::Kept::keeps_front, acc_txn::proofs::Kept::keeps_more), unfolding(crate::specs::Spelling::actor_bytes))]
 pub(crate) fn put_actor(out: &mut Bytes, actor: Actor) -> Result<(), OutOfMemory>
     requires { IsShortActor actor }
     ensures spelled { OnOk result (out.new ≡ out.old ++ actor_bytes actor) }
@@ -48,7 +48,7 @@ pub(crate) fn write_stamp(field: &mut [u8], stamp: Stamp)
 }
 
 /// Appends a stamp.
-#[tactic(auto, using(acc_code::proofs::Kept::keeps_all))]
+#[tactic(auto, using(acc_txn::proofs::Kept::keeps_all))]
 pub(crate) fn put_stamp(out: &mut Bytes, stamp: Stamp) -> Result<(), OutOfMemory>
     ensures spelled { OnOk result (out.new ≡ out.old ++ stamp_bytes stamp) }
     ensures kept { OnErr result (Keeps out.old out.new) }

@@ -5,7 +5,7 @@ ghost use Rattle.acc_message_code.specs.Spelling.{view_bytes};
 ghost use Rattle.acc_message_code.specs.Short.{IsShortView};
 ghost use Rattle.acc_message_code.specs.Fitting.{FitsView};
 ghost use Rattle.acc_message_code.specs.Reading.{voted_at, view_at};
-ghost use Rattle.acc_code.specs.Writing.{Keeps};
+ghost use Rattle.acc_txn.specs.Writing.{Keeps};
 
 use crate::ids::{put_ids, take_ids};
 use crate::records::{
@@ -21,7 +21,7 @@ use acc_wire::Reader;
 use std::alloc::Global;
 
 /// Appends a view.
-#[tactic(auto, using(acc_code::proofs::Kept::keeps_all, acc_code::proofs::Kept::keeps_front, acc_code::proofs::Kept::keeps_more), unfolding(crate::specs::Spelling::view_bytes, crate::specs::Spelling::settled_bytes))]
+#[tactic(auto, using(acc_txn::proofs::Kept::keeps_all, acc_txn::proofs::Kept::keeps_front, acc_txn::proofs::Kept::keeps_more), unfolding(crate::specs::Spelling::view_bytes, crate::specs::Spelling::settled_bytes))]
 pub(crate) fn put_view(out: &mut Bytes, view: &View) -> Result<(), OutOfMemory>
     requires { IsShortView view.now }
     ensures spelled { OnOk result (out.new ≡ out.old ++ view_bytes view.now) }

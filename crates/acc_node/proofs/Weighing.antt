@@ -16,7 +16,7 @@ use Rattle.acc_txn.specs.declared.parts.BodyParts.{BodyParts}
 use Rattle.acc_message.specs.declared.message.Message.{Message}
 use Rattle.acc_message.specs.Shares.{stores_used}
 use Rattle.acc_wire.specs.Spelling.{u16_bytes, u32_bytes, u64_bytes}
-use Rattle.acc_code.specs.BodySpelling.{body_bytes}
+use Rattle.acc_txn.specs.BodySpelling.{body_bytes}
 use Rattle.acc_message_code.specs.Spelling.{actor_bytes, stamp_bytes}
 use Rattle.acc_message_code.specs.MessageSpelling.{number_of, envelope_bytes, content_bytes, message_bytes}
 use Rattle.acc_message_code.specs.Short.{IsShortMessage}

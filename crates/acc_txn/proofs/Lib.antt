@@ -5,3 +5,6 @@ pub mod Writes
 mod Texts
 mod Sums
 mod Written
+pub mod Kept
+pub mod ByteCounts
+pub mod BodyShortness

@@ -1,11 +1,13 @@
 //! The body of a transaction.
-ghost use Rattle.std.specs.Prelude.{◌≡◌, true, false, Some, None, if◌then◌else◌, IfOk, IfErr, OnOk};
+ghost use Rattle.std.specs.Prelude.{◌≡◌, ◌<◌, ◌^◌, length, true, false, Some, None, if◌then◌else◌, IfOk, IfErr, OnOk};
 ghost use Rattle.acc_value.specs.declared.key.Key.{Key};
 ghost use Rattle.acc_value.specs.Cells.{cell_of};
 ghost use Rattle.acc_value.specs.Pairs.{find};
 ghost use Rattle.acc_txn.specs.Uses.{footprint_of, is_read, is_updated};
 ghost use Rattle.acc_txn.specs.Rules.{refusal_of, IsBody, IsRefused};
 ghost use Rattle.acc_txn.specs.Meaning.{outcome_of};
+ghost use Rattle.acc_txn.specs.BodySpelling.{body_bytes};
+ghost use Rattle.acc_txn.specs.Short.{IsNumberedBody};
 
 use crate::error::BodyError;
 use crate::evaluate::outcome;
@@ -13,7 +15,8 @@ use crate::outcome::Outcome;
 use crate::parts::BodyParts;
 use crate::rules::refusal;
 use crate::uses::footprint;
-use acc_base::{Duplicate, OutOfMemory};
+use crate::writing::code_of;
+use acc_base::{Bytes, Duplicate, OutOfMemory};
 use acc_value::{CellList, Footprint};
 use std::alloc::Global;
 use std::marker::Model;
@@ -25,11 +28,13 @@ pub struct Body {
     content: Arc<Content, Global>,
 }
 
-/// What the copies of a body share: its parts and the keys that they use.
+/// What the copies of a body share: its parts, the keys that they use, and its bytes, since each message with the body and each
+/// journal of a store that gets one spells it again.
 #[derive(Debug, Drop)]
 struct Content {
     parts: BodyParts,
     uses: Footprint,
+    code: Bytes,
 }
 
 impl Model for Body {
@@ -38,12 +43,13 @@ impl Model for Body {
     ghost use Rattle.acc_txn.specs.declared.parts.BodyParts.{BodyParts};
     ghost use Rattle.acc_txn.specs.Rules.{IsBody};
     ghost use Rattle.acc_txn.specs.Uses.{footprint_of};
+    ghost use Rattle.acc_txn.specs.Short.{IsCodeOf};
 
     ghost Value = { BodyParts };
 
     ghost view = { λ b. (arc_value b.content).parts };
 
-    ghost invariant = { λ b. IsBody (arc_value b.content).parts × ((arc_value b.content).uses ≡ footprint_of (arc_value b.content).parts) };
+    ghost invariant = { λ b. IsBody (arc_value b.content).parts × ((arc_value b.content).uses ≡ footprint_of (arc_value b.content).parts) × IsCodeOf (arc_value b.content).parts (arc_value b.content).code };
 }
 
 impl Body {
@@ -75,8 +81,9 @@ impl Body {
         ensures { IfOk result (λ body. body ≡ parts) }
     {
         let alloc = parts.lets.allocator();
+        let code = code_of(&parts)?;
         Ok(Body {
-            content: Arc::new(alloc, Content { parts, uses })?,
+            content: Arc::new(alloc, Content { parts, uses, code })?,
         })
     }
 
@@ -86,6 +93,15 @@ impl Body {
         ensures keeps_rules { IsBody self.now }
     {
         &self.content.parts
+    }
+
+    /// The bytes of the body.
+    pub fn code(&self) -> &[u8]
+        ensures spelled { result.now ≡ body_bytes self.now }
+        ensures numbered { IsNumberedBody self.now }
+        ensures short { length result.now < 2 ^ 27 }
+    {
+        self.content.code.as_slice()
     }
 
     /// The keys that the body reads and writes, which `footprint` copies.

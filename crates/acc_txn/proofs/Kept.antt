@@ -2,7 +2,7 @@
 use Rattle.std.proofs.Common.{ℕ, List, ◌++◌, length, take, sym, ap, ◌∙◌, arith, length-append}
 use Rattle.std.proofs.Math.Seq.{take-length, take-append_seam}
 use Rattle.std.proofs.lemmas.List.{take-take}
-use Rattle.acc_code.specs.Writing.{Keeps}
+use Rattle.acc_txn.specs.Writing.{Keeps}
 
 pub keeps_all : (bytes : List ℕ) → Keeps bytes bytes
 keeps_all bytes = take-length bytes

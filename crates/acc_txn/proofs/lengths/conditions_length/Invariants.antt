@@ -1,8 +1,8 @@
 -- The length of those so far.
 use Rattle.std.proofs.Common.{◌≡◌, ◌≤◌, ◌*◌, length, take}
 use Rattle.std.specs.List.{flat_map}
-use Rattle.acc_code.specs.BodySpelling.{condition_bytes}
-use Rattle.acc_code.proofs.body_lengths.conditions_length.Given as goal
+use Rattle.acc_txn.specs.BodySpelling.{condition_bytes}
+use Rattle.acc_txn.proofs.lengths.conditions_length.Given as goal
 
 abbrev pub invariant-loop-guard : goal.invariant-loop-guard
 invariant-loop-guard l = record {

@@ -1,6 +1,8 @@
 -- The spelling of bodies.
-use Rattle.std.specs.Prelude.{ℕ, Bool, List, ◌++◌, if◌then◌else◌}
+use Rattle.std.specs.Prelude.{ℕ, Bool, List, ◌++◌, length, if◌then◌else◌}
+use Rattle.std.specs.List.{flat_map}
 use Rattle.acc_wire.specs.Spelling.{u8_bytes, i64_bytes, text_bytes}
+use Rattle.acc_value.specs.declared.key.Key.{Key}
 use Rattle.acc_txn.specs.declared.parts.Let.{Let}
 use Rattle.acc_txn.specs.declared.parts.Select.{Select}
 use Rattle.acc_txn.specs.declared.parts.Select.TheVariants.{Nothing, Names, Get}
@@ -14,7 +16,14 @@ use Rattle.acc_txn.specs.declared.parts.Condition.TheVariants.{Compare, IsNull, 
 use Rattle.acc_txn.specs.declared.parts.Update.{Update}
 use Rattle.acc_txn.specs.declared.parts.Update.TheVariants.{Set, Delete}
 use Rattle.acc_txn.specs.declared.parts.BodyParts.{BodyParts}
-use Rattle.acc_code.specs.Spelling.{listed, key_bytes}
+
+-- a list is its count in one byte, and its elements
+unfoldable pub listed : {A : Type 0} → (A → List ℕ) → List A → List ℕ
+listed spelling xs = u8_bytes (length xs) ++ flat_map spelling xs
+
+-- a key is its table and its text
+unfoldable pub key_bytes : Key → List ℕ
+key_bytes key = text_bytes key.table ++ text_bytes key.key
 
 unfoldable pub let_bytes : Let → List ℕ
 let_bytes l = text_bytes l.name ++ key_bytes l.key

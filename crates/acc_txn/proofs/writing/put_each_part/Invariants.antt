@@ -1,9 +1,9 @@
 -- Those so far are spelled, and fit.
 use Rattle.std.proofs.Common.{◌≡◌, ◌++◌, take}
 use Rattle.std.specs.List.{flat_map, AllByRecursion}
-use Rattle.acc_code.specs.BodySpelling.{part_bytes}
-use Rattle.acc_code.specs.Short.{IsTerm}
-use Rattle.acc_code.proofs.sums.put_each_part.Given as goal
+use Rattle.acc_txn.specs.BodySpelling.{part_bytes}
+use Rattle.acc_txn.specs.Short.{IsTerm}
+use Rattle.acc_txn.proofs.writing.put_each_part.Given as goal
 
 abbrev pub invariant-loop-part : goal.invariant-loop-part
 invariant-loop-part l = record {

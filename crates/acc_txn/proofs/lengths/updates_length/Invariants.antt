@@ -1,8 +1,8 @@
 -- The length of those so far.
 use Rattle.std.proofs.Common.{◌≡◌, ◌≤◌, ◌*◌, length, take}
 use Rattle.std.specs.List.{flat_map}
-use Rattle.acc_code.specs.BodySpelling.{update_bytes}
-use Rattle.acc_code.proofs.body_lengths.updates_length.Given as goal
+use Rattle.acc_txn.specs.BodySpelling.{update_bytes}
+use Rattle.acc_txn.proofs.lengths.updates_length.Given as goal
 
 abbrev pub invariant-loop-update : goal.invariant-loop-update
 invariant-loop-update l = record {

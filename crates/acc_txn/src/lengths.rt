@@ -1,15 +1,34 @@
 //! How many bytes a body takes.
 ghost use Rattle.std.specs.Prelude.{◌≡◌, ◌<◌, ◌≤◌, ◌*◌, ◌^◌, length};
 ghost use Rattle.std.specs.List.{flat_map, AllByRecursion};
-ghost use Rattle.acc_wire.specs.Spelling.{u8_bytes};
-ghost use Rattle.acc_code.specs.Spelling.{listed};
-ghost use Rattle.acc_code.specs.BodySpelling.{let_bytes, select_bytes, term_bytes, part_bytes, sum_bytes, condition_bytes, update_bytes, body_bytes};
-ghost use Rattle.acc_code.specs.Short.{IsShortLet, IsShortSelect, IsShortTerm, IsShortSum, IsShortCondition, IsShortUpdate, IsShortBody};
+ghost use Rattle.acc_wire.specs.Spelling.{u8_bytes, text_bytes, IsShortText};
+ghost use Rattle.acc_txn.specs.BodySpelling.{listed, key_bytes, let_bytes, select_bytes, term_bytes, part_bytes, sum_bytes, condition_bytes, update_bytes, body_bytes};
+ghost use Rattle.acc_txn.specs.Short.{IsShortKey, IsShortLet, IsShortSelect, IsShortTerm, IsShortSum, IsShortCondition, IsShortUpdate, IsShortBody};
 
-use crate::lengths::{key_length, text_length};
-use acc_txn::{Body, BodyParts, Condition, Expr, Let, Numbers, Part, Select, Term, Update};
+use crate::parts::{BodyParts, Condition, Expr, Let, Numbers, Part, Select, Term, Update};
+use acc_value::Key;
 
-#[tactic(auto, using(crate::proofs::Shortness::short_text), unfolding(crate::specs::BodySpelling::term_bytes, acc_wire::specs::Spelling::i64_bytes, acc_wire::specs::Spelling::u64_bytes))]
+/// How many bytes a text takes.
+#[tactic(auto, unfolding(acc_wire::specs::Spelling::text_bytes))]
+pub fn text_length(text: &[u8]) -> u64
+    requires { IsShortText text.now }
+    ensures exact { result ≡ length (text_bytes text.now) }
+    ensures most { result ≤ 256 }
+{
+    1 + text.len() as u64
+}
+
+/// How many bytes a key takes.
+#[tactic(auto, unfolding(crate::specs::BodySpelling::key_bytes))]
+pub fn key_length(key: &Key) -> u64
+    requires { IsShortKey key.now }
+    ensures exact { result ≡ length (key_bytes key.now) }
+    ensures most { result ≤ 512 }
+{
+    text_length(key.table.as_slice()) + text_length(key.key.as_slice())
+}
+
+#[tactic(auto, using(crate::proofs::BodyShortness::short_text), unfolding(crate::specs::BodySpelling::term_bytes, acc_wire::specs::Spelling::i64_bytes, acc_wire::specs::Spelling::u64_bytes))]
 fn term_length(term: &Term) -> u64
     requires { IsShortTerm term.now }
     ensures exact { result ≡ length (term_bytes term.now) }
@@ -46,7 +65,7 @@ fn each_part_length(parts: &[Part]) -> u64
 }
 
 /// How many bytes a sum takes.
-#[tactic(auto, unfolding(crate::specs::BodySpelling::sum_bytes, crate::specs::Spelling::listed))]
+#[tactic(auto, unfolding(crate::specs::BodySpelling::sum_bytes, crate::specs::BodySpelling::listed))]
 fn sum_length(sum: &Expr) -> u64
     requires { IsShortSum sum.now }
     ensures exact { result ≡ length (sum_bytes sum.now) }
@@ -77,7 +96,7 @@ fn lets_length(lets: &[Let]) -> u64
     total
 }
 
-#[tactic(auto, unfolding(crate::specs::Spelling::listed))]
+#[tactic(auto, unfolding(crate::specs::BodySpelling::listed))]
 fn names_length(names: &Numbers) -> u64
     requires { length names.now < 256 }
     ensures exact { result ≡ length (listed u8_bytes names.now) }
@@ -149,8 +168,8 @@ fn updates_length(updates: &[Update]) -> u64
     total
 }
 
-#[tactic(auto, unfolding(crate::specs::BodySpelling::body_bytes, crate::specs::Spelling::listed))]
-fn parts_length(parts: &BodyParts) -> u64
+#[tactic(auto, unfolding(crate::specs::BodySpelling::body_bytes, crate::specs::BodySpelling::listed))]
+pub(crate) fn parts_length(parts: &BodyParts) -> u64
     requires { IsShortBody parts.now }
     ensures exact { result ≡ length (body_bytes parts.now) }
     ensures most { result < 2 ^ 27 }
@@ -159,12 +178,4 @@ fn parts_length(parts: &BodyParts) -> u64
         + select_length(&parts.select)
         + conditions_length(parts.guards.as_slice())
         + updates_length(parts.updates.as_slice())
-}
-
-/// How many bytes a body takes.
-pub fn body_length(body: &Body) -> u64
-    ensures exact { result ≡ length (body_bytes body.now) }
-    ensures most { result < 2 ^ 27 }
-{
-    parts_length(body.parts())
 }

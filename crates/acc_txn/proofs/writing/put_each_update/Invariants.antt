@@ -1,9 +1,9 @@
 -- Those so far are spelled, and fit.
 use Rattle.std.proofs.Common.{◌≡◌, ◌++◌, take}
 use Rattle.std.specs.List.{flat_map, AllByRecursion}
-use Rattle.acc_code.specs.BodySpelling.{update_bytes}
-use Rattle.acc_code.specs.Short.{SetsTerms}
-use Rattle.acc_code.proofs.updates.put_each_update.Given as goal
+use Rattle.acc_txn.specs.BodySpelling.{update_bytes}
+use Rattle.acc_txn.specs.Short.{SetsTerms}
+use Rattle.acc_txn.proofs.writing.put_each_update.Given as goal
 
 abbrev pub invariant-loop-update : goal.invariant-loop-update
 invariant-loop-update l = record {
