@@ -3,4 +3,4 @@
 
 mod refusals;
 
-pub use refusals::{answering, refusal};
+pub use refusals::{answering, refusal, refusal_by};

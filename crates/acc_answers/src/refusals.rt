@@ -1,12 +1,13 @@
 //! Refusals.
 ghost use Rattle.std.specs.Prelude.{◌≡◌, IfOk};
+ghost use Rattle.std.specs.Option.{option_copied};
 ghost use Rattle.acc_stamp.specs.Actor.{home_of};
 ghost use Rattle.acc_record.specs.Shelf.{record_at};
 ghost use Rattle.acc_answers.specs.Refusal.{refusal_of};
 
 use acc_base::OutOfMemory;
 use acc_message::{Envelope, Message};
-use acc_record::Shelf;
+use acc_record::{Record, Shelf};
 use acc_stamp::{Ballot, TxnId, home};
 
 /// The refusal of a message about a transaction, if it is refused: the news of the decision, where the transaction is decided
@@ -19,7 +20,21 @@ pub fn refusal(
 ) -> Result<Option<Message>, OutOfMemory>
     ensures { IfOk result (λ refusal. refusal ≡ refusal_of shelf.now.actor id ballot least (record_at shelf.now.records id)) }
 {
-    let Some(record) = shelf.find(id) else {
+    refusal_by(shelf, shelf.find(id), id, ballot, least)
+}
+
+/// The same of a transaction that has this record, if any.
+pub fn refusal_by(
+    shelf: &Shelf,
+    there: Option<&Record>,
+    id: TxnId,
+    ballot: Ballot,
+    least: Ballot,
+) -> Result<Option<Message>, OutOfMemory>
+    requires { option_copied there ≡ record_at shelf.now.records id }
+    ensures { IfOk result (λ refusal. refusal ≡ refusal_of shelf.now.actor id ballot least (record_at shelf.now.records id)) }
+{
+    let Some(record) = there else {
         return Ok(None);
     };
     let envelope = answering(shelf, id, ballot);
