@@ -1,21 +1,21 @@
 //! The answer and the step.
-ghost use Rattle.std.specs.Prelude.{◌≡◌, ◌<◌, ◌^◌, max, List, [], ◌∷◌, Some, IsTrue, IfOk, OnOk, OnErr};
+ghost use Rattle.std.specs.Prelude.{◌≡◌, ◌<◌, ◌^◌, max, List, [], ◌∷◌, Some, is_some, IsTrue, IfOk, OnOk, OnErr};
 ghost use Rattle.acc_message.specs.Fields.{top_of};
 ghost use Rattle.acc_message.specs.VoteRule.{drawn_as};
 ghost use Rattle.acc_message.specs.declared.message.Message.{Message};
 ghost use Rattle.acc_message.specs.StoreRules.{store_answer, replay};
 ghost use Rattle.acc_record.specs.Shelf.{IsSame, record_at};
 ghost use Rattle.acc_record.specs.Stands.{IsFor, StandsFor, AnswersByRules};
-ghost use Rattle.acc_record.specs.Learning.{known_or_fresh};
+ghost use Rattle.acc_record.specs.Learning.{known_or_fresh, stamp_to_note};
 ghost use Rattle.acc_shelf_laws.specs.LearntAs.{IsLearntAs};
 ghost use Rattle.acc_preaccept.specs.PreAccepting.{is_preaccept, answer_at, with_vote, IsPreAccepting};
 
 use crate::keep::keep_vote;
-use acc_answers::{answering, refusal};
+use acc_answers::{answering, refusal, refusal_by};
 use acc_base::OutOfMemory;
 use acc_index::Share;
 use acc_message::{Message, top};
-use acc_record::{Shelf, Vote};
+use acc_record::{Noting, Shelf, Vote};
 use acc_stamp::{Actor, Ballot, Stamp, TxnId};
 use acc_topology::Topology;
 use acc_txn::Body;
@@ -104,13 +104,15 @@ fn preaccept(
     ensures ok { OnOk result (IsPreAccepting shelf.old shelf.new id ballot body.now share.now top) }
     ensures err { OnErr result (IsSame shelf.old shelf.new) }
 {
-    if let Some(refused) = refusal(shelf, id, ballot, Ballot::ZERO)? {
+    let there = shelf.find(id);
+    if let Some(refused) = refusal_by(shelf, there, id, ballot, Ballot::ZERO)? {
         shelf.learn(id, body, share, None, top)?;
         return Ok(refused);
     }
     let envelope = answering(shelf, id, ballot);
-    let vote = shelf.vote(id, share, top)?;
-    learn_vote(shelf, id, body, share, top, &vote)?;
+    let vote = shelf.vote_by(there, id, share, top)?;
+    let noting = shelf.noting(there, id, Some(vote.stamp));
+    learn_vote(shelf, id, body, share, noting, top, &vote)?;
     Ok(envelope.pre_accept_ok(vote.stamp, vote.deps))
 }
 
@@ -120,9 +122,12 @@ fn learn_vote(
     id: TxnId,
     body: &Body,
     share: &Share,
+    noting: Noting,
     top: u64,
     vote: &Vote,
 ) -> Result<(), OutOfMemory>
+    requires known { noting.is_known ≡ is_some (record_at shelf.old.records id) }
+    requires stamp { noting.stamp ≡ stamp_to_note (record_at shelf.old.records id) id (Some vote.now.stamp) }
     ensures ok { OnOk result (IsLearntAs shelf.old shelf.new id share.now (Some vote.now.stamp) (max top (drawn_as shelf.old.actor.0 vote.now.stamp)) (with_vote vote.now (known_or_fresh (record_at shelf.old.records id) id body.now))) }
     ensures err { OnErr result (IsSame shelf.old shelf.new) }
 {
@@ -131,7 +136,7 @@ fn learn_vote(
         deps: vote.deps.copy()?,
     };
     let top = top.max(drawn(shelf.actor, vote.stamp));
-    shelf.learn(id, body, share, Some(vote.stamp), top)?;
+    shelf.learn_noting(id, body, share, Some(vote.stamp), noting, top)?;
     keep_vote(&mut shelf.records, id, kept);
     Ok(())
 }
