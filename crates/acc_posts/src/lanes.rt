@@ -37,6 +37,7 @@ fn link(links: &mut Vec<u32>, from: u32, to: u32)
 }
 
 /// Puts a new message, whose number is the count of links, at the end of its lane.
+#[inline(always)]
 pub(crate) fn join_lane(
     links: &mut Vec<u32>,
     firsts: &mut Vec<u32>,

@@ -1,5 +1,5 @@
 //! The index of messages.
-ghost use Rattle.std.specs.Prelude.{◌≡◌, ℕ, ◌+◌, ◌-◌, ◌%◌, ◌^◌, ◌<◌, ◌≤◌, ◌==◌, [], ◌∷◌, ◌++◌, length, not, ◌&&◌, IfOk, OnOk, OnErr, MatchOption, nat_lt, if◌then◌else◌, vec_len, vec_capacity};
+ghost use Rattle.std.specs.Prelude.{◌≡◌, true, ℕ, ◌+◌, ◌-◌, ◌%◌, ◌^◌, ◌<◌, ◌≤◌, ◌==◌, [], ◌∷◌, ◌++◌, length, not, ◌&&◌, IfOk, OnOk, OnErr, MatchOption, nat_lt, if◌then◌else◌, vec_len, vec_capacity};
 ghost use Rattle.std.specs.List.{list_any};
 ghost use Rattle.acc_posts.specs.Mail.{Mail, posting_at, taken, early_after, IsOpenTo, IsNext, HasNone};
 ghost use Rattle.acc_posts.specs.Indexed.{lane_at};
@@ -43,6 +43,57 @@ impl Model for Posts {
     ghost invariant = { λ p. Indexed p.postings.items p.links.items p.firsts.items p.lasts.items × (vec_len p.postings + p.room ≤ vec_capacity p.postings) × (vec_len p.postings + p.room ≤ vec_capacity p.links) × (vec_len p.postings + p.room ≤ none) × (vec_len p.early + p.takings ≤ vec_capacity p.early) };
 }
 
+// Whether there is room for so many more.
+#[inline(always)]
+fn has_room<T>(list: &Vec<T>, more: usize) -> bool
+    ensures { result ≡ true → vec_len list.now + more ≤ vec_capacity list.now }
+{
+    more <= list.capacity() - list.len()
+}
+
+// Makes room for so many more messages and takings.
+#[cold]
+#[inline(never)]
+fn make_room(
+    postings: &mut Vec<Posting>,
+    links: &mut Vec<u32>,
+    early: &mut Vec<u64>,
+    room: usize,
+    takings: usize,
+) -> Result<(), OutOfMemory>
+    ensures postings { (postings.new.items ≡ postings.old.items) × (vec_len postings.new ≡ vec_len postings.old) }
+    ensures links { (links.new.items ≡ links.old.items) × (vec_len links.new ≡ vec_len links.old) }
+    ensures early { (early.new.items ≡ early.old.items) × (vec_len early.new ≡ vec_len early.old) }
+    ensures more { (vec_capacity postings.old ≤ vec_capacity postings.new) × (vec_capacity links.old ≤ vec_capacity links.new) × (vec_capacity early.old ≤ vec_capacity early.new) }
+    ensures room { OnOk result ((vec_len postings.new + room ≤ vec_capacity postings.new) × (vec_len links.new + room ≤ vec_capacity links.new) × (vec_len early.new + takings ≤ vec_capacity early.new)) }
+{
+    postings.reserve(room)?;
+    links.reserve(room)?;
+    early.reserve(takings)?;
+    Ok(())
+}
+
+// Makes room for so many more messages and takings, if it isn't there.
+#[inline(always)]
+fn ensure_room(
+    postings: &mut Vec<Posting>,
+    links: &mut Vec<u32>,
+    early: &mut Vec<u64>,
+    room: usize,
+    takings: usize,
+) -> Result<(), OutOfMemory>
+    ensures postings { (postings.new.items ≡ postings.old.items) × (vec_len postings.new ≡ vec_len postings.old) }
+    ensures links { (links.new.items ≡ links.old.items) × (vec_len links.new ≡ vec_len links.old) }
+    ensures early { (early.new.items ≡ early.old.items) × (vec_len early.new ≡ vec_len early.old) }
+    ensures more { (vec_capacity postings.old ≤ vec_capacity postings.new) × (vec_capacity links.old ≤ vec_capacity links.new) × (vec_capacity early.old ≤ vec_capacity early.new) }
+    ensures room { OnOk result ((vec_len postings.new + room ≤ vec_capacity postings.new) × (vec_len links.new + room ≤ vec_capacity links.new) × (vec_len early.new + takings ≤ vec_capacity early.new)) }
+{
+    if has_room(postings, room) && has_room(links, room) && has_room(early, takings) {
+        return Ok(());
+    }
+    make_room(postings, links, early, room, takings)
+}
+
 // Closes the message at a place.
 fn mark_taken(postings: &mut Vec<Posting>, place: usize)
     requires { place < length postings.old.items }
@@ -69,6 +120,14 @@ fn note_taken(postings: &mut Vec<Posting>, early: &mut Vec<u64>, number: u64)
     }
 }
 
+// Whether the message with this number was taken before it was sent.
+#[inline(always)]
+fn is_early(early: &[u64], number: u64) -> bool
+    ensures { result ≡ list_any (λ n. n == number) early.now }
+{
+    !early.is_empty() && early.contains(&number)
+}
+
 impl Posts {
     /// An index of no messages.
     pub fn new(alloc: Global) -> Result<Posts, OutOfMemory>
@@ -87,6 +146,7 @@ impl Posts {
 
     /// Makes room for so many more messages and for one more taking. Without memory for it, and where the messages and the room
     /// for more would be 2^32 or more, all is as before.
+    #[inline(always)]
     pub fn reserve(&mut self, messages: u64) -> Result<(), OutOfMemory>
         ensures ok { OnOk result (self.new ≡ record self.old { room = self.old.room + messages; takings = self.old.takings + 1 }) }
         ensures err { OnErr result (self.new ≡ self.old) }
@@ -97,9 +157,13 @@ impl Posts {
             return Err(OutOfMemory);
         }
         let takings = self.takings + 1;
-        self.postings.reserve(room)?;
-        self.links.reserve(room)?;
-        self.early.reserve(takings)?;
+        ensure_room(
+            &mut self.postings,
+            &mut self.links,
+            &mut self.early,
+            room,
+            takings,
+        )?;
         self.room = room;
         self.takings = takings;
         Ok(())
@@ -127,6 +191,7 @@ impl Posts {
 
     /// Notes a message, the next by number, which the item at `place` sent as its message `index`. A lost one is never
     /// open, nor is one that was taken before.
+    #[inline(always)]
     pub fn add(&mut self, to: u32, place: u32, index: u32, is_lost: bool)
         requires { 0 < self.old.room }
         ensures { self.new ≡ record self.old { sent = self.old.sent ++ record { to = to; place = place; index = index; is_open = not is_lost && not (list_any (λ n. n == length self.old.sent) self.old.early) } ∷ []; room = self.old.room - 1 } }
@@ -136,7 +201,7 @@ impl Posts {
             to,
             place,
             index,
-            is_open: !is_lost & !self.early.contains(&number),
+            is_open: !is_lost & !is_early(self.early.as_slice(), number),
         };
         join_lane(
             &mut self.links,
