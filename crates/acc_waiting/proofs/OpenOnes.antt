@@ -93,6 +93,16 @@ added_kept {mail} {downs} {heads} {first} k p after slice first' same low is nex
     (λ actor within. head_added mail.sent p actor first k.within (is_down_at downs actor) (leaf (length downs) heads actor) (k.heads_are actor within))))
     next
 
+-- a message that waits still does
+pub waits_added : {mail : Mail} {downs : List Bool} {heads : List ℕ} {first : ℕ} (k : Kept mail downs heads first) (p : Posting) (sent : List Posting) (slice : List Bool)
+    → sent ≡ mail.sent ++ p ∷ [] → slice ≡ downs → first + 1 < length sent → waits_in sent slice first ≡ true
+waits_added {mail} {downs} {heads} {first} k p sent slice same is low =
+    let before : first < length mail.sent = omega (arith, ap length same, length-append mail.sent (p ∷ []), low) in
+    ap (λ (l : List Posting). waits_in l slice first) same
+    ∙ ap (λ d. waits_in (mail.sent ++ p ∷ []) d first) is
+    ∙ ap (λ (q : Posting). q.is_open && not (is_down_at downs q.to)) (old_posting mail.sent p first before)
+    ∙ k.waits before
+
 -- ---- a change that concerns one actor
 
 pub heads_after : (sent after : List Posting) (downs downs' : List Bool) (heads heads' : List ℕ) (first actor : ℕ) → length downs' ≡ length downs → HaveHeads sent downs heads first

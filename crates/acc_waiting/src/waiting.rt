@@ -1,5 +1,5 @@
 //! The messages that wait.
-ghost use Rattle.std.specs.Prelude.{◌≡◌, ◌≢◌, ℕ, ◌+◌, ◌-◌, ◌^◌, ◌<◌, ◌≤◌, [], ◌∷◌, ◌++◌, length, not, IfOk, OnOk, OnErr, MatchOption, slice_set};
+ghost use Rattle.std.specs.Prelude.{◌≡◌, ◌≢◌, ℕ, ◌+◌, ◌-◌, ◌^◌, ◌<◌, ◌≤◌, [], ◌∷◌, ◌++◌, length, not, IfOk, OnOk, OnErr, MatchOption, slice_set, true};
 ghost use Rattle.acc_posts.specs.Mail.{posting_at, taken};
 ghost use Rattle.acc_waiting.specs.Trees.{leaf, IsTree};
 ghost use Rattle.acc_waiting.specs.Standing.{Standing, is_down_at, waits_in, NothingWaits, IsOldest};
@@ -106,6 +106,21 @@ fn waits(posts: &Posts, downs: &[bool], number: u64) -> bool
     posting.is_open && !downs[posting.to as usize]
 }
 
+// The first message that waits, or the number behind all, where this was it before the last message was added.
+#[inline(always)]
+fn first_behind(posts: &Posts, downs: &[bool], first: u64) -> u64
+    requires within { first ≤ length posts.now.sent }
+    requires covered { AreCovered posts.now.sent (length downs.now) }
+    requires waits { first + 1 < length posts.now.sent → waits_in posts.now.sent downs.now first ≡ true }
+    ensures next { IsNextWaiting posts.now.sent downs.now first result }
+{
+    let count = posts.len();
+    if first + 1 < count {
+        return first;
+    }
+    next_waiting(posts, downs, first)
+}
+
 // The first message from a number on that waits, or the number behind all messages.
 fn next_waiting(posts: &Posts, downs: &[bool], from: u64) -> u64
     requires within { from ≤ length posts.now.sent }
@@ -158,6 +173,7 @@ impl Waiting {
     }
 
     /// Makes room for an actor, so that it can go down, and messages can be sent to it. In any case nothing else changes.
+    #[inline(always)]
     pub fn cover(&mut self, actor: u32) -> Result<(), OutOfMemory>
         ensures same { (self.new.sent ≡ self.old.sent) × (self.new.room ≡ self.old.room) }
         ensures downs { (other : ℕ) → is_down_at self.new.downs other ≡ is_down_at self.old.downs other }
@@ -170,6 +186,7 @@ impl Waiting {
         self.grow(actor)
     }
 
+    #[cold]
     #[inline(never)]
     fn grow(&mut self, actor: u32) -> Result<(), OutOfMemory>
         requires { length self.old.downs ≤ actor }
@@ -189,6 +206,7 @@ impl Waiting {
 
     /// Makes room for so many more messages. Without memory for it, and where the messages and the room for more would be 2^32 or
     /// more, all is as before.
+    #[inline(always)]
     pub fn reserve(&mut self, messages: u64) -> Result<(), OutOfMemory>
         ensures ok { OnOk result (self.new ≡ record self.old { room = self.old.room + messages }) }
         ensures err { OnErr result (self.new ≡ self.old) }
@@ -211,16 +229,18 @@ impl Waiting {
     }
 
     /// Notes a message, the next by number, which the item at `place` sent as its message `index`. A lost one is never open.
+    #[inline(always)]
     pub fn add(&mut self, to: u32, place: u32, index: u32, is_lost: bool)
         requires room { 0 < self.old.room }
         requires covered { to < length self.old.downs }
         ensures { self.new ≡ record self.old { sent = self.old.sent ++ record { to = to; place = place; index = index; is_open = not is_lost } ∷ []; room = self.old.room - 1 } }
     {
         self.posts.add(to, place, index, is_lost);
-        self.first = next_waiting(&self.posts, self.downs.as_slice(), self.first);
+        self.first = first_behind(&self.posts, self.downs.as_slice(), self.first);
     }
 
     /// Notes that the message with this number is open no more.
+    #[inline(always)]
     pub fn close(&mut self, number: u64)
         requires { number < length self.old.sent }
         ensures { self.new ≡ record self.old { sent = taken number self.old.sent } }
