@@ -1,5 +1,5 @@
 //! Lists of items that still grow.
-ghost use Rattle.std.specs.Prelude.{◌≡◌, ℕ, List, ◌+◌, ◌<◌, ◌≤◌, [], ◌∷◌, ◌++◌, Some, length, map, slice_get, IfOk, OnOk, OnErr, vec_len, vec_capacity};
+ghost use Rattle.std.specs.Prelude.{◌≡◌, ℕ, List, ◌+◌, ◌<◌, ◌≤◌, [], ◌∷◌, ◌++◌, Some, true, length, map, slice_get, IfOk, OnOk, OnErr, vec_len, vec_capacity};
 ghost use Rattle.std.specs.Option.{option_copied};
 ghost use Rattle.std.specs.Arc.{arc_value};
 ghost use Rattle.acc_message.specs.declared.message.Message.{Message as AMessage};
@@ -45,6 +45,53 @@ impl Model for GrowingItems {
     ghost invariant = { λ l. IsStretch 0 l.heads.items (length l.messages.items) × (vec_len l.shared + l.room ≤ vec_capacity l.shared) × (vec_len l.heads + l.room ≤ vec_capacity l.heads) × (vec_len l.messages + l.room ≤ vec_capacity l.messages) × (vec_len l.messages + l.room ≤ 4294967295) };
 }
 
+// Whether there is room for so many more.
+#[inline(always)]
+fn has_room<T>(list: &Vec<T>, more: usize) -> bool
+    ensures { result ≡ true → vec_len list.now + more ≤ vec_capacity list.now }
+{
+    more <= list.capacity() - list.len()
+}
+
+// Makes room for so many more in each list.
+#[cold]
+#[inline(never)]
+fn make_room(
+    shared: &mut Vec<Arc<Item>>,
+    heads: &mut Vec<Head>,
+    messages: &mut Vec<Message>,
+    more: usize,
+) -> Result<(), OutOfMemory>
+    ensures shared { (shared.new.items ≡ shared.old.items) × (vec_len shared.new ≡ vec_len shared.old) }
+    ensures heads { (heads.new.items ≡ heads.old.items) × (vec_len heads.new ≡ vec_len heads.old) }
+    ensures messages { (messages.new.items ≡ messages.old.items) × (vec_len messages.new ≡ vec_len messages.old) }
+    ensures room { OnOk result ((vec_len shared.new + more ≤ vec_capacity shared.new) × (vec_len heads.new + more ≤ vec_capacity heads.new) × (vec_len messages.new + more ≤ vec_capacity messages.new)) }
+{
+    shared.reserve(more)?;
+    heads.reserve(more)?;
+    messages.reserve(more)?;
+    Ok(())
+}
+
+// Makes room for so many more in each list, if it isn't there.
+#[inline(always)]
+fn ensure_room(
+    shared: &mut Vec<Arc<Item>>,
+    heads: &mut Vec<Head>,
+    messages: &mut Vec<Message>,
+    more: usize,
+) -> Result<(), OutOfMemory>
+    ensures shared { (shared.new.items ≡ shared.old.items) × (vec_len shared.new ≡ vec_len shared.old) }
+    ensures heads { (heads.new.items ≡ heads.old.items) × (vec_len heads.new ≡ vec_len heads.old) }
+    ensures messages { (messages.new.items ≡ messages.old.items) × (vec_len messages.new ≡ vec_len messages.old) }
+    ensures room { OnOk result ((vec_len shared.new + more ≤ vec_capacity shared.new) × (vec_len heads.new + more ≤ vec_capacity heads.new) × (vec_len messages.new + more ≤ vec_capacity messages.new)) }
+{
+    if has_room(shared, more) && has_room(heads, more) && has_room(messages, more) {
+        return Ok(());
+    }
+    make_room(shared, heads, messages, more)
+}
+
 // A list that shares all items of another.
 fn share_all(alloc: Global, items: &[Arc<Item>]) -> Result<Vec<Arc<Item>>, OutOfMemory>
     ensures { IfOk result (λ shared. map arc_value shared.items ≡ map arc_value items.now) }
@@ -71,6 +118,7 @@ impl GrowingItems {
 
     /// Makes room for an item with so many messages. Without memory for it, and where the list's own items would have 2^32 - 1
     /// messages or more, the items are as before, and there is room for none.
+    #[inline(always)]
     pub fn reserve(&mut self, messages: usize) -> Result<(), OutOfMemory>
         ensures ok { OnOk result (self.new ≡ record self.old { room = messages + 1 }) }
         ensures err { OnErr result (self.new ≡ record self.old { room = 0 }) }
@@ -80,14 +128,13 @@ impl GrowingItems {
         if room > MOST - self.messages.len() {
             return Err(OutOfMemory);
         }
-        self.shared.reserve(room)?;
-        self.heads.reserve(room)?;
-        self.messages.reserve(room)?;
+        ensure_room(&mut self.shared, &mut self.heads, &mut self.messages, room)?;
         self.room = room;
         Ok(())
     }
 
     /// Appends an item for which there is room. The room is used up.
+    #[inline(always)]
     pub fn push(&mut self, item: Item)
         requires { length (sent_in item) < self.old.room }
         ensures { self.new ≡ record { items = self.old.items ++ item ∷ []; own = self.old.own + 1; room = 0 } }
