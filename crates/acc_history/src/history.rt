@@ -1,5 +1,5 @@
 //! The past of a cluster.
-ghost use Rattle.std.specs.Prelude.{◌≡◌, ℕ, ◌<◌, ◌≤◌, ◌^◌, false, List, [], length, map, reverse, slice_get, IfOk, OnOk, OnErr, MatchOption};
+ghost use Rattle.std.specs.Prelude.{◌≡◌, ℕ, ◌+◌, ◌<◌, ◌≤◌, ◌^◌, false, List, [], length, map, reverse, slice_get, IfOk, OnOk, OnErr, MatchOption};
 ghost use Rattle.std.specs.Option.{option_copied};
 ghost use Rattle.std.specs.Arc.{arc_value};
 ghost use Rattle.std.specs.BTreeMap.{get};
@@ -193,6 +193,30 @@ impl History {
         }
     }
 
+    // Makes room for an item, of whose messages so many stand in the list, notes what it begins, counts the bytes of its messages, and
+    // gives its place.
+    #[inline(always)]
+    fn admit(&mut self, item: &Item, messages: usize, weight: u64) -> Result<u32, OutOfMemory>
+        ensures items { (self.new.items.items ≡ self.old.items.items) × (self.new.items.own ≡ self.old.items.own) }
+        ensures room { OnOk result (self.new.items.room ≡ messages + 1) }
+        ensures same { IsAsBefore self.old.waiting self.new.waiting }
+        ensures few { OnOk result (length (sent_in item.now) < 2 ^ 32) }
+        ensures waiting_room { OnOk result (length (sent_in item.now) ≤ self.new.waiting.room) }
+        ensures covered { OnOk result (IsCovered (length self.new.waiting.downs) item.now) }
+        ensures begun { OnOk result ((number : ℕ) → get nat_cmp self.new.begun number ≡ begun_with (begins_txn number item.now) (id_begun number item.now) (get nat_cmp self.old.begun number)) }
+        ensures still_begun { OnErr result ((number : ℕ) → get nat_cmp self.new.begun number ≡ get nat_cmp self.old.begun number) }
+        ensures place { IfOk result (λ place. place ≡ length self.old.items.items) }
+        ensures weight { OnOk result (self.new.weight ≡ self.old.weight + weight) }
+        ensures still_weighed { OnErr result (self.new.weight ≡ self.old.weight) }
+    {
+        let weight = self.weight.checked_add(weight).ok_or(OutOfMemory)?;
+        let place = next_place(&self.items)?;
+        self.items.reserve(messages)?;
+        prepare(&mut self.waiting, &mut self.begun, item)?;
+        self.weight = weight;
+        Ok(place)
+    }
+
     /// Enters an item, whose messages have so many bytes. A message that it takes was sent before. All memory is taken first:
     /// without it, and where the bytes of all messages pass 64 bits or the items or messages 32 bits, the past is as before.
     pub fn add(&mut self, item: Item, weight: u64) -> Result<(), OutOfMemory>
@@ -201,12 +225,8 @@ impl History {
         ensures still_stands { OnErr result ((s : Situation) → StandsFor self.old s → StandsFor self.new s) }
         ensures still_weighed { OnErr result ((s : Situation) → IsWeighed self.old s → IsWeighed self.new s) }
     {
-        let weight = self.weight.checked_add(weight).ok_or(OutOfMemory)?;
-        let place = next_place(&self.items)?;
-        self.items.reserve(sent_by(&item).len())?;
-        prepare(&mut self.waiting, &mut self.begun, &item)?;
+        let place = self.admit(&item, sent_by(&item).len(), weight)?;
         enter(&mut self.waiting, &item, place);
-        self.weight = weight;
         self.items.push(item);
         Ok(())
     }
@@ -221,12 +241,8 @@ impl History {
         if self.items.own_len() > 0 {
             return self.add(item.copy()?, weight);
         }
-        let weight = self.weight.checked_add(weight).ok_or(OutOfMemory)?;
-        let place = next_place(&self.items)?;
-        self.items.reserve(0)?;
-        prepare(&mut self.waiting, &mut self.begun, &*item)?;
+        let place = self.admit(&*item, 0, weight)?;
         enter(&mut self.waiting, &*item, place);
-        self.weight = weight;
         self.items.share(item);
         Ok(())
     }
