@@ -27,6 +27,7 @@ fn drawn(notes: &[Note]) -> Option<TxnId>
 }
 
 // Notes that a transaction is begun. The first id that it drew stays.
+#[inline(never)]
 fn note(begun: &mut Begun, txn: u32, id: Option<TxnId>) -> Result<(), OutOfMemory>
     ensures ok { OnOk result ((number : ℕ) → get nat_cmp begun.new number ≡ begun_with (txn == number) id (get nat_cmp begun.old number)) }
     ensures err { OnErr result ((number : ℕ) → get nat_cmp begun.new number ≡ get nat_cmp begun.old number) }

@@ -109,6 +109,7 @@ fn step(waiting: &mut Waiting, entry: &Entry, place: u32)
 }
 
 /// Notes what the item at a place took, who goes down or comes up by it, and what it sent.
+#[inline(always)]
 pub(crate) fn enter(waiting: &mut Waiting, item: &Item, place: u32)
     requires few { length (sent_in item.now) < 2 ^ 32 }
     requires room { length (sent_in item.now) ≤ waiting.old.room }

@@ -36,6 +36,7 @@ pub struct History {
 }
 
 // Makes room for what an item changes, and notes what it begins. Without memory for it all else is as before.
+#[inline(always)]
 fn prepare(waiting: &mut Waiting, begun: &mut Begun, item: &Item) -> Result<(), OutOfMemory>
     ensures same { IsAsBefore waiting.old waiting.new }
     ensures few { OnOk result (length (sent_in item.now) < 2 ^ 32) }
@@ -219,6 +220,7 @@ impl History {
 
     /// Enters an item, whose messages have so many bytes. A message that it takes was sent before. All memory is taken first:
     /// without it, and where the bytes of all messages pass 64 bits or the items or messages 32 bits, the past is as before.
+    #[inline(always)]
     pub fn add(&mut self, item: Item, weight: u64) -> Result<(), OutOfMemory>
         ensures stands { OnOk result ((s : Situation) → StandsFor self.old s → TakesSent s item → StandsFor self.new (with_item item s)) }
         ensures weighed { OnOk result ((s : Situation) → IsWeighed self.old s → weight ≡ weight_of item → IsWeighed self.new (with_item item s)) }
