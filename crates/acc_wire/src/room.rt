@@ -6,7 +6,7 @@ use byteorder::{BigEndian, ByteOrder};
 
 /// Appends bytes. They are moved one by one, since most fields are short.
 #[inline(always)]
-fn push_bytes(out: &mut Vec<u8>, bytes: &[u8])
+pub fn push_bytes(out: &mut Vec<u8>, bytes: &[u8])
     requires { vec_len out.old + length bytes.now ≤ vec_capacity out.old }
     ensures items { out.new.items ≡ out.old.items ++ bytes.now }
     ensures len { vec_len out.new ≡ vec_len out.old + length bytes.now }
