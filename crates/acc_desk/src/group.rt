@@ -90,7 +90,7 @@ impl<D: Rig + Drop, J: Planned> Desk<D, J> {
         ensures came { IfOk result (λ turned. CameTo plan.now tape.now self.old.actor self.old.commands turned self.old.seat.mine self.old.gone self.new.seat self.new.gone) }
     {
         let mut weights = Vec::new(self.alloc);
-        let (staged, ended) = self.gather(rt, plan, tape, gate, turn, &mut weights);
+        let (staged, ended) = self.gather(rt, plan, floor, tape, gate, turn, &mut weights);
         let turned = self.finish(rt, plan, floor, tape, weights.as_slice(), staged)?;
         match ended {
             Ended::Dry => Ok(turned),
@@ -128,11 +128,13 @@ impl<D: Rig + Drop, J: Planned> Desk<D, J> {
         Ok(Turned::Taken)
     }
 
-    // Stages messages, as long as some wait and the tape has room for what the store sends for them. Answers how many it staged.
+    // Stages messages, as long as some wait and the tape has room for what the store sends for them. Answers how many it staged. Where as
+    // many were sent to the store as it took, it doesn't ask the tape for one more.
     fn gather<W: Wait, G: Gate>(
         &mut self,
         rt: &W,
         plan: &Plan,
+        floor: &Floor,
         tape: &PlanTape<J>,
         gate: &G,
         turn: u64,
@@ -152,6 +154,9 @@ impl<D: Rig + Drop, J: Planned> Desk<D, J> {
     {
         let mut after = None;
         for place in 0..MOST {
+            if place > 0 && !self.has_mail(floor) {
+                return (place, Ended::Dry);
+            }
             let Ok(found) = find(rt, tape, &mut self.seat, self.actor.0, after) else {
                 return (place, Ended::Refused);
             };

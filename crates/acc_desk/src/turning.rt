@@ -136,7 +136,7 @@ impl<D: Rig + Drop, J: Planned> Desk<D, J> {
     }
 
     // Whether the tape has to be asked for a message.
-    fn has_mail(&self, floor: &Floor) -> bool {
+    pub(crate) fn has_mail(&self, floor: &Floor) -> bool {
         !self.slot.is_down() && floor.sent_to(self.actor) != self.taken
     }
 

@@ -33,6 +33,11 @@ loop-place-init g c =
       );
     }
 
+pub returns-then-not-has_mail-clause-gathering : goal.returns-then-not-has_mail-clause-gathering
+returns-then-not-has_mail-clause-gathering g c =
+    let group = c.loop-place.invariant.group in
+    (group.0, group.1, group.4)
+
 pub returns-in_default-clause-gathering : goal.returns-in_default-clause-gathering
 returns-in_default-clause-gathering g c =
     let self = c.loop-place.self in
