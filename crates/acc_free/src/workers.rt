@@ -39,8 +39,9 @@ impl<'e, D: Rig, J: Planned> Promise<Served<D, J>> for Keeps<'e, D, J> {
     ghost kept_by = { λ p served. KeepsSound D.is_image D.faults D.strict D.armed D.content D.synced D.written J.strict p.plan.now p.tape.now p.desks.value.items served };
 }
 
-/// Serves the desks of each hand on a thread of its own, from the last hand on, and gives them all back. Where a thread can't be started,
-/// its desks are served here, once the hands before it were served and their threads have ended. It waits for all threads.
+/// Serves the desks of the first hand here, and those of each other hand on a thread of its own, from the last hand on, and gives them all
+/// back. Where a thread can't be started, its desks are served here, once the hands before it were served and their threads have ended. It
+/// waits for all threads.
 pub(crate) fn serve_all<
     'e,
     R: Threads + Wait + Sync,
@@ -71,7 +72,7 @@ pub(crate) fn serve_all<
     )
 }
 
-// The same in a scope of threads, from the last hand on.
+// The same in a scope of threads.
 fn serve_each<
     's,
     'e: 's,
@@ -103,6 +104,10 @@ fn serve_each<
         floor,
         gate,
     } = *on;
+    if others.is_empty() {
+        let first = serve(rt, plan, desks, worker, floor, tape, gate);
+        return joined(Ok(Vec::new(alloc)), first);
+    }
     let keeps = Keeps {
         plan,
         tape,
