@@ -64,7 +64,13 @@ impl Shelf {
             note(&mut self.index, id, share, noting.stamp)?;
         } else {
             let record = Record::new(id, body)?;
-            add(&mut self.records, &mut self.index, record, share, noting.stamp)?;
+            add(
+                &mut self.records,
+                &mut self.index,
+                record,
+                share,
+                noting.stamp,
+            )?;
         }
         self.greatest = self.greatest.max(top);
         Ok(())
@@ -114,7 +120,6 @@ impl Shelf {
         Noting { is_known, stamp }
     }
 }
-
 
 impl Record {
     // The record of a transaction that was just heard of.

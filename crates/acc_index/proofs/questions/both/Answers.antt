@@ -9,10 +9,9 @@ loop-key-preserved c =
     let uses = c.args.uses.now in
     let at = places_at c.args.users.now in
     let i = c.loop-key.key-index in
-    let more = asked_more at uses i c.loop-key-item.result c.users_of.result.0.now c.users_of.result.1.now c.loop-key-test.true c.loop-key-item.is c.users_of.ensures.writers c.users_of.ensures.readers in
-    (
+    let more = asked_more at uses i c.loop-key-item.result c.users_of.result.0.now c.users_of.result.1.now c.loop-key-test.true c.loop-key-item.is c.users_of.ensures.writers c.users_of.ensures.readers in (
       greatest_uses c.args.columns.now c.args.id (asked at (take (i + 1) uses)) (asked at (take i uses)) c.users_of.result.0.now c.users_of.result.1.now more _
-      (c.greatest_of-greatest-in-loop-key.ensures _ (c.greatest_of-greatest.ensures _ c.loop-key.invariant.0)),
+          (c.greatest_of-greatest-in-loop-key.ensures _ (c.greatest_of-greatest.ensures _ c.loop-key.invariant.0)),
       below_uses c.args.columns.now c.args.id (asked at (take (i + 1) uses)) (asked at (take i uses)) c.users_of.result.0.now c.users_of.result.1.now more
-      c.args.bound c.reserve.new.self.items c.collect_below.new.found.items c.collect_below-in-loop-key.new.found.items (c.reserve.ensures.items ∙ c.loop-key.invariant.1) c.in_ok-collect_below.ensures c.in_ok-collect_below-2.ensures,
+          c.args.bound c.reserve.new.self.items c.collect_below.new.found.items c.collect_below-in-loop-key.new.found.items (c.reserve.ensures.items ∙ c.loop-key.invariant.1) c.in_ok-collect_below.ensures c.in_ok-collect_below-2.ensures,
     )
