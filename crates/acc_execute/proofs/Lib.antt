@@ -7,6 +7,7 @@ pub mod Turns
 pub mod Waiting
 pub mod Law
 pub mod Kept
+pub mod Showing
 pub mod Stepping
 pub mod Whole
 pub mod Absent

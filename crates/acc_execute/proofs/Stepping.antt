@@ -27,7 +27,7 @@ use Rattle.acc_stamp.specs.Stamp.{id_cmp}
 use Rattle.acc_opening.specs.Turns.{changes_in}
 use Rattle.acc_opening.specs.Planned.{after_changes, AreWatches}
 use Rattle.acc_opened_laws.specs.Opened.{executed}
-use Rattle.acc_execute.specs.declared.step.PreparedStep.{PreparedStep}
+use Rattle.acc_execute.specs.declared.step.StepParts.{StepParts}
 use Rattle.acc_execute.specs.Executed.{AllFit, IsReadyBehind, IsLearntWithRoom, IsCommitted, IsExecuted}
 
 -- ---- learning in the room that is made
@@ -72,16 +72,25 @@ own_there : (own : Record) (o : Option Record) → is_some o ≡ true → option
 own_there own None h = absurd (true≢false (sym h))
 own_there own (Some there) h = refl
 
--- the own record in its place, and then the turns
-pub records_then : (old mid new : Records) (own : Record) (changes : List Change) → is_some (record_at old own.id) ≡ true
-    → ((y : TxnId) → record_at mid y ≡ cond (id_eq own.id y) (option_map (λ (there : Record). own) (record_at old own.id)) (record_at old y))
-    → ((y : TxnId) → record_at new y ≡ option_map (executed changes y) (record_at mid y))
+-- the own record in its place with its turns, and then the turns of the others
+pub records_then : (old mid new : Records) (own turned : Record) (changes : List Change) → is_some (record_at old own.id) ≡ true
+    → turned ≡ executed changes own.id own
+    → ((y : TxnId) → record_at mid y ≡ cond (id_eq own.id y) (option_map (λ (there : Record). turned) (record_at old own.id)) (record_at old y))
+    → ((y : TxnId) → record_at new y ≡ cond (id_eq own.id y) (record_at mid y) (option_map (executed changes y) (record_at mid y)))
     → (y : TxnId) → record_at new y ≡ option_map (executed changes y) (lookup old own y)
-records_then old mid new own changes known kept turned y =
-    turned y
-    ∙ ap (option_map (executed changes y))
-    (kept y ∙ ap (λ o. cond (id_eq own.id y) o (record_at old y)) (own_there own (record_at old own.id) known)
-    ∙ ap (λ b. cond b (Some own) (record_at old y)) (eq-sym id_order own.id y))
+records_then old mid new own turned changes known turns kept others y =
+    others y ∙ by (id_eq own.id y) refl
+    ∙ ap (λ b. option_map (executed changes y) (cond b (Some own) (record_at old y))) (eq-sym id_order own.id y)
+  where
+    kept_by : (b : Bool) → id_eq own.id y ≡ b → record_at mid y ≡ cond b (Some turned) (record_at old y)
+    kept_by b e =
+        kept y ∙ ap (λ o. cond (id_eq own.id y) o (record_at old y)) (own_there turned (record_at old own.id) known)
+        ∙ ap (λ c. cond c (Some turned) (record_at old y)) e
+
+    by : (b : Bool) → id_eq own.id y ≡ b
+        → cond b (record_at mid y) (option_map (executed changes y) (record_at mid y)) ≡ option_map (executed changes y) (cond b (Some own) (record_at old y))
+    by true e = kept_by true e ∙ ap Some (turns ∙ ap (λ z. executed changes z own) ((id_order.decides own.id y).0 e))
+    by false e = ap (option_map (executed changes y)) (kept_by false e)
 
 -- what is learnt is hidden by the own record
 hidden_by : (b : Bool) (own known there : Option Record) → cond b own (cond b known there) ≡ cond b own there
@@ -114,7 +123,7 @@ module _ (old : Shelf) (cells : Cells) (same : (key : Key) → cell_at cells key
 
 -- ---- the step
 
-module _ (old : Shelf) (cells : Cells) (same : (key : Key) → cell_at cells key ≡ cell_at old.cells key) (mid : Shelf) (step : PreparedStep)
+module _ (old : Shelf) (cells : Cells) (same : (key : Key) → cell_at cells key ≡ cell_at old.cells key) (mid : Shelf) (step : StepParts)
     (body : BodyParts) (share : List (Key × Bool)) (stamp : Stamp) (top : ℕ)
     (l : IsLearntWithRoom (moved old cells same) mid step.own.id step.plan body share stamp top) where
   abbrev own : Record

@@ -5,7 +5,8 @@ use Rattle.std.specs.Option.{option_map}
 use Rattle.acc_stamp.specs.declared.stamps.TxnId.{TxnId}
 use Rattle.acc_stamp.specs.declared.stamps.Ballot.{Ballot}
 use Rattle.acc_stamp.specs.Stamp.{id_eq}
-use Rattle.acc_stamp.proofs.Order.{id_order}
+use Rattle.acc_stamp.proofs.Order.{id_order, eq-sym}
+use Rattle.acc_actor_laws.proofs.OpeningFacts.{some_is}
 use Rattle.acc_message.specs.Opening.{Change}
 use Rattle.acc_actor_laws.specs.OpeningOrder.{opens_in, applies_in}
 use Rattle.acc_record.specs.declared.record.Record.{Record}
@@ -54,10 +55,24 @@ map_twice : (o a p b : Bool) (v : Option Record) → option_map (done_to p b) (o
 map_twice o a p b None = refl
 map_twice o a p b (Some r) = ap Some (done_twice o a p b r)
 
+pub no_own_turns : (y : TxnId) (r : Record) → r ≡ executed [] y r
+no_own_turns y r = sym (undone r)
+
 -- nothing changes as long as no turn is taken
 pub no_turns : (y : TxnId) (v : Option Record) → v ≡ option_map (executed [] y) v
 no_turns y None = refl
 no_turns y (Some r) = ap Some (sym (undone r))
+
+either_way : (b : Bool) (v : Option Record) → v ≡ cond b v v
+either_way true v = refl
+either_way false v = refl
+
+pub no_other_turns : (id y : TxnId) (v : Option Record) → v ≡ cond (id_eq id y) v (option_map (executed [] y) v)
+no_other_turns id y v = either_way (id_eq id y) v ∙ ap (cond (id_eq id y) v) (no_turns y v)
+
+some_cond : (b : Bool) (p q : Record) → Some (cond b p q) ≡ cond b (Some p) (Some q)
+some_cond true p q = refl
+some_cond false p q = refl
 
 module _ (done : List Turn) (turn : Turn) (y : TxnId) where
   abbrev opened : Bool
@@ -90,3 +105,40 @@ module _ (done : List Turn) (turn : Turn) (y : TxnId) where
           → cond b (option_map (after_turn turn) (before turn.id)) (before y) ≡ cond b (option_map (after_turn turn) (before y)) (before y)
       by true e = ap (λ z. option_map (after_turn turn) (before z)) ((id_order.decides turn.id y).0 e)
       by false e = refl
+
+  -- one more turn, of the own record
+  pub one_own : (own : Record) → cond (id_eq turn.id y) (after_turn turn (executed (changes_in done) y own)) (executed (changes_in done) y own) ≡ executed (changes_in (done ++ turn ∷ [])) y own
+  one_own own =
+      some_is _ _
+      (some_cond (id_eq turn.id y) (after_turn turn (executed (changes_in done) y own)) (executed (changes_in done) y own)
+      ∙ more_by (id_eq turn.id y) (Some own) ∙ all_done (Some own))
+
+  -- one more turn, where it is of another record than the own one
+  pub one_other : (id : TxnId) (before now : TxnId → Option Record)
+      → ((z : TxnId) → before z ≡ cond (id_eq id z) (now z) (option_map (executed (changes_in done) z) (now z)))
+      → cond (id_eq turn.id id) (before y) (cond (id_eq turn.id y) (option_map (after_turn turn) (before turn.id)) (before y))
+      ≡ cond (id_eq id y) (now y) (option_map (executed (changes_in (done ++ turn ∷ [])) y) (now y))
+  one_other id before now is = by (id_eq id y) refl (id_eq turn.id id) refl
+    where
+      taken : TxnId → Option Record
+      taken z = option_map (executed (changes_in done) z) (now z)
+
+      more : cond (id_eq turn.id y) (option_map (after_turn turn) (taken turn.id)) (taken y) ≡ option_map (executed (changes_in (done ++ turn ∷ [])) y) (now y)
+      more = one_more taken now (λ z. refl)
+
+      is_by : (z : TxnId) (b : Bool) → id_eq id z ≡ b → before z ≡ cond b (now z) (taken z)
+      is_by z b e = is z ∙ ap (λ c. cond c (now z) (taken z)) e
+
+      by : (b : Bool) → id_eq id y ≡ b → (c : Bool) → id_eq turn.id id ≡ c
+          → cond c (before y) (cond (id_eq turn.id y) (option_map (after_turn turn) (before turn.id)) (before y))
+          ≡ cond b (now y) (option_map (executed (changes_in (done ++ turn ∷ [])) y) (now y))
+      by true e true f = is_by y true e
+      by true e false f =
+          ap (λ c. cond c (option_map (after_turn turn) (before turn.id)) (before y)) (ap (id_eq turn.id) (sym ((id_order.decides id y).0 e)) ∙ f)
+          ∙ is_by y true e
+      by false e true f =
+          is_by y false e
+          ∙ ap (λ c. cond c (option_map (after_turn turn) (taken turn.id)) (taken y)) (sym (ap (λ z. id_eq z y) ((id_order.decides turn.id id).0 f) ∙ e))
+          ∙ more
+      by false e false f =
+          (λ i. cond (id_eq turn.id y) (option_map (after_turn turn) (is_by turn.id false (eq-sym id_order id turn.id ∙ f) i)) (is_by y false e i)) ∙ more

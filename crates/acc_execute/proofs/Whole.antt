@@ -17,7 +17,7 @@ use Rattle.acc_txn.specs.declared.outcome.Outcome.{Outcome}
 use Rattle.acc_txn.specs.Uses.{footprint_of}
 use Rattle.acc_message.specs.declared.message.Message.{Message}
 use Rattle.acc_message.specs.declared.message.Message.TheVariants.{Stable, Apply}
-use Rattle.acc_message.specs.Fields.{top_of}
+use Rattle.acc_message.specs.Fields.{id_of, top_of}
 use Rattle.acc_message.specs.StoreRules.{replay, store_answer, released as released_by_rules}
 use Rattle.acc_record.specs.declared.record.Record.{Record}
 use Rattle.acc_record.specs.declared.shelf.Shelf.{Shelf}
@@ -29,15 +29,18 @@ use Rattle.acc_opening.specs.Turns.{changes_in}
 use Rattle.acc_opening.specs.Lookup.{lookup}
 use Rattle.acc_opening.specs.Planned.{IsPlanned}
 use Rattle.acc_reads.specs.Release.{IsReleased}
+use Rattle.acc_actor_laws.proofs.OpeningFacts.{some_is}
+use Rattle.acc_opened_laws.proofs.Taking.{begun_here}
 use Rattle.acc_execute_laws.proofs.Joined.{sends}
 use Rattle.acc_execute_laws.proofs.Knowing.{is_known}
+use Rattle.acc_execute.specs.declared.step.StepParts.{StepParts}
 use Rattle.acc_execute.specs.declared.step.PreparedStep.{PreparedStep}
 use Rattle.acc_execute.specs.Owned.{with_settled, with_waiter, with_outcome}
 use Rattle.acc_execute.specs.Now.{at_once_of}
-use Rattle.acc_execute.specs.Executed.{Stands, IsOwnOf, first_of, IsReadyBehind, IsReady, IsExecuted}
+use Rattle.acc_execute.specs.Executed.{shows, time_of, Stands, IsOwnOf, first_of, IsReadyBehind, IsReady, IsExecuted}
 use Rattle.acc_execute.proofs.Owned.{stable_brings, apply_brings}
 use Rattle.acc_execute.proofs.Now.{now_is}
-use Rattle.acc_execute.proofs.Law.{Brings, is_own, answers_by_rules}
+use Rattle.acc_execute.proofs.Law.{Brings, begins, from_body, is_own, answers_by_rules}
 
 -- ---- a message that may open something
 
@@ -51,7 +54,7 @@ module _ (layout : Layout) (old : Shelf) (m : Message) (body : BodyParts) (share
   known_here s stable =
       is_known layout old.actor (shard_of old.actor) s.0 m old.records own s.1.records (is_own old m body own b.brings b.owned) old.waits s.1.waits stable
 
-  answered_by : (step : PreparedStep) → step.own ≡ own → IsReadyBehind layout old first step
+  answered_by : (step : StepParts) → step.own ≡ own → IsReadyBehind layout old first step
       → (messages : List Message) → StandsFor layout old (replay layout old.actor messages) → step.sent ≡ store_answer layout old.actor (replay layout old.actor messages) m
   answered_by step same p messages stands =
       p.sends
@@ -61,18 +64,30 @@ module _ (layout : Layout) (old : Shelf) (m : Message) (body : BodyParts) (share
       (subst (λ (o : Record). IsReleased layout old.actor (lookup old.records o) (changes_in step.plan.done) (cell_at old.cells) p.released) same p.releases))
       ∙ b.answers messages stands
 
-  answered_here : {E : Type 0} (result : Result PreparedStep E) → IfOk result (λ step. step.own ≡ own) → IfOk result (IsReadyBehind layout old first)
-      → IfOk result (λ step. (messages : List Message) → StandsFor layout old (replay layout old.actor messages) → step.sent ≡ store_answer layout old.actor (replay layout old.actor messages) m)
-  answered_here (Ok step) same p = answered_by step same p
+  answered_here : {E : Type 0} (result : Result PreparedStep E) → IfOk result (λ step. step.parts.value.own ≡ own) → IfOk result (λ step. IsReadyBehind layout old first step.parts.value)
+      → IfOk result (λ step. (messages : List Message) → StandsFor layout old (replay layout old.actor messages) → step.parts.value.sent ≡ store_answer layout old.actor (replay layout old.actor messages) m)
+  answered_here (Ok step) same p = answered_by step.parts.value same p
   answered_here (Err e) same p = tt
 
-  ready_here : IsOwnOf old m own → first ≡ first_of layout old m
-      → {E : Type 0} (result : Result PreparedStep E) → IfOk result (λ step. step.own ≡ own) → IfOk result (IsReadyBehind layout old first) → IfOk result (IsReady layout old m)
-  ready_here owns begins (Ok step) same p =
-      record { owns = subst (IsOwnOf old m) (sym same) owns; ready = subst (λ list. IsReadyBehind layout old list step) begins p }
-  ready_here owns begins (Err e) same p = tt
+  named_here : Stands layout old → own.id ≡ id_of m
+  named_here s =
+      ap (λ (q : Record). q.id) b.owned
+      ∙ ap (λ (q : Record). q.id) (begun_here layout old s.0 s.1 m (begins old m body) (from_body old m body b.brings) []).is
 
-  stepped_here : (step : PreparedStep) → step.own ≡ own → IsReadyBehind layout old first step → {E : Type 0} (new : Shelf) (result : Result (List Message) E)
+  ready_here : IsOwnOf old m own → time_of m ≡ Some t → first ≡ first_of layout old m
+      → {E : Type 0} (result : Result PreparedStep E) → IfOk result (λ step. step.parts.value.own ≡ own) → IfOk result (λ step. step.parts.value.noted ≡ shows (record_at old.records own.id) t)
+      → IfOk result (λ step. IsReadyBehind layout old first step.parts.value) → IfOk result (λ step. IsReady layout old m step.parts.value)
+  ready_here owns time starts (Ok step) same noted p =
+      record {
+        owns = subst (IsOwnOf old m) (sym same) owns;
+        noted =
+            λ u e. noted ∙ ap (λ (o : Record). shows (record_at old.records o.id) t) (sym same)
+            ∙ ap (shows (record_at old.records step.parts.value.own.id)) (some_is t u (sym time ∙ e));
+        ready = subst (λ list. IsReadyBehind layout old list step.parts.value) starts p;
+      }
+  ready_here owns time starts (Err e) same noted p = tt
+
+  stepped_here : (step : StepParts) → step.own ≡ own → IsReadyBehind layout old first step → {E : Type 0} (new : Shelf) (result : Result (List Message) E)
       → IfOk result (λ sent. (first : List Message) → IsReadyBehind layout old first step → IsExecuted layout old new step.own body (share_at layout old step.own.id body) t top first sent)
       → IfOk result (λ sent. AnswersByRules layout old new m sent)
   stepped_here step same p new (Ok sent) e =
@@ -110,23 +125,26 @@ module _ (layout : Layout) (old : Shelf) (m : Message) (from to : Actor) (x : Tx
     pub stable_known : Stands layout old → IsKnown (shard_of old.actor) old.records own old.waits
     stable_known s = known_here layout old m body share t top first own brings_here s stable_stays
 
-    pub stable_answered : {E : Type 0} (result : Result PreparedStep E) → IfOk result (λ step. step.own ≡ own) → IfOk result (IsReadyBehind layout old first)
-        → IfOk result (λ step. (messages : List Message) → StandsFor layout old (replay layout old.actor messages) → step.sent ≡ store_answer layout old.actor (replay layout old.actor messages) m)
+    pub stable_answered : {E : Type 0} (result : Result PreparedStep E) → IfOk result (λ step. step.parts.value.own ≡ own) → IfOk result (λ step. IsReadyBehind layout old first step.parts.value)
+        → IfOk result (λ step. (messages : List Message) → StandsFor layout old (replay layout old.actor messages) → step.parts.value.sent ≡ store_answer layout old.actor (replay layout old.actor messages) m)
     stable_answered = answered_here layout old m body share t top first own brings_here
 
-    pub stable_ready : {E : Type 0} (result : Result PreparedStep E) → IfOk result (λ step. step.own ≡ own) → IfOk result (IsReadyBehind layout old first)
-        → IfOk result (IsReady layout old m)
+    pub stable_there : Stands layout old → record_at old.records x ≡ record_at old.records own.id
+    stable_there s = ap (record_at old.records) (sym (named_here layout old m body share t top first own brings_here s ∙ ap id_of is))
+
+    pub stable_ready : {E : Type 0} (result : Result PreparedStep E) → IfOk result (λ step. step.parts.value.own ≡ own) → IfOk result (λ step. step.parts.value.noted ≡ shows (record_at old.records own.id) t)
+        → IfOk result (λ step. IsReadyBehind layout old first step.parts.value) → IfOk result (λ step. IsReady layout old m step.parts.value)
     stable_ready =
-        ready_here layout old m body share t top first own brings_here (subst (λ z. IsOwnOf old z own) (sym is) owned)
+        ready_here layout old m body share t top first own brings_here (subst (λ z. IsOwnOf old z own) (sym is) owned) (ap time_of is)
         (first_is ∙ sym (ap (first_of layout old) is))
 
-    pub stable_stepped : (step : PreparedStep) → step.own ≡ own → IsReadyBehind layout old first step → {E : Type 0} (new : Shelf) (result : Result (List Message) E)
+    pub stable_stepped : (step : StepParts) → step.own ≡ own → IsReadyBehind layout old first step → {E : Type 0} (new : Shelf) (result : Result (List Message) E)
         → IfOk result (λ sent. (first : List Message) → IsReadyBehind layout old first step → IsExecuted layout old new step.own body (share_at layout old step.own.id body) t top first sent)
         → IfOk result (λ sent. AnswersByRules layout old new m sent)
     stable_stepped = stepped_here layout old m body share t top first own brings_here
 
 module _ (layout : Layout) (old : Shelf) (m : Message) (from to : Actor) (x : TxnId) (b : Ballot) (body : BodyParts) (t : Stamp) (deps : List ShardDeps)
-    (is : m ≡ Stable from to x b body t deps) (step : PreparedStep) (ready : IsReady layout old m step) (share : List (Key × Bool))
+    (is : m ≡ Stable from to x b body t deps) (step : StepParts) (ready : IsReady layout old m step) (share : List (Key × Bool))
     (shared : share ≡ share_of layout (footprint_of (body_of (record_at old.records x) body)) (shard_of old.actor)) (top : ℕ) (raises : top ≡ top_of m) where
   pub stable_taken : {E : Type 0} (new : Shelf) (result : Result (List Message) E)
       → IfOk result (λ sent. (first : List Message) → IsReadyBehind layout old first step → IsExecuted layout old new step.own body (share_at layout old step.own.id body) t top first sent)
@@ -164,23 +182,26 @@ module _ (layout : Layout) (old : Shelf) (m : Message) (from to : Actor) (x : Tx
     pub apply_known : Stands layout old → IsKnown (shard_of old.actor) old.records own old.waits
     apply_known s = known_here layout old m body share t top first own brought_here s apply_stays
 
-    pub apply_answered : {E : Type 0} (result : Result PreparedStep E) → IfOk result (λ step. step.own ≡ own) → IfOk result (IsReadyBehind layout old first)
-        → IfOk result (λ step. (messages : List Message) → StandsFor layout old (replay layout old.actor messages) → step.sent ≡ store_answer layout old.actor (replay layout old.actor messages) m)
+    pub apply_answered : {E : Type 0} (result : Result PreparedStep E) → IfOk result (λ step. step.parts.value.own ≡ own) → IfOk result (λ step. IsReadyBehind layout old first step.parts.value)
+        → IfOk result (λ step. (messages : List Message) → StandsFor layout old (replay layout old.actor messages) → step.parts.value.sent ≡ store_answer layout old.actor (replay layout old.actor messages) m)
     apply_answered = answered_here layout old m body share t top first own brought_here
 
-    pub apply_ready : {E : Type 0} (result : Result PreparedStep E) → IfOk result (λ step. step.own ≡ own) → IfOk result (IsReadyBehind layout old first)
-        → IfOk result (IsReady layout old m)
+    pub apply_there : Stands layout old → record_at old.records x ≡ record_at old.records own.id
+    apply_there s = ap (record_at old.records) (sym (named_here layout old m body share t top first own brought_here s ∙ ap id_of is))
+
+    pub apply_ready : {E : Type 0} (result : Result PreparedStep E) → IfOk result (λ step. step.parts.value.own ≡ own) → IfOk result (λ step. step.parts.value.noted ≡ shows (record_at old.records own.id) t)
+        → IfOk result (λ step. IsReadyBehind layout old first step.parts.value) → IfOk result (λ step. IsReady layout old m step.parts.value)
     apply_ready =
-        ready_here layout old m body share t top first own brought_here (subst (λ z. IsOwnOf old z own) (sym is) owned)
+        ready_here layout old m body share t top first own brought_here (subst (λ z. IsOwnOf old z own) (sym is) owned) (ap time_of is)
         (first_is ∙ sym (ap (first_of layout old) is))
 
-    pub apply_stepped : (step : PreparedStep) → step.own ≡ own → IsReadyBehind layout old first step → {E : Type 0} (new : Shelf) (result : Result (List Message) E)
+    pub apply_stepped : (step : StepParts) → step.own ≡ own → IsReadyBehind layout old first step → {E : Type 0} (new : Shelf) (result : Result (List Message) E)
         → IfOk result (λ sent. (first : List Message) → IsReadyBehind layout old first step → IsExecuted layout old new step.own body (share_at layout old step.own.id body) t top first sent)
         → IfOk result (λ sent. AnswersByRules layout old new m sent)
     apply_stepped = stepped_here layout old m body share t top first own brought_here
 
 module _ (layout : Layout) (old : Shelf) (m : Message) (from to : Actor) (x : TxnId) (b : Ballot) (body : BodyParts) (t : Stamp) (deps : List ShardDeps) (outcome : Outcome)
-    (is : m ≡ Apply from to x b body t deps outcome) (step : PreparedStep) (ready : IsReady layout old m step) (share : List (Key × Bool))
+    (is : m ≡ Apply from to x b body t deps outcome) (step : StepParts) (ready : IsReady layout old m step) (share : List (Key × Bool))
     (shared : share ≡ share_of layout (footprint_of (body_of (record_at old.records x) body)) (shard_of old.actor)) (top : ℕ) (raises : top ≡ top_of m) where
   pub apply_taken : {E : Type 0} (new : Shelf) (result : Result (List Message) E)
       → IfOk result (λ sent. (first : List Message) → IsReadyBehind layout old first step → IsExecuted layout old new step.own body (share_at layout old step.own.id body) t top first sent)

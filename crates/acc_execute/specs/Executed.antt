@@ -1,11 +1,11 @@
 -- What a step makes of a shelf that opens and applies what a plan says.
-use Rattle.std.specs.Prelude.{◌≡◌, ◌+◌, ◌≤◌, ℕ, cond, ◌||◌, ◌++◌, Bool, List, [], Option, None, Some, Vec, vec_len, vec_capacity}
+use Rattle.std.specs.Prelude.{◌≡◌, ◌+◌, ◌≤◌, ℕ, cond, ◌||◌, ◌++◌, Bool, false, List, [], Option, None, Some, Vec, vec_len, vec_capacity}
 use Rattle.std.specs.Option.{option_map}
 use Rattle.std.specs.BTreeMap as tree
 use Rattle.std.specs.declared.alloc.Global.{Global}
 use Rattle.acc_stamp.specs.declared.stamps.Stamp.{Stamp}
 use Rattle.acc_stamp.specs.declared.stamps.TxnId.{TxnId}
-use Rattle.acc_stamp.specs.Stamp.{id_cmp}
+use Rattle.acc_stamp.specs.Stamp.{id_cmp, stamp_eq}
 use Rattle.acc_stamp.specs.Actor.{shard_of}
 use Rattle.acc_topology.specs.Layout.{Layout}
 use Rattle.acc_value.specs.declared.key.Key.{Key}
@@ -21,7 +21,7 @@ use Rattle.acc_record.specs.declared.record.Record.{Record}
 use Rattle.acc_record.specs.declared.shelf.Shelf.{Shelf}
 use Rattle.acc_record.specs.declared.shelf.Watch.{Watch}
 use Rattle.acc_record.specs.Shelf.{Waits, record_at, cell_at, watchers}
-use Rattle.acc_record.specs.Learning.{known_or_fresh, IsLearnt}
+use Rattle.acc_record.specs.Learning.{known_or_fresh, is_below_settled, IsLearnt}
 use Rattle.acc_opening_laws.specs.Plan.{IsPlan}
 use Rattle.acc_opening.specs.declared.touched.Touched.{Touched}
 use Rattle.acc_opening.specs.declared.turns.Turn.{Turn}
@@ -33,7 +33,7 @@ use Rattle.acc_opening.specs.Planned.{IsPlanned, after_changes, AreWatches}
 use Rattle.acc_reads.specs.declared.turns.Released.{Released}
 use Rattle.acc_reads.specs.Release.{IsReleased}
 use Rattle.acc_opened_laws.specs.Opened.{executed}
-use Rattle.acc_execute.specs.declared.step.PreparedStep.{PreparedStep}
+use Rattle.acc_execute.specs.declared.step.StepParts.{StepParts}
 use Rattle.acc_execute.specs.Owned.{with_settled, with_waiter, with_outcome}
 use Rattle.acc_execute.specs.Now.{at_once_of}
 
@@ -73,9 +73,27 @@ abbrev pub first_of : Layout → Shelf → Message → List Message
 first_of layout shelf (Stable from to x ballot body t deps) = at_once_of layout shelf x ballot
 first_of layout shelf _ = []
 
+-- ---- a timestamp that was noted
+
+abbrev pub is_vote : Option Stamp → Stamp → Bool
+is_vote None t = false
+is_vote (Some vote) t = stamp_eq vote t
+
+-- the record shows it: as the vote, or behind what is decided
+abbrev pub shows : Option Record → Stamp → Bool
+shows None t = false
+shows (Some r) t = is_vote r.vote t || is_below_settled t r.stable
+
+abbrev pub time_of : Message → Option Stamp
+time_of (Stable from to x ballot body t deps) = Some t
+time_of (Apply from to x ballot body t deps outcome) = Some t
+time_of _ = None
+
+-- ---- the planned step
+
 -- The step opens and applies what the rules of a plan give for the shelf with its own record, and sends and writes what this releases,
 -- behind these messages.
-pub record IsReadyBehind (layout : Layout) (shelf : Shelf) (first : List Message) (step : PreparedStep) : Type 0 where
+pub record IsReadyBehind (layout : Layout) (shelf : Shelf) (first : List Message) (step : StepParts) : Type 0 where
   pub planned : IsPlanned (shard_of shelf.actor) shelf.records step.own shelf.waits step.plan
   pub released : Released
   pub releases :
@@ -84,8 +102,9 @@ pub record IsReadyBehind (layout : Layout) (shelf : Shelf) (first : List Message
   pub writes : step.writes ≡ released.writes
 
 -- the step of the message, while the shelf is this one
-pub record IsReady (layout : Layout) (shelf : Shelf) (m : Message) (step : PreparedStep) : Type 0 where
+pub record IsReady (layout : Layout) (shelf : Shelf) (m : Message) (step : StepParts) : Type 0 where
   pub owns : IsOwnOf shelf m step.own
+  pub noted : (t : Stamp) → time_of m ≡ Some t → step.noted ≡ shows (record_at shelf.records step.own.id) t
   pub ready : IsReadyBehind layout shelf (first_of layout shelf m) step
 
 -- nothing but what is learnt changes, and what the plan adds to the lists of who waits for whom fits

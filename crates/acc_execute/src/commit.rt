@@ -10,13 +10,12 @@ ghost use Rattle.acc_execute.specs.Executed.{after_turn};
 
 use acc_opening::Turn;
 use acc_record::{KeptRecord, Record, Records};
-use acc_stamp::Ballots;
+use acc_stamp::{Ballots, TxnId};
 
 /// Keeps the own record in place of the one that is kept.
-pub(crate) fn keep(records: &mut Records, own: KeptRecord)
-    ensures { (y : TxnId) → record_at records.new y ≡ cond (id_eq own.id y) (option_map (λ there. own) (record_at records.old own.id)) (record_at records.old y) }
+pub(crate) fn keep(records: &mut Records, id: TxnId, own: KeptRecord)
+    ensures { (y : TxnId) → record_at records.new y ≡ cond (id_eq id y) (option_map (λ there. own) (record_at records.old id)) (record_at records.old y) }
 {
-    let id = own.get().id;
     match records.get_mut(&id) {
         Some(there) => replace(there, own),
         None => {}
@@ -29,12 +28,37 @@ fn replace(there: &mut KeptRecord, own: KeptRecord)
     *there = own;
 }
 
-/// Opens and applies what the turns say.
-pub(crate) fn take_turns(records: &mut Records, turns: &[Turn])
-    ensures { (y : TxnId) → record_at records.new y ≡ option_map (executed (changes_in turns.now) y) (record_at records.old y) }
+/// Opens and applies the own record as the turns say.
+pub(crate) fn take_own_turns(own: &mut KeptRecord, id: TxnId, turns: &[Turn])
+    ensures { own.new ≡ executed (changes_in turns.now) id own.old }
 {
     for turn in turns {
-        take_turn(records, *turn);
+        take_if_own(own, id, *turn);
+    }
+}
+
+fn take_if_own(own: &mut KeptRecord, id: TxnId, turn: Turn)
+    ensures { own.new ≡ cond (id_eq turn.id id) (after_turn turn own.old) own.old }
+{
+    if turn.id == id {
+        change_kept(own, turn);
+    }
+}
+
+/// Opens and applies the records of all other transactions as the turns say.
+pub(crate) fn take_other_turns(records: &mut Records, id: TxnId, turns: &[Turn])
+    ensures { (y : TxnId) → record_at records.new y ≡ cond (id_eq id y) (record_at records.old y) (option_map (executed (changes_in turns.now) y) (record_at records.old y)) }
+{
+    for turn in turns {
+        take_if_other(records, id, *turn);
+    }
+}
+
+fn take_if_other(records: &mut Records, id: TxnId, turn: Turn)
+    ensures { (y : TxnId) → record_at records.new y ≡ cond (id_eq turn.id id) (record_at records.old y) (cond (id_eq turn.id y) (option_map (after_turn turn) (record_at records.old turn.id)) (record_at records.old y)) }
+{
+    if turn.id != id {
+        take_turn(records, turn);
     }
 }
 

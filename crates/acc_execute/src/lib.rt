@@ -5,6 +5,7 @@ mod commit;
 mod own;
 mod present;
 mod readiness;
+mod shown;
 mod step;
 mod waits;
 

@@ -1,8 +1,8 @@
 //! The record that a step gives its own transaction before anything is opened or applied.
 ghost use Rattle.std.specs.Prelude.{◌≡◌, drop, Some, IfOk, OnOk};
+ghost use Rattle.std.specs.Option.{option_copied};
 ghost use Rattle.acc_stamp.specs.Stamp.{ballot_lt};
 ghost use Rattle.acc_stamp.specs.Rising.{ballots_with};
-ghost use Rattle.acc_record.specs.Shelf.{record_at};
 ghost use Rattle.acc_record.specs.Steps.{fresh};
 ghost use Rattle.acc_record.specs.Learning.{known_or_fresh};
 ghost use Rattle.acc_execute.specs.Owned.{with_proposed, with_decided, with_settled, with_waiter, with_outcome, is_first, IsSplit};
@@ -10,16 +10,20 @@ ghost use Rattle.acc_execute.specs.Owned.{with_proposed, with_decided, with_sett
 use acc_base::{Duplicate, OutOfMemory};
 use acc_deps::{Deps, Settled};
 use acc_message::SharedOutcome;
-use acc_record::{KeptRecord, Record, Shelf};
+use acc_record::{KeptRecord, Record};
 use acc_stamp::{Ballot, Ballots, Stamp, TxnId};
 use acc_txn::Body;
 
-/// The record with which a step begins, in the place where it will be kept: the one that is kept, or else one that knows the
-/// body alone.
-pub(crate) fn begun(shelf: &Shelf, id: TxnId, body: &Body) -> Result<KeptRecord, OutOfMemory>
-    ensures { IfOk result (λ own. own ≡ known_or_fresh (record_at shelf.now.records id) id body.now) }
+/// The record with which a step begins, in the place where it will be kept: a copy of the one that is kept, or else one that
+/// knows the body alone.
+pub(crate) fn begun(
+    there: Option<&Record>,
+    id: TxnId,
+    body: &Body,
+) -> Result<KeptRecord, OutOfMemory>
+    ensures { IfOk result (λ own. own ≡ known_or_fresh (option_copied there.entry) id body.now) }
 {
-    match shelf.find(id) {
+    match there {
         Some(there) => copy_of(there),
         None => fresh(id, body),
     }

@@ -1,8 +1,9 @@
 //! What a Stable is answered at once.
 ghost use Rattle.std.specs.Prelude.{◌≡◌, IfOk};
+ghost use Rattle.std.specs.Option.{option_copied};
 ghost use Rattle.acc_stamp.specs.Actor.{shard_of};
 ghost use Rattle.acc_message.specs.StoreRules.{read_here};
-ghost use Rattle.acc_record.specs.Shelf.{cell_at};
+ghost use Rattle.acc_record.specs.Shelf.{record_at, cell_at};
 ghost use Rattle.acc_execute.specs.Now.{answer_now, at_once_of};
 
 use acc_answers::answering;
@@ -20,13 +21,15 @@ use acc_value::CellList;
 pub(crate) fn at_once(
     shelf: &Shelf,
     topology: &Topology,
+    there: Option<&Record>,
     id: TxnId,
     ballot: Ballot,
 ) -> Result<Messages, OutOfMemory>
+    requires { option_copied there ≡ record_at shelf.now.records id }
     ensures { IfOk result (λ sent. sent ≡ at_once_of topology.now shelf.now id ballot) }
 {
     let mut sent = Messages::new(shelf.cells.pending.allocator());
-    let Some(there) = shelf.find(id) else {
+    let Some(there) = there else {
         return Ok(sent);
     };
     if !there.opened {

@@ -28,8 +28,8 @@ module _ (layout : Layout) (store : Store) (m : Message) (s : SendsShort layout 
     pub opens : IsOpening layout store.shelf m step
     opens = opening_at layout store.shelf m prepared step is p
 
-    pub short_opening : (sent : List Message) → sent ≡ step.sent → All IsShortMessage sent
-    short_opening sent e = subst (All IsShortMessage) (sym e) (short_answer step.sent opens.answers)
+    pub short_opening : (sent : List Message) → sent ≡ step.parts.value.sent → All IsShortMessage sent
+    short_opening sent e = subst (All IsShortMessage) (sym e) (short_answer step.parts.value.sent opens.answers)
 
-    pub fitting_opening : (sent : List Message) → sent ≡ step.sent → weight_of_all sent < 2 ^ 64
-    fitting_opening sent e = subst (λ list. weight_of_all list < 2 ^ 64) (sym e) (fitting_answer step.sent opens.answers)
+    pub fitting_opening : (sent : List Message) → sent ≡ step.parts.value.sent → weight_of_all sent < 2 ^ 64
+    fitting_opening sent e = subst (λ list. weight_of_all list < 2 ^ 64) (sym e) (fitting_answer step.parts.value.sent opens.answers)

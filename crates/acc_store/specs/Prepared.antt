@@ -15,10 +15,10 @@ use Rattle.acc_store.specs.declared.store.Store.{Store}
 -- The step of a message that may open something: what it sends is the rules' answer, whatever messages the shelf stands for.
 pub record IsOpening (layout : Layout) (shelf : Shelf) (m : Message) (step : PreparedStep) : Type 0 where
   pub opening : may_open m ≡ true
-  pub ready : IsReady layout shelf m step
+  pub ready : IsReady layout shelf m step.parts.value
   pub answers :
       (messages : List Message) → StandsFor layout shelf (replay layout shelf.actor messages)
-      → step.sent ≡ store_answer layout shelf.actor (replay layout shelf.actor messages) m
+      → step.parts.value.sent ≡ store_answer layout shelf.actor (replay layout shelf.actor messages) m
 
 abbrev pub IsPreparedAt : Layout → Shelf → Message → Prepared → Type 0
 IsPreparedAt layout shelf m (Opens step) = IsOpening layout shelf m step

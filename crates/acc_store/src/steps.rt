@@ -58,8 +58,8 @@ fn prepare_opening(
 ) -> Result<PreparedStep, OutOfMemory>
     requires opening { may_open m.now ≡ true }
     requires stands { Stands topology.now shelf.now }
-    ensures ready { IfOk result (IsReady topology.now shelf.now m.now) }
-    ensures answers { IfOk result (λ step. (messages : List Message) → StandsFor topology.now shelf.now (replay topology.now shelf.now.actor messages) → step.sent ≡ store_answer topology.now shelf.now.actor (replay topology.now shelf.now.actor messages) m.now) }
+    ensures ready { IfOk result (λ step. IsReady topology.now shelf.now m.now step.parts.value) }
+    ensures answers { IfOk result (λ step. (messages : List Message) → StandsFor topology.now shelf.now (replay topology.now shelf.now.actor messages) → step.parts.value.sent ≡ store_answer topology.now shelf.now.actor (replay topology.now shelf.now.actor messages) m.now) }
 {
     match m {
         Message::Stable { .. } => prepare_stable(shelf, topology, m),
@@ -95,7 +95,7 @@ fn take_opening(
     step: PreparedStep,
 ) -> Result<Messages, OutOfMemory>
     requires opening { may_open m.now ≡ true }
-    requires ready { IsReady topology.now shelf.old m.now step }
+    requires ready { IsReady topology.now shelf.old m.now step.parts.value }
     ensures ok { IfOk result (λ sent. AnswersByRules topology.now shelf.old shelf.new m.now sent) }
     ensures err { OnErr result (IsSame shelf.old shelf.new) }
 {

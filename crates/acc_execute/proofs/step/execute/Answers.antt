@@ -1,4 +1,8 @@
+use Rattle.std.proofs.Common.{◌≡◌, true, sym, subst}
+use Rattle.acc_record.specs.declared.record.Record.{Record}
+use Rattle.acc_record.specs.Shelf.{record_at}
 use Rattle.acc_record.specs.Learning.{share_at}
+use Rattle.acc_execute.specs.Executed.{shows}
 use Rattle.acc_execute.proofs.Stepping.{learnt_of, moved, moved_at_once, left_moved, own_known, executed_here}
 use Rattle.acc_execute.proofs.step.execute.Goals as goal
 
@@ -8,6 +12,10 @@ returns-in_err-flush-clause-err c = moved_at_once c.args.shelf.now c.flush.new.s
 pub returns-in_err-learn_with_room-clause-err : goal.returns-in_err-learn_with_room-clause-err
 returns-in_err-learn_with_room-clause-err c =
     left_moved c.args.shelf.now c.flush.new.self c.flush.ensures.same c.learn_with_room.new.shelf c.from_residual-in_err-learn_with_room.result c.in_err-learn_with_room.ensures.err
+
+pub learn_with_room-requires : goal.learn_with_room-requires
+learn_with_room-requires c =
+    λ h. subst (λ (o : Record). shows (record_at c.args.shelf.now.records o.id) c.args.news.now.t ≡ true) (sym c.get.ensures) (c.requires h)
 
 pub commit-requires-clause-known : goal.commit-requires-clause-known
 commit-requires-clause-known c =

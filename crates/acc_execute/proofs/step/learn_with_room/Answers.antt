@@ -1,4 +1,5 @@
 use Rattle.acc_record.specs.Learning.{share_at}
+use Rattle.acc_execute.proofs.Showing.{shown_roomy}
 use Rattle.acc_execute.proofs.Stepping.{left_at_once, left_roomy, learnt_roomy}
 use Rattle.acc_execute.proofs.step.learn_with_room.Goals as goal
 
@@ -13,3 +14,8 @@ returns-clause-ok c =
 
 pub returns-clause-err : goal.returns-clause-err
 returns-clause-err c = left_roomy c.args.shelf.now c.make_room.new.waits c.make_room.ensures.same c.learn_body.new.self c.learn_body.result c.learn_body.ensures.err
+
+pub returns-then-noted-clause-ok : goal.returns-then-noted-clause-ok
+returns-then-noted-clause-ok c =
+    shown_roomy c.args.shelf.now c.make_room.new.waits c.make_room.ensures.same c.args.id c.args.plan.now c.args.news.now.body.now (share_at c.args.topology.now c.args.shelf.now c.args.id c.args.news.now.body.now)
+    c.args.news.now.t c.args.news.now.top c.max-shelf.result c.max-shelf.ensures c.in_ok-make_room.ensures.room (c.requires c.if-noted.true)

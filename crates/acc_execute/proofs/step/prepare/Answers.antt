@@ -6,6 +6,7 @@ use Rattle.acc_opening.specs.Lookup.{lookup}
 use Rattle.acc_opening.specs.Turns.{changes_in}
 use Rattle.acc_opening.specs.Planned.{IsPlanned}
 use Rattle.acc_reads.specs.Release.{IsKept, IsReleased}
+use Rattle.acc_execute.specs.Executed.{IsReadyBehind}
 use Rattle.acc_execute.proofs.Kept.{all_kept}
 use Rattle.acc_execute.proofs.step.prepare.Goals as goal
 
@@ -16,7 +17,8 @@ release-requires c =
 
 pub returns-clause-ready : goal.returns-clause-ready
 returns-clause-ready c =
-    record {
+    subst (IsReadyBehind c.args.topology.now c.args.shelf.now c.args.first) (sym c.in_ok-step.ensures)
+    (record {
       planned =
           subst (λ own. IsPlanned (shard_of c.args.shelf.now.actor) c.args.shelf.now.records own c.args.shelf.now.waits c.in_ok-plan.plan) c.get.ensures
           (subst (λ shard. IsPlanned shard c.args.shelf.now.records c.get.result.now c.args.shelf.now.waits c.in_ok-plan.plan) c.shard.ensures c.in_ok-plan.ensures);
@@ -27,4 +29,4 @@ returns-clause-ready c =
           c.as_slice.ensures c.in_ok-released.ensures);
       sends = c.in_ok-sent.ensures;
       writes = refl;
-    }
+    })
