@@ -5,7 +5,7 @@ ghost use Rattle.acc_index.specs.Noted.{Noted, IsGreatestStamp, rival_stamps, ri
 
 use crate::columns::{Columns, put};
 use crate::order::rising;
-use crate::questions::{all_below, all_of, both, greatest_stamp};
+use crate::questions::{all_below, all_of, greatest_and_below};
 use crate::share::Share;
 use crate::users::{Users, add_all, reserve_all, users_of};
 use acc_base::OutOfMemory;
@@ -63,13 +63,6 @@ impl Index {
         Ok(())
     }
 
-    /// The greatest stamp that was noted of another transaction which conflicts with this one. Takes no memory.
-    pub fn greatest_conflict(&self, id: TxnId, share: &Share) -> Option<Stamp>
-        ensures { IsGreatestStamp (rival_stamps self.now id share.now) result }
-    {
-        greatest_stamp(&self.columns, &self.users, share.pairs(), id)
-    }
-
     /// The other transactions that conflict with this one and whose own stamp is smaller than the bound, rising.
     pub fn known_below(&self, id: TxnId, share: &Share, bound: Stamp) -> Result<Ids, OutOfMemory>
         ensures ids { IfOk result (λ ids. ids ≡ rival_ids_below self.now id share.now bound) }
@@ -81,8 +74,8 @@ impl Index {
         Ok(ids)
     }
 
-    /// Both: the greatest stamp of the others that conflict, and those whose own stamp is smaller than the bound. The users of a
-    /// key are looked for once.
+    /// The greatest stamp that was noted of another transaction which conflicts with this one, and those of these transactions whose
+    /// own stamp is smaller than the bound, rising. The users of a key are looked for once.
     pub fn rivals_below(
         &self,
         id: TxnId,
@@ -95,7 +88,14 @@ impl Index {
     {
         let alloc = *self.shares.allocator();
         let uses = share.pairs();
-        let (greatest, found) = both(alloc, &self.columns, &self.users, uses, id, bound)?;
+        let (greatest, found) = greatest_and_below(
+            alloc,
+            &self.columns,
+            &self.users,
+            uses,
+            id,
+            bound,
+        )?;
         let ids = rising(found)?;
         Ok((greatest, ids))
     }

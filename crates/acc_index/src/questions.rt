@@ -14,26 +14,6 @@ use acc_value::Key;
 use std::alloc::Global;
 use std::collections::HashMap;
 
-/// The greatest stamp of another transaction whose use of a key conflicts.
-pub(crate) fn greatest_stamp(
-    columns: &Columns,
-    users: &HashMap<Key, Users>,
-    uses: &[(Key, bool)],
-    id: TxnId,
-) -> Option<Stamp>
-    requires even { IsEven columns.now }
-    requires in_range { (k : Key) → (w : Bool) → InRange columns.now (places_at users.now k w) }
-    ensures { IsGreatestStamp (stamps_of columns.now (others columns.now id (asked (places_at users.now) uses.now))) result }
-{
-    let mut greatest = None;
-    for (key, writes) in uses {
-        let (writers, readers) = users_of(users, key, *writes);
-        greatest = columns.greatest_of(writers, id, greatest);
-        greatest = columns.greatest_of(readers, id, greatest);
-    }
-    greatest
-}
-
 /// The other transactions whose use of a key conflicts.
 pub(crate) fn all_of(
     alloc: Global,
@@ -78,9 +58,9 @@ pub(crate) fn all_below(
     Ok(found)
 }
 
-/// Both: the greatest stamp of the other transactions whose use of a key conflicts, and those whose own stamp is smaller than the
+/// The greatest stamp of another transaction whose use of a key conflicts, and those of them whose own stamp is smaller than the
 /// bound.
-pub(crate) fn both(
+pub(crate) fn greatest_and_below(
     alloc: Global,
     columns: &Columns,
     users: &HashMap<Key, Users>,
@@ -90,8 +70,8 @@ pub(crate) fn both(
 ) -> Result<(Option<Stamp>, Vec<TxnId>), OutOfMemory>
     requires even { IsEven columns.now }
     requires in_range { (k : Key) → (w : Bool) → InRange columns.now (places_at users.now k w) }
-    ensures greatest { IfOk result (λ both. IsGreatestStamp (stamps_of columns.now (others columns.now id (asked (places_at users.now) uses.now))) both.0) }
-    ensures found { IfOk result (λ both. both.1.items ≡ ids_of columns.now (those_below columns.now bound (others columns.now id (asked (places_at users.now) uses.now)))) }
+    ensures greatest { IfOk result (λ told. IsGreatestStamp (stamps_of columns.now (others columns.now id (asked (places_at users.now) uses.now))) told.0) }
+    ensures found { IfOk result (λ told. told.1.items ≡ ids_of columns.now (those_below columns.now bound (others columns.now id (asked (places_at users.now) uses.now)))) }
 {
     let mut greatest = None;
     let mut found = Vec::new(alloc);

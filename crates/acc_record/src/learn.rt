@@ -63,11 +63,11 @@ impl Shelf {
         if noting.is_known {
             note(&mut self.index, id, share, noting.stamp)?;
         } else {
-            let record = Record::new(id, body)?;
+            let made = fresh(id, body)?;
             add(
                 &mut self.records,
                 &mut self.index,
-                record,
+                made,
                 share,
                 noting.stamp,
             )?;
@@ -121,28 +121,31 @@ impl Shelf {
     }
 }
 
-impl Record {
-    // The record of a transaction that was just heard of.
-    fn new(id: TxnId, body: &Body) -> Result<Record, OutOfMemory>
-        ensures { IfOk result (λ made. made ≡ fresh id body.now) }
-    {
-        let alloc = body.parts().lets.allocator();
-        Ok(Record {
-            id,
-            body: body.copy()?,
-            vote: None,
-            vote_deps: Deps::new(alloc),
-            promised: Ballot::ZERO,
-            accepted: None,
-            committed: None,
-            stable: None,
-            waiters: Ballots::new(alloc),
-            opened: false,
-            outcome: None,
-            applied: false,
-        })
-    }
+// The record of a transaction that was just heard of.
+fn fresh(id: TxnId, body: &Body) -> Result<KeptRecord, OutOfMemory>
+    ensures { IfOk result (λ made. made ≡ fresh id body.now) }
+{
+    let alloc = body.parts().lets.allocator();
+    let body = body.copy()?;
+    let made = Record {
+        id,
+        body,
+        vote: None,
+        vote_deps: Deps::new(alloc),
+        promised: Ballot::ZERO,
+        accepted: None,
+        committed: None,
+        stable: None,
+        waiters: Ballots::new(alloc),
+        opened: false,
+        outcome: None,
+        applied: false,
+    };
+    let kept = KeptRecord::new(alloc, made)?;
+    Ok(kept)
+}
 
+impl Record {
     // Whether a stamp that the record shows is as great. The record is that of this transaction.
     fn covers(&self, id: TxnId, stamp: Stamp) -> bool
         ensures { result ≡ is_covered_by id self.now stamp }
@@ -200,7 +203,7 @@ fn note(
 fn add(
     records: &mut Records,
     index: &mut Index,
-    made: Record,
+    made: KeptRecord,
     share: &Share,
     stamp: Option<Stamp>,
 ) -> Result<(), OutOfMemory>
@@ -210,7 +213,7 @@ fn add(
     ensures err { OnErr result ((y : TxnId) → record_at records.new y ≡ record_at records.old y) }
     ensures not_noted { OnErr result (index.new ≡ index.old) }
 {
-    let id = made.id;
+    let id = made.get().id;
     put(records, made)?;
     let noted = note(index, id, share, stamp);
     if noted.is_err() {
@@ -219,13 +222,12 @@ fn add(
     noted
 }
 
-fn put(records: &mut Records, made: Record) -> Result<(), OutOfMemory>
+fn put(records: &mut Records, made: KeptRecord) -> Result<(), OutOfMemory>
     ensures ok { OnOk result ((y : TxnId) → record_at records.new y ≡ cond (id_eq made.id y) (Some made) (record_at records.old y)) }
     ensures err { OnErr result ((y : TxnId) → record_at records.new y ≡ record_at records.old y) }
 {
-    let id = made.id;
-    let kept = KeptRecord::new(made.waiters.allocator(), made)?;
-    records.insert(id, kept)?;
+    let id = made.get().id;
+    records.insert(id, made)?;
     Ok(())
 }
 

@@ -6,8 +6,8 @@ use Rattle.acc_index.specs.Kept.{noted_of}
 use Rattle.acc_index.proofs.KeptFacts.{in_columns, kept_greatest, kept_below}
 use Rattle.acc_index.proofs.index.Index.rivals_below.Goals as goal
 
-pub both-requires-clause-in_range : goal.both-requires-clause-in_range
-both-requires-clause-in_range c = in_columns c.self.inside.columns c.self.inside.shares.items c.self.inside.users c.self.invariant
+pub greatest_and_below-requires-clause-in_range : goal.greatest_and_below-requires-clause-in_range
+greatest_and_below-requires-clause-in_range c = in_columns c.self.inside.columns c.self.inside.shares.items c.self.inside.users c.self.invariant
 
 pub returns-clause-greatest : goal.returns-clause-greatest
 returns-clause-greatest c =

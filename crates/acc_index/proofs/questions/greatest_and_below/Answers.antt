@@ -2,7 +2,7 @@ use Rattle.std.proofs.Common.{take, ◌+◌, ◌∙◌}
 use Rattle.acc_index.specs.Users.{places_at}
 use Rattle.acc_index.specs.Places.{asked}
 use Rattle.acc_index.proofs.Steps.{asked_more, greatest_uses, below_uses}
-use Rattle.acc_index.proofs.questions.both.Goals as goal
+use Rattle.acc_index.proofs.questions.greatest_and_below.Goals as goal
 
 pub loop-key-preserved : goal.loop-key-preserved
 loop-key-preserved c =

@@ -3,7 +3,7 @@ use Rattle.std.proofs.Common.{◌≡◌, take}
 use Rattle.acc_index.specs.Users.{places_at}
 use Rattle.acc_index.specs.Noted.{IsGreatestStamp}
 use Rattle.acc_index.specs.Places.{asked, others, those_below, stamps_of, ids_of}
-use Rattle.acc_index.proofs.questions.both.Given as goal
+use Rattle.acc_index.proofs.questions.greatest_and_below.Given as goal
 
 abbrev pub invariant-loop-key : goal.invariant-loop-key
 invariant-loop-key l =
