@@ -131,7 +131,10 @@ impl Disk for MemDisk {
     }
 
     fn sync(&mut self) -> Result<(), PortError> {
-        self.calls.enter()?;
+        if self.calls.next_fails() {
+            return Err(self.calls.fail());
+        }
+        self.calls.pass();
         self.past = self.past.and(&self.surface);
         self.surface.sync();
         Ok(())
