@@ -87,9 +87,19 @@ fn copy_decided(copy: &mut Record, there: &Record) -> Result<(), OutOfMemory>
     copy.opened = there.opened;
     copy.applied = there.applied;
     copy.stable = there.stable.copy()?;
-    copy.waiters = there.waiters.copy()?;
+    copy.waiters = copy_of_waiters(&there.waiters)?;
     copy.outcome = there.outcome.copy()?;
     Ok(())
+}
+
+// Mostly nobody waits any more, or yet, and nothing is to be copied.
+fn copy_of_waiters(there: &Ballots) -> Result<Ballots, OutOfMemory>
+    ensures { IfOk result (λ copy. copy ≡ there.now) }
+{
+    if there.is_empty() {
+        return Ok(Ballots::new(there.allocator()));
+    }
+    there.copy()
 }
 
 /// Puts down what is decided, unless that is known.
