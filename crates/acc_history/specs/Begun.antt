@@ -1,7 +1,12 @@
 -- What is known of the transaction with a number: its id, once it is begun.
-use Rattle.std.specs.Prelude.{Bool, true, false, Option, None, Some}
+use Rattle.std.specs.Prelude.{ℕ, Bool, true, false, List, Option, None, Some}
+use Rattle.std.specs.List.{slice_index_or}
 use Rattle.acc_base.specs.Faults.{or_else}
 use Rattle.acc_stamp.specs.declared.stamps.TxnId.{TxnId}
+
+-- what stands at the number of a transaction
+abbrev pub begun_in : List (Option (Option TxnId)) → ℕ → Option (Option TxnId)
+begun_in ids txn = slice_index_or ids txn None
 
 abbrev pub begun_as : Bool → Option TxnId → Option (Option TxnId)
 begun_as true id = Some id

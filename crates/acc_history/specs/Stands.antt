@@ -3,8 +3,6 @@
 --     IsWeighed h s      it has the weight of the own items
 use Rattle.std.specs.Prelude.{◌≡◌, ℕ, ◌<◌, ◌≤◌, false, not, ◌||◌, List, ◌∷◌, length, reverse}
 use Rattle.std.specs.List.{list_any, slice_get}
-use Rattle.std.specs.BTreeMap.{get}
-use Rattle.std.specs.Ordering.{nat_cmp}
 use Rattle.acc_stamp.specs.declared.actors.Actor.{Actor}
 use Rattle.acc_topology.specs.Sets.{is_among}
 use Rattle.acc_posts.specs.declared.posting.Posting.{Posting}
@@ -20,7 +18,7 @@ use Rattle.acc_message.specs.Run.{is_down}
 use Rattle.acc_message_code.specs.Weight.{weight_of_items}
 use Rattle.acc_safety.specs.Calm.{item_takes}
 use Rattle.acc_follow.specs.Situations.{Situation, whole, receiver_in, is_through}
-use Rattle.acc_history.specs.Begun.{begun_as}
+use Rattle.acc_history.specs.Begun.{begun_in, begun_as}
 use Rattle.acc_history.specs.declared.history.History.{History}
 
 -- ---- what changes a situation
@@ -59,7 +57,7 @@ pub record Holds (items : List Item) (w : Standing) (s : Situation) : Type 0 whe
 
 pub record StandsFor (h : History) (s : Situation) : Type 0 where
   pub holds : Holds h.items.items h.waiting s
-  pub begun : (txn : ℕ) → get nat_cmp h.begun txn ≡ begun_as (is_begun (whole s) txn) (id_of_txn (whole s) txn)
+  pub begun : (txn : ℕ) → begun_in h.begun.items txn ≡ begun_as (is_begun (whole s) txn) (id_of_txn (whole s) txn)
 
 abbrev pub IsWeighed : History → Situation → Type 0
 IsWeighed h s = h.weight ≡ weight_of_items s.own

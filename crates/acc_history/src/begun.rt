@@ -1,18 +1,48 @@
 //! Which transactions are begun.
 ghost use Rattle.std.specs.Prelude.{◌≡◌, ◌==◌, ◌<◌, ◌^◌, ℕ, length, slice_get, IfOk, OnOk, OnErr};
-ghost use Rattle.std.specs.BTreeMap.{get};
-ghost use Rattle.std.specs.Ordering.{nat_cmp};
 ghost use Rattle.acc_message.specs.Items.{id_drawn, begins_txn, id_begun};
-ghost use Rattle.acc_history.specs.Begun.{begun_with, known_as, known_with};
+ghost use Rattle.acc_history.specs.Begun.{begun_in, begun_after, begun_with, known_as, known_with};
 
 use acc_base::OutOfMemory;
 use acc_message::{Event, Item, Note};
 use acc_stamp::TxnId;
 use std::alloc::Global;
-use std::collections::BTreeMap;
 
-/// For each transaction that is begun, by its number, the id that its begin drew.
-pub(crate) type Begun = BTreeMap<u32, Option<TxnId>>;
+/// For each transaction, at its number, the id that its begin drew, if it is begun. The numbers are those of a schedule's
+/// transactions, so that few are left out.
+pub(crate) type Begun = Vec<Option<Option<TxnId>>>;
+
+/// What is known of the transaction with a number.
+pub(crate) fn begun_at(begun: &Begun, txn: u32) -> Option<Option<TxnId>>
+    ensures { result ≡ begun_in begun.now.items txn }
+{
+    if txn as usize >= begun.len() {
+        return None;
+    }
+    begun[txn as usize]
+}
+
+// Makes room for a transaction.
+fn cover(begun: &mut Begun, txn: u32) -> Result<(), OutOfMemory>
+    ensures same { (number : ℕ) → begun_in begun.new.items number ≡ begun_in begun.old.items number }
+    ensures covered { OnOk result (txn < length begun.new.items) }
+{
+    if (txn as usize) < begun.len() {
+        return Ok(());
+    }
+    begun.resize(txn as usize + 1, None)?;
+    Ok(())
+}
+
+// The first id that was drawn, behind a begin that drew this one.
+fn first_drawn(before: Option<Option<TxnId>>, id: Option<TxnId>) -> Option<TxnId>
+    ensures { result ≡ begun_after id before }
+{
+    match before {
+        Some(Some(first)) => Some(first),
+        Some(None) | None => id,
+    }
+}
 
 // The id that a begin drew.
 fn drawn(notes: &[Note]) -> Option<TxnId>
@@ -29,20 +59,19 @@ fn drawn(notes: &[Note]) -> Option<TxnId>
 // Notes that a transaction is begun. The first id that it drew stays.
 #[inline(never)]
 fn note(begun: &mut Begun, txn: u32, id: Option<TxnId>) -> Result<(), OutOfMemory>
-    ensures ok { OnOk result ((number : ℕ) → get nat_cmp begun.new number ≡ begun_with (txn == number) id (get nat_cmp begun.old number)) }
-    ensures err { OnErr result ((number : ℕ) → get nat_cmp begun.new number ≡ get nat_cmp begun.old number) }
+    ensures ok { OnOk result ((number : ℕ) → begun_in begun.new.items number ≡ begun_with (txn == number) id (begun_in begun.old.items number)) }
+    ensures err { OnErr result ((number : ℕ) → begun_in begun.new.items number ≡ begun_in begun.old.items number) }
 {
-    let first = begun.entry(txn)?.or_insert(None);
-    if first.is_none() {
-        *first = id;
-    }
+    cover(begun, txn)?;
+    let first = first_drawn(begun[txn as usize], id);
+    begun[txn as usize] = Some(first);
     Ok(())
 }
 
 /// Notes what an item begins. Without memory for it all is as before.
 pub(crate) fn note_begin(begun: &mut Begun, item: &Item) -> Result<(), OutOfMemory>
-    ensures ok { OnOk result ((number : ℕ) → get nat_cmp begun.new number ≡ begun_with (begins_txn number item.now) (id_begun number item.now) (get nat_cmp begun.old number)) }
-    ensures err { OnErr result ((number : ℕ) → get nat_cmp begun.new number ≡ get nat_cmp begun.old number) }
+    ensures ok { OnOk result ((number : ℕ) → begun_in begun.new.items number ≡ begun_with (begins_txn number item.now) (id_begun number item.now) (begun_in begun.old.items number)) }
+    ensures err { OnErr result ((number : ℕ) → begun_in begun.new.items number ≡ begun_in begun.old.items number) }
 {
     let Item::Step(entry) = item else {
         return Ok(());
@@ -55,7 +84,7 @@ pub(crate) fn note_begin(begun: &mut Begun, item: &Item) -> Result<(), OutOfMemo
 
 // Notes the id that stands at the number of a transaction, if one stands there.
 fn know(begun: &mut Begun, txn: u32, id: Option<TxnId>) -> Result<(), OutOfMemory>
-    ensures { OnOk result ((number : ℕ) → get nat_cmp begun.new number ≡ known_with (txn == number) id (get nat_cmp begun.old number)) }
+    ensures { OnOk result ((number : ℕ) → begun_in begun.new.items number ≡ known_with (txn == number) id (begun_in begun.old.items number)) }
 {
     match id {
         Some(id) => note(begun, txn, Some(id)),
@@ -66,9 +95,9 @@ fn know(begun: &mut Begun, txn: u32, id: Option<TxnId>) -> Result<(), OutOfMemor
 /// What is begun by these ids, each of which stands at the number of its transaction.
 pub(crate) fn known(alloc: Global, ids: &[Option<TxnId>]) -> Result<Begun, OutOfMemory>
     requires { length ids.now < 2 ^ 32 }
-    ensures { IfOk result (λ begun. (number : ℕ) → get nat_cmp begun number ≡ known_as (slice_get ids.now number)) }
+    ensures { IfOk result (λ begun. (number : ℕ) → begun_in begun.items number ≡ known_as (slice_get ids.now number)) }
 {
-    let mut begun = BTreeMap::new(alloc);
+    let mut begun = Vec::new(alloc);
     for (txn, id) in ids.iter().enumerate() {
         know(&mut begun, txn as u32, *id)?;
     }

@@ -2,27 +2,24 @@
 ghost use Rattle.std.specs.Prelude.{◌≡◌, ℕ, ◌+◌, ◌<◌, ◌≤◌, ◌^◌, false, List, [], length, map, reverse, slice_get, IfOk, OnOk, OnErr, MatchOption};
 ghost use Rattle.std.specs.Option.{option_copied};
 ghost use Rattle.std.specs.Arc.{arc_value};
-ghost use Rattle.std.specs.BTreeMap.{get};
-ghost use Rattle.std.specs.Ordering.{nat_cmp};
 ghost use Rattle.acc_message.specs.Items.{sent_in, sent_of, message_at, begins_txn, id_begun, is_begun, id_of_txn};
 ghost use Rattle.acc_message.specs.Run.{is_down};
 ghost use Rattle.acc_message_code.specs.Weight.{weight_of, weight_of_items};
 ghost use Rattle.acc_follow.specs.Situations.{Situation, opened, whole, NothingWaits, IsOldestWaiting};
 ghost use Rattle.acc_follow.specs.Moves.{with_item};
-ghost use Rattle.acc_history.specs.Begun.{begun_as, begun_with, known_as};
+ghost use Rattle.acc_history.specs.Begun.{begun_in, begun_as, begun_with, known_as};
 ghost use Rattle.acc_message.specs.declared.item.Item.{Item as AnItem};
 ghost use Rattle.acc_stamp.specs.declared.actors.Actor.{Actor as AnActor};
 ghost use Rattle.acc_history.specs.Stands.{StandsFor, IsWeighed, TakesSent, with_dropped};
 ghost use Rattle.acc_history.specs.Entering.{IsAsBefore, IsCovered};
 
-use crate::begun::{Begun, known, note_begin};
+use crate::begun::{Begun, begun_at, known, note_begin};
 use crate::entering::{cover_all, enter};
 use acc_base::OutOfMemory;
 use acc_message::{GrowingItems, Item, Items, Message, sent_by};
 use acc_stamp::{Actor, TxnId};
 use acc_waiting::Waiting;
 use std::alloc::Global;
-use std::collections::BTreeMap;
 use std::sync::Arc;
 
 /// The items of a cluster, in the order in which they were entered, and which messages were dropped. Each message stands once,
@@ -42,8 +39,8 @@ fn prepare(waiting: &mut Waiting, begun: &mut Begun, item: &Item) -> Result<(), 
     ensures few { OnOk result (length (sent_in item.now) < 2 ^ 32) }
     ensures room { OnOk result (length (sent_in item.now) ≤ waiting.new.room) }
     ensures covered { OnOk result (IsCovered (length waiting.new.downs) item.now) }
-    ensures begun { OnOk result ((number : ℕ) → get nat_cmp begun.new number ≡ begun_with (begins_txn number item.now) (id_begun number item.now) (get nat_cmp begun.old number)) }
-    ensures err { OnErr result ((number : ℕ) → get nat_cmp begun.new number ≡ get nat_cmp begun.old number) }
+    ensures begun { OnOk result ((number : ℕ) → begun_in begun.new.items number ≡ begun_with (begins_txn number item.now) (id_begun number item.now) (begun_in begun.old.items number)) }
+    ensures err { OnErr result ((number : ℕ) → begun_in begun.new.items number ≡ begun_in begun.old.items number) }
     ensures err_room { OnErr result (waiting.new.room ≡ waiting.old.room) }
 {
     cover_all(waiting, item)?;
@@ -76,7 +73,7 @@ impl History {
         Ok(History {
             items: GrowingItems::new(alloc),
             waiting: Waiting::new(alloc)?,
-            begun: BTreeMap::new(alloc),
+            begun: Vec::new(alloc),
             weight: 0,
         })
     }
@@ -157,15 +154,15 @@ impl History {
     pub fn is_begun(&self, txn: u32) -> bool
         ensures { (s : Situation) → StandsFor self.now s → result ≡ is_begun (whole s) txn }
     {
-        self.begun.contains_key(&txn)
+        begun_at(&self.begun, txn).is_some()
     }
 
     /// The id that the begin of the transaction with this number drew.
     pub fn id_of(&self, txn: u32) -> Option<TxnId>
         ensures { (s : Situation) → StandsFor self.now s → result ≡ id_of_txn (whole s) txn }
     {
-        match self.begun.get(&txn) {
-            Some(id) => *id,
+        match begun_at(&self.begun, txn) {
+            Some(id) => id,
             None => None,
         }
     }
@@ -204,8 +201,8 @@ impl History {
         ensures few { OnOk result (length (sent_in item.now) < 2 ^ 32) }
         ensures waiting_room { OnOk result (length (sent_in item.now) ≤ self.new.waiting.room) }
         ensures covered { OnOk result (IsCovered (length self.new.waiting.downs) item.now) }
-        ensures begun { OnOk result ((number : ℕ) → get nat_cmp self.new.begun number ≡ begun_with (begins_txn number item.now) (id_begun number item.now) (get nat_cmp self.old.begun number)) }
-        ensures still_begun { OnErr result ((number : ℕ) → get nat_cmp self.new.begun number ≡ get nat_cmp self.old.begun number) }
+        ensures begun { OnOk result ((number : ℕ) → begun_in self.new.begun.items number ≡ begun_with (begins_txn number item.now) (id_begun number item.now) (begun_in self.old.begun.items number)) }
+        ensures still_begun { OnErr result ((number : ℕ) → begun_in self.new.begun.items number ≡ begun_in self.old.begun.items number) }
         ensures place { IfOk result (λ place. place ≡ length self.old.items.items) }
         ensures weight { OnOk result (self.new.weight ≡ self.old.weight + weight) }
         ensures still_weighed { OnErr result (self.new.weight ≡ self.old.weight) }

@@ -7,4 +7,4 @@ use Rattle.acc_history.proofs.history.History.id_of.Goals as goal
 pub returns-in-None : goal.returns-in-None
 returns-in-None c = λ s h.
     let txn = c.args.txn in
-    sym (no_id (whole s) txn (isnt_known (is_begun (whole s) txn) (id_of_txn (whole s) txn) (c.in-None.ensures.value ∙ h.begun txn)))
+    sym (no_id (whole s) txn (isnt_known (is_begun (whole s) txn) (id_of_txn (whole s) txn) (c.in-None.ensures ∙ h.begun txn)))
