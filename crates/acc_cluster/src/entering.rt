@@ -25,21 +25,32 @@ const MOST_ITEMS: usize = 1_000_000;
 /// The messages of a run have at most so many bytes together.
 const MOST_BYTES: u64 = 268_435_456;
 
+// The limit of items is reached.
+#[cold]
+#[inline(never)]
+fn too_many_items() -> RunError
+    ensures { result ≡ AnError.Limit AWhich.Items most_items }
+{
+    RunError::Limit {
+        which: Which::Items,
+        number: MOST_ITEMS as u64,
+    }
+}
+
 /// Whether one item more is within the limit of items.
+#[inline(always)]
 pub(crate) fn check_place(history: &History) -> Result<(), RunError>
     ensures ok { OnOk result ((s : Situation) → StandsFor history.now s → HasPlace s) }
     ensures limit { IfErr result (λ error. (error ≡ AnError.Limit AWhich.Items most_items) × ((s : Situation) → StandsFor history.now s → most_items ≤ length s.own)) }
 {
     if history.len() >= MOST_ITEMS {
-        return Err(RunError::Limit {
-            which: Which::Items,
-            number: MOST_ITEMS as u64,
-        });
+        return Err(too_many_items());
     }
     Ok(())
 }
 
 // Enters an item whose messages have so many bytes, within the limit of bytes.
+#[inline(always)]
 fn enter(history: &mut History, item: Item, weight: u64) -> Result<(), RunError>
     ensures ok { OnOk result ((s : Situation) → IsPastOf history.old s → HasPlace s → TakesSent s item → weight ≡ weight_of item → IsPastOf history.new (with_item item s)) }
     ensures limit { IfErr result (IfLimit (λ which number. (s : Situation) → IsPastOf history.old s → HasPlace s → weight ≡ weight_of item
@@ -79,6 +90,7 @@ pub(crate) fn enter_down(history: &mut History, actor: Actor) -> Result<(), RunE
 }
 
 /// Enters an entry of an actor.
+#[inline(always)]
 pub(crate) fn enter_entry(
     history: &mut History,
     actor: Actor,
@@ -102,6 +114,7 @@ pub(crate) fn enter_entry(
 }
 
 /// Enters what an actor gave, or that its disk failed.
+#[inline(always)]
 pub(crate) fn enter_given(
     history: &mut History,
     actor: Actor,

@@ -114,6 +114,7 @@ impl<D: Rig> Slot<D> {
     }
 
     /// The actor takes the message with this number. `None` where its disk failed, which takes it down.
+    #[inline(always)]
     pub fn take(
         &mut self,
         plan: &Plan,
