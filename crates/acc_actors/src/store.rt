@@ -124,6 +124,7 @@ impl<D: Rig> StoreActor<D> {
 
     /// Takes the message that has this number as it was planned, behind what is staged. It isn't on the disk before `settle`, which gives
     /// what the store sends for it. After an error all is as before. It makes no call of the disk.
+    #[inline(always)]
     pub fn stage(
         &mut self,
         topology: &Topology,
@@ -159,6 +160,7 @@ impl<D: Rig> StoreActor<D> {
 
     /// Appends all that is staged as one group, and gives it: it may go out now. `None` says that the disk failed, and the store is down;
     /// what was staged is kept for a restart, which finds all of it on the disk or nothing.
+    #[inline(always)]
     pub fn settle(&mut self) -> Result<Option<Unsents>, OutOfMemory>
         requires up { is_down self.old ≡ false }
         requires may { MaySettle D.is_image self.old }

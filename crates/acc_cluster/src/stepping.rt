@@ -203,6 +203,7 @@ impl<D: Rig + Drop> Cluster<D> {
     }
 
     /// The actor that a message goes to takes it. The message was sent, and the actor is up.
+    #[inline(always)]
     pub(crate) fn take(&mut self, plan: &Plan, message: u64) -> Result<(), RunError>
         requires standing { (s : Situation) × StandsFor D.is_image D.faults plan.now self.old s × HasPlace s × (deliver_skip s message ≡ None) }
         ensures ok { OnOk result ((number : ℕ) (s : Situation) → StandsFor D.is_image D.faults plan.now self.old s → HasPlace s → deliver_skip s message ≡ None

@@ -89,6 +89,7 @@ impl Coord {
     }
 
     // Makes a step, and tells what it emits and whether the attempt has ended.
+    #[inline(always)]
     fn make(&mut self, step: Step) -> (Emitted, bool)
         ensures made { self.new ≡ after_step self.old step.next }
         ensures emits { result.0 ≡ step.emitted }

@@ -226,6 +226,7 @@ impl<D: Disk> DurableStore<D> {
 
     /// Appends all that is staged as one group, in four calls of the disk. With nothing staged it makes none. A fault has nothing
     /// unsent, since `stage` gave the answers. After an error all that was staged still counts as staged.
+    #[inline(always)]
     pub fn settle(&mut self) -> Result<(), StepError>
         requires sound { self.old.journal.broken ≡ false }
 

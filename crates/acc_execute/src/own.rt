@@ -16,6 +16,7 @@ use acc_txn::Body;
 
 /// The record with which a step begins, in the place where it will be kept: a copy of the one that is kept, or else one that
 /// knows the body alone.
+#[inline(always)]
 pub(crate) fn begun(
     there: Option<&Record>,
     id: TxnId,
@@ -29,6 +30,7 @@ pub(crate) fn begun(
     }
 }
 
+#[inline(always)]
 fn fresh(id: TxnId, body: &Body) -> Result<KeptRecord, OutOfMemory>
     ensures { IfOk result (λ made. made ≡ fresh id body.now) }
 {
@@ -52,6 +54,7 @@ fn fresh(id: TxnId, body: &Body) -> Result<KeptRecord, OutOfMemory>
     Ok(kept)
 }
 
+#[inline(always)]
 fn copy_of(there: &Record) -> Result<KeptRecord, OutOfMemory>
     ensures { IfOk result (λ copy. copy ≡ there.now) }
 {

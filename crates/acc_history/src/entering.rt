@@ -95,6 +95,7 @@ fn go_down(waiting: &mut Waiting, actor: Actor)
 }
 
 // Notes what an entry took, who is up behind it, and what it sent.
+#[inline(always)]
 fn step(waiting: &mut Waiting, entry: &Entry, place: u32)
     requires few { length entry.now.emitted.out < 2 ^ 32 }
     requires room { length entry.now.emitted.out ≤ waiting.old.room }

@@ -69,6 +69,7 @@ fn prepare_opening(
 }
 
 /// The step of a store that takes a message as it was planned: what it sends. Without memory for it the shelf is as before.
+#[inline(always)]
 pub(crate) fn take(
     shelf: &mut Shelf,
     topology: &Topology,

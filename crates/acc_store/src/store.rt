@@ -85,6 +85,7 @@ impl Store {
     }
 
     /// Takes a message as it was planned: what it sends. Without memory for it the store is as before.
+    #[inline(always)]
     pub fn take(
         &mut self,
         topology: &Topology,
