@@ -58,6 +58,7 @@ impl Users {
 
 /// The places whose use of a key conflicts with a use that writes it or only reads it: those that write it, and the others too
 /// where it is written.
+#[inline(always)]
 pub(crate) fn users_of<'a>(
     users: &'a HashMap<Key, Users>,
     key: &Key,

@@ -161,6 +161,7 @@ impl Records {
 
     /// Puts a payload behind the others, in place. Without memory for it they are as before; that comes of a payload of 2^32 bytes or
     /// more too.
+    #[inline(always)]
     pub fn put<P: Payload>(&mut self, payload: &P) -> Result<(), OutOfMemory>
         requires { P.has_payload payload.now }
         ensures ok { OnOk result (self.new ≡ self.old ++ P.bytes payload.now ∷ []) }

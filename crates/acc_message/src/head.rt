@@ -160,6 +160,7 @@ fn append(messages: &mut Vec<Message>, more: Messages)
 }
 
 /// Puts an item behind the others, where there is room for it.
+#[inline(always)]
 pub(crate) fn put(heads: &mut Vec<Head>, messages: &mut Vec<Message>, item: Item)
     requires stretch { IsStretch 0 heads.old.items (length messages.old.items) }
     requires place { vec_len heads.old < vec_capacity heads.old }

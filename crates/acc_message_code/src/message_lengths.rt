@@ -62,6 +62,7 @@ fn content_length(m: &Message) -> u64
 
 /// How many bytes `encode` makes of a message, without making them.
 #[tactic(auto, using(crate::proofs::ByteCounts::message_takes))]
+#[inline(always)]
 pub fn message_length(m: &Message) -> u64
     requires { IsShortMessage m.now }
     ensures exact { result ≡ length (message_bytes m.now) }

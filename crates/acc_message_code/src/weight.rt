@@ -7,6 +7,7 @@ use crate::message_lengths::message_length;
 use acc_message::Message;
 
 /// The sum of the lengths of what `encode` makes of each message, without making them.
+#[inline(always)]
 pub fn messages_length(messages: &[Message]) -> u64
     requires short { All IsShortMessage messages.now }
     requires fits { weight_of_all messages.now < 2 ^ 64 }

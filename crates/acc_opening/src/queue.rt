@@ -8,6 +8,7 @@ use crate::turns::{Turn, place_of};
 use acc_base::OutOfMemory;
 
 /// Puts a turn in its place, unless its transaction stands there.
+#[inline(always)]
 pub(crate) fn insert(queue: &mut TurnList, turn: Turn) -> Result<(), OutOfMemory>
     requires { IsRisingBy turn_lt queue.old }
     ensures { OnOk result (HasTurn turn queue.old queue.new) }

@@ -48,6 +48,7 @@ pub(crate) fn add_watch(
 }
 
 /// What waits for a dependency, from which it is taken away.
+#[inline(always)]
 pub(crate) fn take_watches(
     alloc: Global,
     touched: &mut TouchedWaits,

@@ -43,6 +43,7 @@ impl DiskCalls {
     }
 
     /// Counts a call that needs no memory. The error says that it fails.
+    #[inline(always)]
     pub(crate) fn enter(&mut self) -> Result<(), PortError>
         ensures fails { IsErr result ↔ MustFail self.old.armed self.old.fails self.old.calls }
         ensures error { IfErr result (λ error. error ≡ PortError.Failed) }

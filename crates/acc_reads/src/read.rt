@@ -25,6 +25,7 @@ pub struct Place<'a> {
 }
 
 // Reads a key, where it lies in the shard.
+#[inline(always)]
 fn add_key(
     place: &Place<'_>,
     writes: &CellList,

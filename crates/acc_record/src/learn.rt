@@ -78,6 +78,7 @@ impl Shelf {
 
     /// Learns as `learn` does, by the keys of this shard that the transaction uses. They are looked for only where a stamp is
     /// noted, so that a step which brings nothing new doesn't look at them.
+    #[inline(always)]
     pub fn learn_body(
         &mut self,
         topology: &Topology,

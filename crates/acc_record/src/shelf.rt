@@ -67,6 +67,7 @@ impl Shelf {
     }
 
     /// The record of a transaction, where it is known.
+    #[inline(always)]
     pub fn find(&self, id: TxnId) -> Option<&Record>
         ensures { option_copied result ≡ record_at self.now.records id }
     {

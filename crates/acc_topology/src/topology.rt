@@ -96,6 +96,7 @@ impl Topology {
     }
 
     /// The shard that holds a key: the first one whose end lies above the key. The last shard, without an end, holds the rest.
+    #[inline(always)]
     pub fn shard_of(&self, key: &Key) -> u32
         ensures value { result ≡ shard_of_key self.now key.now }
         ensures exists { HasShard self.now result }
