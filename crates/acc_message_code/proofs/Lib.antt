@@ -1,5 +1,4 @@
 mod ByteCounts
-mod Written
 pub mod Shortness
 pub mod Rising
 pub mod Known

@@ -9,49 +9,65 @@ ghost use Rattle.acc_message_code.specs.Fitting.{FitStamps, FitDeps};
 ghost use Rattle.acc_message_code.specs.Reading.{next_shard_at, shard_at, deps_at};
 ghost use Rattle.acc_txn.specs.Writing.{Keeps};
 
-use crate::ids::{put_ids, take_ids};
+use crate::ids::{counted_room, push_counted, take_ids};
 use acc_base::{Bytes, OutOfMemory};
 use acc_code::{CodeError, out_of_range, take_between};
 use acc_deps::{Deps, ShardDeps};
-use acc_wire::{Reader, put_u8};
+use acc_wire::Reader;
 use std::alloc::Global;
+use std::mem;
 
 /// The greatest number of a shard.
 const LAST_SHARD: u8 = 15;
 
-#[tactic(auto, using(acc_txn::proofs::Kept::keeps_all, acc_txn::proofs::Kept::keeps_front, acc_txn::proofs::Kept::keeps_more), unfolding(crate::specs::Spelling::shard_bytes))]
-fn put_shard(out: &mut Bytes, shard: &ShardDeps) -> Result<(), OutOfMemory>
+#[tactic(auto, unfolding(crate::specs::Spelling::shard_bytes))]
+fn append_shard(out: &mut Vec<u8>, shard: &ShardDeps) -> Result<(), OutOfMemory>
     requires { IsShortShard shard.now }
-    ensures spelled { OnOk result (out.new ≡ out.old ++ shard_bytes shard.now) }
-    ensures kept { OnErr result (Keeps out.old out.new) }
+    ensures spelled { OnOk result (out.new.items ≡ out.old.items ++ shard_bytes shard.now) }
+    ensures err { OnErr result (out.new.items ≡ out.old.items) }
     ensures stamps { OnOk result (FitStamps shard.now.ids) }
 {
-    put_u8(out, shard.shard as u8)?;
-    put_ids(out, shard.ids.as_slice())
+    out.reserve(1 + counted_room(shard.ids.as_slice()))?;
+    out.push_reserved(shard.shard as u8);
+    push_counted(out, shard.ids.as_slice());
+    Ok(())
 }
 
 #[tactic(auto, using(acc_txn::proofs::Kept::keeps_all, acc_txn::proofs::Kept::keeps_front, acc_txn::proofs::Kept::keeps_more))]
-fn put_each_shard(out: &mut Bytes, shards: &[ShardDeps]) -> Result<(), OutOfMemory>
+fn append_each_shard(out: &mut Vec<u8>, shards: &[ShardDeps]) -> Result<(), OutOfMemory>
     requires { AllByRecursion IsShortShard shards.now }
-    ensures spelled { OnOk result (out.new ≡ out.old ++ flat_map shard_bytes shards.now) }
-    ensures kept { OnErr result (Keeps out.old out.new) }
+    ensures spelled { OnOk result (out.new.items ≡ out.old.items ++ flat_map shard_bytes shards.now) }
+    ensures kept { OnErr result (Keeps out.old.items out.new.items) }
     ensures stamps { OnOk result (AllByRecursion (λ d. FitStamps d.ids) shards.now) }
 {
     for shard in shards {
-        put_shard(out, shard)?;
+        append_shard(out, shard)?;
     }
     Ok(())
 }
 
 #[tactic(auto, using(acc_txn::proofs::Kept::keeps_all, acc_txn::proofs::Kept::keeps_front, acc_txn::proofs::Kept::keeps_more), unfolding(crate::specs::Spelling::deps_bytes, acc_txn::specs::BodySpelling::listed))]
+fn append_shards(out: &mut Vec<u8>, shards: &[ShardDeps]) -> Result<(), OutOfMemory>
+    requires { AreShortDeps shards.now }
+    ensures spelled { OnOk result (out.new.items ≡ out.old.items ++ deps_bytes shards.now) }
+    ensures kept { OnErr result (Keeps out.old.items out.new.items) }
+    ensures stamps { OnOk result (AllByRecursion (λ d. FitStamps d.ids) shards.now) }
+{
+    out.push(shards.len() as u8)?;
+    append_each_shard(out, shards)
+}
+
 fn put_shards(out: &mut Bytes, shards: &[ShardDeps]) -> Result<(), OutOfMemory>
     requires { AreShortDeps shards.now }
     ensures spelled { OnOk result (out.new ≡ out.old ++ deps_bytes shards.now) }
     ensures kept { OnErr result (Keeps out.old out.new) }
     ensures stamps { OnOk result (AllByRecursion (λ d. FitStamps d.ids) shards.now) }
 {
-    put_u8(out, shards.len() as u8)?;
-    put_each_shard(out, shards)
+    let alloc = out.allocator();
+    let mut bytes = mem::replace(out, Bytes::new(alloc)).into_vec();
+    let appended = append_shards(&mut bytes, shards);
+    *out = Bytes::from_vec(bytes);
+    appended
 }
 
 /// Appends dependencies: a count, and each shard with its transactions.

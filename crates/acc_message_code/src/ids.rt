@@ -1,5 +1,5 @@
 //! Rising lists of transactions.
-ghost use Rattle.std.specs.Prelude.{◌≡◌, ◌<◌, ◌≤◌, ◌+◌, ◌*◌, ◌^◌, ◌++◌, ◌∷◌, [], length, drop, replicate, OnOk, OnErr, IfOk, IsTrue};
+ghost use Rattle.std.specs.Prelude.{◌≡◌, ◌<◌, ◌≤◌, ◌+◌, ◌*◌, ◌^◌, ◌++◌, ◌∷◌, [], length, vec_len, vec_capacity, OnOk, OnErr, IfOk, IsTrue};
 ghost use Rattle.std.specs.List.{flat_map, list_all};
 ghost use Rattle.acc_stamp.specs.Stamp.{id_lt};
 ghost use Rattle.acc_stamp.specs.Rising.{IsRising};
@@ -10,49 +10,47 @@ ghost use Rattle.acc_message_code.specs.Fitting.{FitStamps};
 ghost use Rattle.acc_message_code.specs.Reading.{next_id_at, ids_at};
 ghost use Rattle.acc_txn.specs.Writing.{Keeps};
 
-use crate::stamps::{STAMP, take_id, write_stamp};
+use crate::stamps::{STAMP, push_stamp, take_id};
 use acc_base::{Bytes, OutOfMemory};
 use acc_code::{CodeError, out_of_range};
 use acc_stamp::{Ids, TxnId};
-use acc_wire::Reader;
+use acc_wire::{Reader, push_bytes};
 use byteorder::{BigEndian, ByteOrder};
 use std::alloc::Global;
 use std::mem;
 
-/// Writes transactions over the first bytes of a field.
-fn write_ids(field: &mut [u8], ids: &[TxnId])
-    requires { 12 * length ids.now ≤ length field.old }
-    ensures spelled { field.new ≡ flat_map id_bytes ids.now ++ drop (12 * length ids.now) field.old }
+/// Appends transactions where there is room for them.
+fn push_ids(out: &mut Vec<u8>, ids: &[TxnId])
+    requires { vec_len out.old + 12 * length ids.now ≤ vec_capacity out.old }
+    ensures spelled { out.new.items ≡ out.old.items ++ flat_map id_bytes ids.now }
     ensures stamps { FitStamps ids.now }
 {
-    let mut place = 0;
     for id in ids {
-        write_stamp(&mut field[place..], id.0);
-        place += STAMP as usize;
+        push_stamp(out, id.0);
     }
 }
 
-/// Writes how many transactions there are, and their ids, over the first bytes of a field.
+/// Appends how many transactions there are, and their ids, where there is room for them.
 #[tactic(auto, unfolding(crate::specs::Spelling::ids_bytes, acc_wire::specs::Spelling::u16_bytes))]
-fn write_counted(field: &mut [u8], ids: &[TxnId])
+pub(crate) fn push_counted(out: &mut Vec<u8>, ids: &[TxnId])
     requires short { AreShortIds ids.now }
-    requires room { 2 + 12 * length ids.now ≤ length field.old }
-    ensures spelled { field.new ≡ ids_bytes ids.now ++ drop (2 + 12 * length ids.now) field.old }
+    requires room { vec_len out.old + (2 + 12 * length ids.now) ≤ vec_capacity out.old }
+    ensures spelled { out.new.items ≡ out.old.items ++ ids_bytes ids.now }
     ensures stamps { FitStamps ids.now }
 {
-    BigEndian::write_u16(field, ids.len() as u16);
-    write_ids(&mut field[2..], ids);
+    let mut count = [0; 2];
+    BigEndian::write_u16(&mut count, ids.len() as u16);
+    push_bytes(out, &count);
+    push_ids(out, ids);
 }
 
-/// Appends a field of so many zeros, to be written over.
-fn append_field(out: &mut Vec<u8>, count: usize) -> Result<(), OutOfMemory>
-    requires { count < 2 ^ 20 }
-    ensures ok { OnOk result (out.new.items ≡ out.old.items ++ replicate count 0) }
-    ensures err { OnErr result (out.new.items ≡ out.old.items) }
+/// The room that a count of transactions and their ids take.
+pub(crate) fn counted_room(ids: &[TxnId]) -> usize
+    requires { AreShortIds ids.now }
+    ensures exact { result ≡ 2 + 12 * length ids.now }
+    ensures most { result < 2 ^ 20 }
 {
-    let before = out.len();
-    out.resize(before + count, 0)?;
-    Ok(())
+    2 + STAMP as usize * ids.len()
 }
 
 fn append_ids(out: &mut Vec<u8>, ids: &[TxnId]) -> Result<(), OutOfMemory>
@@ -61,9 +59,8 @@ fn append_ids(out: &mut Vec<u8>, ids: &[TxnId]) -> Result<(), OutOfMemory>
     ensures err { OnErr result (out.new.items ≡ out.old.items) }
     ensures stamps { OnOk result (FitStamps ids.now) }
 {
-    let before = out.len();
-    append_field(out, 2 + STAMP as usize * ids.len())?;
-    write_counted(&mut out[before..], ids);
+    out.reserve(counted_room(ids))?;
+    push_counted(out, ids);
     Ok(())
 }
 

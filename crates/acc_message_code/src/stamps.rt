@@ -1,5 +1,5 @@
 //! Actors and stamps.
-ghost use Rattle.std.specs.Prelude.{◌≡◌, ◌≤◌, ◌++◌, length, drop, OnOk, OnErr};
+ghost use Rattle.std.specs.Prelude.{◌≡◌, ◌+◌, ◌≤◌, ◌++◌, length, drop, vec_len, vec_capacity, OnOk, OnErr};
 ghost use Rattle.acc_message_code.specs.Spelling.{actor_bytes, stamp_bytes};
 ghost use Rattle.acc_message_code.specs.Short.{IsShortActor};
 ghost use Rattle.acc_message_code.specs.Fitting.{FitsStamp};
@@ -10,7 +10,7 @@ ghost use Rattle.acc_txn.specs.Writing.{Keeps};
 use acc_base::{Bytes, OutOfMemory};
 use acc_code::CodeError;
 use acc_stamp::{Actor, Ballot, Stamp, TxnId};
-use acc_wire::{Reader, put_u16};
+use acc_wire::{Reader, push_bytes, put_u16};
 use byteorder::{BigEndian, ByteOrder};
 
 /// How many bytes a stamp takes.
@@ -45,6 +45,19 @@ pub(crate) fn write_stamp(field: &mut [u8], stamp: Stamp)
 {
     BigEndian::write_u64(field, stamp.h);
     BigEndian::write_u32(&mut field[8..], stamp.origin);
+}
+
+/// Appends a stamp where there is room for it.
+pub(crate) fn push_stamp(out: &mut Vec<u8>, stamp: Stamp)
+    requires { vec_len out.old + 12 ≤ vec_capacity out.old }
+    ensures spelled { out.new.items ≡ out.old.items ++ stamp_bytes stamp }
+    ensures len { vec_len out.new ≡ vec_len out.old + 12 }
+    ensures capacity { vec_capacity out.new ≡ vec_capacity out.old }
+    ensures fits { FitsStamp stamp }
+{
+    let mut field = [0; STAMP as usize];
+    write_stamp(&mut field, stamp);
+    push_bytes(out, &field);
 }
 
 /// Appends a stamp.
