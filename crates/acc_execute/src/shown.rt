@@ -1,6 +1,7 @@
-//! Whether a record shows a timestamp already.
-ghost use Rattle.std.specs.Prelude.{◌≡◌};
+//! What the record of a transaction tells before the step.
+ghost use Rattle.std.specs.Prelude.{◌≡◌, is_some};
 ghost use Rattle.std.specs.Option.{option_copied};
+ghost use Rattle.acc_opening_laws.specs.Plan.{settled_in};
 ghost use Rattle.acc_record.specs.Learning.{is_below_settled};
 ghost use Rattle.acc_execute.specs.Executed.{is_vote, shows};
 
@@ -15,6 +16,16 @@ pub(crate) fn is_shown(there: Option<&Record>, t: Stamp) -> bool
 {
     match there {
         Some(there) => is_vote(there.vote, t) || is_below_settled(t, &there.stable),
+        None => false,
+    }
+}
+
+/// Whether a record is stable.
+pub(crate) fn is_stable(there: Option<&Record>) -> bool
+    ensures { result ≡ is_some (settled_in (option_copied there.entry)) }
+{
+    match there {
+        Some(there) => there.stable.is_some(),
         None => false,
     }
 }

@@ -14,7 +14,7 @@ ghost use Rattle.acc_execute.specs.Executed.{AllFit, shows, Stands, IsReadyBehin
 use crate::commit::{keep, take_other_turns, take_own_turns};
 use crate::own::{begun, decide, settle, wait};
 use crate::present::at_once;
-use crate::shown::is_shown;
+use crate::shown::{is_shown, is_stable};
 use crate::waits::{change_lists, make_room};
 use acc_base::OutOfMemory;
 use acc_deps::Deps;
@@ -247,7 +247,7 @@ fn prepare(
         shard: shelf.actor.shard(),
     };
     let alloc = own.get().waiters.allocator();
-    let plan = planned(alloc, &known)?;
+    let plan = planned(alloc, &known, is_stable(there))?;
     let released = release(
         alloc,
         topology,

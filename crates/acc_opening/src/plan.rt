@@ -174,19 +174,11 @@ fn is_due(own: &Record) -> bool
     own.opened && own.outcome.is_some() && !own.applied
 }
 
-// Whether a transaction is stable before the step.
-fn is_stable(records: &Records, id: TxnId) -> bool
-    ensures { result ≡ is_some (settled_in (record_at records.now id)) }
-{
-    match records.get(&id) {
-        Some(there) => there.get().stable.is_some(),
-        None => false,
-    }
-}
-
-/// Plans a step: what it opens and applies, in the order of the timestamps, and who waits for whom then.
-pub fn planned(alloc: Global, known: &Known<'_>) -> Result<Plan, OutOfMemory>
-    requires { IsKnown known.now.shard known.now.records.now known.now.own.now known.now.waits.now }
+/// Plans a step: what it opens and applies, in the order of the timestamps, and who waits for whom then. It is told whether the
+/// transaction was stable before.
+pub fn planned(alloc: Global, known: &Known<'_>, was_stable: bool) -> Result<Plan, OutOfMemory>
+    requires was { was_stable ≡ is_some (settled_in (record_at known.now.records.now known.now.own.now.id)) }
+    requires known { IsKnown known.now.shard known.now.records.now known.now.own.now known.now.waits.now }
     ensures { IfOk result (IsPlanned known.now.shard known.now.records.now known.now.own.now known.now.waits.now) }
 {
     let mut plan = Planning {
@@ -194,7 +186,7 @@ pub fn planned(alloc: Global, known: &Known<'_>) -> Result<Plan, OutOfMemory>
         queue: TurnList::new(alloc),
         touched: BTreeMap::new(alloc),
     };
-    if is_stable(known.records, known.own.id) {
+    if was_stable {
         plan.resume(known)?;
     } else {
         plan.arrive(known)?;

@@ -1,7 +1,9 @@
-use Rattle.std.proofs.Common.{[], refl, sym, subst}
+use Rattle.std.proofs.Common.{[], is_some, refl, sym, ap, ◌∙◌, subst}
 use Rattle.std.specs.List.{AllByRecursion}
 use Rattle.acc_stamp.specs.Actor.{shard_of}
-use Rattle.acc_record.specs.Shelf.{cell_at}
+use Rattle.acc_record.specs.declared.record.Record.{Record}
+use Rattle.acc_record.specs.Shelf.{record_at, cell_at}
+use Rattle.acc_opening_laws.specs.Plan.{settled_in}
 use Rattle.acc_opening.specs.Lookup.{lookup}
 use Rattle.acc_opening.specs.Turns.{changes_in}
 use Rattle.acc_opening.specs.Planned.{IsPlanned}
@@ -30,3 +32,8 @@ returns-clause-ready c =
       sends = c.in_ok-sent.ensures;
       writes = refl;
     })
+
+pub planned-requires-clause-was : goal.planned-requires-clause-was
+planned-requires-clause-was c =
+    c.is_stable.ensures
+    ∙ ap (λ o. is_some (settled_in o)) (c.requires.there ∙ ap (λ (own : Record). record_at c.args.shelf.now.records own.id) (sym c.get.ensures))
