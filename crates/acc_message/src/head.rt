@@ -112,6 +112,7 @@ impl Duplicate for Head {
 }
 
 // An item apart from its messages, which begin at a place in the list of messages.
+#[inline(always)]
 fn parted(alloc: Global, item: Item, from: u32) -> (Head, Messages)
     requires { from + length (sent_in item) ≤ 4294967295 }
     ensures item { item_of result.0 result.1 ≡ item }
