@@ -69,6 +69,7 @@ fn note(begun: &mut Begun, txn: u32, id: Option<TxnId>) -> Result<(), OutOfMemor
 }
 
 /// Notes what an item begins. Without memory for it all is as before.
+#[inline(always)]
 pub(crate) fn note_begin(begun: &mut Begun, item: &Item) -> Result<(), OutOfMemory>
     ensures ok { OnOk result ((number : ℕ) → begun_in begun.new.items number ≡ begun_with (begins_txn number item.now) (id_begun number item.now) (begun_in begun.old.items number)) }
     ensures err { OnErr result ((number : ℕ) → begun_in begun.new.items number ≡ begun_in begun.old.items number) }

@@ -25,6 +25,7 @@ fn greatest_of(actor: u32, messages: &[Message]) -> u32
 }
 
 // Makes room for who stepped and for the actors to which its messages go.
+#[inline(always)]
 fn cover_entry(waiting: &mut Waiting, entry: &Entry) -> Result<(), OutOfMemory>
     ensures same { IsAsBefore waiting.old waiting.new }
     ensures room { waiting.new.room ≡ waiting.old.room }
@@ -36,6 +37,7 @@ fn cover_entry(waiting: &mut Waiting, entry: &Entry) -> Result<(), OutOfMemory>
 }
 
 /// Makes room for the actors that an item names. In any case nothing else changes.
+#[inline(always)]
 pub(crate) fn cover_all(waiting: &mut Waiting, item: &Item) -> Result<(), OutOfMemory>
     ensures same { IsAsBefore waiting.old waiting.new }
     ensures room { waiting.new.room ≡ waiting.old.room }
@@ -49,6 +51,7 @@ pub(crate) fn cover_all(waiting: &mut Waiting, item: &Item) -> Result<(), OutOfM
 }
 
 // Notes the messages that the item at a place sent.
+#[inline(always)]
 fn send(waiting: &mut Waiting, messages: &[Message], place: u32, is_lost: bool)
     requires few { length messages.now < 2 ^ 32 }
     requires room { length messages.now ≤ waiting.old.room }
@@ -62,6 +65,7 @@ fn send(waiting: &mut Waiting, messages: &[Message], place: u32, is_lost: bool)
 }
 
 // Closes the message that an event takes, if it was sent.
+#[inline(always)]
 fn take(waiting: &mut Waiting, event: Event)
     ensures sent { waiting.new.sent ≡ without_event event waiting.old.sent }
     ensures rest { (waiting.new.room ≡ waiting.old.room) × (waiting.new.downs ≡ waiting.old.downs) }
@@ -75,6 +79,7 @@ fn take(waiting: &mut Waiting, event: Event)
 }
 
 // Behind an entry that isn't lost its actor is up.
+#[inline(always)]
 fn come_up(waiting: &mut Waiting, actor: Actor, is_lost: bool)
     requires { actor.0 < length waiting.old.downs }
     ensures rest { (waiting.new.sent ≡ waiting.old.sent) × (waiting.new.room ≡ waiting.old.room) × (length waiting.new.downs ≡ length waiting.old.downs) }

@@ -54,6 +54,7 @@ fn prepare(waiting: &mut Waiting, begun: &mut Begun, item: &Item) -> Result<(), 
 }
 
 // The place of the next item. More than 32 bits tell are refused as memory is.
+#[inline(always)]
 fn next_place(items: &GrowingItems) -> Result<u32, OutOfMemory>
     ensures { IfOk result (λ place. place ≡ length items.now.items) }
 {
