@@ -59,7 +59,7 @@ both_ok (Err e) served Q P R joined ok p f = tt
 -- ---- sound desks
 
 module _ {D J : Type 0} (images : D → List ℕ → Type 0) (faults : D → ℕ) (strict : D → Bool) (armed : D → Option ℕ) (content synced : D → List ℕ) (written : D → Ranges) (strict_run : Bool) (plan : Content) (tape : TapeName) where
-  abbrev Sound : Desk D J → Type 0
+  abbrev pub Sound : Desk D J → Type 0
   Sound desk = IsSound images faults strict armed content synced written strict_run plan tape desk.actor desk.seat desk.slot desk.commands desk.gone
 
   abbrev AllSound : List (Desk D J) → Type 0

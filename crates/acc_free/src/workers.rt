@@ -104,7 +104,7 @@ fn serve_each<
         floor,
         gate,
     } = *on;
-    if others.is_empty() {
+    if others.as_slice().is_empty() {
         let first = serve(rt, plan, desks, worker, floor, tape, gate);
         return joined(Ok(Vec::new(alloc)), first);
     }
