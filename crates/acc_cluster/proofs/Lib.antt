@@ -40,4 +40,3 @@ pub mod Weighed
 pub mod OverSlots
 pub mod Groups
 pub mod GroupCalls
-pub mod GroupsOn

@@ -27,11 +27,9 @@ use Rattle.acc_schedule.specs.Actors.{actors}
 use Rattle.acc_schedule.specs.Content.{Content}
 use Rattle.acc_entering.proofs.Situations.{joined_alone}
 use Rattle.acc_follow.specs.Situations.{Stopped, Situation, whole}
-use Rattle.acc_follow.specs.Moves.{with_item}
 use Rattle.acc_follow.specs.Schedules.{cluster_of}
 use Rattle.acc_strict.specs.Disks.{Disks}
 use Rattle.acc_limits.specs.Limits.{IsWithin}
-use Rattle.acc_history.specs.declared.history.History.{History}
 use Rattle.acc_history.specs.Stands as history
 use Rattle.acc_cluster.specs.declared.slot.Slot.{Slot}
 use Rattle.acc_cluster.specs.declared.slot.Slot.TheVariants.{Empty, Node, Store}
@@ -136,25 +134,6 @@ takes_sent cluster s (Step e) stands = event_sent cluster s e.event stands.act s
 takes_sent cluster s (Skipped step cause) stands = tt
 takes_sent cluster s (Down actor) stands = tt
 
--- one item more
-one_more_item : (items : List Item) (item : Item) → reverse (items ++ item ∷ []) ≡ item ∷ reverse items
-one_more_item items item = reverse-append items (item ∷ [])
-
-pub more_history : (cluster : RunCluster) (items : List Item) (item : Item) (weight : ℕ) (h new : History) → Stands cluster (reverse items) item
-    → ((s : Situation) → history.StandsFor h s → history.TakesSent s item → history.StandsFor new (with_item item s))
-    → ((s : Situation) → history.IsWeighed h s → weight ≡ weight_of item → history.IsWeighed new (with_item item s))
-    → weight ≡ weight_of item → IsHistoryOver items [] h → IsHistoryOver (items ++ item ∷ []) [] new
-more_history cluster items item weight h new stands adds weighs weight_is over =
-    let s : Situation = behind_items items [] in
-    record {
-      stands =
-          subst (λ (own : List Item). history.StandsFor new (record { earlier = []; own = own; dropped = []; stopped = [] })) (sym (one_more_item items item))
-          (adds s over.stands (takes_sent cluster s item stands));
-      weighed =
-          subst (λ (own : List Item). history.IsWeighed new (record { earlier = []; own = own; dropped = []; stopped = [] })) (sym (one_more_item items item))
-          (weighs s over.weighed weight_is);
-    }
-
 -- an item among others, the oldest first
 module _ (before : List Item) (item : Item) (after : List Item) where
   turned : reverse (before ++ item ∷ after) ≡ reverse after ++ item ∷ reverse before
@@ -178,3 +157,14 @@ module _ (before : List Item) (item : Item) (after : List Item) where
   pub seam_sendable : (cluster : RunCluster) → IsStanding cluster (reverse (before ++ item ∷ after)) → AreFew (reverse (before ++ item ∷ after)) → AreSendable (sent_in item)
   seam_sendable cluster standing few =
       each_sendable cluster item (item ∷ reverse before) (seam_standing cluster standing) (seam_few few) (First item (reverse before))
+
+  -- it can stand behind those before it
+  pub seam_follows : (cluster : RunCluster) → IsStanding cluster (reverse (before ++ item ∷ after)) → AreFew (reverse (before ++ item ∷ after)) → history.MayFollow before item
+  seam_follows cluster standing few =
+      let sendable = seam_sendable cluster standing few in
+      let light : weight_of item < 2 ^ 63 = sendable.weight in
+      record {
+        takes = takes_sent cluster (behind_items before []) item (seam_standing cluster standing).stands.0;
+        short = sendable.short;
+        fits = omega (arith, light);
+      }

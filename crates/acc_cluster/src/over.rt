@@ -1,8 +1,6 @@
 //! A cluster over actors that stand already.
 ghost use Rattle.std.specs.Prelude.{◌≡◌, List, reverse, IfOk};
-ghost use Rattle.acc_message.specs.Items.{sent_in};
-ghost use Rattle.acc_message_code.specs.Weight.{weight_of};
-ghost use Rattle.acc_bounds.specs.Sends.{AreFew, AreSendable};
+ghost use Rattle.acc_bounds.specs.Sends.{AreFew};
 ghost use Rattle.acc_safety.specs.Valid.{IsStanding};
 ghost use Rattle.acc_follow.specs.Situations.{Stopped};
 ghost use Rattle.acc_follow.specs.Schedules.{cluster_of};
@@ -15,8 +13,7 @@ use crate::slot::Slot;
 use acc_base::OutOfMemory;
 use acc_history::History;
 use acc_history::laws::stopped_steps_are_apart;
-use acc_message::{Item, SharedItems, sent_by};
-use acc_message_code::messages_length;
+use acc_message::GrowingItems;
 use acc_ports::Rig;
 use acc_schedule::Plan;
 use acc_stamp::Actor;
@@ -29,21 +26,21 @@ impl<D: Rig + Drop> Cluster<D> {
     ghost use Rattle.acc_cluster.specs.Stands.{StandsFor, StandsStrictly};
     ghost use Rattle.acc_cluster.specs.Over.{AreSlotsOf, IsOver, AreStrictSlots};
 
-    /// The cluster of the actors of a plan that took part in these items, which stand in the order in which they were entered. No run
-    /// stood before them, and no message was dropped.
+    /// The cluster of the actors of a plan that took part in these items, which stand in the order in which they were entered, and
+    /// stay in their list. No run stood before them, and no message was dropped.
     pub fn over(
         alloc: Global,
         plan: &Plan,
         slots: Slots<D>,
-        items: SharedItems,
+        items: GrowingItems,
     ) -> Result<Cluster<D>, OutOfMemory>
-        requires standing { (stopped : List Stopped) × IsOver D.is_image D.faults plan.now slots.items items stopped }
+        requires standing { (stopped : List Stopped) × IsOver D.is_image D.faults plan.now slots.items items.items stopped }
         requires actors { AreSlotsOf plan.now slots.items }
-        ensures ok { IfOk result (λ cluster. (stopped : List Stopped) → IsOver D.is_image D.faults plan.now slots.items items stopped
-            → StandsFor D.is_image D.faults plan.now cluster (behind_items items stopped)) }
-        ensures strict { IfOk result (λ cluster. (stopped : List Stopped) (disks : Disks) → IsOver D.is_image D.faults plan.now slots.items items stopped
-            → AreStrictSlots D.strict D.armed D.content D.synced D.written plan.now (behind_items items stopped) disks slots.items
-            → StandsStrictly D.is_image D.faults D.strict D.armed D.content D.synced D.written plan.now cluster (record { found = behind_items items stopped; disks = disks })) }
+        ensures ok { IfOk result (λ cluster. (stopped : List Stopped) → IsOver D.is_image D.faults plan.now slots.items items.items stopped
+            → StandsFor D.is_image D.faults plan.now cluster (behind_items items.items stopped)) }
+        ensures strict { IfOk result (λ cluster. (stopped : List Stopped) (disks : Disks) → IsOver D.is_image D.faults plan.now slots.items items.items stopped
+            → AreStrictSlots D.strict D.armed D.content D.synced D.written plan.now (behind_items items.items stopped) disks slots.items
+            → StandsStrictly D.is_image D.faults D.strict D.armed D.content D.synced D.written plan.now cluster (record { found = behind_items items.items stopped; disks = disks })) }
     {
         let history = history_over(alloc, plan, items)?;
         let slots = placed(alloc, slots)?;
@@ -67,24 +64,12 @@ fn placed<D: Rig + Drop>(alloc: Global, slots: Slots<D>) -> Result<Vec<Slot<D>>,
 }
 
 // The past of these items.
-fn history_over(alloc: Global, plan: &Plan, items: SharedItems) -> Result<History, OutOfMemory>
-    requires { IsStanding (cluster_of plan.now) (reverse items) × AreFew (reverse items) }
-    ensures { IfOk result (λ history. (stopped : List Stopped) → IsHistoryOver items stopped history) }
+fn history_over(alloc: Global, plan: &Plan, items: GrowingItems) -> Result<History, OutOfMemory>
+    requires { IsStanding (cluster_of plan.now) (reverse items.items) × AreFew (reverse items.items) }
+    ensures { IfOk result (λ history. (stopped : List Stopped) → IsHistoryOver items.items stopped history) }
 {
     stopped_steps_are_apart();
     let _plan = plan;
-    let mut history = History::new(alloc)?;
-    for item in items.into_vec() {
-        let weight = weight_of_item(&*item);
-        history.add_shared(item, weight)?;
-    }
+    let history = History::over(alloc, items)?;
     Ok(history)
-}
-
-// The bytes of an item's messages.
-fn weight_of_item(item: &Item) -> u64
-    requires { AreSendable (sent_in item.now) }
-    ensures { result ≡ weight_of item.now }
-{
-    messages_length(sent_by(item))
 }

@@ -1,9 +1,10 @@
 -- What the actor of a desk may take next.
-use Rattle.std.proofs.Common.{◌≡◌, ℕ, ◌+◌, Bool, true, false, List, length, map, reverse, take, drop, Option, Some, unwrap_or, refl, sym, ◌∙◌, ap, subst, eq-eqb, inl, inr}
-use Rattle.std.specs.Prelude.{sum_by}
+use Rattle.std.proofs.Common.{◌≡◌, ℕ, ◌+◌, Bool, true, false, List, [], ◌∷◌, length, map, reverse, take, drop, Option, Some, unwrap_or, refl, sym, ◌∙◌, ap, subst, eq-eqb, inl, inr}
+use Rattle.std.specs.Prelude.{All, sum_by}
 use Rattle.std.specs.List.{slice_get, list_any}
 use Rattle.std.specs.Option.{option_map}
 use Rattle.std.proofs.lemmas.Option.{slice_get-map}
+use Rattle.std.proofs.lemmas.List.Elements.{All-head}
 use Rattle.acc_stamp.specs.declared.stamps.TxnId.{TxnId}
 use Rattle.acc_stamp.specs.declared.actors.Actor.{Actor}
 use Rattle.acc_stamp.specs.Actor.{actor_of}
@@ -28,9 +29,9 @@ use Rattle.acc_entering.proofs.Standing.{begin_may, recover_may}
 use Rattle.acc_follow.specs.Schedules.{cluster_of}
 use Rattle.acc_cluster.specs.declared.slot.Slot.{Slot}
 use Rattle.acc_served.specs.Commands.{commands_of}
-use Rattle.acc_tape.specs.ItemViews.{addressee}
+use Rattle.acc_tape.specs.ItemViews.{addressee, taken_by_item, is_lost_item}
+use Rattle.acc_tape.specs.Messages.{IsOldest, AreOldest, IsSentBy, posts_in}
 use Rattle.acc_desk.specs.Desks.{IsAt, MayStep, begins_it}
-use Rattle.acc_desk.specs.Groups.{IsOldestHere}
 use Rattle.acc_desk.proofs.Next.{drop_next, own_command, none_gone}
 use Rattle.acc_desk.proofs.Posts.{sent_through, sent_reversed, message_through, untaken_reversed}
 use Rattle.acc_desk.proofs.Unbegun.{unbegun}
@@ -77,6 +78,10 @@ module _ {D : Type 0} (images : D → List ℕ → Type 0) (faults : D → ℕ) 
 
 -- ---- messages
 
+-- the oldest message that waits for the actor and has a number from this one on
+abbrev pub IsOldestHere : List Item → ℕ → ℕ → Post → Type 0
+IsOldestHere seen actor from post = IsOldest taken_by_item (λ item. map addressee (sent_in item)) is_lost_item seen actor from post
+
 goes_there : (ms : List Message) (index actor : ℕ) (m : Message) → slice_get ms index ≡ Some m → slice_get (map addressee ms) index ≡ Some actor → (to_of m).0 ≡ actor
 goes_there ms index actor m is to =
     let e : Some (addressee m) ≡ Some actor = sym (slice_get-map addressee ms index ∙ ap (option_map addressee) is) ∙ to in cc
@@ -108,3 +113,25 @@ module _ (plan : Content) (a : Actor) (seen : List Item) (from : ℕ) (post : Po
         untaken = untaken_reversed seen post.number ∙ oldest.waits.4;
         turn = inl (refl, refl);
       }
+
+-- ---- what was found
+
+-- the item has this message as the one with this index
+abbrev pub HasSent : Item → ℕ → Message → Type 0
+HasSent item index m = slice_get (sent_in item) index ≡ Some m
+
+first_found : (seen : List Item) (actor : ℕ) (found : List (Post × Message)) (pair : Post × Message)
+    → AreOldest taken_by_item (λ item. map addressee (sent_in item)) is_lost_item seen actor 0 (posts_in found) → All (IsSentBy HasSent seen) found → slice_get found 0 ≡ Some pair
+    → IsOldestHere seen actor 0 pair.0 × IsSentBy HasSent seen pair
+first_found seen actor [] pair oldest sent is = absurd (cc)
+first_found seen actor (x ∷ found) pair oldest sent is =
+    let same : x ≡ pair = cc in
+    subst (λ (p : Post × Message). IsOldestHere seen actor 0 p.0 × IsSentBy HasSent seen p) same (oldest.0, All-head (IsSentBy HasSent seen) x found sent)
+
+-- the first message that was found is one that an actor that is up may take
+pub found_may : (plan : Content) (a : Actor) (seen : List Item) (found : List (Post × Message)) (pair : Post × Message)
+    → AreOldest taken_by_item (λ item. map addressee (sent_in item)) is_lost_item seen a.0 0 (posts_in found) → All (IsSentBy HasSent seen) found → slice_get found 0 ≡ Some pair
+    → is_down a (reverse seen) ≡ false → (left : List Step) → MayStep plan (reverse seen) a (MessageEvent pair.0.number) (Takes pair.1) left left
+found_may plan a seen found pair oldest sent is up left =
+    let first = first_found seen a.0 found pair oldest sent is in
+    may_take plan a seen 0 pair.0 first.0 first.1.0 first.1.1 pair.1 first.1.2 up left

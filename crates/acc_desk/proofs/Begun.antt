@@ -1,17 +1,15 @@
 -- A transaction has one begin, which drew its id.
-use Rattle.std.proofs.Common.{◌≡◌, ℕ, zero, suc, ◌==◌, Bool, true, false, not, cond, List, [], ◌∷◌, ◌++◌, reverse, Option, None, Some, refl, sym, ◌∙◌, ap, subst, eqb-true}
-use Rattle.std.specs.Prelude.{IfSome}
+use Rattle.std.proofs.Common.{◌≡◌, ℕ, zero, suc, Bool, true, false, not, List, [], ◌∷◌, ◌++◌, reverse, Some, refl, sym, ◌∙◌, ap, subst, eqb-true}
 use Rattle.std.specs.List.{slice_get}
 use Rattle.std.proofs.lemmas.Bool.{true≢false}
 use Rattle.std.proofs.lemmas.List.{reverse-append, append_assoc}
 use Rattle.acc_base.specs.Faults.{or_else}
 use Rattle.acc_stamp.specs.declared.stamps.TxnId.{TxnId}
-use Rattle.acc_message.specs.declared.entry.Entry.{Entry}
 use Rattle.acc_message.specs.declared.entry.Event.{Event}
 use Rattle.acc_message.specs.declared.entry.Event.TheVariants.{Begin as BeginEvent, Recover as RecoverEvent, Slow as SlowEvent, Message as MessageEvent, Restart as RestartEvent}
 use Rattle.acc_message.specs.declared.item.Item.{Item}
 use Rattle.acc_message.specs.declared.item.Item.TheVariants.{Step as StepItem, Skipped, Down}
-use Rattle.acc_message.specs.Items.{event_begins, begins_txn, is_begun, id_drawn, id_begun, id_of_txn}
+use Rattle.acc_message.specs.Items.{event_begins, begins_txn, is_begun, id_begun, id_of_txn}
 use Rattle.acc_message.specs.Run.{Cluster, MayStand, Stands, EachStands}
 use Rattle.acc_history.proofs.Raised.{no_id}
 use Rattle.acc_desk.specs.Desks.{BeginsAs}
@@ -64,12 +62,3 @@ id_at cluster seen place item txn id stands is drew =
     let e : reverse seen ≡ reverse p.after ++ item ∷ reverse p.before =
     ap reverse p.seen_is ∙ reverse-append p.before (item ∷ p.after) ∙ ap (λ l. l ++ reverse p.before) (reverse-append (item ∷ []) p.after) ∙ append_assoc (reverse p.after) (item ∷ []) (reverse p.before) in
     ap (λ items. id_of_txn items txn) e ∙ id_drawn_there cluster (reverse p.after) (reverse p.before) item txn id (subst (EachStands cluster) e stands) drew
-
--- ---- an entry
-
--- the begin of a transaction drew what its notes say
-pub drew : (txn : ℕ) (e : Entry) (begun : ℕ) (o : Option TxnId) → e.event ≡ BeginEvent begun → (begun == txn) ≡ true → o ≡ id_drawn e.emitted.notes → IfSome o (λ id. BeginsAs txn id (StepItem e))
-drew txn e begun None is same o_is = tt
-drew txn e begun (Some id) is same o_is =
-    let begins : event_begins txn e.event ≡ true = ap (event_begins txn) is ∙ same in
-    (begins, ap (λ b. cond b (id_drawn e.emitted.notes) None) begins ∙ sym o_is)

@@ -20,7 +20,7 @@ use Rattle.acc_served.specs.FreeRun.{AreKnown, AreOthers}
 use Rattle.acc_tape.specs.Lists.{items_of}
 use Rattle.acc_tape.specs.ItemViews.{actor_of_item}
 use Rattle.acc_tape.specs.Seats.{TapeName, SeatView}
-use Rattle.acc_desk.specs.Desks.{IsSeated}
+use Rattle.acc_desk.specs.Desks.{no_hold, IsSeated}
 use Rattle.acc_desk.proofs.Moving.{between}
 use Rattle.acc_desk.proofs.Seating.{at_actor}
 
@@ -44,7 +44,7 @@ nobody layout (Down actor ∷ items) known up =
 -- ---- within the limits
 
 module _ (tape : TapeName) (items : List Item) where
-  module _ (a : Actor) (seat : SeatView Item) (seated : IsSeated tape a [] seat) where
+  module _ (a : Actor) (seat : SeatView Item) (seated : IsSeated tape a no_hold seat) where
     own_is : (item : Item) → seat.actor ≡ actor_of_item item → is_item_of a item ≡ true
     own_is (StepItem e) own = eq-eqb e.actor.0 a.0 (sym own ∙ seated.actor_is)
     own_is (Skipped step cause) own = absurd (seated.some own)
@@ -75,7 +75,7 @@ module _ (tape : TapeName) (items : List Item) where
   abbrev HasOwner : List (SeatView Item) → Item → Type 0
   HasOwner seats item = Any (λ (seat : SeatView Item). seat.actor ≡ actor_of_item item) seats
 
-  pub within : (made : List ℕ) (seats : List (SeatView Item)) → tape.limits.weight ≤ most_bytes → All (λ (seat : SeatView Item). (a : Actor) × IsSeated tape a [] seat) seats
+  pub within : (made : List ℕ) (seats : List (SeatView Item)) → tape.limits.weight ≤ most_bytes → All (λ (seat : SeatView Item). (a : Actor) × IsSeated tape a no_hold seat) seats
       → All (λ (seat : SeatView Item). IsPrefix seat.seen items × (items_of actor_of_item seat.actor items ≡ seat.mine) × Contains made seat.actor) seats
       → All (λ (item : Item). Any (λ (seat : SeatView Item). seat.actor ≡ actor_of_item item) seats) items → IsWithin (reverse items)
   within made seats light seated begins owned = by (reverse items) refl
@@ -86,6 +86,6 @@ module _ (tape : TapeName) (items : List Item) where
           let each = All-permutation (HasOwner seats) items (reverse items) (IsPermutation-reverse items) owned in
           let owner = All-head (HasOwner seats) last earlier (subst (All (HasOwner seats)) e each) in
           let seat = owner.1 in
-          let there = subst (λ (seat : SeatView Item). (a : Actor) × IsSeated tape a [] seat) owner.3 (seated owner.0 owner.1 owner.2) in
+          let there = subst (λ (seat : SeatView Item). (a : Actor) × IsSeated tape a no_hold seat) owner.3 (seated owner.0 owner.1 owner.2) in
           let saw = subst (λ (seat : SeatView Item). IsPrefix seat.seen items × (items_of actor_of_item seat.actor items ≡ seat.mine) × Contains made seat.actor) owner.3 (begins owner.0 owner.1 owner.2) in
           subst IsWithin (sym (sees_all there.0 seat there.1 saw.0 saw.1 last earlier e owner.4)) (seen_within there.0 seat there.1 light)

@@ -1,7 +1,10 @@
--- The messages of a group are entered one behind another, with others' items between.
-use Rattle.std.proofs.Common.{◌≡◌, ◌≢◌, ℕ, ◌≤◌, Bool, true, false, ◌||◌, List, [], ◌∷◌, ◌++◌, length, Option, Some, Contains, refl, sym, ◌∙◌, ap, subst, arith, eqb-true}
-use Rattle.std.specs.Prelude.{All}
+-- The messages of a group are entered one behind another, behind others' items.
+use Rattle.std.proofs.Common.{◌≡◌, ◌≢◌, ℕ, zero, suc, ◌+◌, ◌<◌, ◌≤◌, ◌^◌, Bool, true, false, ◌||◌, List, [], ◌∷◌, ◌++◌, length, map, take, reverse, Option, Some, Contains, refl, sym, ◌∙◌, ap, subst, arith, eqb-true}
+use Rattle.std.specs.Prelude.{All, sum, sum_by}
 use Rattle.std.specs.List.{list_any}
+use Rattle.std.proofs.lemmas.List.{reverse-append, append_assoc}
+use Rattle.std.proofs.lemmas.List.Elements.{All-nil, All-cons}
+use Rattle.std.proofs.lemmas.List.Sums.{sum_by-cons}
 use Rattle.std.proofs.lemmas.Bool.{true≢false}
 use Rattle.acc_stamp.specs.declared.actors.Actor.{Actor}
 use Rattle.acc_stamp.proofs.Rising.{each_weaker}
@@ -19,7 +22,7 @@ use Rattle.acc_message_code.specs.Weight.{weight_of}
 use Rattle.acc_payloads.specs.Items.{payload_by, payloads_in}
 use Rattle.acc_safety.specs.Calm.{event_takes, item_takes}
 use Rattle.acc_safe_runs.specs.Asks.{emits_if}
-use Rattle.acc_bounds.specs.Sends.{AreSendable}
+use Rattle.acc_bounds.specs.Sends.{AreFew, AreSendable}
 use Rattle.acc_bounds.proofs.Sendable.{next_sendable}
 use Rattle.acc_actors.specs.declared.stops.Unsent.{Unsent}
 use Rattle.acc_schedule.specs.Actors.{actors}
@@ -34,14 +37,12 @@ use Rattle.acc_entering.proofs.Stops.{act_still, same_by_deeds}
 use Rattle.acc_follow.specs.Situations.{Situation, whole}
 use Rattle.acc_follow.specs.Moves.{event_in, entry_of, entered, entered_all}
 use Rattle.acc_follow.specs.Schedules.{cluster_of}
-use Rattle.acc_limits.specs.Limits.{most_items}
 use Rattle.acc_strict.specs.Disks.{fresh_disks}
 use Rattle.acc_cluster.specs.declared.slot.Slot.{Slot}
 use Rattle.acc_cluster.specs.Pasts.{stops_in}
 use Rattle.acc_cluster.specs.Slots.{SlotStands, IsStrictSlot}
 use Rattle.acc_cluster.specs.Asked.{AreSteps}
 use Rattle.acc_cluster.proofs.Apart.{IsApart}
-use Rattle.acc_cluster.proofs.Few.{few_whole}
 use Rattle.acc_cluster.proofs.Slots.{slot_apart, strict_apart}
 use Rattle.acc_served.specs.Commands.{is_message}
 use Rattle.acc_served.specs.FreeRun.{AreOthers, IsFreeRun, IsUntaken, is_plain_event, alone}
@@ -51,9 +52,10 @@ use Rattle.acc_served.proofs.Over.{turn_fits, gone_over, serving_over}
 use Rattle.acc_served.proofs.Others.{untouched_by, may_over}
 use Rattle.acc_served.proofs.Serving.{each_both, serving_entered}
 use Rattle.acc_served.proofs.Going.{message_went}
+use Rattle.acc_tape.specs.ItemViews.{actor_of_item}
 use Rattle.acc_desk.specs.Desks.{IsAt, item_of}
-use Rattle.acc_desk.specs.Groups.{AreWeighed, MayJoin, AreJoined, IsEntering}
-use Rattle.acc_desk.proofs.Stepping.{few_alone, step_on}
+use Rattle.acc_desk.specs.Groups.{AreWeighed, MayJoin, AreJoined, IsEntering, item_of_unsent}
+use Rattle.acc_desk.proofs.Stepping.{step_on}
 
 -- ---- what may be taken, behind others' items
 
@@ -222,7 +224,7 @@ module _ {D : Type 0} (images : D → List ℕ → Type 0) (faults : D → ℕ) 
     pub first_weighs : weight_of first_item ≤ weight
     first_weighs = let e = ap weight_of made_is in let w = h.weighed.0 in omega arith
 
-    sendable : length items ≤ most_items → AreSendable one.emitted.out
+    sendable : AreFew items → AreSendable one.emitted.out
     sendable few =
         let emitted : one.emitted ≡ emits (cluster_of plan) (whole now) a h.could.0.0 =
         h.steps.1
@@ -233,9 +235,9 @@ module _ {D : Type 0} (images : D → List ℕ → Type 0) (faults : D → ℕ) 
         ∙ ap (λ l. emits (cluster_of plan) l a h.could.0.0) (sym (alone_whole items h.stopped)) in
         subst (λ (m : Emitted). AreSendable m.out) (sym emitted)
         (next_sendable (cluster_of plan) (whole now) a h.could.0.0 (sound_standing (cluster_of plan) now h.serving.sound)
-        (record { event = event_in now event; act_is = may_now.act_is; place = may_now.place }) (few_whole now (few_alone items h.stopped few)))
+        (record { event = event_in now event; act_is = may_now.act_is; place = may_now.place }) (subst AreFew (sym (alone_whole items h.stopped)) few))
 
-    pub first_short : length items ≤ most_items → All IsShortMessage (sent_in first_item)
+    pub first_short : AreFew items → All IsShortMessage (sent_in first_item)
     first_short few = (sendable few).short
 
     -- behind others' items too
@@ -310,3 +312,60 @@ module _ {D : Type 0} (images : D → List ℕ → Type 0) (faults : D → ℕ) 
 
     pub first_entered : Entering (first_item ∷ items) events unsent weights
     first_entered = subst (λ item. Entering (item ∷ items) events unsent weights) (sym first_is) rest_entered
+
+  -- ---- all of them, one behind another
+
+  -- the first one stands nearest to what was there before
+  turned : (item : Item) (others items : List Item) → reverse (item ∷ others) ++ items ≡ reverse others ++ item ∷ items
+  turned item others items = ap (λ l. l ++ items) (reverse-append (item ∷ []) others) ∙ append_assoc (reverse others) (item ∷ []) items
+
+  module _ (known : Contains (actors plan.topology) a) where
+    -- each front of them fits
+    pub all_fit : (items : List Item) (events : List Event) (unsent : List Unsent) (weights : List ℕ) → Entering items events unsent weights → IsFreeRun plan items → (k : ℕ)
+        → IsFreeRun plan (reverse (take k (map (item_of_unsent a) unsent)) ++ items)
+    all_fit items events unsent weights h free zero = free
+    all_fit items [] [] weights h free (suc k) = free
+    all_fit items [] (one ∷ unsent) weights h free (suc k) = absurd h.steps
+    all_fit items (event ∷ events) [] weights h free (suc k) = absurd h.steps
+    all_fit items (event ∷ events) (one ∷ unsent) [] h free (suc k) = absurd h.weighed
+    all_fit items (event ∷ events) (one ∷ unsent) (weight ∷ weights) h free (suc k) =
+        subst (IsFreeRun plan) (sym (turned (item_of_unsent a one) (take k (map (item_of_unsent a) unsent)) items))
+        (all_fit (item_of_unsent a one ∷ items) events unsent weights (first_entered known items event events one unsent weight weights h) (first_fits known items event events one unsent weight weights h [] tt free) k)
+
+    pub all_short : (items : List Item) (events : List Event) (unsent : List Unsent) (weights : List ℕ) → Entering items events unsent weights → length items + length unsent < 2 ^ 31
+        → All (λ item. All IsShortMessage (sent_in item)) (map (item_of_unsent a) unsent)
+    all_short items [] [] weights h few = All-nil (λ item. All IsShortMessage (sent_in item))
+    all_short items [] (one ∷ unsent) weights h few = absurd h.steps
+    all_short items (event ∷ events) [] weights h few = absurd h.steps
+    all_short items (event ∷ events) (one ∷ unsent) [] h few = absurd h.weighed
+    all_short items (event ∷ events) (one ∷ unsent) (weight ∷ weights) h few =
+        All-cons (λ item. All IsShortMessage (sent_in item)) (item_of_unsent a one) (map (item_of_unsent a) unsent) (first_short known items event events one unsent weight weights h (omega arith))
+        (all_short (item_of_unsent a one ∷ items) events unsent weights (first_entered known items event events one unsent weight weights h) (omega arith))
+
+    pub all_weigh : (items : List Item) (events : List Event) (unsent : List Unsent) (weights : List ℕ) → Entering items events unsent weights → sum_by weight_of (map (item_of_unsent a) unsent) ≤ sum weights
+    all_weigh items [] [] weights h = omega arith
+    all_weigh items [] (one ∷ unsent) weights h = absurd h.steps
+    all_weigh items (event ∷ events) [] weights h = absurd h.steps
+    all_weigh items (event ∷ events) (one ∷ unsent) [] h = absurd h.weighed
+    all_weigh items (event ∷ events) (one ∷ unsent) (weight ∷ weights) h =
+        let first = first_weighs known items event events one unsent weight weights h in
+        let others = all_weigh (item_of_unsent a one ∷ items) events unsent weights (first_entered known items event events one unsent weight weights h) in
+        let made = sum_by-cons weight_of (item_of_unsent a one) (map (item_of_unsent a) unsent) in
+        let weighed = sum_by-cons (λ n. n) weight weights in
+        omega arith
+
+    -- the actor stands behind all of them
+    pub all_at : (items : List Item) (events : List Event) (unsent : List Unsent) (weights : List ℕ) → Entering items events unsent weights
+        → IsAt images faults strict armed content synced written strict_run plan a (reverse (map (item_of_unsent a) unsent) ++ items) slot left
+    all_at items [] [] weights h = all_entered items [] weights h
+    all_at items [] (one ∷ unsent) weights h = absurd h.steps
+    all_at items (event ∷ events) [] weights h = absurd h.steps
+    all_at items (event ∷ events) (one ∷ unsent) [] h = absurd h.weighed
+    all_at items (event ∷ events) (one ∷ unsent) (weight ∷ weights) h =
+        subst (λ all. IsAt images faults strict armed content synced written strict_run plan a all slot left) (sym (turned (item_of_unsent a one) (map (item_of_unsent a) unsent) items))
+        (all_at (item_of_unsent a one ∷ items) events unsent weights (first_entered known items event events one unsent weight weights h))
+
+-- each is the actor's
+pub all_own : (a : Actor) (n : ℕ) (unsent : List Unsent) → n ≡ a.0 → All (λ item. actor_of_item item ≡ n) (map (item_of_unsent a) unsent)
+all_own a n [] is = All-nil (λ item. actor_of_item item ≡ n)
+all_own a n (one ∷ unsent) is = All-cons (λ item. actor_of_item item ≡ n) (item_of_unsent a one) (map (item_of_unsent a) unsent) (sym is) (all_own a n unsent is)

@@ -1,77 +1,73 @@
 -- What a seat found at its tape.
-use Rattle.std.proofs.Common.{◌≡◌, ℕ, ◌+◌, List, [], ◌++◌, Option, None, Some, Result, Ok, Err, refl, sym, ◌∙◌, ap, subst, append-nil}
-use Rattle.std.specs.Prelude.{slice_get, IfOk, IfSome, MatchOption}
+use Rattle.std.proofs.Common.{◌≡◌, ◌≢◌, ℕ, ◌+◌, ◌<◌, ◌≤◌, false, not, List, [], ◌∷◌, ◌++◌, length, map, refl, sym, ◌∙◌, ap, arith}
+use Rattle.std.specs.Prelude.{All}
+use Rattle.std.specs.List.{AllByRecursion}
 use Rattle.std.proofs.lemmas.List.{append_assoc}
+use Rattle.std.proofs.lemmas.List.Elements.{All-head, All-tail}
+use Rattle.acc_stamp.specs.declared.actors.Actor.{Actor}
 use Rattle.acc_posts.specs.declared.posting.Post.{Post}
+use Rattle.acc_message.specs.declared.message.Message.{Message}
+use Rattle.acc_message.specs.declared.entry.Event.{Event}
+use Rattle.acc_message.specs.declared.entry.Event.TheVariants.{Message as TakesMessage}
 use Rattle.acc_message.specs.declared.item.Item.{Item}
+use Rattle.acc_message.specs.Items.{sent_in}
+use Rattle.acc_message.specs.Run.{is_node, is_down}
 use Rattle.acc_message_code.specs.Weight.{weight_of}
 use Rattle.acc_schedule.specs.Content.{Content}
-use Rattle.acc_tape.specs.ItemViews.{actor_of_item}
+use Rattle.acc_schedule.specs.declared.plan.Step.{Step}
+use Rattle.acc_entering.specs.Stopped.{AreDifferent}
+use Rattle.acc_tape.specs.ItemViews.{actor_of_item, addressee, taken_by_item, is_lost_item}
+use Rattle.acc_tape.specs.Messages.{AreOldest, IsSentBy, posts_in}
 use Rattle.acc_tape.specs.Seats.{SeatView, Turns}
+use Rattle.acc_desk.specs.Desks.{newest}
 use Rattle.acc_desk.specs.Fits.{fits_plan}
-use Rattle.acc_desk.specs.Groups.{IsOldestHere, bound_of}
-use Rattle.acc_desk.proofs.Posts.{get_left}
+use Rattle.acc_desk.specs.Groups.{events_of, joining_of, CanJoin, CanAllJoin}
+use Rattle.acc_desk.proofs.Asking.{HasSent, may_take}
 
-module _ (plan : Content) where
-  abbrev TurnsOf : SeatView Item → SeatView Item → Type 0
-  TurnsOf old new = Turns actor_of_item weight_of (fits_plan plan) old new
+-- one call behind another
+pub turns_both : (plan : Content) (old between new : SeatView Item) → Turns actor_of_item weight_of (fits_plan plan) old between → Turns actor_of_item weight_of (fits_plan plan) between new
+    → Turns actor_of_item weight_of (fits_plan plan) old new
+turns_both plan old between new one two =
+    let p = one.seen in
+    let q = two.seen in
+    record {
+      tape = two.tape ∙ one.tape;
+      actor = two.actor ∙ one.actor;
+      seen = (p.0 ++ q.0, sym (append_assoc old.seen p.0 q.0) ∙ ap (λ (l : List Item). l ++ q.0) p.1 ∙ q.1);
+      mine = two.mine;
+      within_items = two.within_items;
+      within_weight = two.within_weight;
+      counted = two.counted;
+      weighed = two.weighed;
+      fitting = two.fitting;
+    }
 
-  -- a seat that sees no more
-  turns_stay : (old new : SeatView Item) → TurnsOf old new → TurnsOf new new
-  turns_stay old new t =
-      record {
-        tape = refl;
-        actor = refl;
-        seen = ([], append-nil new.seen);
-        mine = t.mine;
-        within_items = t.within_items;
-        within_weight = t.within_weight;
-        counted = t.counted;
-        weighed = t.weighed;
-        fitting = t.fitting;
-      }
+module _ (plan : Content) (a : Actor) (seat : SeatView Item) where
+  abbrev Oldest : ℕ → List (Post × Message) → Type 0
+  Oldest from found = AreOldest taken_by_item (λ item. map addressee (sent_in item)) is_lost_item seat.seen a.0 from (posts_in found)
 
-  -- one call behind another
-  pub turns_both : (old between new : SeatView Item) → TurnsOf old between → TurnsOf between new → TurnsOf old new
-  turns_both old between new one two =
-      let p = one.seen in
-      let q = two.seen in
-      record {
-        tape = two.tape ∙ one.tape;
-        actor = two.actor ∙ one.actor;
-        seen = (p.0 ++ q.0, sym (append_assoc old.seen p.0 q.0) ∙ ap (λ (l : List Item). l ++ q.0) p.1 ∙ q.1);
-        mine = two.mine;
-        within_items = two.within_items;
-        within_weight = two.within_weight;
-        counted = two.counted;
-        weighed = two.weighed;
-        fitting = two.fitting;
-      }
-
-  -- what was found: where it was seen, and that it stood there
-  abbrev pub Found : ℕ → Option ℕ → SeatView Item → SeatView Item → Post → Item → Type 0
-  Found actor after old new post item =
-      (between : SeatView Item) × TurnsOf old between × (between.mine ≡ old.mine) × IsOldestHere between.seen actor (bound_of after) post × (slice_get between.seen post.place ≡ Some item) × TurnsOf between new
-
-  -- the first that waits, with its item
-  pub first_found : {X E : Type 0} (N : Type 0) (post_of : X → Post) (item_of : X → Item) (actor : ℕ) (after : Option ℕ) → after ≡ None → (old new : SeatView Item) → TurnsOf old new → new.mine ≡ old.mine → (r : Result (Option X) E)
-      → IfOk r (λ found. MatchOption found N (λ x. IsOldestHere new.seen actor 0 (post_of x) × (slice_get new.seen (post_of x).place ≡ Some (item_of x))))
-      → IfOk r (λ found. IfSome found (λ x. Found actor after old new (post_of x) (item_of x)))
-  first_found N post_of item_of actor after none old new turns same (Err e) h = h
-  first_found N post_of item_of actor after none old new turns same (Ok None) h = tt
-  first_found N post_of item_of actor after none old new turns same (Ok (Some x)) h =
-      (new, turns, same, subst (λ (o : Option ℕ). IsOldestHere new.seen actor (bound_of o) (post_of x)) (sym none) h.0, h.1, turns_stay old new turns)
-
-  -- a later one, whose item was fetched then
-  pub later_found : (actor number : ℕ) (after : Option ℕ) → after ≡ Some number → (post : Post) (item : Item) (old between new : SeatView Item) → TurnsOf old between → between.mine ≡ old.mine → TurnsOf between new
-      → IsOldestHere between.seen actor (number + 1) post → slice_get new.seen post.place ≡ Some item → Found actor after old new post item
-  later_found actor number after is post item old between new one same two oldest there =
-      let p = two.seen in
-      let stands = oldest.stands.1 in (
-        between,
-        one,
-        same,
-        subst (λ (o : Option ℕ). IsOldestHere between.seen actor (bound_of o) post) (sym is) oldest,
-        stands ∙ sym (get_left between.seen p.0 post.place oldest.stands.0 stands) ∙ ap (λ (l : List Item). slice_get l post.place) p.1 ∙ there,
-        two,
+  -- those behind a message have other numbers
+  later_apart : (number from : ℕ) (found : List (Post × Message)) → number < from → Oldest from found → AllByRecursion (λ (other : Event). TakesMessage number ≢ other) (events_of (map joining_of found))
+  later_apart number from [] less oldest = tt
+  later_apart number from (one ∷ found) less oldest =
+      let late = oldest.0.late_enough in (
+        (λ same. let e : number ≡ one.0.number = cc in absurd (omega arith)),
+        later_apart number (one.0.number + 1) found (omega arith) oldest.1,
       )
+
+  found_differ : (from : ℕ) (found : List (Post × Message)) → Oldest from found → AreDifferent (events_of (map joining_of found))
+  found_differ from [] oldest = tt
+  found_differ from (one ∷ found) oldest = (later_apart one.0.number (one.0.number + 1) found (omega arith) oldest.1, found_differ (one.0.number + 1) found oldest.1)
+
+  -- what was found may join
+  module _ (kind : is_node a ≡ false) (up : is_down a (newest seat) ≡ false) (left : List Step) where
+    each_may : (from : ℕ) (found : List (Post × Message)) → Oldest from found → All (IsSentBy HasSent seat.seen) found → AllByRecursion (CanJoin plan (newest seat) a left) (map joining_of found)
+    each_may from [] oldest sent = tt
+    each_may from (one ∷ found) oldest sent =
+        let s = All-head (IsSentBy HasSent seat.seen) one found sent in (
+          record { may = may_take plan a seat.seen from one.0 oldest.0 s.0 s.1 one.1 s.2 up left; message = refl; journalled = ap not kind },
+          each_may (one.0.number + 1) found oldest.1 (All-tail (IsSentBy HasSent seat.seen) one found sent),
+        )
+
+    pub found_may_join : (found : List (Post × Message)) → Oldest 0 found → All (IsSentBy HasSent seat.seen) found → length (map joining_of found) ≤ 16 → CanAllJoin plan (newest seat) a left (map joining_of found)
+    found_may_join found oldest sent few = record { each = each_may 0 found oldest sent; different = found_differ 0 found oldest; few = few }

@@ -26,7 +26,7 @@ use Rattle.acc_limits.specs.Limits.{most_items}
 use Rattle.acc_strict.specs.Disks.{Disks, fresh_disks}
 use Rattle.acc_cluster.specs.declared.slot.Slot.{Slot}
 use Rattle.acc_cluster.specs.Slots.{SlotStages, IsStrictSlot}
-use Rattle.acc_cluster.specs.Asked.{MayTakeEach, IsStaged, IsAskedBehind}
+use Rattle.acc_cluster.specs.Asked.{MayTakeEach, AreSteps, IsStaged, IsAskedBehind}
 use Rattle.acc_cluster.proofs.Pasts.{none_stopped}
 use Rattle.acc_served.specs.Commands.{is_message}
 use Rattle.acc_served.specs.FreeRun.{AreOthers, IsFreeRun, IsUntaken, alone}
@@ -40,13 +40,13 @@ use Rattle.acc_desk.proofs.Unarmed.{stepped_fresh}
 
 -- ---- one more
 
-pub weighed_more : (cluster : Cluster) (a : Actor) (events : List Event) (weights : List ℕ) (s : Situation) (event : Event) (weight : ℕ) (spare : List ℕ) → length weights ≡ length events
-    → AreWeighed cluster s a events weights → weight ≡ weight_of (entry_of cluster (entered_all cluster s a events false) a event false) → AreWeighed cluster s a (events ++ event ∷ []) (weights ++ weight ∷ spare)
-weighed_more cluster a [] [] s event weight spare long h is = (is, tt)
-weighed_more cluster a [] (w ∷ weights) s event weight spare long h is = absurd (omega arith)
-weighed_more cluster a (first ∷ events) [] s event weight spare long h is = absurd h
-weighed_more cluster a (first ∷ events) (w ∷ weights) s event weight spare long h is =
-    (h.0, weighed_more cluster a events weights (entered cluster s a first false) event weight spare (omega arith) h.1 is)
+pub weighed_more : (cluster : Cluster) (a : Actor) (events : List Event) (weights : List ℕ) (s : Situation) (event : Event) (weight : ℕ) → length weights ≡ length events
+    → AreWeighed cluster s a events weights → weight ≡ weight_of (entry_of cluster (entered_all cluster s a events false) a event false) → AreWeighed cluster s a (events ++ event ∷ []) (weights ++ weight ∷ [])
+weighed_more cluster a [] [] s event weight long h is = (is, tt)
+weighed_more cluster a [] (w ∷ weights) s event weight long h is = absurd (omega arith)
+weighed_more cluster a (first ∷ events) [] s event weight long h is = absurd h
+weighed_more cluster a (first ∷ events) (w ∷ weights) s event weight long h is =
+    (h.0, weighed_more cluster a events weights (entered cluster s a first false) event weight (omega arith) h.1 is)
 
 each_append : {K : Type 0} (P : K → Type 0) (xs : List K) (x : K) → AllByRecursion P xs → P x → AllByRecursion P (xs ++ x ∷ [])
 each_append P [] x h p = (p, tt)
@@ -83,6 +83,13 @@ joined_over plan a seen others left joinings apart free h =
       different = h.different;
       few = h.few;
     }
+
+-- as many steps as events
+pub steps_long : (cluster : Cluster) (s : Situation) (a : Actor) (events : List Event) (lost : Bool) (given : List Unsent) → AreSteps cluster s a events lost given → length given ≡ length events
+steps_long cluster s a [] lost [] steps = refl
+steps_long cluster s a [] lost (one ∷ given) steps = absurd steps
+steps_long cluster s a (event ∷ events) lost [] steps = absurd steps
+steps_long cluster s a (event ∷ events) lost (one ∷ given) steps = let others = steps_long cluster (entered cluster s a event lost) a events lost given steps.2 in omega arith
 
 -- ---- what the slot says
 
@@ -122,21 +129,15 @@ module _ {D : Type 0} (images : D → List ℕ → Type 0) (faults : D → ℕ) 
     pub staged_now : (s : Situation) → Ready s joinings → IsStaged images faults plan s a (events_of joinings) slot
     staged_now s ready = record { sound = ready.sound; few = ready.few; stands = staged.stages s ready; up = ready.up; each = take_each s joinings ready.each }
 
-    -- a weight that is reserved for nothing
-    weighed_spare : (s : Situation) (events : List Event) (weights spare : List ℕ) → AreWeighed (cluster_of plan) s a events weights → AreWeighed (cluster_of plan) s a events (weights ++ spare)
-    weighed_spare s [] weights spare h = tt
-    weighed_spare s (event ∷ events) [] spare h = absurd h
-    weighed_spare s (event ∷ events) (w ∷ weights) spare h = (h.0, weighed_spare (entered (cluster_of plan) s a event false) events weights spare h.1)
-
     -- a message was refused
-    pub staged_still : (new : Slot D) (spare : List ℕ)
+    pub staged_still : (new : Slot D)
         → ((s : Situation) (events : List Event) → SlotStages images faults plan s a events slot → SlotStages images faults plan s a events new)
         → ((s : Situation) (disks : Disks) → IsStrictSlot strict armed content synced written plan s disks a slot → IsStrictSlot strict armed content synced written plan s disks a new)
-        → Staged new joinings (weights ++ spare)
-    staged_still new spare still strictly =
+        → Staged new joinings weights
+    staged_still new still strictly =
         record {
           stages = λ s ready. still s (events_of joinings) (staged.stages s ready);
-          weighed = λ s ready. weighed_spare s (events_of joinings) weights spare (staged.weighed s ready);
+          weighed = staged.weighed;
           strictly = λ s disks h. strictly s disks (staged.strictly s disks h);
         }
 
@@ -160,7 +161,7 @@ module _ {D : Type 0} (images : D → List ℕ → Type 0) (faults : D → ℕ) 
             weighed = λ s ready.
                 let front = ready_front s joinings j ready in
                 subst (λ events. AreWeighed (cluster_of plan) s a events (weights ++ weight ∷ [])) back
-                (weighed_more (cluster_of plan) a (events_of joinings) weights s j.event weight [] (long ∙ sym (length-map joinings (λ (one : Joining). one.event)))
+                (weighed_more (cluster_of plan) a (events_of joinings) weights s j.event weight (long ∙ sym (length-map joinings (λ (one : Joining). one.event)))
                 (staged.weighed s front.0) (weighs s (events_of joinings) (asks_behind s front.0 front.1.0)));
             strictly = λ s disks h. strictly s disks (staged.strictly s disks h);
           }

@@ -1,21 +1,20 @@
 -- A message joins those that a store staged.
-use Rattle.std.proofs.Common.{◌≡◌, ◌≢◌, ℕ, ◌+◌, ◌<◌, ◌≤◌, Bool, false, not, List, [], ◌∷◌, ◌++◌, length, drop, Option, None, Some, refl, sym, ◌∙◌, ap, subst, arith}
-use Rattle.std.specs.List.{AllByRecursion, slice_get}
+use Rattle.std.proofs.Common.{◌≡◌, ◌≢◌, ℕ, zero, suc, ◌+◌, ◌<◌, ◌≤◌, Bool, false, List, [], ◌∷◌, ◌++◌, length, get_or, take, drop, Option, None, Some, refl, sym, ◌∙◌, ap, subst, arith, length-append}
+use Rattle.std.specs.Prelude.{sum_by}
+use Rattle.std.specs.List.{AllByRecursion}
+use Rattle.std.proofs.lemmas.List.{length-map}
+use Rattle.std.proofs.lemmas.List.Sums.{sum_by_push}
 use Rattle.acc_stamp.specs.declared.actors.Actor.{Actor}
-use Rattle.acc_stamp.proofs.Rising.{each_weaker}
-use Rattle.acc_posts.specs.declared.posting.Post.{Post}
 use Rattle.acc_ports.specs.Strict.{Ranges}
-use Rattle.acc_message.specs.declared.message.Message.{Message}
 use Rattle.acc_message.specs.declared.entry.Event.{Event}
-use Rattle.acc_message.specs.declared.entry.Event.TheVariants.{Begin, Recover, Slow, Message as TakesMessage, Restart}
+use Rattle.acc_message.specs.declared.error.Which.{Which}
 use Rattle.acc_message.specs.declared.item.Item.{Item}
-use Rattle.acc_message.specs.Items.{sent_in}
-use Rattle.acc_message.specs.NodeRules.{Act, Takes}
 use Rattle.acc_message.specs.Run.{is_node, is_down}
 use Rattle.acc_message_code.specs.Weight.{weight_of}
 use Rattle.acc_actors.specs.declared.stops.Unsent.{Unsent}
 use Rattle.acc_schedule.specs.Content.{Content}
 use Rattle.acc_schedule.specs.declared.plan.Step.{Step}
+use Rattle.acc_entering.specs.Stopped.{AreDifferent}
 use Rattle.acc_follow.specs.Situations.{Situation}
 use Rattle.acc_follow.specs.Moves.{entry_of, entered_all}
 use Rattle.acc_follow.specs.Schedules.{cluster_of}
@@ -25,151 +24,92 @@ use Rattle.acc_cluster.specs.declared.slot.Slot.{Slot}
 use Rattle.acc_cluster.specs.Slots.{SlotStages, IsStrictSlot}
 use Rattle.acc_cluster.specs.Asked.{IsStaged, IsAskedBehind, MayAskBehind, HasSettled, HasSettledStrictly}
 use Rattle.acc_served.specs.FreeRun.{IsFreeRun}
+use Rattle.acc_served.proofs.Alone.{entry_is}
+use Rattle.acc_tape.specs.declared.error.TapeError.TheVariants.{Full}
+use Rattle.acc_tape.specs.Refusals.{Refuses}
 use Rattle.acc_tape.specs.ItemViews.{actor_of_item}
 use Rattle.acc_tape.specs.Seats.{TapeName, SeatView, Turns}
-use Rattle.acc_desk.specs.Desks.{newest, MayStep, IsDesk}
+use Rattle.acc_desk.specs.declared.hold.Hold.{Hold}
+use Rattle.acc_desk.specs.Desks.{newest, no_hold, IsSeated, IsDesk}
 use Rattle.acc_desk.specs.Fits.{fits_plan}
-use Rattle.acc_desk.specs.Groups.{Joining, events_of, CanJoin, CanGather, IsBelow, IsOldestHere, bound_of, IsGathering, IsStopping, IsEnteringDesk, Settles, SettlesStrictly}
-use Rattle.acc_desk.proofs.Asking.{may_take}
+use Rattle.acc_desk.specs.Groups.{Joining, events_of, CanJoin, CanAllJoin, IsGathering, IsStopping, IsEnteringDesk, Settles, SettlesStrictly}
+use Rattle.acc_desk.specs.Outcomes.{HasNoRoom}
 use Rattle.acc_desk.proofs.Stepping.{step_on}
 use Rattle.acc_desk.proofs.Seating.{came, newest_few}
-use Rattle.acc_desk.proofs.Gathering.{joined_more, none_staged, staged_still, staged_more, staged_now, asks_behind, here, may_at, ready_here, begins_entering}
-use Rattle.acc_desk.proofs.Finding.{Found, turns_both}
-use Rattle.acc_desk.proofs.Puts.{up_moves, joined_moves, desk_moves}
+use Rattle.acc_desk.proofs.Rooms.{passed, lacks_room}
+use Rattle.acc_desk.proofs.Gathering.{joined_more, joined_over, none_staged, staged_still, staged_more, staged_now, steps_long, asks_behind, here, may_at, ready_here, begins_entering}
 
 module _ {D : Type 0} (images : D → List ℕ → Type 0) (faults : D → ℕ) (strict : D → Bool) (armed : D → Option ℕ) (content synced : D → List ℕ) (written : D → Ranges) (strict_run : Bool) (plan : Content) (tape : TapeName) (limits : tape.limits.items ≤ most_items) (a : Actor) (commands : List Step) (gone : ℕ)
-    (first slot : Slot D) (joinings : List Joining) (weights : List ℕ) (old : SeatView Item) (j : Joining)
-    (can : CanGather images faults strict armed content synced written strict_run plan tape a old first slot commands gone joinings weights j) where
-  gathering : IsGathering images faults strict armed content synced written strict_run plan tape a old first slot commands gone joinings weights
-  gathering = can.gathering
+    (first slot : Slot D) (joinings : List Joining) (used : ℕ) (held : Hold) (seat : SeatView Item)
+    (gathering : IsGathering images faults strict armed content synced written strict_run plan tape a seat first slot commands gone joinings used held) where
+  -- ---- one message more
 
-  -- the slot may be asked
-  pub asks_now : MayAskBehind images faults plan a j.event j.act slot
-  asks_now =
-      let items = newest old in
-      let left = drop gone commands in
-      let few = newest_few plan tape limits a weights old gathering.desk.seated in
-      let s : Situation = here images faults strict armed content synced written strict_run plan a items first left joinings gathering.desk.known few gathering.up gathering.desk.at gathering.joined in (
-        s,
-        events_of joinings,
-        asks_behind images faults strict armed content synced written plan a first slot joinings weights gathering.staged j s
-            (ready_here images faults strict armed content synced written strict_run plan a items first left joinings gathering.desk.known few gathering.up gathering.desk.at gathering.joined)
-            (may_at images faults strict armed content synced written strict_run plan a items first left joinings gathering.desk.known few gathering.up gathering.desk.at gathering.joined j.event j.act can.can.may.may),
-      )
-
-  module _ (new : SeatView Item) (turns : Turns actor_of_item weight_of (fits_plan plan) old new) (same : new.mine ≡ old.mine) where
-    pub can_moves : CanJoin plan (newest new) a (drop gone commands) j
-    can_moves =
-        let b = came plan tape limits a weights old new gathering.desk.seated turns same in
-        subst (λ items. CanJoin plan items a (drop gone commands) j) (sym b.items_are)
-        (record {
-          may = step_on plan a (newest old) b.others j.event j.act (drop gone commands) (drop gone commands) b.apart (subst (IsFreeRun plan) b.items_are turns.fitting) can.can.may;
-          message = can.can.message;
-          journalled = can.can.journalled;
-        })
-
-    -- the tape had no room
-    pub no_room : new.held ≡ weights → IsGathering images faults strict armed content synced written strict_run plan tape a new first slot commands gone joinings weights
-    no_room held =
-        record {
-          kind = gathering.kind;
-          desk = desk_moves images faults strict armed content synced written strict_run plan tape limits a commands gone first slot joinings weights weights old new gathering turns same held;
-          up = up_moves images faults strict armed content synced written strict_run plan tape limits a commands gone first slot joinings weights weights old new gathering turns same held;
-          joined = joined_moves images faults strict armed content synced written strict_run plan tape limits a commands gone first slot joinings weights weights old new gathering turns same held;
-          staged = gathering.staged;
-        }
+  module _ (j : Joining) (can : CanJoin plan (newest seat) a (drop gone commands) j) where
+    -- the slot may be asked
+    pub asks_now : MayAskBehind images faults plan a j.event j.act slot
+    asks_now =
+        let items = newest seat in
+        let left = drop gone commands in
+        let few = newest_few plan tape limits a held seat gathering.desk.seated in (
+          here images faults strict armed content synced written strict_run plan a items first left joinings gathering.desk.known few gathering.up gathering.desk.at gathering.joined,
+          events_of joinings,
+          asks_behind images faults strict armed content synced written plan a first slot joinings gathering.weights gathering.staged j
+              (here images faults strict armed content synced written strict_run plan a items first left joinings gathering.desk.known few gathering.up gathering.desk.at gathering.joined)
+              (ready_here images faults strict armed content synced written strict_run plan a items first left joinings gathering.desk.known few gathering.up gathering.desk.at gathering.joined)
+              (may_at images faults strict armed content synced written strict_run plan a items first left joinings gathering.desk.known few gathering.up gathering.desk.at gathering.joined j.event j.act can.may.may),
+        )
 
     -- it was staged
-    pub joins : (next : Slot D) (weight : ℕ) → new.held ≡ weights ++ weight ∷ []
+    pub joins : (next : Slot D) (weight total : ℕ) → total ≡ used + weight → total ≤ held.weight → length joinings < held.items → length joinings < 16
+        → AllByRecursion (λ (other : Event). other ≢ j.event) (events_of joinings)
         → ((s : Situation) (events : List Event) → IsAskedBehind images faults plan s a events j.event j.act slot
         → weight ≡ weight_of (entry_of (cluster_of plan) (entered_all (cluster_of plan) s a events false) a j.event false))
         → ((s : Situation) (events : List Event) → IsAskedBehind images faults plan s a events j.event j.act slot → SlotStages images faults plan s a (events ++ j.event ∷ []) next)
         → ((s : Situation) (disks : Disks) → IsStrictSlot strict armed content synced written plan s disks a slot → IsStrictSlot strict armed content synced written plan s disks a next)
-        → IsGathering images faults strict armed content synced written strict_run plan tape a new first next commands gone (joinings ++ j ∷ []) (weights ++ weight ∷ [])
-    joins next weight held weighs stages strictly =
-        let later = weights ++ weight ∷ [] in
+        → IsGathering images faults strict armed content synced written strict_run plan tape a seat first next commands gone (joinings ++ j ∷ []) total held
+    joins next weight total is within more few another weighs stages strictly =
         record {
           kind = gathering.kind;
-          desk = desk_moves images faults strict armed content synced written strict_run plan tape limits a commands gone first slot joinings weights later old new gathering turns same held;
-          up = up_moves images faults strict armed content synced written strict_run plan tape limits a commands gone first slot joinings weights later old new gathering turns same held;
-          joined = joined_more plan (newest new) a (drop gone commands) joinings j
-              (joined_moves images faults strict armed content synced written strict_run plan tape limits a commands gone first slot joinings weights later old new gathering turns same held)
-              can_moves can.another can.few;
-          staged = staged_more images faults strict armed content synced written plan a first slot joinings weights gathering.staged j next weight can.long weighs stages strictly;
+          desk = gathering.desk;
+          up = gathering.up;
+          joined = joined_more plan (newest seat) a (drop gone commands) joinings j gathering.joined can another few;
+          weights = gathering.weights ++ weight ∷ [];
+          long = (let n = length-append gathering.weights (weight ∷ []) in let m = length-append joinings (j ∷ []) in let l = gathering.long in omega arith);
+          staged = staged_more images faults strict armed content synced written plan a first slot joinings gathering.weights gathering.staged j next weight gathering.long weighs stages strictly;
+          used_is = (let n = sum_by_push (λ n. n) gathering.weights weight in let u = gathering.used_is in omega arith);
+          within = within;
+          few = (let m = length-append joinings (j ∷ []) in omega arith);
         }
 
-    -- its staging was refused: its weight is reserved for nothing
-    pub refused : (next : Slot D) (weight : ℕ) → new.held ≡ weights ++ weight ∷ []
-        → ((s : Situation) (events : List Event) → SlotStages images faults plan s a events slot → SlotStages images faults plan s a events next)
-        → ((s : Situation) (disks : Disks) → IsStrictSlot strict armed content synced written plan s disks a slot → IsStrictSlot strict armed content synced written plan s disks a next)
-        → IsGathering images faults strict armed content synced written strict_run plan tape a new first next commands gone joinings (weights ++ weight ∷ [])
-    refused next weight held still strictly =
-        let later = weights ++ weight ∷ [] in
-        record {
-          kind = gathering.kind;
-          desk = desk_moves images faults strict armed content synced written strict_run plan tape limits a commands gone first slot joinings weights later old new gathering turns same held;
-          up = up_moves images faults strict armed content synced written strict_run plan tape limits a commands gone first slot joinings weights later old new gathering turns same held;
-          joined = joined_moves images faults strict armed content synced written strict_run plan tape limits a commands gone first slot joinings weights later old new gathering turns same held;
-          staged = staged_still images faults strict armed content synced written plan a first slot joinings weights gathering.staged next (weight ∷ []) still strictly;
-        }
-
--- ---- the next message
-
-apart_below : (bound number : ℕ) (event : Event) → IsBelow bound event → bound ≤ number → event ≢ TakesMessage number
-apart_below bound number (TakesMessage n) below most = λ same. let e : n ≡ number = cc in absurd (omega arith)
-apart_below bound number (Begin txn) below most = absurd below
-apart_below bound number (Recover txn) below most = absurd below
-apart_below bound number (Slow txn) below most = absurd below
-apart_below bound number (Restart kept) below most = absurd below
-
-pub all_apart : (bound number : ℕ) (events : List Event) → AllByRecursion (IsBelow bound) events → bound ≤ number → AllByRecursion (λ (other : Event). other ≢ TakesMessage number) events
-all_apart bound number events below most = each_weaker (IsBelow bound) (λ (other : Event). other ≢ TakesMessage number) events (λ event one. apart_below bound number event one most) below
-
-below_more : (bound later : ℕ) (event : Event) → IsBelow bound event → bound ≤ later → IsBelow later event
-below_more bound later (TakesMessage n) below most = omega arith
-below_more bound later (Begin txn) below most = absurd below
-below_more bound later (Recover txn) below most = absurd below
-below_more bound later (Slow txn) below most = absurd below
-below_more bound later (Restart kept) below most = absurd below
-
-pub all_below : (bound number : ℕ) (joinings : List Joining) (act : Act) → AllByRecursion (IsBelow bound) (events_of joinings) → bound ≤ number
-    → AllByRecursion (IsBelow (number + 1)) (events_of (joinings ++ record { event = TakesMessage number; act = act } ∷ []))
-all_below bound number [] act below most = (omega arith, tt)
-all_below bound number (j ∷ joinings) act below most = (below_more bound (number + 1) j.event below.0 (omega arith), all_below bound number joinings act below.1 most)
-
-module _ {D : Type 0} (images : D → List ℕ → Type 0) (faults : D → ℕ) (strict : D → Bool) (armed : D → Option ℕ) (content synced : D → List ℕ) (written : D → Ranges) (strict_run : Bool) (plan : Content) (tape : TapeName) (limits : tape.limits.items ≤ most_items) (a : Actor) (commands : List Step) (gone : ℕ)
-    (first slot : Slot D) (joinings : List Joining) (weights : List ℕ) (old between new : SeatView Item)
-    (gathering : IsGathering images faults strict armed content synced written strict_run plan tape a old first slot commands gone joinings weights)
-    (one : Turns actor_of_item weight_of (fits_plan plan) old between) (one_same : between.mine ≡ old.mine) (two : Turns actor_of_item weight_of (fits_plan plan) between new) (two_same : new.mine ≡ between.mine) where
-  -- what was found may join
-  pub found_may : (from : ℕ) (post : Post) → IsOldestHere between.seen a.0 from post → (item : Item) → slice_get between.seen post.place ≡ Some item → (m : Message) → slice_get (sent_in item) post.index ≡ Some m
-      → CanJoin plan (newest new) a (drop gone commands) (record { event = TakesMessage post.number; act = Takes m })
-  found_may from post oldest item there m is =
-      let left = drop gone commands in
-      let up = up_moves images faults strict armed content synced written strict_run plan tape limits a commands gone first slot joinings weights between.held old between gathering one one_same refl in
-      let desk = desk_moves images faults strict armed content synced written strict_run plan tape limits a commands gone first slot joinings weights between.held old between gathering one one_same refl in
-      let b = came plan tape limits a between.held between new desk.seated two two_same in
+  -- a message was refused
+  pub refused : (next : Slot D)
+      → ((s : Situation) (events : List Event) → SlotStages images faults plan s a events slot → SlotStages images faults plan s a events next)
+      → ((s : Situation) (disks : Disks) → IsStrictSlot strict armed content synced written plan s disks a slot → IsStrictSlot strict armed content synced written plan s disks a next)
+      → IsGathering images faults strict armed content synced written strict_run plan tape a seat first next commands gone joinings used held
+  refused next still strictly =
       record {
-        may = subst (λ items. MayStep plan items a (TakesMessage post.number) (Takes m) left left) (sym b.items_are)
-            (step_on plan a (newest between) b.others (TakesMessage post.number) (Takes m) left left b.apart (subst (IsFreeRun plan) b.items_are two.fitting)
-            (may_take plan a between.seen from post oldest item there m is up left));
-        message = refl;
-        journalled = ap not gathering.kind;
+        kind = gathering.kind;
+        desk = gathering.desk;
+        up = gathering.up;
+        joined = gathering.joined;
+        weights = gathering.weights;
+        long = gathering.long;
+        staged = staged_still images faults strict armed content synced written plan a first slot joinings gathering.weights gathering.staged next still strictly;
+        used_is = gathering.used_is;
+        within = gathering.within;
+        few = gathering.few;
       }
 
--- ---- what was staged is settled
+  -- ---- what was staged is settled
 
-module _ {D : Type 0} (images : D → List ℕ → Type 0) (faults : D → ℕ) (strict : D → Bool) (armed : D → Option ℕ) (content synced : D → List ℕ) (written : D → Ranges) (strict_run : Bool) (plan : Content) (tape : TapeName) (limits : tape.limits.items ≤ most_items) (a : Actor) (commands : List Step) (gone : ℕ)
-    (first slot : Slot D) (joinings : List Joining) (weights : List ℕ) (seat : SeatView Item)
-    (gathering : IsGathering images faults strict armed content synced written strict_run plan tape a seat first slot commands gone joinings weights) where
   pub settle_asks : (s : Situation) × (events : List Event) × IsStaged images faults plan s a events slot
   settle_asks =
       let items = newest seat in
       let left = drop gone commands in
-      let few = newest_few plan tape limits a weights seat gathering.desk.seated in (
+      let few = newest_few plan tape limits a held seat gathering.desk.seated in (
         here images faults strict armed content synced written strict_run plan a items first left joinings gathering.desk.known few gathering.up gathering.desk.at gathering.joined,
         events_of joinings,
-        staged_now images faults strict armed content synced written plan a first slot joinings weights gathering.staged
+        staged_now images faults strict armed content synced written plan a first slot joinings gathering.weights gathering.staged
             (here images faults strict armed content synced written strict_run plan a items first left joinings gathering.desk.known few gathering.up gathering.desk.at gathering.joined)
             (ready_here images faults strict armed content synced written strict_run plan a items first left joinings gathering.desk.known few gathering.up gathering.desk.at gathering.joined),
       )
@@ -178,16 +118,20 @@ module _ {D : Type 0} (images : D → List ℕ → Type 0) (faults : D → ℕ) 
   no_events [] some is = some refl
   no_events (j ∷ js) some is = absurd (cc)
 
+  some_long : (js : List Joining) → js ≢ [] → 0 < length js
+  some_long [] some = absurd (some refl)
+  some_long (j ∷ js) some = omega arith
+
   module _ (next : Slot D) (given : Option (List Unsent))
       (settled : (s : Situation) (staged : List Event) → IsStaged images faults plan s a staged slot → HasSettled images faults plan s a staged next given)
       (strictly : (s : Situation) (staged : List Event) (disks : Disks) → IsStaged images faults plan s a staged slot → staged ≢ [] → IsStrictSlot strict armed content synced written plan s disks a slot
       → HasSettledStrictly strict armed content synced written plan s disks a staged next given) (some : joinings ≢ []) where
     all_settle : Settles images faults plan a first joinings next given
-    all_settle s ready = settled s (events_of joinings) (staged_now images faults strict armed content synced written plan a first slot joinings weights gathering.staged s ready)
+    all_settle s ready = settled s (events_of joinings) (staged_now images faults strict armed content synced written plan a first slot joinings gathering.weights gathering.staged s ready)
 
     all_settle_strictly : SettlesStrictly images faults strict armed content synced written plan a first joinings next given
     all_settle_strictly s disks ready h =
-        strictly s (events_of joinings) disks (staged_now images faults strict armed content synced written plan a first slot joinings weights gathering.staged s ready) (no_events joinings some)
+        strictly s (events_of joinings) disks (staged_now images faults strict armed content synced written plan a first slot joinings gathering.weights gathering.staged s ready) (no_events joinings some)
         (gathering.staged.strictly s disks h)
 
   -- its disk failed
@@ -195,7 +139,7 @@ module _ {D : Type 0} (images : D → List ℕ → Type 0) (faults : D → ℕ) 
       → ((s : Situation) (staged : List Event) → IsStaged images faults plan s a staged slot → HasSettled images faults plan s a staged next None)
       → ((s : Situation) (staged : List Event) (disks : Disks) → IsStaged images faults plan s a staged slot → staged ≢ [] → IsStrictSlot strict armed content synced written plan s disks a slot
       → HasSettledStrictly strict armed content synced written plan s disks a staged next None) → joinings ≢ []
-      → IsStopping images faults strict armed content synced written strict_run plan tape a seat first next commands gone joinings weights
+      → IsStopping images faults strict armed content synced written strict_run plan tape a seat first next commands gone joinings held
   settled_none next settled strictly some =
       record {
         desk = gathering.desk;
@@ -203,6 +147,7 @@ module _ {D : Type 0} (images : D → List ℕ → Type 0) (faults : D → ℕ) 
         joined = gathering.joined;
         settles = all_settle next None settled strictly some;
         strictly = all_settle_strictly next None settled strictly some;
+        some = let n = some_long joinings some in let f = gathering.few in omega arith;
       }
 
   -- it gives what is to be entered
@@ -210,87 +155,128 @@ module _ {D : Type 0} (images : D → List ℕ → Type 0) (faults : D → ℕ) 
       → ((s : Situation) (staged : List Event) → IsStaged images faults plan s a staged slot → HasSettled images faults plan s a staged next (Some given))
       → ((s : Situation) (staged : List Event) (disks : Disks) → IsStaged images faults plan s a staged slot → staged ≢ [] → IsStrictSlot strict armed content synced written plan s disks a slot
       → HasSettledStrictly strict armed content synced written plan s disks a staged next (Some given)) → joinings ≢ []
-      → IsEnteringDesk images faults strict armed content synced written strict_run plan tape weights a seat next commands gone (events_of joinings) given
+      → IsEnteringDesk images faults strict armed content synced written strict_run plan tape held a seat next commands gone (events_of joinings) given
   settled_some next given settled strictly some =
+      let entering = begins_entering images faults strict armed content synced written strict_run plan a (newest seat) first (drop gone commands) joinings gathering.desk.known
+      (newest_few plan tape limits a held seat gathering.desk.seated) gathering.up gathering.desk.at gathering.joined next gathering.weights given gathering.staged.weighed
+      (all_settle next (Some given) settled strictly some) (all_settle_strictly next (Some given) settled strictly some) in
+      let steps = steps_long (cluster_of plan) _ a (events_of joinings) false given entering.steps in
+      let events = length-map joinings (λ (one : Joining). one.event) in
       record {
         known = gathering.desk.known;
         all = gathering.desk.all;
         seated = gathering.desk.seated;
-        entering = begins_entering images faults strict armed content synced written strict_run plan a (newest seat) first (drop gone commands) joinings gathering.desk.known
-            (newest_few plan tape limits a weights seat gathering.desk.seated) gathering.up gathering.desk.at gathering.joined next weights given gathering.staged.weighed
-            (all_settle next (Some given) settled strictly some) (all_settle_strictly next (Some given) settled strictly some);
-      }
-
--- ---- a desk that stages nothing yet, and one that others' items came to
-
-module _ {D : Type 0} (images : D → List ℕ → Type 0) (faults : D → ℕ) (strict : D → Bool) (armed : D → Option ℕ) (content synced : D → List ℕ) (written : D → Ranges) (strict_run : Bool) (plan : Content) (tape : TapeName) (limits : tape.limits.items ≤ most_items) (a : Actor) (commands : List Step) (gone : ℕ) where
-  pub begins_gathering : (slot : Slot D) (weights : List ℕ) (seat : SeatView Item) → weights ≡ [] → is_node a ≡ false → is_down a (newest seat) ≡ false
-      → IsDesk images faults strict armed content synced written strict_run plan tape [] a seat slot commands gone
-      → IsGathering images faults strict armed content synced written strict_run plan tape a seat slot slot commands gone [] weights
-  begins_gathering slot weights seat none kind up desk =
-      subst (λ held. IsGathering images faults strict armed content synced written strict_run plan tape a seat slot slot commands gone [] held) (sym none)
-      (record {
-        kind = kind;
-        desk = desk;
-        up = up;
-        joined = record { each = tt; different = tt; few = omega arith };
-        staged = none_staged images faults strict armed content synced written plan a slot;
-      })
-
-  pub gathering_moves : (first slot : Slot D) (joinings : List Joining) (weights : List ℕ) (old new : SeatView Item)
-      → IsGathering images faults strict armed content synced written strict_run plan tape a old first slot commands gone joinings weights
-      → Turns actor_of_item weight_of (fits_plan plan) old new → new.mine ≡ old.mine → new.held ≡ old.held
-      → IsGathering images faults strict armed content synced written strict_run plan tape a new first slot commands gone joinings weights
-  gathering_moves first slot joinings weights old new gathering turns same held =
-      let now = held ∙ gathering.desk.seated.held_is in
-      record {
-        kind = gathering.kind;
-        desk = desk_moves images faults strict armed content synced written strict_run plan tape limits a commands gone first slot joinings weights weights old new gathering turns same now;
-        up = up_moves images faults strict armed content synced written strict_run plan tape limits a commands gone first slot joinings weights weights old new gathering turns same now;
-        joined = joined_moves images faults strict armed content synced written strict_run plan tape limits a commands gone first slot joinings weights weights old new gathering turns same now;
-        staged = gathering.staged;
-      }
-
-  -- what was found can join
-  pub can_gather : (first slot : Slot D) (joinings : List Joining) (weights : List ℕ) (old new : SeatView Item)
-      → IsGathering images faults strict armed content synced written strict_run plan tape a old first slot commands gone joinings weights
-      → length weights ≡ length joinings → length joinings < 16 → (after : Option ℕ) → AllByRecursion (IsBelow (bound_of after)) (events_of joinings)
-      → new.mine ≡ old.mine → new.held ≡ old.held → (post : Post) (item : Item) → Found plan a.0 after old new post item → (m : Message) → slice_get (sent_in item) post.index ≡ Some m
-      → CanGather images faults strict armed content synced written strict_run plan tape a new first slot commands gone joinings weights (record { event = TakesMessage post.number; act = Takes m })
-  can_gather first slot joinings weights old new gathering long few after below same held post item found m is =
-      let between = found.0 in
-      record {
-        gathering = gathering_moves first slot joinings weights old new gathering (turns_both plan old between new found.1 found.5) same held;
-        long = long;
-        can = found_may images faults strict armed content synced written strict_run plan tape limits a commands gone first slot joinings weights old between new gathering found.1 found.2 found.5 (same ∙ sym found.2)
-            (bound_of after) post found.3 item found.4 m is;
-        another = all_apart (bound_of after) post.number (events_of joinings) below found.3.late_enough;
-        few = few;
+        weights = gathering.weights;
+        entering = entering;
+        light = let u = gathering.used_is in let w = gathering.within in omega arith;
+        few = let f = gathering.few in omega arith;
+        most = let f = gathering.joined.few in omega arith;
       }
 
   -- nothing joined, so the slot stands for what the seat has seen
-  pub none_joined : (first slot : Slot D) (joinings : List Joining) (weights : List ℕ) (seat : SeatView Item) → length joinings ≡ 0
-      → IsGathering images faults strict armed content synced written strict_run plan tape a seat first slot commands gone joinings weights
-      → IsDesk images faults strict armed content synced written strict_run plan tape weights a seat slot commands gone
-  none_joined first slot [] weights seat none gathering =
+  pub none_joined : length joinings ≡ 0 → IsDesk images faults strict armed content synced written strict_run plan tape held a seat slot commands gone
+  none_joined none =
       let at = gathering.desk.at in
-      let few = newest_few plan tape limits a weights seat gathering.desk.seated in
-      let s : Situation = here images faults strict armed content synced written strict_run plan a (newest seat) first (drop gone commands) [] gathering.desk.known few gathering.up at gathering.joined in
-      let ready = ready_here images faults strict armed content synced written strict_run plan a (newest seat) first (drop gone commands) [] gathering.desk.known few gathering.up at gathering.joined in
+      let few = newest_few plan tape limits a held seat gathering.desk.seated in
+      let s : Situation = here images faults strict armed content synced written strict_run plan a (newest seat) first (drop gone commands) joinings gathering.desk.known few gathering.up at gathering.joined in
+      let ready = ready_here images faults strict armed content synced written strict_run plan a (newest seat) first (drop gone commands) joinings gathering.desk.known few gathering.up at gathering.joined in
       record {
         known = gathering.desk.known;
         all = gathering.desk.all;
         seated = gathering.desk.seated;
         at = record {
           stopped = at.stopped;
-          stands = gathering.staged.stages s ready;
+          stands = subst (λ events. SlotStages images faults plan s a events slot) (nothing joinings none) (gathering.staged.stages s ready);
           serving = at.serving;
           stops = at.stops;
           gone = at.gone;
           stayed = λ on. let h = at.stayed on in record { unarmed = gathering.staged.strictly s fresh_disks h.unarmed; none = h.none; up = h.up };
         };
       }
-  none_joined first slot (j ∷ joinings) weights seat none gathering = absurd (omega arith)
+    where
+      nothing : (js : List Joining) → length js ≡ 0 → events_of js ≡ []
+      nothing [] none = refl
+      nothing (j ∷ js) none = absurd (omega arith)
+
+-- ---- a desk that stages nothing yet
+
+module _ {D : Type 0} (images : D → List ℕ → Type 0) (faults : D → ℕ) (strict : D → Bool) (armed : D → Option ℕ) (content synced : D → List ℕ) (written : D → Ranges) (strict_run : Bool) (plan : Content) (tape : TapeName) (limits : tape.limits.items ≤ most_items) (a : Actor) (commands : List Step) (gone : ℕ) where
+  pub begins_gathering : (slot : Slot D) (seat : SeatView Item) → is_node a ≡ false → is_down a (newest seat) ≡ false
+      → IsDesk images faults strict armed content synced written strict_run plan tape no_hold a seat slot commands gone
+      → IsGathering images faults strict armed content synced written strict_run plan tape a seat slot slot commands gone [] 0 no_hold
+  begins_gathering slot seat kind up desk =
+      record {
+        kind = kind;
+        desk = desk;
+        up = up;
+        joined = record { each = tt; different = tt; few = omega arith };
+        weights = [];
+        long = refl;
+        staged = none_staged images faults strict armed content synced written plan a slot;
+        used_is = refl;
+        within = omega arith;
+        few = omega arith;
+      }
+
+  -- a store that has staged nothing was asked what it would send for its oldest message, and the tape has no room for it
+  pub first_no_room : (slot : Slot D) (seat : SeatView Item) (j : Joining) → IsGathering images faults strict armed content synced written strict_run plan tape a seat slot slot commands gone [] 0 no_hold
+      → CanJoin plan (newest seat) a (drop gone commands) j → (weight : ℕ)
+      → ((s : Situation) (events : List Event) → IsAskedBehind images faults plan s a events j.event j.act slot
+      → weight ≡ weight_of (entry_of (cluster_of plan) (entered_all (cluster_of plan) s a events false) a j.event false))
+      → (which : Which) (number : ℕ) → Refuses tape.limits (length seat.seen + seat.out_count) (sum_by weight_of seat.seen + seat.out_weight) 1 weight (Full which number)
+      → HasNoRoom plan tape a (drop gone commands) seat
+  first_no_room slot seat j gathering can weight weighs which number refuses =
+      let items = newest seat in
+      let left = drop gone commands in
+      let few = newest_few plan tape limits a no_hold seat gathering.desk.seated in
+      let s : Situation = here images faults strict armed content synced written strict_run plan a items slot left [] gathering.desk.known few gathering.up gathering.desk.at gathering.joined in
+      let is = weighs s [] (asks_behind images faults strict armed content synced written plan a slot slot [] gathering.weights gathering.staged j s
+      (ready_here images faults strict armed content synced written strict_run plan a items slot left [] gathering.desk.known few gathering.up gathering.desk.at gathering.joined)
+      (may_at images faults strict armed content synced written strict_run plan a items slot left [] gathering.desk.known few gathering.up gathering.desk.at gathering.joined j.event j.act can.may.may)) in
+      lacks_room plan tape a left left seat j.event j.act can.may weight (is ∙ ap weight_of (entry_is (cluster_of plan) s refl a j.event false))
+      (passed tape.limits (length seat.seen + seat.out_count) (sum_by weight_of seat.seen + seat.out_weight) weight which number refuses)
+
+-- ---- behind what others entered
+
+module _ (plan : Content) (tape : TapeName) (limits : tape.limits.items ≤ most_items) (a : Actor) (held : Hold) (left : List Step) (old new : SeatView Item) (seated : IsSeated tape a held old)
+    (turns : Turns actor_of_item weight_of (fits_plan plan) old new) (same : new.mine ≡ old.mine) where
+  pub can_moves : (j : Joining) → CanJoin plan (newest old) a left j → CanJoin plan (newest new) a left j
+  can_moves j can =
+      let b = came plan tape limits a held old new seated turns same in
+      subst (λ items. CanJoin plan items a left j) (sym b.items_are)
+      (record {
+        may = step_on plan a (newest old) b.others j.event j.act left left b.apart (subst (IsFreeRun plan) b.items_are turns.fitting) can.may;
+        message = can.message;
+        journalled = can.journalled;
+      })
+
+  pub all_can_move : (joinings : List Joining) → CanAllJoin plan (newest old) a left joinings → CanAllJoin plan (newest new) a left joinings
+  all_can_move joinings can =
+      let b = came plan tape limits a held old new seated turns same in
+      subst (λ items. CanAllJoin plan items a left joinings) (sym b.items_are) (joined_over plan a (newest old) b.others left joinings b.apart (subst (IsFreeRun plan) b.items_are turns.fitting) can)
+
+-- ---- one of those that were found
+
+-- the message at a place can join, and is none of those before it
+pub each_at : (P : Joining → Type 0) (js : List Joining) (place : ℕ) (d : Joining) → place < length js → AllByRecursion P js → P (get_or js place d)
+each_at P [] place d low h = absurd (omega (arith, low))
+each_at P (j ∷ js) zero d low h = h.0
+each_at P (j ∷ js) (suc place) d low h = each_at P js place d (omega (arith, low)) h.1
+
+apart_at : (event : Event) (js : List Joining) (place : ℕ) (d : Joining) → place < length js → AllByRecursion (λ (other : Event). event ≢ other) (events_of js) → event ≢ (get_or js place d).event
+apart_at event [] place d low h = absurd (omega (arith, low))
+apart_at event (j ∷ js) zero d low h = h.0
+apart_at event (j ∷ js) (suc place) d low h = apart_at event js place d (omega (arith, low)) h.1
+
+pub another_at : (js : List Joining) (place : ℕ) (d : Joining) → place < length js → AreDifferent (events_of js) → AllByRecursion (λ (other : Event). other ≢ (get_or js place d).event) (events_of (take place js))
+another_at [] place d low h = absurd (omega (arith, low))
+another_at (j ∷ js) zero d low h = tt
+another_at (j ∷ js) (suc place) d low h = (apart_at j.event js place d (omega (arith, low)) h.0, another_at js place d (omega (arith, low)) h.1)
+
+-- what holds of four values holds of their equals
+pub along : {A B C E : Type 0} (P : A → B → C → E → Type 0) {a a' : A} {b b' : B} {c c' : C} {e e' : E} → a' ≡ a → b' ≡ b → c' ≡ c → e' ≡ e → P a b c e → P a' b' c' e'
+along P {a} {a'} {b} {b'} {c} {c'} {e} {e'} p q r s h =
+    subst (λ x. P x b' c' e') (sym p) (subst (λ x. P a x c' e') (sym q) (subst (λ x. P a b x e') (sym r) (subst (λ x. P a b c x) (sym s) h)))
 
 pub some_joined : (joinings : List Joining) (n : ℕ) → length joinings ≡ n → n ≢ 0 → joinings ≢ []
 some_joined joinings n long some none = some (sym long ∙ ap (λ (l : List Joining). length l) none)

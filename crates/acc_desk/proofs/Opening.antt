@@ -19,10 +19,11 @@ use Rattle.acc_served.proofs.Going.{gone_begins}
 use Rattle.acc_tape.specs.Lists.{items_of}
 use Rattle.acc_tape.specs.ItemViews.{actor_of_item}
 use Rattle.acc_tape.specs.Seats.{TapeName, SeatView, Turns}
-use Rattle.acc_desk.specs.Desks.{newest, IsAt, IsDesk}
+use Rattle.acc_desk.specs.declared.hold.Hold.{Hold}
+use Rattle.acc_desk.specs.Desks.{newest, no_hold, IsAt, IsDesk}
 use Rattle.acc_desk.specs.Fits.{fits_plan}
 use Rattle.acc_desk.proofs.Moving.{Between, between, at_on}
-use Rattle.acc_desk.proofs.Seating.{seen_few, seen_light, others_since}
+use Rattle.acc_desk.proofs.Seating.{hold_is, seen_few, seen_light, others_since}
 
 module _ {D : Type 0} (images : D → List ℕ → Type 0) (faults : D → ℕ) (strict : D → Bool) (armed : D → Option ℕ) (content synced : D → List ℕ) (written : D → Ranges) (strict_run : Bool) (plan : Content) (tape : TapeName) (limits : tape.limits.items ≤ most_items) (a : Actor) (slot : Slot D) where
   -- nothing was entered
@@ -35,8 +36,8 @@ module _ {D : Type 0} (images : D → List ℕ → Type 0) (faults : D → ℕ) 
 
   -- others entered items while the desk was made
   pub first_desk : IsServing plan (alone [] []) → Contains (actors plan.topology) a → (commands : List Step) → commands ≡ commands_of plan a
-      → (old new : SeatView Item) → old.tape ≡ tape → old.actor ≡ a.0 → old.actor ≢ 0 → old.mine ≡ [] → old.held ≡ [] → Turns actor_of_item weight_of (fits_plan plan) old new → new.mine ≡ old.mine → new.held ≡ old.held
-      → SlotStands images faults plan (alone [] []) a slot → StrictFirst → IsDesk images faults strict armed content synced written strict_run plan tape [] a new slot commands 0
+      → (old new : SeatView Item) → old.tape ≡ tape → old.actor ≡ a.0 → old.actor ≢ 0 → old.mine ≡ [] → (old.held_items ≡ 0) × (old.held_weight ≡ 0) → Turns actor_of_item weight_of (fits_plan plan) old new → new.mine ≡ old.mine → (new.held_items ≡ old.held_items) × (new.held_weight ≡ old.held_weight)
+      → SlotStands images faults plan (alone [] []) a slot → StrictFirst → IsDesk images faults strict armed content synced written strict_run plan tape no_hold a new slot commands 0
   first_desk serving known commands all old new tape_is actor_is some mine_is held_is turns same_mine same_held stands strictly =
       let owned : items_of actor_of_item a.0 new.seen ≡ [] =
       sym (ap (λ k. items_of actor_of_item k new.seen) (turns.actor ∙ actor_is)) ∙ turns.mine ∙ same_mine ∙ mine_is in
@@ -49,7 +50,7 @@ module _ {D : Type 0} (images : D → List ℕ → Type 0) (faults : D → ℕ) 
           tape_is = turns.tape ∙ tape_is;
           actor_is = turns.actor ∙ actor_is;
           some = λ z. some (sym turns.actor ∙ z);
-          held_is = same_held ∙ held_is;
+          held_is = hold_is new no_hold (same_held.0 ∙ held_is.0) (same_held.1 ∙ held_is.1);
           mine_is = turns.mine;
           few = seen_few plan tape limits a old new turns (turns.tape ∙ tape_is);
           light = seen_light plan tape limits a old new turns (turns.tape ∙ tape_is);
@@ -59,7 +60,7 @@ module _ {D : Type 0} (images : D → List ℕ → Type 0) (faults : D → ℕ) 
       }
 
   -- the actor stands for the closed list
-  pub at_closed : (held : List ℕ) (seat : SeatView Item) (commands : List Step) (gone : ℕ) → IsDesk images faults strict armed content synced written strict_run plan tape held a seat slot commands gone
+  pub at_closed : (held : Hold) (seat : SeatView Item) (commands : List Step) (gone : ℕ) → IsDesk images faults strict armed content synced written strict_run plan tape held a seat slot commands gone
       → (items : List Item) → IsPrefix seat.seen items → items_of actor_of_item seat.actor items ≡ seat.mine → IsFreeRun plan (reverse items) → IsAt images faults strict armed content synced written strict_run plan a (reverse items) slot (drop gone commands)
   at_closed held seat commands gone desk items begins mine free =
       let b = others_since plan tape limits a held seat desk.seated items begins mine in

@@ -37,7 +37,8 @@ use Rattle.acc_served.proofs.Serving.{serving_restarted, serving_down}
 use Rattle.acc_served.proofs.Going.{reopened_went, stayed_down}
 use Rattle.acc_tape.specs.ItemViews.{actor_of_item}
 use Rattle.acc_tape.specs.Seats.{TapeName, SeatView, Turns, FitsBehind, ComesLast}
-use Rattle.acc_desk.specs.Desks.{newest, HasStayed, IsAt, IsDesk, item_of, HasReopened, HasReopenedStrictly}
+use Rattle.acc_desk.specs.declared.hold.Hold.{Hold}
+use Rattle.acc_desk.specs.Desks.{newest, held_of, no_hold, HasStayed, IsAt, IsDesk, item_of, HasReopened, HasReopenedStrictly}
 use Rattle.acc_desk.specs.Fits.{fits_plan}
 use Rattle.acc_desk.proofs.Moving.{at_on}
 use Rattle.acc_desk.proofs.Unarmed.{reopened_fresh}
@@ -117,7 +118,7 @@ module _ {D : Type 0} (images : D → List ℕ → Type 0) (faults : D → ℕ) 
             });
       }
 
-module _ {D : Type 0} (images : D → List ℕ → Type 0) (faults : D → ℕ) (strict : D → Bool) (armed : D → Option ℕ) (content synced : D → List ℕ) (written : D → Ranges) (strict_run : Bool) (plan : Content) (tape : TapeName) (limits : tape.limits.items ≤ most_items) (a : Actor) (commands : List Step) (gone : ℕ) (slot new_slot : Slot D) (held : List ℕ) (seat : SeatView Item) (command : Step)
+module _ {D : Type 0} (images : D → List ℕ → Type 0) (faults : D → ℕ) (strict : D → Bool) (armed : D → Option ℕ) (content synced : D → List ℕ) (written : D → Ranges) (strict_run : Bool) (plan : Content) (tape : TapeName) (limits : tape.limits.items ≤ most_items) (a : Actor) (commands : List Step) (gone : ℕ) (slot new_slot : Slot D) (held : Hold) (seat : SeatView Item) (command : Step)
     (desk : IsDesk images faults strict armed content synced written strict_run plan tape held a seat slot commands gone) (next : drop gone commands ≡ command ∷ drop (gone + 1) commands) (restart : is_restart command ≡ true) (given : Option Emitted) where
   pub restart_fits_behind : is_silent given → FitsBehind actor_of_item (fits_plan plan) seat (item_of a (RestartEvent 0) given)
   restart_fits_behind silent before begins mine free =
@@ -127,8 +128,8 @@ module _ {D : Type 0} (images : D → List ℕ → Type 0) (faults : D → ℕ) 
   pub restart_taken : ((s : Situation) → IsSound (cluster_of plan) s → IsFew s → SlotStands images faults plan s a slot → HasReopened images faults plan s a given new_slot)
       → ((s : Situation) (disks : Disks) → IsSound (cluster_of plan) s → SlotStands images faults plan s a slot → IsStrictSlot strict armed content synced written plan s disks a slot
       → HasReopenedStrictly strict armed content synced written plan s disks a given new_slot)
-      → (new : SeatView Item) → Turns actor_of_item weight_of (fits_plan plan) seat new → new.held ≡ [] → ComesLast actor_of_item (fits_plan plan) seat new.seen (item_of a (RestartEvent 0) given)
-      → IsDesk images faults strict armed content synced written strict_run plan tape [] a new new_slot commands (gone + 1)
+      → (new : SeatView Item) → Turns actor_of_item weight_of (fits_plan plan) seat new → held_of new ≡ no_hold → ComesLast actor_of_item (fits_plan plan) seat new.seen (item_of a (RestartEvent 0) given)
+      → IsDesk images faults strict armed content synced written strict_run plan tape no_hold a new new_slot commands (gone + 1)
   restart_taken opened strictly new turns free last =
       let item = item_of a (RestartEvent 0) given in
       let b = others_since plan tape limits a held seat desk.seated last.before last.begins last.mine in
@@ -139,7 +140,7 @@ module _ {D : Type 0} (images : D → List ℕ → Type 0) (faults : D → ℕ) 
       record {
         known = desk.known;
         all = desk.all;
-        seated = seated_on plan tape limits a held [] seat new desk.seated turns free;
+        seated = seated_on plan tape limits a held no_hold seat new desk.seated turns free;
         at = subst (λ all. IsAt images faults strict armed content synced written strict_run plan a all new_slot (drop (gone + 1) commands)) (sym (ap reverse last.seen_is ∙ reverse_last last.before item ∙ ap (λ all. item ∷ all) b.items_are))
             (restarted images faults strict armed content synced written strict_run plan a items slot new_slot (drop (gone + 1) commands) command desk.known few' restart at' given opened strictly);
       }

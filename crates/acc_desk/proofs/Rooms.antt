@@ -1,5 +1,5 @@
 -- The tape refuses what an actor would enter.
-use Rattle.std.proofs.Common.{◌≡◌, ◌⊎◌, ℕ, ◌+◌, ◌<◌, ◌≤◌, Bool, false, List, [], length, drop, Option, inl, inr, refl, ◌∙◌, ap, subst}
+use Rattle.std.proofs.Common.{◌≡◌, ◌⊎◌, ℕ, ◌+◌, ◌<◌, ◌≤◌, Bool, false, List, length, drop, Option, inl, inr, refl, ◌∙◌, ap, subst, arith}
 use Rattle.std.specs.Prelude.{sum_by}
 use Rattle.acc_stamp.specs.declared.actors.Actor.{Actor}
 use Rattle.acc_ports.specs.Strict.{Ranges}
@@ -13,32 +13,28 @@ use Rattle.acc_schedule.specs.Content.{Content}
 use Rattle.acc_schedule.specs.declared.plan.Step.{Step}
 use Rattle.acc_entering.specs.Entries.{entering}
 use Rattle.acc_follow.specs.Situations.{Situation}
-use Rattle.acc_follow.specs.Moves.{entry_of, entered_all}
+use Rattle.acc_follow.specs.Moves.{entry_of}
 use Rattle.acc_follow.specs.Schedules.{cluster_of}
 use Rattle.acc_limits.specs.Limits.{most_items}
 use Rattle.acc_cluster.specs.declared.slot.Slot.{Slot}
-use Rattle.acc_cluster.specs.Asked.{IsAsked, IsAskedBehind}
+use Rattle.acc_cluster.specs.Asked.{IsAsked}
 use Rattle.acc_served.specs.FreeRun.{alone}
 use Rattle.acc_served.proofs.Alone.{entry_is}
 use Rattle.acc_tape.specs.declared.content.Limits.{Limits}
 use Rattle.acc_tape.specs.declared.error.TapeError.TheVariants.{Full}
 use Rattle.acc_tape.specs.Refusals.{Refuses}
-use Rattle.acc_tape.specs.ItemViews.{actor_of_item}
-use Rattle.acc_tape.specs.Seats.{TapeName, SeatView, Turns}
+use Rattle.acc_tape.specs.Seats.{TapeName, SeatView}
+use Rattle.acc_desk.specs.declared.hold.Hold.{Hold}
 use Rattle.acc_desk.specs.Desks.{newest, IsDesk, MayStep}
-use Rattle.acc_desk.specs.Fits.{fits_plan}
-use Rattle.acc_desk.specs.Groups.{Joining, CanGather}
 use Rattle.acc_desk.specs.Outcomes.{HasNoRoom}
 use Rattle.acc_desk.proofs.Seating.{newest_few}
 use Rattle.acc_desk.proofs.Stepping.{asked}
-use Rattle.acc_desk.proofs.Gathering.{asks_behind, here, may_at, ready_here}
-use Rattle.acc_desk.proofs.Joining.{can_moves, no_room}
 
--- which limit it is
-pub passed : (limits : Limits) (items bytes weight : ℕ) (which : Which) (number : ℕ) → Refuses limits items bytes weight (Full which number) → (limits.items ≤ items) ⊎ (limits.weight < bytes + weight)
-passed limits items bytes weight Document number h = absurd h
-passed limits items bytes weight Items number h = inl h.1
-passed limits items bytes weight Bytes number h = inr h.2
+-- which limit one item more would pass
+pub passed : (limits : Limits) (count bytes weight : ℕ) (which : Which) (number : ℕ) → Refuses limits count bytes 1 weight (Full which number) → (limits.items ≤ count) ⊎ (limits.weight < bytes + weight)
+passed limits count bytes weight Document number h = absurd h
+passed limits count bytes weight Items number h = let more = h.1 in inl (omega arith)
+passed limits count bytes weight Bytes number h = inr h.2
 
 module _ (plan : Content) (tape : TapeName) (a : Actor) (left later : List Step) (seat : SeatView Item) (event : Event) (act : Act) (may : MayStep plan (newest seat) a event act left later) where
   -- what the actor would enter weighs too much, if the items aren't too many
@@ -49,10 +45,10 @@ module _ (plan : Content) (tape : TapeName) (a : Actor) (left later : List Step)
   lacks_room weight is (inr heavy) = inr (event, act, later, may, subst (λ w. tape.limits.weight < sum_by weight_of seat.seen + seat.out_weight + w) is heavy)
 
 module _ {D : Type 0} (images : D → List ℕ → Type 0) (faults : D → ℕ) (strict : D → Bool) (armed : D → Option ℕ) (content synced : D → List ℕ) (written : D → Ranges) (strict_run : Bool) (plan : Content) (tape : TapeName) (limits : tape.limits.items ≤ most_items) (a : Actor) (commands : List Step) (gone : ℕ) (slot : Slot D)
-    (event : Event) (act : Act) (later : ℕ) (held : List ℕ) (seat : SeatView Item) (desk : IsDesk images faults strict armed content synced written strict_run plan tape held a seat slot commands gone) (may : MayStep plan (newest seat) a event act (drop gone commands) (drop later commands)) where
+    (event : Event) (act : Act) (later : ℕ) (held : Hold) (seat : SeatView Item) (desk : IsDesk images faults strict armed content synced written strict_run plan tape held a seat slot commands gone) (may : MayStep plan (newest seat) a event act (drop gone commands) (drop later commands)) where
   -- an actor that was asked what it would send
   pub asked_no_room : (weight : ℕ) → ((s : Situation) → IsAsked images faults plan s a event act slot → weight ≡ weight_of (entry_of (cluster_of plan) s a event false))
-      → (which : Which) (number : ℕ) → Refuses tape.limits (length seat.seen + seat.out_count) (sum_by weight_of seat.seen + seat.out_weight) weight (Full which number)
+      → (which : Which) (number : ℕ) → Refuses tape.limits (length seat.seen + seat.out_count) (sum_by weight_of seat.seen + seat.out_weight) 1 weight (Full which number)
       → HasNoRoom plan tape a (drop gone commands) seat
   asked_no_room weight is which number refuses =
       let s : Situation = alone (newest seat) desk.at.stopped in
@@ -60,26 +56,3 @@ module _ {D : Type 0} (images : D → List ℕ → Type 0) (faults : D → ℕ) 
       let asked_now = asked images faults strict armed content synced written strict_run plan a (newest seat) slot (drop gone commands) (drop later commands) event act desk.known few desk.at may in
       lacks_room plan tape a (drop gone commands) (drop later commands) seat event act may weight (is s asked_now ∙ ap weight_of (entry_is (cluster_of plan) s refl a event false))
       (passed tape.limits (length seat.seen + seat.out_count) (sum_by weight_of seat.seen + seat.out_weight) weight which number refuses)
-
--- a store that has staged nothing, which was asked what it would send for its oldest message
-module _ {D : Type 0} (images : D → List ℕ → Type 0) (faults : D → ℕ) (strict : D → Bool) (armed : D → Option ℕ) (content synced : D → List ℕ) (written : D → Ranges) (strict_run : Bool) (plan : Content) (tape : TapeName) (limits : tape.limits.items ≤ most_items) (a : Actor) (commands : List Step) (gone : ℕ)
-    (first slot : Slot D) (weights : List ℕ) (old : SeatView Item) (j : Joining)
-    (can : CanGather images faults strict armed content synced written strict_run plan tape a old first slot commands gone [] weights j)
-    (new : SeatView Item) (turns : Turns actor_of_item weight_of (fits_plan plan) old new) (same : new.mine ≡ old.mine) (held : new.held ≡ weights) where
-  pub first_no_room : (weight : ℕ)
-      → ((s : Situation) (events : List Event) → IsAskedBehind images faults plan s a events j.event j.act slot
-      → weight ≡ weight_of (entry_of (cluster_of plan) (entered_all (cluster_of plan) s a events false) a j.event false))
-      → (which : Which) (number : ℕ) → Refuses tape.limits (length new.seen + new.out_count) (sum_by weight_of new.seen + new.out_weight) weight (Full which number)
-      → HasNoRoom plan tape a (drop gone commands) new
-  first_no_room weight weighs which number refuses =
-      let items = newest new in
-      let left = drop gone commands in
-      let gathering = no_room images faults strict armed content synced written strict_run plan tape limits a commands gone first slot [] weights old j can new turns same held in
-      let can' = can_moves images faults strict armed content synced written strict_run plan tape limits a commands gone first slot [] weights old j can new turns same in
-      let few = newest_few plan tape limits a weights new gathering.desk.seated in
-      let s : Situation = here images faults strict armed content synced written strict_run plan a items first left [] gathering.desk.known few gathering.up gathering.desk.at gathering.joined in
-      let is = weighs s [] (asks_behind images faults strict armed content synced written plan a first slot [] weights gathering.staged j s
-      (ready_here images faults strict armed content synced written strict_run plan a items first left [] gathering.desk.known few gathering.up gathering.desk.at gathering.joined)
-      (may_at images faults strict armed content synced written strict_run plan a items first left [] gathering.desk.known few gathering.up gathering.desk.at gathering.joined j.event j.act can'.may.may)) in
-      lacks_room plan tape a left left new j.event j.act can'.may weight (is ∙ ap weight_of (entry_is (cluster_of plan) s refl a j.event false))
-      (passed tape.limits (length new.seen + new.out_count) (sum_by weight_of new.seen + new.out_weight) weight which number refuses)

@@ -1,5 +1,5 @@
 -- Desks after the turn of one of them.
-use Rattle.std.proofs.Common.{◌≡◌, ◌⊎◌, ℕ, ◌+◌, ◌<◌, List, [], ◌∷◌, length, map, drop, get_or, set, inl, inr, refl, sym, ◌∙◌, ap, subst, arith}
+use Rattle.std.proofs.Common.{◌≡◌, ℕ, ◌+◌, ◌<◌, List, [], ◌∷◌, length, map, drop, get_or, set, inl, inr, refl, sym, ◌∙◌, ap, subst, arith}
 use Rattle.std.specs.Prelude.{sum_by, Any}
 use Rattle.std.proofs.Math.Seq.{map-set_same}
 use Rattle.std.proofs.lemmas.List.Sums.{sum_by-cons, sum_by-set}
@@ -69,15 +69,14 @@ module _ {D J : Type 0} where
       after_taken h = taken_by all before (more h)
 
       full_by : (so : Turned) → SoFar so xs ys → map progress_of zs ≡ map progress_of ys → Any NoRoom zs → HaveComeTo plan tape Full xs zs
-      full_by Taken h same room = inl (idle_by Taken h same)
-      full_by Idle h same room = inr (same ∙ h, room)
+      full_by Taken h same room = (inl (idle_by Taken h same), room)
+      full_by Idle h same room = (inr (same ∙ h), room)
       full_by Full h same room = absurd h
 
       pub after_full : new.actor ≡ old.actor → new.commands ≡ old.commands
-          → (length old.seat.mine < length new.seat.mine) ⊎ ((new.seat.mine ≡ old.seat.mine) × (new.gone ≡ old.gone) × HasNoRoom plan tape old.actor (drop old.gone old.commands) new.seat)
+          → (new.seat.mine ≡ old.seat.mine) × (new.gone ≡ old.gone) × HasNoRoom plan tape old.actor (drop old.gone old.commands) new.seat
           → HaveComeTo plan tape Full xs zs
-      after_full actor commands (inl entered) = inl (taken_by all before (more entered))
-      after_full actor commands (inr still) =
+      after_full actor commands still =
           let by_actor = subst (λ a. HasNoRoom plan tape a (drop old.gone old.commands) new.seat) (sym actor) still.2 in
           let by_gone = subst (λ gone. HasNoRoom plan tape new.actor (drop gone old.commands) new.seat) (sym still.1) by_actor in
           let room : NoRoom new = subst (λ l. HasNoRoom plan tape new.actor (drop new.gone l) new.seat) (sym commands) by_gone in

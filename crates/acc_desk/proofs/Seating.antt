@@ -1,5 +1,5 @@
 -- A desk after a call on the tape, and after its actor stepped.
-use Rattle.std.proofs.Common.{◌≡◌, ℕ, ◌≤◌, Bool, false, List, [], ◌∷◌, ◌++◌, length, drop, reverse, Option, None, Some, refl, sym, ◌∙◌, ap, subst, arith, length-append, cond, eq-eqb}
+use Rattle.std.proofs.Common.{◌≡◌, ℕ, ◌+◌, ◌-◌, ◌≤◌, Bool, false, List, [], ◌∷◌, ◌++◌, length, drop, reverse, Option, None, Some, refl, sym, ◌∙◌, ap, subst, arith, length-append}
 use Rattle.std.specs.Prelude.{All, sum_by}
 use Rattle.std.proofs.lemmas.List.{reverse-append, length-reverse}
 use mathlib.Core.List.{IsPrefix}
@@ -23,17 +23,43 @@ use Rattle.acc_cluster.specs.declared.slot.Slot.{Slot}
 use Rattle.acc_cluster.specs.Slots.{IsStrictSlot}
 use Rattle.acc_cluster.specs.Asked.{IsAsked, MayAsk, HasTried, HasTriedStrictly}
 use Rattle.acc_served.specs.FreeRun.{IsFreeRun, alone}
-use Rattle.acc_tape.specs.Lists.{without, items_of}
+use Rattle.acc_tape.specs.Lists.{items_of}
 use Rattle.acc_tape.specs.ItemViews.{actor_of_item}
 use Rattle.acc_tape.specs.Seats.{TapeName, SeatView, Turns, FitsBehind, ComesLast}
-use Rattle.acc_desk.specs.Desks.{newest, IsSeated, IsAt, IsDesk, MayStep, item_of}
+use Rattle.acc_desk.specs.declared.hold.Hold.{Hold}
+use Rattle.acc_desk.specs.Desks.{newest, held_of, no_hold, IsSeated, IsAt, IsDesk, MayStep, item_of}
 use Rattle.acc_desk.specs.Fits.{fits_plan}
 use Rattle.acc_desk.proofs.Moving.{Between, between, at_on}
 use Rattle.acc_desk.proofs.Stepping.{here, asked, step_on, item_short, item_weighs, item_behind, stepped}
 
--- the only weight is given up
-pub without_own : (w : ℕ) → without w (w ∷ []) ≡ []
-without_own w = ap (λ b. cond b [] (w ∷ [])) (eq-eqb w w refl)
+-- ---- what a seat holds
+
+pub hold_is : (seat : SeatView Item) (hold : Hold) → seat.held_items ≡ hold.items → seat.held_weight ≡ hold.weight → held_of seat ≡ hold
+hold_is seat hold items weight = λ i. record { items = items i; weight = weight i }
+
+pub holds_items : (seat : SeatView Item) (hold : Hold) → held_of seat ≡ hold → hold.items ≤ seat.held_items
+holds_items seat hold is = let e = ap (λ (h : Hold). h.items) is in omega arith
+
+pub holds_weight : (seat : SeatView Item) (hold : Hold) → held_of seat ≡ hold → hold.weight ≤ seat.held_weight
+holds_weight seat hold is = let e = ap (λ (h : Hold). h.weight) is in omega arith
+
+-- it holds as much as before, so much where it held nothing, or nothing any more
+pub held_same : (old new : SeatView Item) (hold : Hold) → held_of old ≡ hold → new.held_items ≡ old.held_items → new.held_weight ≡ old.held_weight → held_of new ≡ hold
+held_same old new hold is items weight = hold_is new hold (items ∙ ap (λ (h : Hold). h.items) is) (weight ∙ ap (λ (h : Hold). h.weight) is)
+
+pub held_first : (old new : SeatView Item) (hold : Hold) → held_of old ≡ no_hold → new.held_items ≡ old.held_items + hold.items → new.held_weight ≡ old.held_weight + hold.weight → held_of new ≡ hold
+held_first old new hold is items weight =
+    let none_items : old.held_items ≡ 0 = ap (λ (h : Hold). h.items) is in
+    let none_weight : old.held_weight ≡ 0 = ap (λ (h : Hold). h.weight) is in
+    hold_is new hold (omega arith) (omega arith)
+
+pub held_none : (old new : SeatView Item) (hold : Hold) → held_of old ≡ hold → new.held_items ≡ old.held_items - hold.items → new.held_weight ≡ old.held_weight - hold.weight → held_of new ≡ no_hold
+held_none old new hold is items weight =
+    let all_items : old.held_items ≡ hold.items = ap (λ (h : Hold). h.items) is in
+    let all_weight : old.held_weight ≡ hold.weight = ap (λ (h : Hold). h.weight) is in
+    hold_is new no_hold (omega arith) (omega arith)
+
+-- ---- items
 
 pub reverse_last : (before : List Item) (item : Item) → reverse (before ++ item ∷ []) ≡ item ∷ reverse before
 reverse_last before item = reverse-append before (item ∷ [])
@@ -55,7 +81,7 @@ module _ (plan : Content) (tape : TapeName) (limits : tape.limits.items ≤ most
   pub seen_light : (old new : SeatView Item) → TurnsOf old new → new.tape ≡ tape → sum_by weight_of new.seen ≤ tape.limits.weight
   seen_light old new turns is = let w = turns.within_weight in let e = ap (λ (t : TapeName). t.limits.weight) is in omega arith
 
-  pub seated_on : (held later : List ℕ) (old new : SeatView Item) → IsSeated tape a held old → TurnsOf old new → new.held ≡ later → IsSeated tape a later new
+  pub seated_on : (held later : Hold) (old new : SeatView Item) → IsSeated tape a held old → TurnsOf old new → held_of new ≡ later → IsSeated tape a later new
   seated_on held later old new seated turns is =
       record {
         tape_is = turns.tape ∙ seated.tape_is;
@@ -68,24 +94,24 @@ module _ (plan : Content) (tape : TapeName) (limits : tape.limits.items ≤ most
       }
 
   -- others' items that came
-  pub came : (held : List ℕ) (old new : SeatView Item) → IsSeated tape a held old → TurnsOf old new → new.mine ≡ old.mine → Between a old.seen new.seen
+  pub came : (held : Hold) (old new : SeatView Item) → IsSeated tape a held old → TurnsOf old new → new.mine ≡ old.mine → Between a old.seen new.seen
   came held old new seated turns same =
       between a old.seen new.seen old.mine (at_actor a old.actor old.seen old.mine seated.actor_is seated.mine_is) turns.seen
       (at_actor a new.actor new.seen old.mine (turns.actor ∙ seated.actor_is) (turns.mine ∙ same))
 
-  pub others_since : (held : List ℕ) (seat : SeatView Item) → IsSeated tape a held seat → (before : List Item) → IsPrefix seat.seen before → items_of actor_of_item seat.actor before ≡ seat.mine → Between a seat.seen before
+  pub others_since : (held : Hold) (seat : SeatView Item) → IsSeated tape a held seat → (before : List Item) → IsPrefix seat.seen before → items_of actor_of_item seat.actor before ≡ seat.mine → Between a seat.seen before
   others_since held seat seated before begins mine =
       between a seat.seen before seat.mine (at_actor a seat.actor seat.seen seat.mine seated.actor_is seated.mine_is) begins
       (at_actor a seat.actor before seat.mine seated.actor_is mine)
 
-  pub newest_few : (held : List ℕ) (seat : SeatView Item) → IsSeated tape a held seat → length (newest seat) ≤ most_items
+  pub newest_few : (held : Hold) (seat : SeatView Item) → IsSeated tape a held seat → length (newest seat) ≤ most_items
   newest_few held seat seated = let n = length-reverse seat.seen in let f = seated.few in omega arith
 
   module _ {D : Type 0} (images : D → List ℕ → Type 0) (faults : D → ℕ) (strict : D → Bool) (armed : D → Option ℕ) (content synced : D → List ℕ) (written : D → Ranges) (strict_run : Bool) (commands : List Step) (gone : ℕ) (slot : Slot D) where
-    abbrev Desk : List ℕ → SeatView Item → Type 0
+    abbrev Desk : Hold → SeatView Item → Type 0
     Desk held seat = IsDesk images faults strict armed content synced written strict_run plan tape held a seat slot commands gone
 
-    pub desk_on : (held later : List ℕ) (old new : SeatView Item) → Desk held old → TurnsOf old new → new.mine ≡ old.mine → new.held ≡ later → Desk later new
+    pub desk_on : (held later : Hold) (old new : SeatView Item) → Desk held old → TurnsOf old new → new.mine ≡ old.mine → held_of new ≡ later → Desk later new
     desk_on held later old new desk turns same is =
         let b = came held old new desk.seated turns same in
         record {
@@ -100,13 +126,13 @@ module _ (plan : Content) (tape : TapeName) (limits : tape.limits.items ≤ most
       abbrev May : SeatView Item → Type 0
       May seat = MayStep plan (newest seat) a event act (drop gone commands) (drop later commands)
 
-      pub may_on : (held : List ℕ) (old new : SeatView Item) → Desk held old → TurnsOf old new → new.mine ≡ old.mine → May old → May new
+      pub may_on : (held : Hold) (old new : SeatView Item) → Desk held old → TurnsOf old new → new.mine ≡ old.mine → May old → May new
       may_on held old new desk turns same may =
           let b = came held old new desk.seated turns same in
           subst (λ items. MayStep plan items a event act (drop gone commands) (drop later commands)) (sym b.items_are)
           (step_on plan a (newest old) b.others event act (drop gone commands) (drop later commands) b.apart (subst (IsFreeRun plan) b.items_are turns.fitting) may)
 
-      module _ (held : List ℕ) (seat : SeatView Item) (desk : Desk held seat) (may : May seat) where
+      module _ (held : Hold) (seat : SeatView Item) (desk : Desk held seat) (may : May seat) where
         few_now : length (newest seat) ≤ most_items
         few_now = newest_few held seat desk.seated
 
@@ -145,7 +171,7 @@ module _ (plan : Content) (tape : TapeName) (limits : tape.limits.items ≤ most
               (s : Situation) (disks : Disks) → IsAsked images faults plan s a event act slot → IsStrictSlot strict armed content synced written plan s disks a slot
               → HasTriedStrictly strict armed content synced written plan s disks a event new_slot given
 
-          pub taken : Strictly → (new : SeatView Item) → TurnsOf seat new → new.held ≡ [] → ComesLast actor_of_item (fits_plan plan) seat new.seen (item_of a event given) → IsDesk images faults strict armed content synced written strict_run plan tape [] a new new_slot commands later
+          pub taken : Strictly → (new : SeatView Item) → TurnsOf seat new → held_of new ≡ no_hold → ComesLast actor_of_item (fits_plan plan) seat new.seen (item_of a event given) → IsDesk images faults strict armed content synced written strict_run plan tape no_hold a new new_slot commands later
           taken strictly new turns free last =
               let item = item_of a event given in
               let b = others_since held seat desk.seated last.before last.begins last.mine in
@@ -160,7 +186,7 @@ module _ (plan : Content) (tape : TapeName) (limits : tape.limits.items ≤ most
               record {
                 known = desk.known;
                 all = desk.all;
-                seated = seated_on held [] seat new desk.seated turns free;
+                seated = seated_on held no_hold seat new desk.seated turns free;
                 at = subst (λ all. IsAt images faults strict armed content synced written strict_run plan a all new_slot (drop later commands)) (sym (ap reverse last.seen_is ∙ reverse_last last.before item ∙ ap (λ all. item ∷ all) b.items_are))
                     (stepped images faults strict armed content synced written strict_run plan a items slot (drop gone commands) (drop later commands) event act desk.known few' at' may' given new_slot (tried here' asked') (λ disks. strictly here' disks asked'));
               }

@@ -29,6 +29,7 @@ use Rattle.acc_served.specs.Commands.{commands_of, is_restart, is_event_of, is_m
 use Rattle.acc_served.specs.FreeRun.{is_plain_event, IsUntaken, alone}
 use Rattle.acc_served.specs.Serving.{IsServing, HasGone, AreStopsOf}
 use Rattle.acc_desk.specs.declared.desk.Desk.{Desk}
+use Rattle.acc_desk.specs.declared.hold.Hold.{Hold}
 use Rattle.acc_tape.specs.Seats.{TapeName, SeatView}
 use Rattle.acc_tape.specs.Lists.{items_of}
 use Rattle.acc_tape.specs.ItemViews.{actor_of_item}
@@ -39,13 +40,20 @@ use Rattle.acc_tape.specs.ItemViews.{actor_of_item}
 abbrev pub newest : SeatView Item → List Item
 newest seat = reverse seat.seen
 
--- It is a seat of the tape for the actor, holds these reservations, and has entered the items of its actor that it has seen. These are
+-- what a seat holds reserved, and nothing
+abbrev pub held_of : SeatView Item → Hold
+held_of seat = record { items = seat.held_items; weight = seat.held_weight }
+
+abbrev pub no_hold : Hold
+no_hold = record { items = 0; weight = 0 }
+
+-- It is a seat of the tape for the actor, holds so much reserved, and has entered the items of its actor that it has seen. These are
 -- within the limits.
-pub record IsSeated (tape : TapeName) (a : Actor) (held : List ℕ) (seat : SeatView Item) : Type 0 where
+pub record IsSeated (tape : TapeName) (a : Actor) (held : Hold) (seat : SeatView Item) : Type 0 where
   pub tape_is : seat.tape ≡ tape
   pub actor_is : seat.actor ≡ a.0
   pub some : seat.actor ≢ 0
-  pub held_is : seat.held ≡ held
+  pub held_is : held_of seat ≡ held
   pub mine_is : items_of actor_of_item seat.actor seat.seen ≡ seat.mine
   pub few : length seat.seen ≤ most_items
   pub light : sum_by weight_of seat.seen ≤ tape.limits.weight
@@ -68,8 +76,8 @@ pub record IsAt {D : Type 0} (images : D → List ℕ → Type 0) (faults : D �
   pub gone : HasGone plan (alone items stopped) a left
   pub stayed : strict_run ≡ true → HasStayed strict armed content synced written plan (alone items stopped) a slot
 
--- The desk of an actor of the plan with these reservations: so many of its commands went by.
-pub record IsDesk {D : Type 0} (images : D → List ℕ → Type 0) (faults : D → ℕ) (strict : D → Bool) (armed : D → Option ℕ) (content synced : D → List ℕ) (written : D → Ranges) (strict_run : Bool) (plan : Content) (tape : TapeName) (held : List ℕ) (a : Actor) (seat : SeatView Item) (slot : Slot D) (commands : List Step) (gone : ℕ) : Type 0 where
+-- The desk of an actor of the plan that holds so much reserved: so many of its commands went by.
+pub record IsDesk {D : Type 0} (images : D → List ℕ → Type 0) (faults : D → ℕ) (strict : D → Bool) (armed : D → Option ℕ) (content synced : D → List ℕ) (written : D → Ranges) (strict_run : Bool) (plan : Content) (tape : TapeName) (held : Hold) (a : Actor) (seat : SeatView Item) (slot : Slot D) (commands : List Step) (gone : ℕ) : Type 0 where
   pub known : Contains (actors plan.topology) a
   pub all : commands ≡ commands_of plan a
   pub seated : IsSeated tape a held seat
@@ -77,7 +85,7 @@ pub record IsDesk {D : Type 0} (images : D → List ℕ → Type 0) (faults : D 
 
 -- The seat belongs to the tape, and holds nothing that is reserved; and its actor stands for what it has seen.
 abbrev pub IsSound : {D : Type 0} → (D → List ℕ → Type 0) → (D → ℕ) → (D → Bool) → (D → Option ℕ) → (D → List ℕ) → (D → List ℕ) → (D → Ranges) → Bool → Content → TapeName → Actor → SeatView Item → Slot D → List Step → ℕ → Type 0
-IsSound images faults strict armed content synced written strict_run plan tape a seat slot commands gone = IsDesk images faults strict armed content synced written strict_run plan tape [] a seat slot commands gone
+IsSound images faults strict armed content synced written strict_run plan tape a seat slot commands gone = IsDesk images faults strict armed content synced written strict_run plan tape no_hold a seat slot commands gone
 
 -- ---- what may be taken
 
@@ -127,7 +135,7 @@ abbrev pub AreSound : {D J : Type 0} → (D → List ℕ → Type 0) → (D → 
 AreSound {D} {J} images faults strict armed content synced written strict_run plan tape desks = All (λ (desk : Desk D J). IsSound images faults strict armed content synced written strict_run plan tape desk.actor desk.seat desk.slot desk.commands desk.gone) desks
 
 abbrev pub AreSeated : {D J : Type 0} → TapeName → List (Desk D J) → Type 0
-AreSeated {D} {J} tape desks = All (λ (desk : Desk D J). IsSeated tape desk.actor [] desk.seat) desks
+AreSeated {D} {J} tape desks = All (λ (desk : Desk D J). IsSeated tape desk.actor no_hold desk.seat) desks
 
 -- whose it is, and the commands of its actor
 abbrev pub name_of : {D J : Type 0} → Desk D J → Actor × List Step

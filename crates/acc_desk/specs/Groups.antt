@@ -1,13 +1,13 @@
 -- Messages that a store takes as a group: while they are staged, and while they are entered one behind another.
-use Rattle.std.specs.Prelude.{◌≡◌, ◌≢◌, ℕ, ◌+◌, ◌<◌, ◌≤◌, Bool, true, false, List, [], ◌∷◌, ◌++◌, length, map, drop, Option, None, Some, Contains}
+use Rattle.std.specs.Prelude.{◌≡◌, ◌≢◌, ℕ, ◌<◌, ◌≤◌, Bool, true, false, List, [], ◌∷◌, length, map, drop, sum, Option, None, Some, Contains}
 use Rattle.std.specs.List.{AllByRecursion}
 use Rattle.acc_stamp.specs.declared.actors.Actor.{Actor}
 use Rattle.acc_ports.specs.Strict.{Ranges}
 use Rattle.acc_message.specs.declared.item.Item.{Item}
 use Rattle.acc_message.specs.declared.entry.Event.{Event}
 use Rattle.acc_message.specs.declared.entry.Event.TheVariants.{Message as MessageEvent}
-use Rattle.acc_message.specs.Items.{sent_in}
-use Rattle.acc_message.specs.NodeRules.{Act}
+use Rattle.acc_message.specs.declared.message.Message.{Message}
+use Rattle.acc_message.specs.NodeRules.{Act, Takes}
 use Rattle.acc_message.specs.Run.{Cluster, is_node, is_down}
 use Rattle.acc_message_code.specs.Weight.{weight_of}
 use Rattle.acc_payloads.specs.Items.{downs_in}
@@ -29,10 +29,9 @@ use Rattle.acc_served.specs.Commands.{commands_of, is_message}
 use Rattle.acc_served.specs.FreeRun.{alone}
 use Rattle.acc_served.specs.Serving.{IsServing, HasGone, AreStopsOf}
 use Rattle.acc_posts.specs.declared.posting.Post.{Post}
-use Rattle.acc_tape.specs.ItemViews.{addressee, taken_by_item, is_lost_item}
-use Rattle.acc_tape.specs.Messages.{IsOldest}
 use Rattle.acc_tape.specs.Seats.{TapeName, SeatView}
-use Rattle.acc_desk.specs.Desks.{newest, IsSeated, IsDesk, MayStep}
+use Rattle.acc_desk.specs.declared.hold.Hold.{Hold}
+use Rattle.acc_desk.specs.Desks.{newest, item_of, IsSeated, IsDesk, MayStep}
 
 -- ---- what is staged
 
@@ -87,52 +86,40 @@ pub record CanAllJoin (plan : Content) (items : List Item) (a : Actor) (left : L
   pub different : AreDifferent (events_of joinings)
   pub few : length joinings ≤ 16
 
--- it has a smaller number
-abbrev pub IsBelow : ℕ → Event → Type 0
-IsBelow bound (MessageEvent number) = number < bound
-IsBelow bound event = ⊥
-
--- The desk of an actor that stood in the first slot, and holds these reservations: the first of them are for the messages that are staged.
-pub record IsGathering {D : Type 0} (images : D → List ℕ → Type 0) (faults : D → ℕ) (strict : D → Bool) (armed : D → Option ℕ) (content synced : D → List ℕ) (written : D → Ranges) (strict_run : Bool) (plan : Content) (tape : TapeName) (a : Actor) (seat : SeatView Item) (first slot : Slot D) (commands : List Step) (gone : ℕ) (joinings : List Joining) (weights : List ℕ) : Type 0 where
+-- The desk of an actor that stood in the first slot, with these messages staged. What is entered for them weighs so much, which is within what
+-- the desk holds.
+pub record IsGathering {D : Type 0} (images : D → List ℕ → Type 0) (faults : D → ℕ) (strict : D → Bool) (armed : D → Option ℕ) (content synced : D → List ℕ) (written : D → Ranges) (strict_run : Bool) (plan : Content) (tape : TapeName) (a : Actor) (seat : SeatView Item) (first slot : Slot D) (commands : List Step) (gone : ℕ) (joinings : List Joining) (used : ℕ) (held : Hold) : Type 0 where
   pub kind : is_node a ≡ false
-  pub desk : IsDesk images faults strict armed content synced written strict_run plan tape weights a seat first commands gone
+  pub desk : IsDesk images faults strict armed content synced written strict_run plan tape held a seat first commands gone
   pub up : is_down a (newest seat) ≡ false
   pub joined : CanAllJoin plan (newest seat) a (drop gone commands) joinings
-  pub staged : HasStaged images faults strict armed content synced written plan a first slot joinings weights
-
--- One message more can join: it is none of them, and they are fewer than sixteen.
-pub record CanGather {D : Type 0} (images : D → List ℕ → Type 0) (faults : D → ℕ) (strict : D → Bool) (armed : D → Option ℕ) (content synced : D → List ℕ) (written : D → Ranges) (strict_run : Bool) (plan : Content) (tape : TapeName) (a : Actor) (seat : SeatView Item) (first slot : Slot D) (commands : List Step) (gone : ℕ) (joinings : List Joining) (weights : List ℕ) (j : Joining) : Type 0 where
-  pub gathering : IsGathering images faults strict armed content synced written strict_run plan tape a seat first slot commands gone joinings weights
+  pub weights : List ℕ
   pub long : length weights ≡ length joinings
+  pub staged : HasStaged images faults strict armed content synced written plan a first slot joinings weights
+  pub used_is : sum weights ≡ used
+  pub within : used ≤ held.weight
+  pub few : length joinings ≤ held.items
+
+-- One message more can join, if it weighs no more than is left: it is none of them, and they are fewer than the desk holds items.
+pub record CanGather {D : Type 0} (images : D → List ℕ → Type 0) (faults : D → ℕ) (strict : D → Bool) (armed : D → Option ℕ) (content synced : D → List ℕ) (written : D → Ranges) (strict_run : Bool) (plan : Content) (tape : TapeName) (a : Actor) (seat : SeatView Item) (first slot : Slot D) (commands : List Step) (gone : ℕ) (joinings : List Joining) (used : ℕ) (held : Hold) (j : Joining) : Type 0 where
+  pub gathering : IsGathering images faults strict armed content synced written strict_run plan tape a seat first slot commands gone joinings used held
   pub can : CanJoin plan (newest seat) a (drop gone commands) j
   pub another : AllByRecursion (λ (other : Event). other ≢ j.event) (events_of joinings)
   pub few : length joinings < 16
+  pub more : length joinings < held.items
 
--- the oldest message that waits for the actor and has a number from this one on
-abbrev pub IsOldestHere : List Item → ℕ → ℕ → Post → Type 0
-IsOldestHere seen actor from post = IsOldest taken_by_item (λ item. map addressee (sent_in item)) is_lost_item seen actor from post
-
--- behind the greatest number of these
-abbrev pub bound_of : Option ℕ → ℕ
-bound_of None = 0
-bound_of (Some number) = number + 1
-
--- one message joins, or finds no room
-abbrev pub joined_if : Bool → List Joining → Joining → List Joining
-joined_if true joinings j = joinings
-joined_if false joinings j = joinings ++ j ∷ []
-
-abbrev pub one_unless : Bool → ℕ
-one_unless true = 0
-one_unless false = 1
+-- a message that was found joins by being taken
+abbrev pub joining_of : Post × Message → Joining
+joining_of found = record { event = MessageEvent found.0.number; act = Takes found.1 }
 
 -- The disk failed when what was staged was settled: the desk of the actor, which stood in the first slot before and is down now.
-pub record IsStopping {D : Type 0} (images : D → List ℕ → Type 0) (faults : D → ℕ) (strict : D → Bool) (armed : D → Option ℕ) (content synced : D → List ℕ) (written : D → Ranges) (strict_run : Bool) (plan : Content) (tape : TapeName) (a : Actor) (seat : SeatView Item) (first slot : Slot D) (commands : List Step) (gone : ℕ) (joinings : List Joining) (weights : List ℕ) : Type 0 where
-  pub desk : IsDesk images faults strict armed content synced written strict_run plan tape weights a seat first commands gone
+pub record IsStopping {D : Type 0} (images : D → List ℕ → Type 0) (faults : D → ℕ) (strict : D → Bool) (armed : D → Option ℕ) (content synced : D → List ℕ) (written : D → Ranges) (strict_run : Bool) (plan : Content) (tape : TapeName) (a : Actor) (seat : SeatView Item) (first slot : Slot D) (commands : List Step) (gone : ℕ) (joinings : List Joining) (held : Hold) : Type 0 where
+  pub desk : IsDesk images faults strict armed content synced written strict_run plan tape held a seat first commands gone
   pub up : is_down a (newest seat) ≡ false
   pub joined : CanAllJoin plan (newest seat) a (drop gone commands) joinings
   pub settles : Settles images faults plan a first joinings slot None
   pub strictly : SettlesStrictly images faults strict armed content synced written plan a first joinings slot None
+  pub some : 0 < held.items
 
 -- ---- what is entered
 
@@ -163,9 +150,17 @@ pub record IsEntering {D : Type 0} (images : D → List ℕ → Type 0) (faults 
   pub gone : HasGone plan (alone items stopped) a left
   pub stayed : strict_run ≡ true → IsStrictSlot strict armed content synced written plan (entered_all (cluster_of plan) (alone before stopped) a events false) fresh_disks a slot × (stopped ≡ []) × (downs_in a items ≡ 0)
 
--- the desk of such an actor
-pub record IsEnteringDesk {D : Type 0} (images : D → List ℕ → Type 0) (faults : D → ℕ) (strict : D → Bool) (armed : D → Option ℕ) (content synced : D → List ℕ) (written : D → Ranges) (strict_run : Bool) (plan : Content) (tape : TapeName) (held : List ℕ) (a : Actor) (seat : SeatView Item) (slot : Slot D) (commands : List Step) (gone : ℕ) (events : List Event) (unsent : List Unsent) : Type 0 where
+-- the item of what is unsent
+abbrev pub item_of_unsent : Actor → Unsent → Item
+item_of_unsent a one = item_of a one.event (Some one.emitted)
+
+-- the desk of such an actor, which holds enough for what is still to be entered, sixteen items at most
+pub record IsEnteringDesk {D : Type 0} (images : D → List ℕ → Type 0) (faults : D → ℕ) (strict : D → Bool) (armed : D → Option ℕ) (content synced : D → List ℕ) (written : D → Ranges) (strict_run : Bool) (plan : Content) (tape : TapeName) (held : Hold) (a : Actor) (seat : SeatView Item) (slot : Slot D) (commands : List Step) (gone : ℕ) (events : List Event) (unsent : List Unsent) : Type 0 where
   pub known : Contains (actors plan.topology) a
   pub all : commands ≡ commands_of plan a
   pub seated : IsSeated tape a held seat
-  pub entering : IsEntering images faults strict armed content synced written strict_run plan a (newest seat) slot (drop gone commands) events unsent held
+  pub weights : List ℕ
+  pub entering : IsEntering images faults strict armed content synced written strict_run plan a (newest seat) slot (drop gone commands) events unsent weights
+  pub light : sum weights ≤ held.weight
+  pub few : length unsent ≤ held.items
+  pub most : length unsent ≤ 16

@@ -27,11 +27,11 @@ HasNoRoom plan tape a left seat =
     × (tape.limits.weight < sum_by weight_of seat.seen + seat.out_weight + weight_of (entering (cluster_of plan) (newest seat) a event false)))
 
 -- What a turn came to, of the items that the actor had entered and its commands that had gone by. Taken: it entered an item or more.
--- Idle: it entered none, and no command went by. Full: it entered some, or nothing as the tape has no room.
+-- Idle: it entered none, and no command went by. Full: it entered none and no command went by, as the tape has no room.
 abbrev pub CameTo : Content → TapeName → Actor → List Step → Turned → List Item → ℕ → SeatView Item → ℕ → Type 0
 CameTo plan tape a commands Taken mine gone seat later = length mine < length seat.mine
 CameTo plan tape a commands Idle mine gone seat later = (seat.mine ≡ mine) × (later ≡ gone)
-CameTo plan tape a commands Full mine gone seat later = (length mine < length seat.mine) ⊎ ((seat.mine ≡ mine) × (later ≡ gone) × HasNoRoom plan tape a (drop gone commands) seat)
+CameTo plan tape a commands Full mine gone seat later = (seat.mine ≡ mine) × (later ≡ gone) × HasNoRoom plan tape a (drop gone commands) seat
 
 -- It is a restart, or it begins a transaction that has a node and a body and that none of the commands before begins: an actor that is up
 -- takes it as its next, whatever stands on the tape.
@@ -51,10 +51,10 @@ abbrev pub entered_by : {D J : Type 0} → List (Desk D J) → ℕ
 entered_by {D} {J} desks = sum_by (λ (desk : Desk D J). length desk.seat.mine) desks
 
 -- What a turn of each of the desks came to. Taken: they entered an item or more. Idle: they entered none, and no command went by. Full:
--- they entered some, or nothing, as one of them sees that the tape has no room.
+-- one of them sees that the tape has no room; the others may have entered some.
 abbrev pub HaveComeTo : {D J : Type 0} → Content → TapeName → Turned → List (Desk D J) → List (Desk D J) → Type 0
 HaveComeTo plan tape Taken before desks = entered_by before < entered_by desks
 HaveComeTo plan tape Idle before desks = map progress_of desks ≡ map progress_of before
 HaveComeTo {D} {J} plan tape Full before desks =
-    (entered_by before < entered_by desks)
-    ⊎ ((map progress_of desks ≡ map progress_of before) × Any (λ (desk : Desk D J). HasNoRoom plan tape desk.actor (drop desk.gone desk.commands) desk.seat) desks)
+    ((entered_by before < entered_by desks) ⊎ (map progress_of desks ≡ map progress_of before))
+    × Any (λ (desk : Desk D J). HasNoRoom plan tape desk.actor (drop desk.gone desk.commands) desk.seat) desks

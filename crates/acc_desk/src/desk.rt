@@ -20,6 +20,9 @@ use acc_tape::Seat;
 use std::alloc::Global;
 use std::sync::Wait;
 
+// So many bytes at least are reserved ahead for each further message of a group.
+const USUAL: u64 = 256;
+
 /// An actor of a plan in its slot, with its seat at the plan's tape and its commands: the steps of the plan's schedule that it takes
 /// by itself.
 #[derive(Drop)]
@@ -35,6 +38,9 @@ pub struct Desk<D: Rig, J: Planned> {
     pub(crate) looked: u64,
     /// How many messages the actor took. Nothing is said of it.
     pub(crate) taken: u64,
+    /// So many bytes are reserved ahead for each further message of a group: the most that the first message of one took so far, within
+    /// bounds. Nothing is said of it.
+    pub(crate) usual: u64,
 }
 
 /// Desks in the order of their actors.
@@ -66,7 +72,7 @@ impl<D: Rig + Drop, J: Planned> Desk<D, J> {
         requires plan { plan.now ≡ J.plan }
         requires limits { tape.now.limits.items ≤ most_items }
         requires known { Contains (actors plan.now.topology) actor }
-        requires seat { (seat.tape ≡ tape.now) × (seat.actor ≡ actor.0) × (seat.actor ≢ 0) × (seat.mine ≡ []) × (seat.held ≡ []) }
+        requires seat { (seat.tape ≡ tape.now) × (seat.actor ≡ actor.0) × (seat.actor ≢ 0) × (seat.mine ≡ []) × (seat.held_items ≡ 0) × (seat.held_weight ≡ 0) }
         requires serving { IsServing plan.now (alone [] []) }
         requires slot { SlotStands D.is_image D.faults plan.now (alone [] []) actor slot }
         requires strict { J.strict ≡ true → IsStrictSlot D.strict D.armed D.content D.synced D.written plan.now (alone [] []) fresh_disks actor slot }
@@ -86,6 +92,7 @@ impl<D: Rig + Drop, J: Planned> Desk<D, J> {
             gone: 0,
             looked: 0,
             taken: 0,
+            usual: USUAL,
         }
     }
 
@@ -102,6 +109,7 @@ impl<D: Rig + Drop, J: Planned> Desk<D, J> {
             gone,
             looked: _,
             taken: _,
+            usual: _,
         } = self;
         Parts {
             actor,

@@ -1,16 +1,20 @@
 //! What a store staged is settled, and entered.
-ghost use Rattle.std.specs.Prelude.{◌≡◌, ◌≢◌, ℕ, ◌<◌, ◌≤◌, List, [], ◌∷◌, length, drop, OnOk, OnErr};
+ghost use Rattle.std.specs.Prelude.{◌≡◌, ◌≢◌, ◌⊎◌, ◌<◌, ◌≤◌, ℕ, List, [], length, map, IfOk, OnOk, OnErr};
 ghost use Rattle.acc_message.specs.declared.entry.Event.{Event as AnEvent};
-ghost use Rattle.acc_actors.specs.declared.stops.Unsent.{Unsent as AnUnsent};
+ghost use Rattle.acc_message_code.specs.Weight.{weight_of};
 ghost use Rattle.acc_limits.specs.Limits.{most_items};
 ghost use Rattle.acc_cluster.specs.declared.slot.Slot.{Slot as ASlot};
-ghost use Rattle.acc_desk.specs.Desks.{IsSeated, IsSound, IsDesk};
-ghost use Rattle.acc_desk.specs.Groups.{Joining, IsGathering, IsStopping, IsEnteringDesk};
+ghost use Rattle.acc_tape.specs.ItemViews.{actor_of_item};
+ghost use Rattle.acc_tape.specs.Seats.{Turns};
+ghost use Rattle.acc_desk.specs.Fits.{fits_plan};
+ghost use Rattle.acc_desk.specs.Desks.{no_hold, IsSeated, IsSound, IsDesk};
+ghost use Rattle.acc_desk.specs.Groups.{Joining, IsGathering, IsStopping, IsEnteringDesk, item_of_unsent};
 
 use crate::desk::Desk;
 use crate::floor::Floor;
+use crate::hold::Hold;
 use crate::rules::{PlanTape, Planned};
-use crate::taking::{count_sent, item_for};
+use crate::taking::item_for;
 use acc_actors::{Unsent, Unsents};
 use acc_base::OutOfMemory;
 use acc_message::Item;
@@ -19,154 +23,115 @@ use acc_schedule::Plan;
 use std::sync::Wait;
 
 impl<D: Rig + Drop, J: Planned> Desk<D, J> {
-    /// Appends what is staged, and enters it on these reservations.
+    /// Appends what is staged, and enters it on what is reserved.
     pub(crate) fn settle<W: Wait>(
         &mut self,
         rt: &W,
         plan: &Plan,
         floor: &Floor,
         tape: &PlanTape<J>,
-        weights: &[u64],
+        hold: Hold,
     ) -> Result<(), OutOfMemory>
         requires plan { plan.now ≡ J.plan }
         requires limits { tape.now.limits.items ≤ most_items }
-        requires group { (first : ASlot D) × (joinings : List Joining) × (joinings ≢ [])
-            × IsGathering D.is_image D.faults D.strict D.armed D.content D.synced D.written J.strict plan.now tape.now self.old.actor self.old.seat first self.old.slot self.old.commands self.old.gone joinings weights.now }
+        requires group { (first : ASlot D) × (joinings : List Joining) × (used : ℕ) × (joinings ≢ [])
+            × IsGathering D.is_image D.faults D.strict D.armed D.content D.synced D.written J.strict plan.now tape.now self.old.actor self.old.seat first self.old.slot self.old.commands self.old.gone joinings used hold }
         ensures same { (self.new.actor ≡ self.old.actor) × (self.new.commands ≡ self.old.commands) }
         ensures ok { OnOk result (IsSound D.is_image D.faults D.strict D.armed D.content D.synced D.written J.strict plan.now tape.now self.new.actor self.new.seat self.new.slot self.new.commands self.new.gone) }
-        ensures err { OnErr result (IsSeated tape.now self.new.actor [] self.new.seat) }
+        ensures err { OnErr result (IsSeated tape.now self.new.actor no_hold self.new.seat) }
         ensures entered { OnOk result (length self.old.seat.mine < length self.new.seat.mine) }
     {
         let Ok(given) = self.slot.settle(plan, self.actor) else {
-            self.release_from(rt, plan, tape, weights, 0);
+            self.let_go(rt, plan, tape, hold);
             return Err(OutOfMemory);
         };
         match given {
-            Some(unsent) => self.enter_group(rt, plan, floor, tape, weights, unsent),
-            None => self.enter_down(rt, plan, tape, weights),
+            Some(unsent) => self.enter_group(rt, plan, floor, tape, hold, unsent),
+            None => self.enter_down(rt, plan, tape, hold),
         }
     }
 
-    // Enters what was settled, each message on its own reservation.
+    // Enters what was settled, all of it at once.
     fn enter_group<W: Wait>(
         &mut self,
         rt: &W,
         plan: &Plan,
         floor: &Floor,
         tape: &PlanTape<J>,
-        weights: &[u64],
+        hold: Hold,
         unsent: Unsents,
     ) -> Result<(), OutOfMemory>
         requires plan { plan.now ≡ J.plan }
         requires limits { tape.now.limits.items ≤ most_items }
         requires group { (events : List AnEvent)
-            × IsEnteringDesk D.is_image D.faults D.strict D.armed D.content D.synced D.written J.strict plan.now tape.now weights.now self.old.actor self.old.seat self.old.slot self.old.commands self.old.gone events unsent }
+            × IsEnteringDesk D.is_image D.faults D.strict D.armed D.content D.synced D.written J.strict plan.now tape.now hold self.old.actor self.old.seat self.old.slot self.old.commands self.old.gone events unsent }
         ensures same { (self.new.actor ≡ self.old.actor) × (self.new.commands ≡ self.old.commands) }
         ensures ok { OnOk result (IsSound D.is_image D.faults D.strict D.armed D.content D.synced D.written J.strict plan.now tape.now self.new.actor self.new.seat self.new.slot self.new.commands self.new.gone) }
-        ensures err { OnErr result (IsSeated tape.now self.new.actor [] self.new.seat) }
+        ensures err { OnErr result (IsSeated tape.now self.new.actor no_hold self.new.seat) }
         ensures entered { OnOk result (unsent ≢ [] → length self.old.seat.mine < length self.new.seat.mine) }
     {
-        let mut place = 0;
-        for one in unsent.into_vec() {
-            if place >= weights.len() {
-                return Err(OutOfMemory);
-            }
-            let weight = weights[place];
-            place += 1;
-            if self.enter_one(rt, plan, floor, tape, weight, one).is_err() {
-                self.release_from(rt, plan, tape, weights, place);
-                return Err(OutOfMemory);
-            }
-        }
-        self.release_from(rt, plan, tape, weights, place);
-        Ok(())
-    }
-
-    // Enters the first of those that are left.
-    fn enter_one<W: Wait>(
-        &mut self,
-        rt: &W,
-        plan: &Plan,
-        floor: &Floor,
-        tape: &PlanTape<J>,
-        weight: u64,
-        one: Unsent,
-    ) -> Result<(), OutOfMemory>
-        requires plan { plan.now ≡ J.plan }
-        requires limits { tape.now.limits.items ≤ most_items }
-        requires group { (weights : List ℕ) × (event : AnEvent) × (events : List AnEvent) × (unsent : List AnUnsent)
-            × IsEnteringDesk D.is_image D.faults D.strict D.armed D.content D.synced D.written J.strict plan.now tape.now (weight ∷ weights) self.old.actor self.old.seat self.old.slot self.old.commands self.old.gone (event ∷ events) (one ∷ unsent) }
-        ensures same { (self.new.actor ≡ self.old.actor) × (self.new.slot ≡ self.old.slot) × (self.new.commands ≡ self.old.commands) × (self.new.gone ≡ self.old.gone) }
-        ensures ok { OnOk result ((weights : List ℕ) (event : AnEvent) (events : List AnEvent) (unsent : List AnUnsent)
-            → IsEnteringDesk D.is_image D.faults D.strict D.armed D.content D.synced D.written J.strict plan.now tape.now (weight ∷ weights) self.old.actor self.old.seat self.old.slot self.old.commands self.old.gone (event ∷ events) (one ∷ unsent)
-            → IsEnteringDesk D.is_image D.faults D.strict D.armed D.content D.synced D.written J.strict plan.now tape.now weights self.new.actor self.new.seat self.new.slot self.new.commands self.new.gone events unsent) }
-        ensures err { OnErr result ((weights : List ℕ) → IsSeated tape.now self.old.actor (weight ∷ weights) self.old.seat → IsSeated tape.now self.new.actor weights self.new.seat) }
-        ensures entered { OnOk result (length self.old.seat.mine < length self.new.seat.mine) }
-    {
         let _plan = plan;
-        let Unsent { event, emitted } = one;
-        let given = Some(emitted);
-        let keepers = count_sent(floor, &given);
-        let item = item_for(self.actor, event, given);
-        tape.put(rt, self.alloc, &mut self.seat, weight, item)?;
+        let Ok((items, keepers)) = self.items_for(floor, unsent) else {
+            self.let_go(rt, plan, tape, hold);
+            return Err(OutOfMemory);
+        };
+        tape.put_all(rt, &mut self.seat, hold.items, hold.weight, items)?;
         floor.call(keepers);
         Ok(())
     }
 
-    // Enters that the store went down, on the first of the reservations.
+    // The items of what is unsent. Counts what is sent, and answers the bits of the workers that are to be called once it is entered.
+    fn items_for(&self, floor: &Floor, unsent: Unsents) -> Result<(Vec<Item>, u64), OutOfMemory>
+        ensures { IfOk result (λ made. made.0.items ≡ map (item_of_unsent self.now.actor) unsent) }
+    {
+        let mut items = Vec::with_capacity(self.alloc, unsent.len())?;
+        let mut keepers = 0;
+        for one in unsent.into_vec() {
+            let Unsent { event, emitted } = one;
+            keepers |= floor.send(emitted.out.as_slice());
+            items.push(item_for(self.actor, event, Some(emitted)))?;
+        }
+        Ok((items, keepers))
+    }
+
+    // Enters that the store went down, on what is reserved.
     fn enter_down<W: Wait>(
         &mut self,
         rt: &W,
         plan: &Plan,
         tape: &PlanTape<J>,
-        weights: &[u64],
+        hold: Hold,
     ) -> Result<(), OutOfMemory>
         requires plan { plan.now ≡ J.plan }
         requires limits { tape.now.limits.items ≤ most_items }
         requires group { (first : ASlot D) × (joinings : List Joining)
-            × IsStopping D.is_image D.faults D.strict D.armed D.content D.synced D.written J.strict plan.now tape.now self.old.actor self.old.seat first self.old.slot self.old.commands self.old.gone joinings weights.now }
+            × IsStopping D.is_image D.faults D.strict D.armed D.content D.synced D.written J.strict plan.now tape.now self.old.actor self.old.seat first self.old.slot self.old.commands self.old.gone joinings hold }
         ensures same { (self.new.actor ≡ self.old.actor) × (self.new.commands ≡ self.old.commands) }
         ensures ok { OnOk result (IsSound D.is_image D.faults D.strict D.armed D.content D.synced D.written J.strict plan.now tape.now self.new.actor self.new.seat self.new.slot self.new.commands self.new.gone) }
-        ensures err { OnErr result (IsSeated tape.now self.new.actor [] self.new.seat) }
+        ensures err { OnErr result (IsSeated tape.now self.new.actor no_hold self.new.seat) }
         ensures entered { OnOk result (length self.old.seat.mine < length self.new.seat.mine) }
     {
-        if weights.is_empty() {
-            return Err(OutOfMemory);
-        }
-        let weight = weights[0];
-        let entered = tape.put(
-            rt,
-            self.alloc,
-            &mut self.seat,
-            weight,
-            Item::Down { actor: self.actor },
-        );
-        self.release_from(rt, plan, tape, weights, 1);
-        entered
+        let _plan = plan;
+        let down = Item::Down { actor: self.actor };
+        tape.put(rt, &mut self.seat, hold.items, hold.weight, down)
     }
 
-    /// Gives up the reservations from this one on.
-    pub(crate) fn release_from<W: Wait>(
-        &mut self,
-        rt: &W,
-        plan: &Plan,
-        tape: &PlanTape<J>,
-        weights: &[u64],
-        place: usize,
-    )
+    /// Gives up what is reserved.
+    pub(crate) fn let_go<W: Wait>(&mut self, rt: &W, plan: &Plan, tape: &PlanTape<J>, hold: Hold)
         requires plan { plan.now ≡ J.plan }
         requires limits { tape.now.limits.items ≤ most_items }
-        requires seated { IsSeated tape.now self.old.actor (drop place weights.now) self.old.seat }
+        requires seated { IsSeated tape.now self.old.actor hold self.old.seat }
         ensures same { (self.new.actor ≡ self.old.actor) × (self.new.slot ≡ self.old.slot) × (self.new.commands ≡ self.old.commands) × (self.new.gone ≡ self.old.gone) }
         ensures mine { self.new.seat.mine ≡ self.old.seat.mine }
-        ensures still { length weights.now ≤ place → self.new.seat ≡ self.old.seat }
-        ensures seated { IsSeated tape.now self.new.actor [] self.new.seat }
-        ensures sound { IsDesk D.is_image D.faults D.strict D.armed D.content D.synced D.written J.strict plan.now tape.now (drop place weights.now) self.old.actor self.old.seat self.old.slot self.old.commands self.old.gone
+        ensures still { hold ≡ no_hold → self.new.seat ≡ self.old.seat }
+        ensures seated { IsSeated tape.now self.new.actor no_hold self.new.seat }
+        ensures on { hold ≡ no_hold ⊎ Turns actor_of_item weight_of (fits_plan J.plan) self.old.seat self.new.seat }
+        ensures sound { IsDesk D.is_image D.faults D.strict D.armed D.content D.synced D.written J.strict plan.now tape.now hold self.old.actor self.old.seat self.old.slot self.old.commands self.old.gone
             → IsSound D.is_image D.faults D.strict D.armed D.content D.synced D.written J.strict plan.now tape.now self.new.actor self.new.seat self.new.slot self.new.commands self.new.gone }
     {
         let _plan = plan;
-        for each in place..weights.len() {
-            tape.release(rt, &mut self.seat, weights[each]);
+        if hold.items > 0 || hold.weight > 0 {
+            tape.release(rt, &mut self.seat, hold.items, hold.weight);
         }
     }
 }

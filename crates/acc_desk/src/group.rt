@@ -1,36 +1,48 @@
 //! A store takes its oldest messages as a group, with one append.
-ghost use Rattle.std.specs.Prelude.{◌≡◌, ◌≢◌, ◌+◌, ◌<◌, ◌≤◌, List, [], length, drop, true, false, Some, IfOk, IfSome, OnOk, OnErr, slice_get};
-ghost use Rattle.std.specs.Arc.{arc_value};
-ghost use Rattle.acc_message.specs.declared.entry.Event.{Event as AnEvent};
+ghost use Rattle.std.specs.Prelude.{◌≡◌, ◌≢◌, ℕ, ◌+◌, ◌<◌, ◌≤◌, List, [], ◌∷◌, ◌++◌, length, map, take, drop, true, false, Some, IfOk, OnOk, OnErr, MatchOption, sum_by};
 ghost use Rattle.acc_message.specs.declared.item.Item.{Item as AnItem};
+ghost use Rattle.acc_message.specs.declared.error.Which.{Which};
 ghost use Rattle.acc_message.specs.NodeRules.{Takes};
+ghost use Rattle.acc_message.specs.declared.entry.Event.{Event as AnEvent};
 ghost use Rattle.acc_message.specs.Run.{is_node, is_down};
 ghost use Rattle.acc_message_code.specs.Weight.{weight_of};
 ghost use Rattle.acc_limits.specs.Limits.{most_items};
 ghost use Rattle.acc_cluster.specs.declared.slot.Slot.{Slot as ASlot};
 ghost use Rattle.acc_tape.specs.ItemViews.{actor_of_item};
-ghost use Rattle.acc_tape.specs.Seats.{SeatView, Turns};
+ghost use Rattle.acc_tape.specs.Seats.{Turns};
+ghost use Rattle.acc_tape.specs.Refusals.{Refuses};
+ghost use Rattle.acc_tape.specs.declared.error.TapeError.TheVariants.{Full as IsFull};
 ghost use Rattle.acc_desk.specs.Fits.{fits_plan};
-ghost use Rattle.acc_desk.specs.Desks.{newest, IsSeated, IsSound};
-ghost use Rattle.acc_desk.specs.Groups.{Joining, CanGather, IsGathering, bound_of, joined_if, one_unless, IsOldestHere};
+ghost use Rattle.acc_desk.specs.Desks.{newest, held_of, no_hold, IsSeated, IsSound};
+ghost use Rattle.acc_desk.specs.Groups.{Joining, CanJoin, CanAllJoin, CanGather, IsGathering, joining_of};
 ghost use Rattle.acc_desk.specs.Outcomes.{CameTo, HasNoRoom};
 ghost use Rattle.acc_desk.specs.declared.group.Ended.{Ended as AnEnd};
 
 use crate::desk::Desk;
 use crate::floor::Floor;
+use crate::hold::Hold;
 use crate::rules::{PlanRules, PlanTape, Planned};
-use crate::turning::{Turned, message_in};
+use crate::turning::Turned;
 use acc_base::OutOfMemory;
 use acc_message::{Item, Message};
 use acc_ports::{Gate, Rig};
 use acc_schedule::Plan;
 use acc_tape::{Post, Seat, TapeError};
-use std::sync::{Arc, Wait};
+use std::sync::Wait;
 
 // The most messages of a group.
 const MOST: usize = 16;
 
-// Why a gathering ended: no message waits or there are enough of them, the tape has no room, or memory was refused.
+// So many bytes at most are reserved ahead for each further message of a group.
+const MOST_AHEAD: u64 = 4096;
+
+// What a desk holds that has nothing reserved.
+const NOTHING: Hold = Hold {
+    items: 0,
+    weight: 0,
+};
+
+// Why a gathering ended: nothing more was found or fits into what is reserved, the tape has no room, or memory was refused.
 #[derive(Clone, Copy)]
 enum Ended {
     Dry,
@@ -38,37 +50,47 @@ enum Ended {
     Refused,
 }
 
-// The oldest message to an actor behind the one with this number, and the item that sent it.
-fn find<W: Wait, J: Planned>(
+// Reserves an item for each of so many messages, with so many bytes for the first one and the usual ones for each other, or for the first
+// alone. `None` where the tape has no room for that either. After an error nothing is reserved.
+fn reserve<W: Wait, J: Planned>(
     rt: &W,
     tape: &PlanTape<J>,
     seat: &mut Seat<Item, PlanRules<J>>,
-    actor: u32,
-    after: Option<u64>,
-) -> Result<Option<(Post, Arc<Item>)>, OutOfMemory>
-    requires { seat.old.tape ≡ tape.now }
-    ensures turn { Turns actor_of_item weight_of (fits_plan J.plan) seat.old seat.new }
-    ensures same { (seat.new.mine ≡ seat.old.mine) × (seat.new.held ≡ seat.old.held) }
-    ensures next { IfOk result (λ found. IfSome found (λ pair. (between : SeatView AnItem) × Turns actor_of_item weight_of (fits_plan J.plan) seat.old between × (between.mine ≡ seat.old.mine)
-        × IsOldestHere between.seen actor (bound_of after) pair.0 × (slice_get between.seen pair.0.place ≡ Some (arc_value pair.1))
-        × Turns actor_of_item weight_of (fits_plan J.plan) between seat.new)) }
+    count: usize,
+    weight: u64,
+    usual: u64,
+) -> Result<Option<Hold>, OutOfMemory>
+    requires tape { seat.old.tape ≡ tape.now }
+    requires actor { seat.old.actor ≢ 0 }
+    requires none { held_of seat.old ≡ no_hold }
+    requires some { 0 < count }
+    ensures mine { seat.new.mine ≡ seat.old.mine }
+    ensures on { Turns actor_of_item weight_of (fits_plan J.plan) seat.old seat.new }
+    ensures ok { IfOk result (λ reserved. MatchOption reserved
+        ((held_of seat.new ≡ no_hold) × ((which : Which) × (number : ℕ) × Refuses tape.now.limits (length seat.new.seen + seat.new.out_count) (sum_by weight_of seat.new.seen + seat.new.out_weight) 1 weight (IsFull which number)))
+        (λ hold. (held_of seat.new ≡ hold) × (0 < hold.items) × (hold.items ≤ count) × (weight ≤ hold.weight))) }
+    ensures err { OnErr result (held_of seat.new ≡ no_hold) }
 {
-    match after {
-        None => tape.next_with_item(rt, seat, actor),
-        Some(number) => {
-            let Some(post) = tape.next_after(rt, seat, actor, number) else {
-                return Ok(None);
-            };
-            let Ok(sender) = tape.fetch(rt, seat, post.place) else {
-                return Err(OutOfMemory);
-            };
-            Ok(Some((post, sender)))
-        }
+    let ahead = (count as u64 - 1).saturating_mul(usual);
+    let hold = Hold {
+        items: count as u64,
+        weight: weight.saturating_add(ahead),
+    };
+    match tape.reserve(rt, seat, hold.items, hold.weight) {
+        Ok(()) => return Ok(Some(hold)),
+        Err(TapeError::OutOfMemory) => return Err(OutOfMemory),
+        Err(TapeError::Full { .. }) => {}
+    }
+    let hold = Hold { items: 1, weight };
+    match tape.reserve(rt, seat, hold.items, hold.weight) {
+        Ok(()) => Ok(Some(hold)),
+        Err(TapeError::OutOfMemory) => Err(OutOfMemory),
+        Err(TapeError::Full { .. }) => Ok(None),
     }
 }
 
 impl<D: Rig + Drop, J: Planned> Desk<D, J> {
-    /// Takes the oldest messages to the store, up to sixteen, with one append. Where there is no room or no memory for one more, those that are
+    /// Takes the oldest messages to the store, up to sixteen, with one append. Where memory for one more is refused, those that are
     /// staged are settled and entered before it is told.
     pub(crate) fn group<W: Wait, G: Gate>(
         &mut self,
@@ -86,12 +108,17 @@ impl<D: Rig + Drop, J: Planned> Desk<D, J> {
         requires up { is_down self.old.actor (newest self.old.seat) ≡ false }
         ensures same { (self.new.actor ≡ self.old.actor) × (self.new.commands ≡ self.old.commands) }
         ensures ok { OnOk result (IsSound D.is_image D.faults D.strict D.armed D.content D.synced D.written J.strict plan.now tape.now self.new.actor self.new.seat self.new.slot self.new.commands self.new.gone) }
-        ensures err { OnErr result (IsSeated tape.now self.new.actor [] self.new.seat) }
+        ensures err { OnErr result (IsSeated tape.now self.new.actor no_hold self.new.seat) }
         ensures came { IfOk result (λ turned. CameTo plan.now tape.now self.old.actor self.old.commands turned self.old.seat.mine self.old.gone self.new.seat self.new.gone) }
     {
-        let mut weights = Vec::new(self.alloc);
-        let (staged, ended) = self.gather(rt, plan, floor, tape, gate, turn, &mut weights);
-        let turned = self.finish(rt, plan, floor, tape, weights.as_slice(), staged)?;
+        let mut found = Vec::with_capacity(self.alloc, MOST)?;
+        tape.collect(rt, &mut self.seat, self.actor.0, &mut found)?;
+        if found.is_empty() {
+            return Ok(Turned::Idle);
+        }
+        gate.enter(self.actor.0, turn);
+        let (staged, hold, ended) = self.gather(rt, plan, tape, found.as_slice());
+        let turned = self.finish(rt, plan, floor, tape, hold, staged)?;
         match ended {
             Ended::Dry => Ok(turned),
             Ended::Full => Ok(Turned::Full),
@@ -106,115 +133,164 @@ impl<D: Rig + Drop, J: Planned> Desk<D, J> {
         plan: &Plan,
         floor: &Floor,
         tape: &PlanTape<J>,
-        weights: &[u64],
+        hold: Hold,
         staged: usize,
     ) -> Result<Turned, OutOfMemory>
         requires plan { plan.now ≡ J.plan }
         requires limits { tape.now.limits.items ≤ most_items }
-        requires group { (first : ASlot D) × (joinings : List Joining) × (length joinings ≡ staged)
-            × IsGathering D.is_image D.faults D.strict D.armed D.content D.synced D.written J.strict plan.now tape.now self.old.actor self.old.seat first self.old.slot self.old.commands self.old.gone joinings weights.now }
+        requires group { (first : ASlot D) × (joinings : List Joining) × (used : ℕ) × (length joinings ≡ staged)
+            × IsGathering D.is_image D.faults D.strict D.armed D.content D.synced D.written J.strict plan.now tape.now self.old.actor self.old.seat first self.old.slot self.old.commands self.old.gone joinings used hold }
         ensures same { (self.new.actor ≡ self.old.actor) × (self.new.commands ≡ self.old.commands) }
         ensures ok { OnOk result (IsSound D.is_image D.faults D.strict D.armed D.content D.synced D.written J.strict plan.now tape.now self.new.actor self.new.seat self.new.slot self.new.commands self.new.gone) }
-        ensures err { OnErr result (IsSeated tape.now self.new.actor [] self.new.seat) }
+        ensures err { OnErr result (IsSeated tape.now self.new.actor no_hold self.new.seat) }
         ensures some { OnOk result (staged ≢ 0 → length self.old.seat.mine < length self.new.seat.mine) }
-        ensures none { staged ≡ 0 → length weights.now ≡ 0 → (self.new.seat ≡ self.old.seat) × (self.new.gone ≡ self.old.gone) }
+        ensures none { staged ≡ 0 → hold ≡ no_hold → (self.new.seat ≡ self.old.seat) × (self.new.gone ≡ self.old.gone) }
         ensures came { IfOk result (λ turned. CameTo plan.now tape.now self.old.actor self.old.commands turned self.old.seat.mine self.old.gone self.new.seat self.new.gone) }
     {
         if staged == 0 {
-            self.release_from(rt, plan, tape, weights, 0);
+            self.let_go(rt, plan, tape, hold);
             return Ok(Turned::Idle);
         }
-        self.settle(rt, plan, floor, tape, weights)?;
+        self.settle(rt, plan, floor, tape, hold)?;
+        self.taken = self.taken.wrapping_add(staged as u64);
         Ok(Turned::Taken)
     }
 
-    // Stages messages, as long as some wait and the tape has room for what the store sends for them. Answers how many it staged. Where as
-    // many were sent to the store as it took, it doesn't ask the tape for one more.
-    fn gather<W: Wait, G: Gate>(
+    // Stages messages that were found, the first of them where the tape has room for what the store sends for it, and the others as long as
+    // that fits into what was reserved with it. Answers how many it staged, and what is reserved.
+    fn gather<W: Wait>(
         &mut self,
         rt: &W,
         plan: &Plan,
-        floor: &Floor,
         tape: &PlanTape<J>,
-        gate: &G,
-        turn: u64,
-        weights: &mut Vec<u64>,
-    ) -> (usize, Ended)
+        found: &[(Post, Message)],
+    ) -> (usize, Hold, Ended)
         requires plan { plan.now ≡ J.plan }
         requires limits { tape.now.limits.items ≤ most_items }
         requires desk { IsSound D.is_image D.faults D.strict D.armed D.content D.synced D.written J.strict plan.now tape.now self.old.actor self.old.seat self.old.slot self.old.commands self.old.gone }
         requires kind { is_node self.old.actor ≡ false }
         requires up { is_down self.old.actor (newest self.old.seat) ≡ false }
-        requires none { weights.old.items ≡ [] }
+        requires found { CanAllJoin plan.now (newest self.old.seat) self.old.actor (drop self.old.gone self.old.commands) (map joining_of found.now) }
         ensures same { (self.new.actor ≡ self.old.actor) × (self.new.commands ≡ self.old.commands) × (self.new.gone ≡ self.old.gone) }
         ensures mine { self.new.seat.mine ≡ self.old.seat.mine }
-        ensures full { result.1 ≡ AnEnd.Full → (length weights.new.items ≡ result.0) × (result.0 ≡ 0 → HasNoRoom plan.now tape.now self.new.actor (drop self.new.gone self.new.commands) self.new.seat) }
-        ensures gathering { (joinings : List Joining) × (length joinings ≡ result.0)
-            × IsGathering D.is_image D.faults D.strict D.armed D.content D.synced D.written J.strict plan.now tape.now self.new.actor self.new.seat self.old.slot self.new.slot self.new.commands self.new.gone joinings weights.new.items }
+        ensures full { result.2 ≡ AnEnd.Full → (result.0 ≡ 0) × (result.1 ≡ no_hold) × HasNoRoom plan.now tape.now self.new.actor (drop self.new.gone self.new.commands) self.new.seat }
+        ensures gathering { (used : ℕ) × (length (take result.0 (map joining_of found.now)) ≡ result.0)
+            × IsGathering D.is_image D.faults D.strict D.armed D.content D.synced D.written J.strict plan.now tape.now self.new.actor self.new.seat self.old.slot self.new.slot self.new.commands self.new.gone (take result.0 (map joining_of found.now)) used result.1 }
     {
-        let mut after = None;
-        for place in 0..MOST {
-            if place > 0 && !self.has_mail(floor) {
-                return (place, Ended::Dry);
+        let Some((post, message)) = found.first() else {
+            return (0, NOTHING, Ended::Dry);
+        };
+        match self.join_first(rt, plan, tape, found.len(), post.number, message) {
+            Ok(Some((used, hold))) => {
+                let (staged, ended) = self.join_others(plan, tape, found, used, hold);
+                (staged, hold, ended)
             }
-            let Ok(found) = find(rt, tape, &mut self.seat, self.actor.0, after) else {
-                return (place, Ended::Refused);
-            };
-            let Some((post, sender)) = found else {
-                return (place, Ended::Dry);
-            };
-            let Some(message) = message_in(&*sender, post.index) else {
-                return (place, Ended::Refused);
-            };
-            if place == 0 {
-                gate.enter(self.actor.0, turn);
-            }
-            let Ok(full) = self.join(rt, plan, tape, weights, post.number, message) else {
-                return (place, Ended::Refused);
-            };
-            if full {
-                return (place, Ended::Full);
-            }
-            self.taken = self.taken.wrapping_add(1);
-            after = Some(post.number);
+            Ok(None) => (0, NOTHING, Ended::Full),
+            Err(_) => (0, NOTHING, Ended::Refused),
         }
-        (MOST, Ended::Dry)
     }
 
-    // Stages a message behind those that are staged, where the tape has room for what the store sends for it. Answers whether it has none.
-    // After an error there may be one weight more, which is reserved for nothing.
-    fn join<W: Wait>(
+    // Stages the first message, where the tape has room for what the store sends for it. Answers how much that weighs, and what was
+    // reserved for so many messages, or `None` where there is no room. After an error nothing is reserved.
+    fn join_first<W: Wait>(
         &mut self,
         rt: &W,
         plan: &Plan,
         tape: &PlanTape<J>,
-        weights: &mut Vec<u64>,
+        count: usize,
         number: u64,
         message: &Message,
-    ) -> Result<bool, OutOfMemory>
+    ) -> Result<Option<(u64, Hold)>, OutOfMemory>
         requires plan { plan.now ≡ J.plan }
         requires limits { tape.now.limits.items ≤ most_items }
-        requires group { (first : ASlot D) × (joinings : List Joining) × CanGather D.is_image D.faults D.strict D.armed D.content D.synced D.written J.strict plan.now tape.now self.old.actor self.old.seat first self.old.slot self.old.commands self.old.gone joinings weights.old.items (record { event = AnEvent.Message number; act = Takes message.now }) }
+        requires some { 0 < count }
+        requires group { CanJoin plan.now (newest self.old.seat) self.old.actor (drop self.old.gone self.old.commands) (record { event = AnEvent.Message number; act = Takes message.now })
+            × IsGathering D.is_image D.faults D.strict D.armed D.content D.synced D.written J.strict plan.now tape.now self.old.actor self.old.seat self.old.slot self.old.slot self.old.commands self.old.gone [] 0 no_hold }
         ensures same { (self.new.actor ≡ self.old.actor) × (self.new.commands ≡ self.old.commands) × (self.new.gone ≡ self.old.gone) }
         ensures mine { self.new.seat.mine ≡ self.old.seat.mine }
-        ensures ok { IfOk result (λ full. (first : ASlot D) (joinings : List Joining) → CanGather D.is_image D.faults D.strict D.armed D.content D.synced D.written J.strict plan.now tape.now self.old.actor self.old.seat first self.old.slot self.old.commands self.old.gone joinings weights.old.items (record { event = AnEvent.Message number; act = Takes message.now })
-            → IsGathering D.is_image D.faults D.strict D.armed D.content D.synced D.written J.strict plan.now tape.now self.new.actor self.new.seat first self.new.slot self.new.commands self.new.gone (joined_if full joinings (record { event = AnEvent.Message number; act = Takes message.now })) weights.new.items) }
-        ensures room { IfOk result (λ full. full ≡ true → (first : ASlot D) → CanGather D.is_image D.faults D.strict D.armed D.content D.synced D.written J.strict plan.now tape.now self.old.actor self.old.seat first self.old.slot self.old.commands self.old.gone [] weights.old.items (record { event = AnEvent.Message number; act = Takes message.now })
-            → HasNoRoom plan.now tape.now self.new.actor (drop self.new.gone self.new.commands) self.new.seat) }
-        ensures long { IfOk result (λ full. length weights.new.items ≡ length weights.old.items + one_unless full) }
-        ensures err { OnErr result ((first : ASlot D) (joinings : List Joining) → CanGather D.is_image D.faults D.strict D.armed D.content D.synced D.written J.strict plan.now tape.now self.old.actor self.old.seat first self.old.slot self.old.commands self.old.gone joinings weights.old.items (record { event = AnEvent.Message number; act = Takes message.now })
-            → IsGathering D.is_image D.faults D.strict D.armed D.content D.synced D.written J.strict plan.now tape.now self.new.actor self.new.seat first self.new.slot self.new.commands self.new.gone joinings weights.new.items) }
+        ensures on { OnOk result (Turns actor_of_item weight_of (fits_plan J.plan) self.old.seat self.new.seat) }
+        ensures ok { IfOk result (λ joined. MatchOption joined
+            (IsGathering D.is_image D.faults D.strict D.armed D.content D.synced D.written J.strict plan.now tape.now self.new.actor self.new.seat self.old.slot self.new.slot self.new.commands self.new.gone [] 0 no_hold × HasNoRoom plan.now tape.now self.new.actor (drop self.new.gone self.new.commands) self.new.seat)
+            (λ pair. IsGathering D.is_image D.faults D.strict D.armed D.content D.synced D.written J.strict plan.now tape.now self.new.actor self.new.seat self.old.slot self.new.slot self.new.commands self.new.gone (record { event = AnEvent.Message number; act = Takes message.now } ∷ []) pair.0 pair.1)) }
+        ensures err { OnErr result (IsGathering D.is_image D.faults D.strict D.armed D.content D.synced D.written J.strict plan.now tape.now self.new.actor self.new.seat self.old.slot self.new.slot self.new.commands self.new.gone [] 0 no_hold) }
     {
-        weights.reserve(1)?;
         let (weight, prepared) = self.slot.prepare(plan, self.actor, number, message)?;
-        match tape.reserve(rt, &mut self.seat, weight) {
-            Ok(()) => {}
-            Err(TapeError::Full { .. }) => return Ok(true),
-            Err(TapeError::OutOfMemory) => return Err(OutOfMemory),
+        let Some(hold) = reserve(rt, tape, &mut self.seat, count, weight, self.usual)? else {
+            return Ok(None);
+        };
+        let staged = self.slot.stage(plan, self.actor, number, message, prepared);
+        if staged.is_err() {
+            self.let_go(rt, plan, tape, hold);
+            return Err(OutOfMemory);
         }
-        weights.push_reserved(weight);
+        Ok(Some((weight, hold)))
+    }
+
+    // Stages the messages behind the first one that were found, as long as what the store sends for them fits into what is reserved.
+    fn join_others(
+        &mut self,
+        plan: &Plan,
+        tape: &PlanTape<J>,
+        found: &[(Post, Message)],
+        used: u64,
+        hold: Hold,
+    ) -> (usize, Ended)
+        requires plan { plan.now ≡ J.plan }
+        requires limits { tape.now.limits.items ≤ most_items }
+        requires some { 0 < length found.now }
+        requires found { CanAllJoin plan.now (newest self.old.seat) self.old.actor (drop self.old.gone self.old.commands) (map joining_of found.now) }
+        requires group { (first : ASlot D) × IsGathering D.is_image D.faults D.strict D.armed D.content D.synced D.written J.strict plan.now tape.now self.old.actor self.old.seat first self.old.slot self.old.commands self.old.gone (take 1 (map joining_of found.now)) used hold }
+        ensures same { (self.new.actor ≡ self.old.actor) × (self.new.seat ≡ self.old.seat) × (self.new.commands ≡ self.old.commands) × (self.new.gone ≡ self.old.gone) }
+        ensures ended { result.1 ≢ AnEnd.Full }
+        ensures count { (0 < result.0) × (result.0 ≤ length found.now) }
+        ensures gathering { (first : ASlot D) → IsGathering D.is_image D.faults D.strict D.armed D.content D.synced D.written J.strict plan.now tape.now self.old.actor self.old.seat first self.old.slot self.old.commands self.old.gone (take 1 (map joining_of found.now)) used hold
+            → (now : ℕ) × IsGathering D.is_image D.faults D.strict D.armed D.content D.synced D.written J.strict plan.now tape.now self.new.actor self.new.seat first self.new.slot self.new.commands self.new.gone (take result.0 (map joining_of found.now)) now hold }
+    {
+        let _tape = tape;
+        let mut used = used;
+        self.usual = self.usual.max(used.min(MOST_AHEAD));
+        for place in 1..found.len() {
+            if place as u64 >= hold.items {
+                return (place, Ended::Dry);
+            }
+            let (post, message) = &found[place];
+            match self.join_next(plan, tape, post.number, message, used, hold) {
+                Ok(Some(more)) => used = more,
+                Ok(None) => return (place, Ended::Dry),
+                Err(_) => return (place, Ended::Refused),
+            }
+        }
+        (found.len(), Ended::Dry)
+    }
+
+    // Stages a message behind those that are staged, where what the store sends for it fits into what is reserved. Answers how much all
+    // weighs then, or `None` where it doesn't fit.
+    fn join_next(
+        &mut self,
+        plan: &Plan,
+        tape: &PlanTape<J>,
+        number: u64,
+        message: &Message,
+        used: u64,
+        hold: Hold,
+    ) -> Result<Option<u64>, OutOfMemory>
+        requires plan { plan.now ≡ J.plan }
+        requires limits { tape.now.limits.items ≤ most_items }
+        requires group { (first : ASlot D) × (joinings : List Joining) × CanGather D.is_image D.faults D.strict D.armed D.content D.synced D.written J.strict plan.now tape.now self.old.actor self.old.seat first self.old.slot self.old.commands self.old.gone joinings used hold (record { event = AnEvent.Message number; act = Takes message.now }) }
+        ensures same { (self.new.actor ≡ self.old.actor) × (self.new.seat ≡ self.old.seat) × (self.new.commands ≡ self.old.commands) × (self.new.gone ≡ self.old.gone) }
+        ensures ok { IfOk result (λ joined. (first : ASlot D) (joinings : List Joining) → CanGather D.is_image D.faults D.strict D.armed D.content D.synced D.written J.strict plan.now tape.now self.old.actor self.old.seat first self.old.slot self.old.commands self.old.gone joinings used hold (record { event = AnEvent.Message number; act = Takes message.now })
+            → MatchOption joined (IsGathering D.is_image D.faults D.strict D.armed D.content D.synced D.written J.strict plan.now tape.now self.new.actor self.new.seat first self.new.slot self.new.commands self.new.gone joinings used hold)
+            (λ more. IsGathering D.is_image D.faults D.strict D.armed D.content D.synced D.written J.strict plan.now tape.now self.new.actor self.new.seat first self.new.slot self.new.commands self.new.gone (joinings ++ record { event = AnEvent.Message number; act = Takes message.now } ∷ []) more hold)) }
+        ensures err { OnErr result ((first : ASlot D) (joinings : List Joining) → CanGather D.is_image D.faults D.strict D.armed D.content D.synced D.written J.strict plan.now tape.now self.old.actor self.old.seat first self.old.slot self.old.commands self.old.gone joinings used hold (record { event = AnEvent.Message number; act = Takes message.now })
+            → IsGathering D.is_image D.faults D.strict D.armed D.content D.synced D.written J.strict plan.now tape.now self.new.actor self.new.seat first self.new.slot self.new.commands self.new.gone joinings used hold) }
+    {
+        let _tape = tape;
+        let (weight, prepared) = self.slot.prepare(plan, self.actor, number, message)?;
+        if weight > hold.weight - used {
+            return Ok(None);
+        }
         self.slot
             .stage(plan, self.actor, number, message, prepared)?;
-        Ok(false)
+        Ok(Some(used + weight))
     }
 }

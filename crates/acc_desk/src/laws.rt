@@ -1,5 +1,5 @@
 //! What holds of desks. Each law is the contract of a function that does nothing.
-ghost use Rattle.std.specs.Prelude.{◌≡◌, ◌≤◌, ℕ, Bool, List, [], drop, reverse, All, Any, Contains};
+ghost use Rattle.std.specs.Prelude.{◌≡◌, ◌≤◌, ℕ, Bool, List, drop, reverse, All, Any, Contains};
 ghost use mathlib.Core.List.{IsPrefix};
 ghost use Rattle.acc_stamp.specs.declared.actors.Actor.{Actor};
 ghost use Rattle.acc_message.specs.declared.item.Item.{Item};
@@ -14,7 +14,7 @@ ghost use Rattle.acc_served.specs.FreeRun.{IsFreeRun};
 ghost use Rattle.acc_tape.specs.Lists.{items_of};
 ghost use Rattle.acc_tape.specs.ItemViews.{actor_of_item};
 ghost use Rattle.acc_tape.specs.Seats.{TapeName, SeatView};
-ghost use Rattle.acc_desk.specs.Desks.{IsAt, IsSeated, IsSound};
+ghost use Rattle.acc_desk.specs.Desks.{no_hold, IsAt, IsSeated, IsSound};
 ghost use Rattle.acc_desk.specs.Fits.{fits_plan};
 
 use acc_ports::Rig;
@@ -36,7 +36,7 @@ pub fn nobody_goes_down()
 /// The items of a closed tape are within the limits: whoever entered the last one has seen them all.
 pub fn closed_items_are_within()
     ensures { (tape : TapeName) (made : List ℕ) (seats : List (SeatView Item)) (items : List Item) → tape.limits.items ≤ most_items →
-        tape.limits.weight ≤ most_bytes → All (λ (seat : SeatView Item). (a : Actor) × IsSeated tape a [] seat) seats →
+        tape.limits.weight ≤ most_bytes → All (λ (seat : SeatView Item). (a : Actor) × IsSeated tape a no_hold seat) seats →
         All (λ (seat : SeatView Item). IsPrefix seat.seen items × (items_of actor_of_item seat.actor items ≡ seat.mine) × Contains made seat.actor) seats →
         All (λ (item : Item). Any (λ (seat : SeatView Item). seat.actor ≡ actor_of_item item) seats) items →
         IsWithin (reverse items) }

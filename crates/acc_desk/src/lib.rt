@@ -10,6 +10,7 @@ mod desk;
 mod entering;
 mod floor;
 mod group;
+mod hold;
 pub mod laws;
 mod looking;
 mod restarting;

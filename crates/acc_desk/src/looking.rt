@@ -1,13 +1,14 @@
 //! Looking for the begin of a transaction that a desk is to recover.
-ghost use Rattle.std.specs.Prelude.{◌≡◌, ◌≤◌, [], Some, IfSome, IfOk, OnOk, OnErr};
-ghost use Rattle.acc_message.specs.Items.{id_drawn, id_begun as begun_by, id_of_txn};
+ghost use Rattle.std.specs.Prelude.{◌≡◌, ◌≤◌, Some, IfSome, IfOk, OnOk, OnErr};
+ghost use Rattle.acc_message.specs.Items.{id_of_txn, id_begun as begun_by};
+ghost use Rattle.acc_message.specs.declared.item.Item.{Item as AnItem};
 ghost use Rattle.acc_limits.specs.Limits.{most_items};
-ghost use Rattle.acc_desk.specs.Desks.{newest, IsSeated, IsSound, BeginsAs};
+ghost use Rattle.acc_tape.specs.ItemViews.{sign_of_item};
+ghost use Rattle.acc_desk.specs.Desks.{newest, no_hold, IsSeated, IsSound, BeginsAs};
 
 use crate::desk::Desk;
 use crate::rules::{PlanTape, Planned};
 use acc_base::OutOfMemory;
-use acc_message::{Event, Item, Note};
 use acc_ports::Rig;
 use acc_schedule::Plan;
 use acc_stamp::TxnId;
@@ -17,33 +18,18 @@ use std::sync::Wait;
 // The most items that a desk looks through.
 const MOST: u64 = 1_000_000;
 
-// The id that a begin drew.
-fn drawn(notes: &[Note]) -> Option<TxnId>
-    ensures { result ≡ id_drawn notes.now }
+// The id of the transaction, where an item of which this is told begins it.
+fn id_begun(sign: Option<(u32, Option<TxnId>)>, txn: u32) -> Option<TxnId>
+    ensures id { (item : AnItem) → sign_of_item item ≡ sign → result ≡ begun_by txn item }
+    ensures begins { IfSome result (λ id. (item : AnItem) → sign_of_item item ≡ sign → BeginsAs txn id item) }
 {
-    for note in notes {
-        if let Note::Begin { id } = note {
-            return Some(*id);
-        }
-    }
-    None
-}
-
-// The id of the transaction, where the item begins it.
-fn id_begun(item: &Item, txn: u32) -> Option<TxnId>
-    ensures id { result ≡ begun_by txn item.now }
-    ensures begins { IfSome result (λ id. BeginsAs txn id item.now) }
-{
-    let Item::Step(entry) = item else {
-        return None;
-    };
-    let Event::Begin { txn: begun } = entry.event else {
+    let Some((begun, id)) = sign else {
         return None;
     };
     if begun != txn {
         return None;
     }
-    drawn(entry.emitted.notes.as_slice())
+    id
 }
 
 impl<D: Rig + Drop, J: Planned> Desk<D, J> {
@@ -62,17 +48,16 @@ impl<D: Rig + Drop, J: Planned> Desk<D, J> {
         ensures same { (self.new.actor ≡ self.old.actor) × (self.new.commands ≡ self.old.commands) × (self.new.gone ≡ self.old.gone) }
         ensures mine { self.new.seat.mine ≡ self.old.seat.mine }
         ensures ok { OnOk result (IsSound D.is_image D.faults D.strict D.armed D.content D.synced D.written J.strict plan.now tape.now self.new.actor self.new.seat self.new.slot self.new.commands self.new.gone) }
-        ensures err { OnErr result (IsSeated tape.now self.new.actor [] self.new.seat) }
+        ensures err { OnErr result (IsSeated tape.now self.new.actor no_hold self.new.seat) }
         ensures found { IfOk result (λ found. IfSome found (λ id. id_of_txn (newest self.new.seat) txn ≡ Some id)) }
     {
         let _plan = plan;
         for place in self.looked..MOST {
-            let item = match tape.fetch(rt, &mut self.seat, place) {
-                Ok(item) => item,
+            let sign = match tape.fetch(rt, &mut self.seat, place) {
+                Ok(sign) => sign,
                 Err(PlaceError::NoPlace) => return Ok(None),
-                Err(PlaceError::OutOfMemory) => return Err(OutOfMemory),
             };
-            if let Some(id) = id_begun(&*item, txn) {
+            if let Some(id) = id_begun(sign, txn) {
                 return Ok(Some(id));
             }
             self.looked = place + 1;

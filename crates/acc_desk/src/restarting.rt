@@ -1,5 +1,5 @@
 //! Restarts of the actor of a desk.
-ghost use Rattle.std.specs.Prelude.{◌≡◌, ◌≢◌, ◌≤◌, ◌+◌, ◌∷◌, [], true, drop, Contains, Ok, IfOk, OnOk, OnErr};
+ghost use Rattle.std.specs.Prelude.{◌≡◌, ◌≢◌, ◌≤◌, ◌+◌, ◌∷◌, true, drop, Contains, Ok, IfOk, OnOk, OnErr};
 ghost use Rattle.acc_schedule.specs.declared.plan.Step.{Step};
 ghost use Rattle.acc_message.specs.Coordinator.{silence};
 ghost use Rattle.acc_limits.specs.Limits.{most_items};
@@ -11,7 +11,7 @@ ghost use Rattle.acc_follow.specs.Schedules.{cluster_of};
 ghost use Rattle.acc_strict.specs.Disks.{Disks};
 ghost use Rattle.acc_cluster.specs.Slots.{SlotStands, IsStrictSlot};
 ghost use Rattle.acc_cluster.specs.Asked.{IsFew};
-ghost use Rattle.acc_desk.specs.Desks.{IsSeated, IsSound, HasReopened, HasReopenedStrictly};
+ghost use Rattle.acc_desk.specs.Desks.{no_hold, IsSeated, IsSound, HasReopened, HasReopenedStrictly};
 ghost use Rattle.acc_desk.specs.Outcomes.{CameTo};
 ghost use Rattle.acc_desk.specs.declared.turning.Turned.{Turned as Answer};
 
@@ -86,7 +86,7 @@ impl<D: Rig + Drop, J: Planned> Desk<D, J> {
         requires next { (command : Step) × (drop self.old.gone self.old.commands ≡ command ∷ drop (self.old.gone + 1) self.old.commands) × (is_restart command ≡ true) }
         ensures same { (self.new.actor ≡ self.old.actor) × (self.new.commands ≡ self.old.commands) }
         ensures ok { OnOk result (IsSound D.is_image D.faults D.strict D.armed D.content D.synced D.written J.strict plan.now tape.now self.new.actor self.new.seat self.new.slot self.new.commands self.new.gone) }
-        ensures err { OnErr result (IsSeated tape.now self.new.actor [] self.new.seat) }
+        ensures err { OnErr result (IsSeated tape.now self.new.actor no_hold self.new.seat) }
         ensures came { IfOk result (λ turned. CameTo plan.now tape.now self.old.actor self.old.commands turned self.old.seat.mine self.old.gone self.new.seat self.new.gone) }
         ensures told { result ≢ Ok Answer.Idle }
     {
@@ -94,17 +94,17 @@ impl<D: Rig + Drop, J: Planned> Desk<D, J> {
             return Ok(Turned::Idle);
         }
         gate.enter(self.actor.0, turn);
-        match tape.reserve(rt, &mut self.seat, 0) {
+        match tape.reserve(rt, &mut self.seat, 1, 0) {
             Ok(()) => {}
             Err(TapeError::Full { .. }) => return Ok(Turned::Full),
             Err(TapeError::OutOfMemory) => return Err(OutOfMemory),
         }
         let Ok(given) = reopen(self.alloc, &mut self.slot, plan, self.actor, choice) else {
-            tape.release(rt, &mut self.seat, 0);
+            tape.release(rt, &mut self.seat, 1, 0);
             return Err(OutOfMemory);
         };
         let item = item_for(self.actor, Event::Restart { kept: 0 }, given);
-        tape.put(rt, self.alloc, &mut self.seat, 0, item)?;
+        tape.put(rt, &mut self.seat, 1, 0, item)?;
         self.gone += 1;
         Ok(Turned::Taken)
     }

@@ -1,8 +1,8 @@
 //! Steps of the actor of a desk.
-ghost use Rattle.std.specs.Prelude.{◌≡◌, ◌≢◌, ◌≤◌, [], drop, Ok, IfOk, OnOk, OnErr};
+ghost use Rattle.std.specs.Prelude.{◌≡◌, ◌≢◌, ◌≤◌, drop, Ok, IfOk, OnOk, OnErr};
 ghost use Rattle.acc_limits.specs.Limits.{most_items};
 ghost use Rattle.acc_desk.specs.Asks.{event_of, act_of_ask};
-ghost use Rattle.acc_desk.specs.Desks.{newest, item_of, IsSeated, IsSound, MayStep};
+ghost use Rattle.acc_desk.specs.Desks.{newest, item_of, no_hold, IsSeated, IsSound, MayStep};
 ghost use Rattle.acc_desk.specs.Outcomes.{CameTo};
 ghost use Rattle.acc_desk.specs.declared.turning.Turned.{Turned as Answer};
 
@@ -34,8 +34,8 @@ pub(crate) fn item_for(actor: Actor, event: Event, given: Option<Emitted>) -> It
     }
 }
 
-/// Counts what is sent. Answers the bits of the workers that are to be called once it is entered.
-pub(crate) fn count_sent(floor: &Floor, given: &Option<Emitted>) -> u64 {
+// Counts what is sent. Answers the bits of the workers that are to be called once it is entered.
+fn count_sent(floor: &Floor, given: &Option<Emitted>) -> u64 {
     match given {
         Some(emitted) => floor.send(emitted.out.as_slice()),
         None => 0,
@@ -70,24 +70,24 @@ impl<D: Rig + Drop, J: Planned> Desk<D, J> {
         requires may { MayStep plan.now (newest self.old.seat) self.old.actor (event_of ask) (act_of_ask ask) (drop self.old.gone self.old.commands) (drop gone self.old.commands) }
         ensures same { (self.new.actor ≡ self.old.actor) × (self.new.commands ≡ self.old.commands) }
         ensures ok { OnOk result (IsSound D.is_image D.faults D.strict D.armed D.content D.synced D.written J.strict plan.now tape.now self.new.actor self.new.seat self.new.slot self.new.commands self.new.gone) }
-        ensures err { OnErr result (IsSeated tape.now self.new.actor [] self.new.seat) }
+        ensures err { OnErr result (IsSeated tape.now self.new.actor no_hold self.new.seat) }
         ensures came { IfOk result (λ turned. CameTo plan.now tape.now self.old.actor self.old.commands turned self.old.seat.mine self.old.gone self.new.seat self.new.gone) }
         ensures told { result ≢ Ok Answer.Idle }
     {
         gate.enter(self.actor.0, turn);
         let weight = weigh(&self.slot, plan, self.actor, ask)?;
-        match tape.reserve(rt, &mut self.seat, weight) {
+        match tape.reserve(rt, &mut self.seat, 1, weight) {
             Ok(()) => {}
             Err(TapeError::Full { .. }) => return Ok(Turned::Full),
             Err(TapeError::OutOfMemory) => return Err(OutOfMemory),
         }
         let Ok(given) = step(&mut self.slot, plan, self.actor, ask) else {
-            tape.release(rt, &mut self.seat, weight);
+            tape.release(rt, &mut self.seat, 1, weight);
             return Err(OutOfMemory);
         };
         let keepers = count_sent(floor, &given);
         let item = item_for(self.actor, ask.event(), given);
-        tape.put(rt, self.alloc, &mut self.seat, weight, item)?;
+        tape.put(rt, &mut self.seat, 1, weight, item)?;
         call_for(floor, ask, keepers);
         self.gone = gone;
         Ok(Turned::Taken)

@@ -1,9 +1,8 @@
 //! Turns.
-ghost use Rattle.std.specs.Prelude.{◌≡◌, ◌≤◌, ℕ, [], take, Ok, IfOk, OnOk, OnErr, Some, true, false};
+ghost use Rattle.std.specs.Prelude.{◌≡◌, ◌≤◌, take, Ok, IfOk, OnOk, OnErr, Some, true, false};
 ghost use Rattle.std.specs.Option.{option_copied};
 ghost use Rattle.acc_stamp.specs.declared.actors.Actor.{Actor as AnActor};
 ghost use Rattle.std.specs.List.{slice_get, list_any};
-ghost use Rattle.acc_message.specs.Items.{sent_in};
 ghost use Rattle.acc_message.specs.Run.{is_node, is_down};
 ghost use Rattle.acc_schedule.specs.Content.{Content};
 ghost use Rattle.acc_schedule.specs.declared.plan.Step.{Step as AStep};
@@ -11,7 +10,7 @@ ghost use Rattle.acc_follow.specs.Situations.{Situation};
 ghost use Rattle.acc_limits.specs.Limits.{most_items};
 ghost use Rattle.acc_cluster.specs.Slots.{SlotStands};
 ghost use Rattle.acc_tape.specs.Seats.{TapeName};
-ghost use Rattle.acc_desk.specs.Desks.{newest, IsSeated, IsSound, begins_it};
+ghost use Rattle.acc_desk.specs.Desks.{newest, no_hold, IsSeated, IsSound, begins_it};
 ghost use Rattle.acc_desk.specs.Outcomes.{CameTo, IsTakenAtOnce};
 ghost use Rattle.acc_desk.specs.declared.turning.Turned.{Turned as Answer};
 
@@ -21,7 +20,6 @@ use crate::floor::Floor;
 use crate::rules::{PlanTape, Planned};
 use acc_base::OutOfMemory;
 use acc_cluster::Slot;
-use acc_message::{Item, Message, sent_by};
 use acc_ports::{Gate, Rig};
 use acc_schedule::{Plan, Step};
 use acc_topology::sets::contains;
@@ -35,15 +33,8 @@ pub enum Turned {
     Taken,
     /// The desk entered nothing, and no command went by.
     Idle,
-    /// It entered some items, or nothing as the tape has no room.
+    /// The desk entered nothing, as the tape has no room.
     Full,
-}
-
-/// The message with this index among those that an item sent.
-pub(crate) fn message_in(item: &Item, index: u64) -> Option<&Message>
-    ensures { option_copied result ≡ slice_get (sent_in item.now) index }
-{
-    sent_by(item).get(index as usize)
 }
 
 // The command at a place.
@@ -101,7 +92,8 @@ fn is_store<D: Rig>(slot: &Slot<D>) -> bool
 }
 
 impl<D: Rig + Drop, J: Planned> Desk<D, J> {
-    /// One turn.
+    /// Takes the actor's next command if it can be taken, else its oldest message, and a store up to sixteen. Where memory is refused the
+    /// desk keeps its seat, which holds nothing reserved, and its actor may stand for nothing any more. It waits where the tape is taken.
     pub fn turn<W: Wait, G: Gate>(
         &mut self,
         rt: &W,
@@ -116,7 +108,7 @@ impl<D: Rig + Drop, J: Planned> Desk<D, J> {
         requires desk { IsSound D.is_image D.faults D.strict D.armed D.content D.synced D.written J.strict plan.now tape.now self.old.actor self.old.seat self.old.slot self.old.commands self.old.gone }
         ensures same { (self.new.actor ≡ self.old.actor) × (self.new.commands ≡ self.old.commands) }
         ensures ok { OnOk result (IsSound D.is_image D.faults D.strict D.armed D.content D.synced D.written J.strict plan.now tape.now self.new.actor self.new.seat self.new.slot self.new.commands self.new.gone) }
-        ensures err { OnErr result (IsSeated tape.now self.new.actor [] self.new.seat) }
+        ensures err { OnErr result (IsSeated tape.now self.new.actor no_hold self.new.seat) }
         ensures came { IfOk result (λ turned. CameTo plan.now tape.now self.old.actor self.old.commands turned self.old.seat.mine self.old.gone self.new.seat self.new.gone) }
         ensures waits { result ≡ Ok Answer.Idle → is_down self.old.actor (newest self.old.seat) ≡ false → (command : AStep) → slice_get self.old.commands self.old.gone ≡ Some command → ¬ IsTakenAtOnce plan.now (take self.old.gone self.old.commands) command }
     {
@@ -165,7 +157,7 @@ impl<D: Rig + Drop, J: Planned> Desk<D, J> {
         requires desk { IsSound D.is_image D.faults D.strict D.armed D.content D.synced D.written J.strict plan.now tape.now self.old.actor self.old.seat self.old.slot self.old.commands self.old.gone }
         ensures same { (self.new.actor ≡ self.old.actor) × (self.new.commands ≡ self.old.commands) }
         ensures ok { OnOk result (IsSound D.is_image D.faults D.strict D.armed D.content D.synced D.written J.strict plan.now tape.now self.new.actor self.new.seat self.new.slot self.new.commands self.new.gone) }
-        ensures err { OnErr result (IsSeated tape.now self.new.actor [] self.new.seat) }
+        ensures err { OnErr result (IsSeated tape.now self.new.actor no_hold self.new.seat) }
         ensures came { IfOk result (λ turned. CameTo plan.now tape.now self.old.actor self.old.commands turned self.old.seat.mine self.old.gone self.new.seat self.new.gone) }
         ensures waits { result ≡ Ok Answer.Idle → is_down self.old.actor (newest self.old.seat) ≡ false → (command : AStep) → slice_get self.old.commands self.old.gone ≡ Some command → ¬ IsTakenAtOnce plan.now (take self.old.gone self.old.commands) command }
     {
@@ -202,7 +194,7 @@ impl<D: Rig + Drop, J: Planned> Desk<D, J> {
         requires next { slice_get self.old.commands self.old.gone ≡ Some (AStep.Begin txn) }
         ensures same { (self.new.actor ≡ self.old.actor) × (self.new.commands ≡ self.old.commands) }
         ensures ok { OnOk result (IsSound D.is_image D.faults D.strict D.armed D.content D.synced D.written J.strict plan.now tape.now self.new.actor self.new.seat self.new.slot self.new.commands self.new.gone) }
-        ensures err { OnErr result (IsSeated tape.now self.new.actor [] self.new.seat) }
+        ensures err { OnErr result (IsSeated tape.now self.new.actor no_hold self.new.seat) }
         ensures came { IfOk result (λ turned. CameTo plan.now tape.now self.old.actor self.old.commands turned self.old.seat.mine self.old.gone self.new.seat self.new.gone) }
         ensures waits { result ≡ Ok Answer.Idle → ¬ IsTakenAtOnce plan.now (take self.old.gone self.old.commands) (AStep.Begin txn) }
     {
@@ -238,7 +230,7 @@ impl<D: Rig + Drop, J: Planned> Desk<D, J> {
         requires next { slice_get self.old.commands self.old.gone ≡ Some (AStep.Recover txn node) }
         ensures same { (self.new.actor ≡ self.old.actor) × (self.new.commands ≡ self.old.commands) }
         ensures ok { OnOk result (IsSound D.is_image D.faults D.strict D.armed D.content D.synced D.written J.strict plan.now tape.now self.new.actor self.new.seat self.new.slot self.new.commands self.new.gone) }
-        ensures err { OnErr result (IsSeated tape.now self.new.actor [] self.new.seat) }
+        ensures err { OnErr result (IsSeated tape.now self.new.actor no_hold self.new.seat) }
         ensures came { IfOk result (λ turned. CameTo plan.now tape.now self.old.actor self.old.commands turned self.old.seat.mine self.old.gone self.new.seat self.new.gone) }
     {
         let Some(body) = body_of(plan, txn) else {
@@ -276,7 +268,7 @@ impl<D: Rig + Drop, J: Planned> Desk<D, J> {
         requires desk { IsSound D.is_image D.faults D.strict D.armed D.content D.synced D.written J.strict plan.now tape.now self.old.actor self.old.seat self.old.slot self.old.commands self.old.gone }
         ensures same { (self.new.actor ≡ self.old.actor) × (self.new.commands ≡ self.old.commands) }
         ensures ok { OnOk result (IsSound D.is_image D.faults D.strict D.armed D.content D.synced D.written J.strict plan.now tape.now self.new.actor self.new.seat self.new.slot self.new.commands self.new.gone) }
-        ensures err { OnErr result (IsSeated tape.now self.new.actor [] self.new.seat) }
+        ensures err { OnErr result (IsSeated tape.now self.new.actor no_hold self.new.seat) }
         ensures came { IfOk result (λ turned. CameTo plan.now tape.now self.old.actor self.old.commands turned self.old.seat.mine self.old.gone self.new.seat self.new.gone) }
     {
         if self.is_down() {
@@ -307,14 +299,13 @@ impl<D: Rig + Drop, J: Planned> Desk<D, J> {
         requires desk { IsSound D.is_image D.faults D.strict D.armed D.content D.synced D.written J.strict plan.now tape.now self.old.actor self.old.seat self.old.slot self.old.commands self.old.gone }
         ensures same { (self.new.actor ≡ self.old.actor) × (self.new.commands ≡ self.old.commands) }
         ensures ok { OnOk result (IsSound D.is_image D.faults D.strict D.armed D.content D.synced D.written J.strict plan.now tape.now self.new.actor self.new.seat self.new.slot self.new.commands self.new.gone) }
-        ensures err { OnErr result (IsSeated tape.now self.new.actor [] self.new.seat) }
+        ensures err { OnErr result (IsSeated tape.now self.new.actor no_hold self.new.seat) }
         ensures came { IfOk result (λ turned. CameTo plan.now tape.now self.old.actor self.old.commands turned self.old.seat.mine self.old.gone self.new.seat self.new.gone) }
     {
-        let Some((post, sender)) = tape.next_with_item(rt, &mut self.seat, self.actor.0)? else {
+        let mut found = Vec::with_capacity(self.alloc, 1)?;
+        tape.collect(rt, &mut self.seat, self.actor.0, &mut found)?;
+        let Some((post, message)) = found.first() else {
             return Ok(Turned::Idle);
-        };
-        let Some(message) = message_in(&*sender, post.index) else {
-            return Err(OutOfMemory);
         };
         if self.is_down() {
             return Ok(Turned::Idle);

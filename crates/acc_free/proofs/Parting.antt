@@ -23,7 +23,8 @@ use Rattle.acc_tape.specs.ItemViews.{actor_of_item}
 use Rattle.acc_tape.specs.Lists.{items_of}
 use Rattle.acc_tape.specs.Seats.{TapeName, SeatView}
 use Rattle.acc_desk.specs.declared.desk.Desk.{Desk}
-use Rattle.acc_desk.specs.Desks.{IsAt, IsSeated, IsSound, AreSound, name_of}
+use Rattle.acc_desk.specs.declared.hold.Hold.{Hold}
+use Rattle.acc_desk.specs.Desks.{IsAt, IsSeated, IsSound, AreSound, name_of, no_hold}
 use Rattle.acc_desk.specs.Fits.{fits_plan}
 use Rattle.acc_free.specs.declared.rest.Rest.{Rest}
 use Rattle.acc_free.specs.Finish.{HaveRested}
@@ -53,18 +54,18 @@ module _ {D J : Type 0} (images : D → List ℕ → Type 0) (faults : D → ℕ
 
   -- as the closing of the tape asks
   pub seats_ready : (desks : List (Desk D J)) (seats : List (SeatView Item)) → seats ≡ map seat_in desks → All Sound desks
-      → All (λ (seat : SeatView Item). (seat.tape ≡ tape) × (seat.held ≡ [])) seats
+      → All (λ (seat : SeatView Item). (seat.tape ≡ tape) × (seat.held_items ≡ 0) × (seat.held_weight ≡ 0)) seats
   seats_ready desks seats are all =
-      All-same (λ (seat : SeatView Item). (seat.tape ≡ tape) × (seat.held ≡ [])) seats (map seat_in desks) are
-      (All-map (λ (seat : SeatView Item). (seat.tape ≡ tape) × (seat.held ≡ [])) seat_in desks
-      (All-weaker Sound (λ (desk : Desk D J). (desk.seat.tape ≡ tape) × (desk.seat.held ≡ [])) (λ desk s. (s.seated.tape_is, s.seated.held_is)) desks all))
+      All-same (λ (seat : SeatView Item). (seat.tape ≡ tape) × (seat.held_items ≡ 0) × (seat.held_weight ≡ 0)) seats (map seat_in desks) are
+      (All-map (λ (seat : SeatView Item). (seat.tape ≡ tape) × (seat.held_items ≡ 0) × (seat.held_weight ≡ 0)) seat_in desks
+      (All-weaker Sound (λ (desk : Desk D J). (desk.seat.tape ≡ tape) × (desk.seat.held_items ≡ 0) × (desk.seat.held_weight ≡ 0)) (λ desk s. (s.seated.tape_is, ap (λ (h : Hold). h.items) s.seated.held_is, ap (λ (h : Hold). h.weight) s.seated.held_is)) desks all))
 
   pub seats_seated : (desks : List (Desk D J)) (seats : List (SeatView Item)) → seats ≡ map seat_in desks → All Sound desks
-      → All (λ (seat : SeatView Item). (a : Actor) × IsSeated tape a [] seat) seats
+      → All (λ (seat : SeatView Item). (a : Actor) × IsSeated tape a no_hold seat) seats
   seats_seated desks seats are all =
-      All-same (λ (seat : SeatView Item). (a : Actor) × IsSeated tape a [] seat) seats (map seat_in desks) are
-      (All-map (λ (seat : SeatView Item). (a : Actor) × IsSeated tape a [] seat) seat_in desks
-      (All-weaker Sound (λ (desk : Desk D J). (a : Actor) × IsSeated tape a [] desk.seat) (λ desk s. (desk.actor, s.seated)) desks all))
+      All-same (λ (seat : SeatView Item). (a : Actor) × IsSeated tape a no_hold seat) seats (map seat_in desks) are
+      (All-map (λ (seat : SeatView Item). (a : Actor) × IsSeated tape a no_hold seat) seat_in desks
+      (All-weaker Sound (λ (desk : Desk D J). (a : Actor) × IsSeated tape a no_hold desk.seat) (λ desk s. (desk.actor, s.seated)) desks all))
 
   pub each_ends : EndLaw images faults strict armed content synced written → tape.limits.items ≤ most_items → (made : List ℕ) (items : List Item) → fits_plan plan items → (desks : List (Desk D J)) → All Sound desks
       → All (HasComeTo made items) (map seat_in desks)
@@ -152,7 +153,7 @@ module _ {D J : Type 0} (plan : Content) where
 abbrev pub WithinLaw : Type 0
 WithinLaw =
     (tape : TapeName) (made : List ℕ) (seats : List (SeatView Item)) (items : List Item) → tape.limits.items ≤ most_items → tape.limits.weight ≤ most_bytes
-    → All (λ (seat : SeatView Item). (a : Actor) × IsSeated tape a [] seat) seats
+    → All (λ (seat : SeatView Item). (a : Actor) × IsSeated tape a no_hold seat) seats
     → All (λ (seat : SeatView Item). IsPrefix seat.seen items × (items_of actor_of_item seat.actor items ≡ seat.mine) × Contains made seat.actor) seats
     → All (λ (item : Item). Any (λ (seat : SeatView Item). seat.actor ≡ actor_of_item item) seats) items → IsWithin (reverse items)
 

@@ -13,7 +13,7 @@ use crate::rest::{Rest, Rests};
 use acc_base::OutOfMemory;
 use acc_desk::laws::{closed_items_are_within, desks_stand_at_the_end, nobody_goes_down};
 use acc_desk::{Desks, Parts, PlanRules, PlanTape, Planned};
-use acc_message::{Item, SharedItems};
+use acc_message::{GrowingItems, Item};
 use acc_ports::Rig;
 use acc_schedule::Plan;
 use acc_served::laws::turns_go_by;
@@ -27,7 +27,7 @@ pub(crate) fn closed<D: Rig + Drop, J: Planned>(
     tape: PlanTape<J>,
     first: First<J>,
     desks: Desks<D, J>,
-) -> Result<(Rests<D>, SharedItems), OutOfMemory>
+) -> Result<(Rests<D>, GrowingItems), OutOfMemory>
     requires plan { plan.now ≡ J.plan }
     requires is_plan { IsPlan plan.now }
     requires limits { (tape.limits.items ≤ most_items) × (tape.limits.weight ≤ most_bytes) }
@@ -36,7 +36,7 @@ pub(crate) fn closed<D: Rig + Drop, J: Planned>(
     requires actors { AreAllActors plan.now (map desk_actor desks.items) }
     requires sound { AreSound D.is_image D.faults D.strict D.armed D.content D.synced D.written J.strict plan.now tape desks.items }
     ensures actors { IfOk result (λ parts. AreAllActors plan.now (map rest_actor parts.0.items)) }
-    ensures rested { IfOk result (λ parts. HaveRested D.is_image D.faults D.strict D.armed D.content D.synced D.written J.strict plan.now parts.0.items parts.1) }
+    ensures rested { IfOk result (λ parts. HaveRested D.is_image D.faults D.strict D.armed D.content D.synced D.written J.strict plan.now parts.0.items parts.1.items) }
 {
     desks_stand_at_the_end::<D>();
     nobody_goes_down();
@@ -47,7 +47,7 @@ pub(crate) fn closed<D: Rig + Drop, J: Planned>(
     let Ok(entered) = tape.close(first, seats) else {
         return Err(OutOfMemory);
     };
-    Ok((rests, SharedItems::from_vec(entered.into_vec())))
+    Ok((rests, entered))
 }
 
 // The seats, and what the actors left undone.

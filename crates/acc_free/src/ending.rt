@@ -14,7 +14,7 @@ ghost use Rattle.acc_free.specs.Finish.{AreResting, HasFinished};
 use crate::rest::{Rests, parted};
 use crate::round::rounds;
 use acc_cluster::{Cluster, Ended, Remains};
-use acc_message::{RunError, SharedItems};
+use acc_message::{GrowingItems, RunError};
 use acc_ports::Rig;
 use acc_schedule::Plan;
 use acc_served::laws::served_at_the_end;
@@ -28,20 +28,20 @@ pub fn finish<D: Rig + Drop>(
     alloc: Global,
     plan: &Plan,
     rests: Rests<D>,
-    entered: SharedItems,
+    entered: GrowingItems,
     remains: &mut Remains,
 ) -> Result<Ended<D>, RunError>
     requires is_plan { IsPlan plan.now }
     requires actors { AreAllActors plan.now (map rest_actor rests.items) }
-    requires standing { (stopped : List Stopped) × AreResting D.is_image D.faults plan.now rests.items entered stopped }
-    ensures ok { IfOk result (HasFinished D.is_image D.faults plan.now entered) }
-    ensures limit { IfErr result (IfLimit (EndsFreely false plan.now (reverse entered))) }
-    ensures strict_limit { (stopped : List Stopped) (disks : StrictDisks) → AreResting D.is_image D.faults plan.now rests.items entered stopped
-        → AreStrictSlots D.strict D.armed D.content D.synced D.written plan.now (behind_items entered stopped) disks (map placed_in rests.items)
-        → ((a : Actor) → disks.armed a ≡ None) → NobodyIsDown (reverse entered) → IfErr result (IfLimit (EndsFreely true plan.now (reverse entered))) }
-    ensures strict { (stopped : List Stopped) (disks : StrictDisks) → AreResting D.is_image D.faults plan.now rests.items entered stopped
-        → AreStrictSlots D.strict D.armed D.content D.synced D.written plan.now (behind_items entered stopped) disks (map placed_in rests.items)
-        → ((a : Actor) → disks.armed a ≡ None) → NobodyIsDown (reverse entered) → IfOk result (λ ended. NobodyIsDown (reverse ended.items)) }
+    requires standing { (stopped : List Stopped) × AreResting D.is_image D.faults plan.now rests.items entered.items stopped }
+    ensures ok { IfOk result (HasFinished D.is_image D.faults plan.now entered.items) }
+    ensures limit { IfErr result (IfLimit (EndsFreely false plan.now (reverse entered.items))) }
+    ensures strict_limit { (stopped : List Stopped) (disks : StrictDisks) → AreResting D.is_image D.faults plan.now rests.items entered.items stopped
+        → AreStrictSlots D.strict D.armed D.content D.synced D.written plan.now (behind_items entered.items stopped) disks (map placed_in rests.items)
+        → ((a : Actor) → disks.armed a ≡ None) → NobodyIsDown (reverse entered.items) → IfErr result (IfLimit (EndsFreely true plan.now (reverse entered.items))) }
+    ensures strict { (stopped : List Stopped) (disks : StrictDisks) → AreResting D.is_image D.faults plan.now rests.items entered.items stopped
+        → AreStrictSlots D.strict D.armed D.content D.synced D.written plan.now (behind_items entered.items stopped) disks (map placed_in rests.items)
+        → ((a : Actor) → disks.armed a ≡ None) → NobodyIsDown (reverse entered.items) → IfOk result (λ ended. NobodyIsDown (reverse ended.items)) }
 {
     served_at_the_end();
     let (slots, queues) = parted(alloc, rests)?;

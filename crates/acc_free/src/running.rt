@@ -20,7 +20,7 @@ use crate::workers::{Shared, serve_all};
 use acc_base::OutOfMemory;
 use acc_cluster::Remains;
 use acc_desk::{Floor, PlanTape, Planned};
-use acc_message::{Items, RunError, SharedItems};
+use acc_message::{GrowingItems, Items, RunError};
 use acc_ports::{DiskMaker, Gate};
 use acc_run::give_back;
 use acc_schedule::Plan;
@@ -107,7 +107,7 @@ fn entered_by<'x, R: Threads + Wait + Sync, M: DiskMaker, G: Gate + Sync, J: Pla
     workers: u32,
     disks: &mut M,
     gate: &'x G,
-) -> Result<(Rests<M::D>, SharedItems), OutOfMemory>
+) -> Result<(Rests<M::D>, GrowingItems), OutOfMemory>
 where
     M::D: Drop + Send,
     requires plan { plan.now ≡ J.plan }
@@ -115,7 +115,7 @@ where
     requires workers { (1 ≤ workers) × (workers ≤ 16) }
     requires is_plan { IsPlan plan.now }
     ensures actors { IfOk result (λ parts. AreAllActors plan.now (map rest_actor parts.0.items)) }
-    ensures rested { IfOk result (λ parts. HaveRested M.D.is_image M.D.faults M.D.strict M.D.armed M.D.content M.D.synced M.D.written J.strict plan.now parts.0.items parts.1) }
+    ensures rested { IfOk result (λ parts. HaveRested M.D.is_image M.D.faults M.D.strict M.D.armed M.D.content M.D.synced M.D.written J.strict plan.now parts.0.items parts.1.items) }
     ensures given { M.given disks.new ≡ M.given disks.old }
     ensures kind { M.strict disks.new ≡ M.strict disks.old }
 {

@@ -1,9 +1,10 @@
 -- What a history stands for: the own items of a situation, what was dropped, and what was begun before.
 --     StandsFor h s      the history stands for this situation
 --     IsWeighed h s      it has the weight of the own items
-use Rattle.std.specs.Prelude.{◌≡◌, ℕ, ◌<◌, ◌≤◌, false, not, ◌||◌, List, ◌∷◌, length, reverse}
+use Rattle.std.specs.Prelude.{◌≡◌, ℕ, ◌<◌, ◌≤◌, ◌^◌, false, not, ◌||◌, List, [], ◌∷◌, ◌++◌, Option, length, reverse, All}
 use Rattle.std.specs.List.{list_any, slice_get}
 use Rattle.acc_stamp.specs.declared.actors.Actor.{Actor}
+use Rattle.acc_stamp.specs.declared.stamps.TxnId.{TxnId}
 use Rattle.acc_topology.specs.Sets.{is_among}
 use Rattle.acc_posts.specs.declared.posting.Posting.{Posting}
 use Rattle.acc_posts.specs.Mail.{posting_at}
@@ -13,9 +14,10 @@ use Rattle.acc_message.specs.declared.entry.Event.TheVariants.{Message as TakesM
 use Rattle.acc_message.specs.declared.item.Item.{Item}
 use Rattle.acc_message.specs.declared.item.Item.TheVariants.{Step, Skipped, Down}
 use Rattle.acc_message.specs.Growing.{message_in}
-use Rattle.acc_message.specs.Items.{sent_of, message_at, is_begun, id_of_txn}
+use Rattle.acc_message.specs.Items.{sent_in, sent_of, message_at, is_begun, id_of_txn}
 use Rattle.acc_message.specs.Run.{is_down}
-use Rattle.acc_message_code.specs.Weight.{weight_of_items}
+use Rattle.acc_message_code.specs.Short.{IsShortMessage}
+use Rattle.acc_message_code.specs.Weight.{weight_of, weight_of_items}
 use Rattle.acc_safety.specs.Calm.{item_takes}
 use Rattle.acc_follow.specs.Situations.{Situation, whole, receiver_in, is_through}
 use Rattle.acc_history.specs.Begun.{begun_in, begun_as}
@@ -61,3 +63,25 @@ pub record StandsFor (h : History) (s : Situation) : Type 0 where
 
 abbrev pub IsWeighed : History → Situation → Type 0
 IsWeighed h s = h.weight ≡ weight_of_items s.own
+
+-- ---- items that were entered elsewhere
+
+-- these items, the oldest first, behind no earlier run; nothing was dropped
+abbrev pub situation_of : List Item → Situation
+situation_of items = record { earlier = []; own = reverse items; dropped = []; stopped = [] }
+
+-- behind these items an item can stand: what it takes was sent by them, and the bytes of its messages can be counted
+pub record MayFollow (before : List Item) (item : Item) : Type 0 where
+  pub takes : TakesSent (situation_of before) item
+  pub short : All IsShortMessage (sent_in item)
+  pub fits : weight_of item < 2 ^ 64
+
+-- each item can stand behind those before it
+abbrev pub EachMayFollow : List Item → Type 0
+EachMayFollow items = (before : List Item) (item : Item) (after : List Item) → items ≡ before ++ item ∷ after → MayFollow before item
+
+-- what waits, what was begun and how many bytes there are behind these items, the oldest first
+pub record IsNoted (items : List Item) (w : Standing) (ids : List (Option (Option TxnId))) (weight : ℕ) : Type 0 where
+  pub holds : Holds items w (situation_of items)
+  pub begun : (txn : ℕ) → begun_in ids txn ≡ begun_as (is_begun (whole (situation_of items)) txn) (id_of_txn (whole (situation_of items)) txn)
+  pub weighs : weight ≡ weight_of_items (situation_of items).own

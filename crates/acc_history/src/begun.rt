@@ -1,10 +1,12 @@
 //! Which transactions are begun.
-ghost use Rattle.std.specs.Prelude.{◌≡◌, ◌==◌, ◌<◌, ◌^◌, ℕ, length, slice_get, IfOk, OnOk, OnErr};
+ghost use Rattle.std.specs.Prelude.{◌≡◌, ◌==◌, ◌<◌, ◌^◌, ℕ, List, length, slice_get, IfOk, OnOk, OnErr};
+ghost use Rattle.acc_message.specs.declared.message.Message.{Message as AMessage};
 ghost use Rattle.acc_message.specs.Items.{id_drawn, begins_txn, id_begun};
+ghost use Rattle.acc_message.specs.Shown.{with_sent};
 ghost use Rattle.acc_history.specs.Begun.{begun_in, begun_after, begun_with, known_as, known_with};
 
 use acc_base::OutOfMemory;
-use acc_message::{Event, Item, Note};
+use acc_message::{Event, Note, Shown};
 use acc_stamp::TxnId;
 use std::alloc::Global;
 
@@ -68,19 +70,19 @@ fn note(begun: &mut Begun, txn: u32, id: Option<TxnId>) -> Result<(), OutOfMemor
     Ok(())
 }
 
-/// Notes what an item begins. Without memory for it all is as before.
+/// Notes what an item begins, whatever it sent. Without memory for it all is as before.
 #[inline(always)]
-pub(crate) fn note_begin(begun: &mut Begun, item: &Item) -> Result<(), OutOfMemory>
-    ensures ok { OnOk result ((number : ℕ) → begun_in begun.new.items number ≡ begun_with (begins_txn number item.now) (id_begun number item.now) (begun_in begun.old.items number)) }
+pub(crate) fn note_begin(begun: &mut Begun, shown: Shown<'_>) -> Result<(), OutOfMemory>
+    ensures ok { OnOk result ((out : List AMessage) (number : ℕ) → begun_in begun.new.items number ≡ begun_with (begins_txn number (with_sent shown.entry out)) (id_begun number (with_sent shown.entry out)) (begun_in begun.old.items number)) }
     ensures err { OnErr result ((number : ℕ) → begun_in begun.new.items number ≡ begun_in begun.old.items number) }
 {
-    let Item::Step(entry) = item else {
+    let Shown::Step { event, notes, .. } = shown else {
         return Ok(());
     };
-    let Event::Begin { txn } = entry.event else {
+    let Event::Begin { txn } = event else {
         return Ok(());
     };
-    note(begun, txn, drawn(entry.emitted.notes.as_slice()))
+    note(begun, txn, drawn(notes))
 }
 
 // Notes the id that stands at the number of a transaction, if one stands there.

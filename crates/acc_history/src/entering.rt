@@ -1,13 +1,14 @@
 //! What an item changes in what waits.
 ghost use Rattle.std.specs.Prelude.{◌≡◌, ◌+◌, ◌^◌, ◌<◌, ◌≤◌, ◌++◌, length, not, ◌&&◌, ◌||◌, OnOk};
 ghost use Rattle.acc_stamp.specs.declared.actors.Actor.{Actor as AnActor};
-ghost use Rattle.acc_message.specs.Items.{same_actor, sent_in};
+ghost use Rattle.acc_message.specs.Items.{same_actor};
 ghost use Rattle.acc_message.specs.Run.{down_after};
+ghost use Rattle.acc_message.specs.Shown.{with_sent};
 ghost use Rattle.acc_waiting.specs.Standing.{is_down_at};
 ghost use Rattle.acc_history.specs.Entering.{IsAsBefore, IsNamed, AreCovered, IsCovered, without_event, without_item, postings_of, postings_in};
 
 use acc_base::OutOfMemory;
-use acc_message::{Entry, Event, Item, Message};
+use acc_message::{Event, Message, Shown};
 use acc_stamp::Actor;
 use acc_waiting::Waiting;
 
@@ -26,27 +27,31 @@ fn greatest_of(actor: u32, messages: &[Message]) -> u32
 
 // Makes room for who stepped and for the actors to which its messages go.
 #[inline(always)]
-fn cover_entry(waiting: &mut Waiting, entry: &Entry) -> Result<(), OutOfMemory>
+fn cover_step(waiting: &mut Waiting, actor: Actor, messages: &[Message]) -> Result<(), OutOfMemory>
     ensures same { IsAsBefore waiting.old waiting.new }
     ensures room { waiting.new.room ≡ waiting.old.room }
-    ensures actor { OnOk result (entry.now.actor.0 < length waiting.new.downs) }
-    ensures receivers { OnOk result (AreCovered (length waiting.new.downs) entry.now.emitted.out) }
+    ensures actor { OnOk result (actor.0 < length waiting.new.downs) }
+    ensures receivers { OnOk result (AreCovered (length waiting.new.downs) messages.now) }
 {
-    let greatest = greatest_of(entry.actor.0, entry.emitted.out.as_slice());
+    let greatest = greatest_of(actor.0, messages);
     waiting.cover(greatest)
 }
 
 /// Makes room for the actors that an item names. In any case nothing else changes.
 #[inline(always)]
-pub(crate) fn cover_all(waiting: &mut Waiting, item: &Item) -> Result<(), OutOfMemory>
+pub(crate) fn cover_all(
+    waiting: &mut Waiting,
+    shown: Shown<'_>,
+    messages: &[Message],
+) -> Result<(), OutOfMemory>
     ensures same { IsAsBefore waiting.old waiting.new }
     ensures room { waiting.new.room ≡ waiting.old.room }
-    ensures covered { OnOk result (IsCovered (length waiting.new.downs) item.now) }
+    ensures covered { OnOk result (IsCovered (length waiting.new.downs) (with_sent shown.entry messages.now)) }
 {
-    match item {
-        Item::Step(entry) => cover_entry(waiting, entry),
-        Item::Skipped { .. } => Ok(()),
-        Item::Down { actor } => waiting.cover(actor.0),
+    match shown {
+        Shown::Step { actor, .. } => cover_step(waiting, actor, messages),
+        Shown::Skipped { .. } => Ok(()),
+        Shown::Down { actor } => waiting.cover(actor.0),
     }
 }
 
@@ -99,33 +104,45 @@ fn go_down(waiting: &mut Waiting, actor: Actor)
     waiting.set_down(actor.0, true);
 }
 
-// Notes what an entry took, who is up behind it, and what it sent.
+// Notes what a step took, who is up behind it, and what it sent.
 #[inline(always)]
-fn step(waiting: &mut Waiting, entry: &Entry, place: u32)
-    requires few { length entry.now.emitted.out < 2 ^ 32 }
-    requires room { length entry.now.emitted.out ≤ waiting.old.room }
-    requires actor { entry.now.actor.0 < length waiting.old.downs }
-    requires receivers { AreCovered (length waiting.old.downs) entry.now.emitted.out }
-    ensures sent { waiting.new.sent ≡ without_event entry.now.event waiting.old.sent ++ postings_of place 0 entry.now.lost entry.now.emitted.out }
-    ensures downs { (a : AnActor) → is_down_at waiting.new.downs a.0 ≡ (is_down_at waiting.old.downs a.0 && (not (same_actor entry.now.actor a) || entry.now.lost)) }
+fn step(
+    waiting: &mut Waiting,
+    actor: Actor,
+    event: Event,
+    messages: &[Message],
+    place: u32,
+    is_lost: bool,
+)
+    requires few { length messages.now < 2 ^ 32 }
+    requires room { length messages.now ≤ waiting.old.room }
+    requires actor { actor.0 < length waiting.old.downs }
+    requires receivers { AreCovered (length waiting.old.downs) messages.now }
+    ensures sent { waiting.new.sent ≡ without_event event waiting.old.sent ++ postings_of place 0 is_lost messages.now }
+    ensures downs { (a : AnActor) → is_down_at waiting.new.downs a.0 ≡ (is_down_at waiting.old.downs a.0 && (not (same_actor actor a) || is_lost)) }
 {
-    take(waiting, entry.event);
-    come_up(waiting, entry.actor, entry.lost);
-    send(waiting, entry.emitted.out.as_slice(), place, entry.lost);
+    take(waiting, event);
+    come_up(waiting, actor, is_lost);
+    send(waiting, messages, place, is_lost);
 }
 
 /// Notes what the item at a place took, who goes down or comes up by it, and what it sent.
 #[inline(always)]
-pub(crate) fn enter(waiting: &mut Waiting, item: &Item, place: u32)
-    requires few { length (sent_in item.now) < 2 ^ 32 }
-    requires room { length (sent_in item.now) ≤ waiting.old.room }
-    requires covered { IsCovered (length waiting.old.downs) item.now }
-    ensures sent { waiting.new.sent ≡ without_item item.now waiting.old.sent ++ postings_in place item.now }
-    ensures downs { (a : AnActor) → is_down_at waiting.new.downs a.0 ≡ down_after a item.now (is_down_at waiting.old.downs a.0) }
+pub(crate) fn enter(waiting: &mut Waiting, shown: Shown<'_>, messages: &[Message], place: u32)
+    requires few { length messages.now < 2 ^ 32 }
+    requires room { length messages.now ≤ waiting.old.room }
+    requires covered { IsCovered (length waiting.old.downs) (with_sent shown messages.now) }
+    ensures sent { waiting.new.sent ≡ without_item (with_sent shown.entry messages.now) waiting.old.sent ++ postings_in place (with_sent shown.entry messages.now) }
+    ensures downs { (a : AnActor) → is_down_at waiting.new.downs a.0 ≡ down_after a (with_sent shown.entry messages.now) (is_down_at waiting.old.downs a.0) }
 {
-    match item {
-        Item::Step(entry) => step(waiting, entry, place),
-        Item::Skipped { .. } => {}
-        Item::Down { actor } => go_down(waiting, *actor),
+    match shown {
+        Shown::Step {
+            actor,
+            lost,
+            event,
+            notes: _,
+        } => step(waiting, actor, event, messages, place, lost),
+        Shown::Skipped { .. } => {}
+        Shown::Down { actor } => go_down(waiting, actor),
     }
 }

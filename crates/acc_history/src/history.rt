@@ -1,22 +1,25 @@
 //! The past of a cluster.
-ghost use Rattle.std.specs.Prelude.{◌≡◌, ℕ, ◌+◌, ◌<◌, ◌≤◌, ◌^◌, false, List, [], length, map, reverse, slice_get, IfOk, OnOk, OnErr, MatchOption};
+ghost use Rattle.std.specs.Prelude.{◌≡◌, ℕ, ◌+◌, ◌<◌, ◌≤◌, ◌^◌, false, List, [], ◌∷◌, ◌++◌, length, reverse, slice_get, All, IfOk, OnOk, OnErr, MatchOption};
 ghost use Rattle.std.specs.Option.{option_copied};
 ghost use Rattle.std.specs.Arc.{arc_value};
 ghost use Rattle.acc_message.specs.Items.{sent_in, sent_of, message_at, begins_txn, id_begun, is_begun, id_of_txn};
 ghost use Rattle.acc_message.specs.Run.{is_down};
-ghost use Rattle.acc_message_code.specs.Weight.{weight_of, weight_of_items};
+ghost use Rattle.acc_message.specs.Shown.{with_sent};
+ghost use Rattle.acc_message_code.specs.Short.{IsShortMessage};
+ghost use Rattle.acc_message_code.specs.Weight.{weight_of, weight_of_all, weight_of_items};
 ghost use Rattle.acc_follow.specs.Situations.{Situation, opened, whole, NothingWaits, IsOldestWaiting};
 ghost use Rattle.acc_follow.specs.Moves.{with_item};
 ghost use Rattle.acc_history.specs.Begun.{begun_in, begun_as, begun_with, known_as};
 ghost use Rattle.acc_message.specs.declared.item.Item.{Item as AnItem};
 ghost use Rattle.acc_stamp.specs.declared.actors.Actor.{Actor as AnActor};
-ghost use Rattle.acc_history.specs.Stands.{StandsFor, IsWeighed, TakesSent, with_dropped};
+ghost use Rattle.acc_history.specs.Stands.{StandsFor, IsWeighed, IsNoted, TakesSent, EachMayFollow, situation_of, with_dropped};
 ghost use Rattle.acc_history.specs.Entering.{IsAsBefore, IsCovered};
 
 use crate::begun::{Begun, begun_at, known, note_begin};
 use crate::entering::{cover_all, enter};
 use acc_base::OutOfMemory;
-use acc_message::{GrowingItems, Item, Items, Message, sent_by};
+use acc_message::{GrowingItems, Item, Items, Message, Shown, notes_of, sent_by};
+use acc_message_code::messages_length;
 use acc_stamp::{Actor, TxnId};
 use acc_waiting::Waiting;
 use std::alloc::Global;
@@ -34,35 +37,71 @@ pub struct History {
 
 // Makes room for what an item changes, and notes what it begins. Without memory for it all else is as before.
 #[inline(always)]
-fn prepare(waiting: &mut Waiting, begun: &mut Begun, item: &Item) -> Result<(), OutOfMemory>
+fn prepare(
+    waiting: &mut Waiting,
+    begun: &mut Begun,
+    shown: Shown<'_>,
+    messages: &[Message],
+) -> Result<(), OutOfMemory>
     ensures same { IsAsBefore waiting.old waiting.new }
-    ensures few { OnOk result (length (sent_in item.now) < 2 ^ 32) }
-    ensures room { OnOk result (length (sent_in item.now) ≤ waiting.new.room) }
-    ensures covered { OnOk result (IsCovered (length waiting.new.downs) item.now) }
-    ensures begun { OnOk result ((number : ℕ) → begun_in begun.new.items number ≡ begun_with (begins_txn number item.now) (id_begun number item.now) (begun_in begun.old.items number)) }
+    ensures few { OnOk result (length messages.now < 2 ^ 32) }
+    ensures room { OnOk result (length messages.now ≤ waiting.new.room) }
+    ensures covered { OnOk result (IsCovered (length waiting.new.downs) (with_sent shown.entry messages.now)) }
+    ensures begun { OnOk result ((number : ℕ) → begun_in begun.new.items number ≡ begun_with (begins_txn number (with_sent shown.entry messages.now)) (id_begun number (with_sent shown.entry messages.now)) (begun_in begun.old.items number)) }
     ensures err { OnErr result ((number : ℕ) → begun_in begun.new.items number ≡ begun_in begun.old.items number) }
     ensures err_room { OnErr result (waiting.new.room ≡ waiting.old.room) }
 {
-    cover_all(waiting, item)?;
-    let sent = sent_by(item).len() as u64;
+    cover_all(waiting, shown, messages)?;
+    let sent = messages.len() as u64;
     waiting.reserve(sent)?;
-    if note_begin(begun, item).is_err() {
+    if note_begin(begun, shown).is_err() {
         waiting.release(sent);
         return Err(OutOfMemory);
     }
     Ok(())
 }
 
-// The place of the next item. More than 32 bits tell are refused as memory is.
+// A place among the items. More than 32 bits tell are refused as memory is.
 #[inline(always)]
-fn next_place(items: &GrowingItems) -> Result<u32, OutOfMemory>
-    ensures { IfOk result (λ place. place ≡ length items.now.items) }
+fn place_of(place: usize) -> Result<u32, OutOfMemory>
+    ensures { IfOk result (λ told. told ≡ place) }
 {
-    let place = items.len();
     if place > u32::MAX as usize {
         return Err(OutOfMemory);
     }
     Ok(place as u32)
+}
+
+// So many bytes and those of these messages. More than 64 bits tell are refused as memory is.
+fn weight_with(weight: u64, messages: &[Message]) -> Result<u64, OutOfMemory>
+    requires short { All IsShortMessage messages.now }
+    requires fits { weight_of_all messages.now < 2 ^ 64 }
+    ensures { IfOk result (λ total. total ≡ weight + weight_of_all messages.now) }
+{
+    let sent = messages_length(messages);
+    let weight = weight.checked_add(sent).ok_or(OutOfMemory)?;
+    Ok(weight)
+}
+
+// Notes the item at a place behind those before it, and gives the bytes of the messages of them all.
+fn note_item(
+    waiting: &mut Waiting,
+    begun: &mut Begun,
+    weight: u64,
+    place: usize,
+    shown: Shown<'_>,
+    messages: &[Message],
+) -> Result<u64, OutOfMemory>
+    requires short { All IsShortMessage messages.now }
+    requires fits { weight_of_all messages.now < 2 ^ 64 }
+    ensures { IfOk result (λ total. (before : List AnItem) (item : AnItem) → place ≡ length before → with_sent shown.entry messages.now ≡ item → messages.now ≡ sent_in item
+        → TakesSent (situation_of before) item → IsNoted before waiting.old begun.old.items weight → IsNoted (before ++ item ∷ []) waiting.new begun.new.items total) }
+{
+    let total = weight_with(weight, messages)?;
+    let place = place_of(place)?;
+    prepare(waiting, begun, shown, messages)?;
+    enter(waiting, shown, messages, place);
+    Ok(total)
 }
 
 impl History {
@@ -95,6 +134,30 @@ impl History {
             waiting,
             begun,
             weight: 0,
+        })
+    }
+
+    /// The past of a cluster that did these items, which stand in the list in which they stood, behind no earlier run. Each takes only
+    /// what was sent before it, its messages have a spelling, and their bytes are fewer than 2^64. More than 2^32 items, 2^32 messages or
+    /// more, and more bytes than 64 bits tell are refused as memory is; then the items are gone.
+    pub fn over(alloc: Global, items: GrowingItems) -> Result<History, OutOfMemory>
+        requires { EachMayFollow items.items }
+        ensures stands { IfOk result (λ history. StandsFor history (situation_of items.items)) }
+        ensures weighed { IfOk result (λ history. IsWeighed history (situation_of items.items)) }
+    {
+        let mut waiting = Waiting::new(alloc)?;
+        let mut begun = Vec::new(alloc);
+        let mut weight = 0;
+        for place in 0..items.len() {
+            let shown = items.shown(place);
+            let messages = items.sent(place);
+            weight = note_item(&mut waiting, &mut begun, weight, place, shown, messages)?;
+        }
+        Ok(History {
+            items,
+            waiting,
+            begun,
+            weight,
         })
     }
 
@@ -192,26 +255,39 @@ impl History {
         }
     }
 
-    // Makes room for an item, of whose messages so many stand in the list, notes what it begins, counts the bytes of its messages, and
-    // gives its place.
+    // Makes so much room in the list for an item and its messages, and for so many notes, notes what it begins, counts the bytes of its
+    // messages, and gives its place.
     #[inline(always)]
-    fn admit(&mut self, item: &Item, messages: usize, weight: u64) -> Result<u32, OutOfMemory>
+    fn admit(
+        &mut self,
+        shown: Shown<'_>,
+        messages: &[Message],
+        room: usize,
+        notes: usize,
+        weight: u64,
+    ) -> Result<u32, OutOfMemory>
         ensures items { (self.new.items.items ≡ self.old.items.items) × (self.new.items.own ≡ self.old.items.own) }
-        ensures room { OnOk result (self.new.items.room ≡ messages + 1) }
+        ensures room { OnOk result (self.new.items.room ≡ self.old.items.room + room) }
+        ensures still_room { OnErr result (self.new.items.room ≡ self.old.items.room) }
+        ensures notes_room { OnOk result (self.new.items.notes_room ≡ notes) }
         ensures same { IsAsBefore self.old.waiting self.new.waiting }
-        ensures few { OnOk result (length (sent_in item.now) < 2 ^ 32) }
-        ensures waiting_room { OnOk result (length (sent_in item.now) ≤ self.new.waiting.room) }
-        ensures covered { OnOk result (IsCovered (length self.new.waiting.downs) item.now) }
-        ensures begun { OnOk result ((number : ℕ) → begun_in self.new.begun.items number ≡ begun_with (begins_txn number item.now) (id_begun number item.now) (begun_in self.old.begun.items number)) }
+        ensures few { OnOk result (length messages.now < 2 ^ 32) }
+        ensures waiting_room { OnOk result (length messages.now ≤ self.new.waiting.room) }
+        ensures covered { OnOk result (IsCovered (length self.new.waiting.downs) (with_sent shown.entry messages.now)) }
+        ensures begun { OnOk result ((number : ℕ) → begun_in self.new.begun.items number ≡ begun_with (begins_txn number (with_sent shown.entry messages.now)) (id_begun number (with_sent shown.entry messages.now)) (begun_in self.old.begun.items number)) }
         ensures still_begun { OnErr result ((number : ℕ) → begun_in self.new.begun.items number ≡ begun_in self.old.begun.items number) }
         ensures place { IfOk result (λ place. place ≡ length self.old.items.items) }
         ensures weight { OnOk result (self.new.weight ≡ self.old.weight + weight) }
         ensures still_weighed { OnErr result (self.new.weight ≡ self.old.weight) }
     {
         let weight = self.weight.checked_add(weight).ok_or(OutOfMemory)?;
-        let place = next_place(&self.items)?;
-        self.items.reserve(messages)?;
-        prepare(&mut self.waiting, &mut self.begun, item)?;
+        let place = place_of(self.items.len())?;
+        self.items.reserve_notes(notes)?;
+        self.items.reserve(room)?;
+        if prepare(&mut self.waiting, &mut self.begun, shown, messages).is_err() {
+            self.items.release(room);
+            return Err(OutOfMemory);
+        }
         self.weight = weight;
         Ok(place)
     }
@@ -225,8 +301,11 @@ impl History {
         ensures still_stands { OnErr result ((s : Situation) → StandsFor self.old s → StandsFor self.new s) }
         ensures still_weighed { OnErr result ((s : Situation) → IsWeighed self.old s → IsWeighed self.new s) }
     {
-        let place = self.admit(&item, sent_by(&item).len(), weight)?;
-        enter(&mut self.waiting, &item, place);
+        let shown = Shown::of(&item);
+        let messages = sent_by(&item);
+        let notes = notes_of(&item).len();
+        let place = self.admit(shown, messages, messages.len() + 1, notes, weight)?;
+        enter(&mut self.waiting, shown, messages, place);
         self.items.push(item);
         Ok(())
     }
@@ -241,8 +320,10 @@ impl History {
         if self.items.own_len() > 0 {
             return self.add(item.copy()?, weight);
         }
-        let place = self.admit(&*item, 0, weight)?;
-        enter(&mut self.waiting, &*item, place);
+        let shown = Shown::of(&*item);
+        let messages = sent_by(&*item);
+        let place = self.admit(shown, messages, 1, 0, weight)?;
+        enter(&mut self.waiting, shown, messages, place);
         self.items.share(item);
         Ok(())
     }

@@ -1,5 +1,5 @@
 -- The items of a run, newest first, the numbers of its messages, and what each item noted.
-use Rattle.std.specs.Prelude.{ℕ, Bool, true, false, cond, ◌==◌, List, [], ◌∷◌, ◌++◌, Option, None, Some}
+use Rattle.std.specs.Prelude.{ℕ, Bool, false, cond, ◌==◌, List, [], ◌∷◌, ◌++◌, Option, None, Some}
 use Rattle.std.specs.List.{list_any, slice_get}
 use Rattle.acc_base.specs.Faults.{or_else}
 use Rattle.acc_stamp.specs.declared.stamps.TxnId.{TxnId}
@@ -9,8 +9,7 @@ use Rattle.acc_message.specs.declared.message.Message.{Message}
 use Rattle.acc_message.specs.declared.note.Note.{Note}
 use Rattle.acc_message.specs.declared.note.Note.TheVariants.{Begin as BeginNote, Recover as RecoverNote, Blocked, Ended, Decide, Outcome as OutcomeNote, Reply as ReplyNote}
 use Rattle.acc_message.specs.declared.entry.Event.{Event}
-use Rattle.acc_message.specs.declared.entry.Event.TheVariants.{Begin, Recover, Slow, Message as TakesMessage, Restart}
-use Rattle.acc_message.specs.declared.entry.Entry.{Entry}
+use Rattle.acc_message.specs.declared.entry.Event.TheVariants.{Begin}
 use Rattle.acc_message.specs.declared.item.Item.{Item}
 use Rattle.acc_message.specs.declared.item.Item.TheVariants.{Step, Skipped, Down}
 

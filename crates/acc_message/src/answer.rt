@@ -13,7 +13,7 @@ pub enum ReadAnswer {
 }
 
 impl ReadAnswer {
-    /// An equal answer, in memory of its own.
+    /// An equal answer, which shares its content with this one and takes no memory of its own.
     pub fn copy(&self) -> Result<ReadAnswer, OutOfMemory>
         ensures { IfOk result (λ copy. copy ≡ self.now) }
     {

@@ -1,9 +1,10 @@
 //! Items: what a run consists of.
 ghost use Rattle.std.specs.Prelude.{◌≡◌, IfOk};
-ghost use Rattle.acc_message.specs.Items.{sent_in};
+ghost use Rattle.acc_message.specs.Items.{sent_in, noted_in};
 
 use crate::entry::Entry;
 use crate::message::Message;
+use crate::note::Note;
 use acc_base::{Duplicate, OutOfMemory};
 use acc_stamp::Actor;
 
@@ -63,6 +64,16 @@ pub fn sent_by(item: &Item) -> &[Message]
 {
     match item {
         Item::Step(entry) => entry.emitted.out.as_slice(),
+        Item::Skipped { .. } | Item::Down { .. } => &[],
+    }
+}
+
+/// The notes that an item made, those of a lost entry too.
+pub fn notes_of(item: &Item) -> &[Note]
+    ensures { result.now ≡ noted_in item.now }
+{
+    match item {
+        Item::Step(entry) => entry.emitted.notes.as_slice(),
         Item::Skipped { .. } | Item::Down { .. } => &[],
     }
 }

@@ -6,7 +6,7 @@ ghost use Rattle.acc_message.specs.Shown.{with_sent};
 ghost use Rattle.acc_message.specs.Growing.{message_in};
 
 use crate::growing_items::GrowingItems;
-use crate::item::{Item, sent_by};
+use crate::item::{Item, notes_of, sent_by};
 use crate::message::Message;
 use crate::shown::Shown;
 use acc_base::{Duplicate, OutOfMemory};
@@ -72,7 +72,8 @@ impl Items {
         ensures ok { OnOk result (self.new ≡ self.old ++ item ∷ []) }
         ensures err { OnErr result (self.new ≡ self.old) }
     {
-        self.list.reserve(sent_by(&item).len())?;
+        self.list.reserve_notes(notes_of(&item).len())?;
+        self.list.reserve(sent_by(&item).len() + 1)?;
         self.list.push(item);
         Ok(())
     }

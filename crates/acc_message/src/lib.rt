@@ -3,6 +3,7 @@
 #![tactic(auto)]
 
 mod answer;
+mod bare;
 mod entry;
 mod envelope;
 mod error;
@@ -14,7 +15,6 @@ mod items;
 mod message;
 mod note;
 mod roll;
-mod shared_items;
 mod shared_outcome;
 mod shown;
 
@@ -24,11 +24,10 @@ pub use envelope::Envelope;
 pub use error::{RunError, Which};
 pub use growing_items::GrowingItems;
 pub use heights::top;
-pub use item::{Item, Skip, sent_by};
+pub use item::{Item, Skip, notes_of, sent_by};
 pub use items::Items;
 pub use message::{Message, Messages};
 pub use note::{Note, Notes, Path};
 pub use roll::Roll;
-pub use shared_items::SharedItems;
 pub use shared_outcome::SharedOutcome;
 pub use shown::Shown;

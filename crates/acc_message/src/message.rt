@@ -153,7 +153,7 @@ pub enum Message {
 pub type Messages = Sequence<Message>;
 
 impl Message {
-    /// An equal message, in memory of its own.
+    /// An equal message, which shares its content with this one and takes no memory of its own.
     pub fn copy(&self) -> Result<Message, OutOfMemory>
         ensures { IfOk result (λ copy. copy ≡ self.now) }
     {

@@ -12,7 +12,7 @@ use Rattle.acc_report.specs.Report.{is_begin, is_reply, last_line}
 use Rattle.acc_report_line.specs.declared.line.Line.TheVariants.{End}
 use Rattle.acc_schedule.specs.Content.{Content}
 use Rattle.acc_schedule.specs.Plan.{IsPlan}
-use Rattle.acc_safe_runs.proofs.EveryRun.{agreement_holds, coverage_holds, serial_holds}
+use Rattle.acc_every_run.proofs.EveryRun.{agreement_holds, coverage_holds, serial_holds}
 use Rattle.acc_follow.specs.Moves.{Answers}
 use Rattle.acc_follow.specs.Schedules.{cluster_of, Obeys}
 use Rattle.acc_follow.specs.Laws.{NeverFails, EndsWithDrain}

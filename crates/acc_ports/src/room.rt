@@ -8,7 +8,7 @@ const SHORT: usize = 8_192;
 
 /// Longer content grows by this much at least. The C library maps a block of such a size, and moves the map when the block grows, in
 /// place of its bytes; what is never touched of it takes no memory.
-const STEP: usize = 262_144;
+const STEP: usize = 4_194_304;
 
 /// Appends bytes. Without memory for a whole step it asks for what it needs, and without that the content is as before.
 pub(crate) fn append(content: &mut Vec<u8>, bytes: &[u8]) -> Result<(), OutOfMemory>

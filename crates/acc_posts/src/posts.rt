@@ -144,11 +144,11 @@ impl Posts {
         })
     }
 
-    /// Makes room for so many more messages and for one more taking. Without memory for it, and where the messages and the room
-    /// for more would be 2^32 or more, all is as before.
+    /// Makes room for so many more messages and takings. Without memory for it, and where the messages and the room for more
+    /// would be 2^32 or more, all is as before.
     #[inline(always)]
-    pub fn reserve(&mut self, messages: u64) -> Result<(), OutOfMemory>
-        ensures ok { OnOk result (self.new ≡ record self.old { room = self.old.room + messages; takings = self.old.takings + 1 }) }
+    pub fn reserve(&mut self, messages: u64, takings: u64) -> Result<(), OutOfMemory>
+        ensures ok { OnOk result (self.new ≡ record self.old { room = self.old.room + messages; takings = self.old.takings + takings }) }
         ensures err { OnErr result (self.new ≡ self.old) }
         ensures most { OnOk result (messages < 2 ^ 32) }
     {
@@ -156,7 +156,10 @@ impl Posts {
         if room > NOWHERE as usize - self.postings.len() {
             return Err(OutOfMemory);
         }
-        let takings = self.takings + 1;
+        let takings = self
+            .takings
+            .checked_add(takings as usize)
+            .ok_or(OutOfMemory)?;
         ensure_room(
             &mut self.postings,
             &mut self.links,

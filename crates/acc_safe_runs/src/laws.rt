@@ -5,10 +5,6 @@ ghost use Rattle.acc_message.specs.declared.entry.Entry.{Entry};
 ghost use Rattle.acc_message.specs.declared.item.Item.{Item};
 ghost use Rattle.acc_message.specs.declared.item.Skip.{Skip};
 ghost use Rattle.acc_message.specs.Run.{Cluster, StandsOn, kept_of, IsRun};
-ghost use Rattle.acc_safety.specs.Agreement.{Agreement};
-ghost use Rattle.acc_safety.specs.Coverage.{Coverage};
-ghost use Rattle.acc_safety.specs.SerialOutcomes.{SerialOutcomes};
-ghost use Rattle.acc_safety.specs.Valid.{IsValidCluster};
 ghost use Rattle.acc_safe_runs.specs.declared.ask.Ask.{Ask};
 ghost use Rattle.acc_safe_runs.specs.Asks.{item_for, after_asks};
 ghost use Rattle.acc_safe_runs.specs.Schedules.{drained};
@@ -41,23 +37,4 @@ pub fn runs_go_on()
 pub fn allowed_entries_are_asked()
     ensures { (cluster : Cluster) (earlier : List Item) (step : ℕ) (e : Entry) → StandsOn cluster earlier e → e.lost ≡ false →
         kept_of e.event ≡ 0 → IsAsked cluster earlier step e }
-{}
-
-/// In every run of a valid cluster any two decisions of a transaction have one timestamp, and those of different transactions
-/// have different ones. It holds with any number of competing recoveries, with restarts, lost entries, downs and slow events,
-/// and for every electorate.
-pub fn agreement()
-    ensures { (cluster : Cluster) (items : List Item) → IsValidCluster cluster → IsRun cluster items → Agreement items }
-{}
-
-/// In every run of a valid cluster a decision names, in each shard where they conflict, every transaction that is decided at a
-/// smaller timestamp.
-pub fn coverage()
-    ensures { (cluster : Cluster) (items : List Item) → IsValidCluster cluster → IsRun cluster items → Coverage cluster items }
-{}
-
-/// In every run of a valid cluster the first outcomes, in the order in which they are printed, are those of a serial run of their
-/// bodies, no other outcome and no reply differs from them, and each stands behind its begin and not behind its reply.
-pub fn serial()
-    ensures { (cluster : Cluster) (items : List Item) → IsValidCluster cluster → IsRun cluster items → SerialOutcomes cluster items }
 {}

@@ -1,5 +1,5 @@
 -- Seats are joined to the first one, which keeps the rule. When all are, the slot is at home.
-use Rattle.std.proofs.Common.{◌≡◌, ◌≢◌, ℕ, ◌+◌, true, false, List, [], ◌∷◌, ◌++◌, length, sum, set, None, Some, Contains, refl, sym, ap, ◌∙◌, subst, arith, inl, inr, ◌⊎◌, ⊎_elim, length-append}
+use Rattle.std.proofs.Common.{◌≡◌, ◌≢◌, ℕ, ◌+◌, true, false, List, [], ◌∷◌, ◌++◌, length, set, None, Some, Contains, refl, sym, ap, ◌∙◌, subst, arith, inl, inr, ◌⊎◌, ⊎_elim, length-append}
 use Rattle.std.specs.Prelude.{sum_by}
 use Rattle.std.proofs.lemmas.List.Elements.{Contains-append_left, Contains-append_right, Contains-append_cases}
 use mathlib.Core.Option.{some, some-injective}
@@ -27,7 +27,7 @@ module _ {E : Type 0} (actor_of : E → ℕ) (limits : Limits) where
   on e = cc
 
   module _ (s : T) (h : Holds actor_of limits s) (id other : ℕ) (v w : View E) (at : get_elem? s.views id ≡ some v) (apart : other ≢ id) (there : get_elem? s.views other ≡ some w)
-      (rests : IsResting (v, [])) (first : v.actor ≡ 0) (idle : IsResting (w, [])) (free : w.held ≡ []) where
+      (rests : IsResting (v, [])) (first : v.actor ≡ 0) (idle : IsResting (w, [])) (free : (w.held_items ≡ 0) × (w.held_weight ≡ 0)) where
     abbrev u : View E
     u = joiner v w
 
@@ -73,7 +73,7 @@ module _ {E : Type 0} (actor_of : E → ℕ) (limits : Limits) where
       seen = sit.seen;
       mine = sit.mine;
       seat = sit.seat;
-      first = λ z. let f = sit.first z in (f.0, ap (λ l. l ++ gone_of w ∷ []) f.1, f.2);
+      first = λ z. let f = sit.first z in (f.0, ap (λ l. l ++ gone_of w ∷ []) f.1, f.2, f.3);
       among = sit.among;
       apart = stays_apart id v (λ same. apart (sym same)) sit;
       waits = sit.waits;
@@ -138,9 +138,9 @@ module _ {E : Type 0} (actor_of : E → ℕ) (limits : Limits) where
       served = h.served;
       limits_are = h.limits_are;
       live = place_of (λ j x. x.is_live ≡ true → Sits actor_of limits h.b h.ticket h.serving h.slot h.made gone h.seat_of h.holder j x) (λ live. first_now) (λ live. absurd (on (sym live))) (λ j x ne ne' is live. other_now j x ne ne' is live);
-      spent = place_of (λ j x. x.is_live ≡ false → IsSpent x) (λ dead. absurd (on (sym rests.is_live ∙ dead))) (λ dead. (refl, refl, refl)) (λ j x ne ne' is dead. h.spent j x is dead);
-      reserved = (let t = total (λ (x : View E). length x.held) in let r = h.reserved in let f = ap length free in omega arith);
-      reserved_weight = (let t = total (λ (x : View E). sum x.held) in let r = h.reserved_weight in let f = ap sum free in omega arith);
+      spent = place_of (λ j x. x.is_live ≡ false → IsSpent x) (λ dead. absurd (on (sym rests.is_live ∙ dead))) (λ dead. (refl, refl, refl, refl)) (λ j x ne ne' is dead. h.spent j x is dead);
+      reserved = (let t = total (λ (x : View E). x.held_items) in let r = h.reserved in let f = free.0 in omega arith);
+      reserved_weight = (let t = total (λ (x : View E). x.held_weight) in let r = h.reserved_weight in let f = free.1 in omega arith);
       counted = (let t = total (λ (x : View E). one_if x.is_live) in let r = h.counted in let o : one_if w.is_live ≡ 1 = ap one_if idle.is_live in let l = length-append h.gone (gone_of w ∷ []) in omega arith);
       all_made = h.all_made;
       no_first = h.no_first;
@@ -148,7 +148,7 @@ module _ {E : Type 0} (actor_of : E → ℕ) (limits : Limits) where
       accounted = accounted_now;
     }
 
-  pub joins_ok : (id other : ℕ) (v w : View E) → IsResting (v, []) → v.actor ≡ 0 → IsResting (w, []) → w.held ≡ [] → Joins (Holds actor_of limits) id v other w (joiner v w) spent_view
+  pub joins_ok : (id other : ℕ) (v w : View E) → IsResting (v, []) → v.actor ≡ 0 → IsResting (w, []) → (w.held_items ≡ 0) × (w.held_weight ≡ 0) → Joins (Holds actor_of limits) id v other w (joiner v w) spent_view
   joins_ok id other v w rests first idle free s h at apart there = join_kept s h id other v w at apart (sym (set_else s.views id other (joiner v w) apart) ∙ there) rests first idle free
 
   -- ---- the first seat alone

@@ -1,5 +1,5 @@
 -- A step of one seat keeps the rule.
-use Rattle.std.proofs.Common.{◌≡◌, ◌≢◌, ℕ, ◌+◌, ◌<◌, ◌≤◌, true, false, List, [], ◌∷◌, ◌++◌, length, sum, set, Some, Contains, sym, ap, ◌∙◌, subst, arith, inl, inr, ◌⊎◌, ⊎_elim}
+use Rattle.std.proofs.Common.{◌≡◌, ◌≢◌, ℕ, ◌+◌, ◌<◌, ◌≤◌, true, false, List, [], ◌∷◌, ◌++◌, set, Some, Contains, sym, ap, ◌∙◌, subst, arith, inl, inr, ◌⊎◌, ⊎_elim}
 use Rattle.std.proofs.lemmas.List.Elements.{Contains-append_cases}
 use mathlib.Core.Option.{Option, none, some, some-injective}
 use mathlib.Core.List.{IsPrefix}
@@ -27,7 +27,7 @@ module _ {E : Type 0} (actor_of : E → ℕ) (limits : Limits) where
     pub same_actor : w.actor ≡ v.actor
     pub same_made : w.made ≡ v.made
     pub same_joined : w.joined ≡ v.joined
-    pub first_held : v.actor ≡ 0 → w.held ≡ []
+    pub first_held : v.actor ≡ 0 → (w.held_items ≡ 0) × (w.held_weight ≡ 0)
     pub low : ticket ≤ 4611686018427387904
     pub served : serving ≤ ticket
     pub limits_are : b.limits ≡ h.b.limits
@@ -41,8 +41,8 @@ module _ {E : Type 0} (actor_of : E → ℕ) (limits : Limits) where
     pub others_wait : (j t : ℕ) → j ≢ id → h.serving ≤ t → t < h.ticket → h.holder t ≡ j → (serving ≤ t) × (t < ticket) × (holder t ≡ j)
     pub others_turn : (j : ℕ) (u : View E) (c : Content E) → j ≢ id → get_elem? s.views j ≡ some u → u.is_live ≡ true → u.taken ≡ Some c → (c ≡ b) × (u.ticket ≡ Some serving) × (slot ≡ none)
     pub slot_is : SlotIs (set s.views id w) b slot
-    pub counts : b.reserved + length v.held ≡ h.b.reserved + length w.held
-    pub weights : b.reserved_weight + sum v.held ≡ h.b.reserved_weight + sum w.held
+    pub counts : b.reserved + v.held_items ≡ h.b.reserved + w.held_items
+    pub weights : b.reserved_weight + v.held_weight ≡ h.b.reserved_weight + w.held_weight
 
   module _ (s : Table) (h : Holds actor_of limits s) (id : ℕ) (v w : View E) (at : get_elem? s.views id ≡ some v) (was_live : v.is_live ≡ true)
       (b : Content E) (ticket serving : ℕ) (slot : Option (Content E)) (holder : ℕ → ℕ) (c : Changes s h id v w b ticket serving slot holder) where
@@ -62,7 +62,7 @@ module _ {E : Type 0} (actor_of : E → ℕ) (limits : Limits) where
       seen = c.seen;
       mine = c.mine;
       seat = ap h.seat_of c.same_actor ∙ sits.seat;
-      first = λ z. let f = sits.first (sym c.same_actor ∙ z) in (c.same_made ∙ f.0, c.same_joined ∙ f.1, c.first_held (sym c.same_actor ∙ z));
+      first = λ z. let f = sits.first (sym c.same_actor ∙ z) in let held = c.first_held (sym c.same_actor ∙ z) in (c.same_made ∙ f.0, c.same_joined ∙ f.1, held.0, held.1);
       among = λ nz. subst (Contains h.made) (sym c.same_actor) (sits.among (λ z. nz (c.same_actor ∙ z)));
       apart = λ g is same. sits.apart g is (same ∙ c.same_actor);
       waits = c.waits;
@@ -144,8 +144,8 @@ module _ {E : Type 0} (actor_of : E → ℕ) (limits : Limits) where
       limits_are = c.limits_are ∙ h.limits_are;
       live = live_now;
       spent = spent_now;
-      reserved = (let t = sum_set (λ (u : View E). length u.held) s.views id v w at in let r = h.reserved in let k = c.counts in omega arith);
-      reserved_weight = (let t = sum_set (λ (u : View E). sum u.held) s.views id v w at in let r = h.reserved_weight in let k = c.weights in omega arith);
+      reserved = (let t = sum_set (λ (u : View E). u.held_items) s.views id v w at in let r = h.reserved in let k = c.counts in omega arith);
+      reserved_weight = (let t = sum_set (λ (u : View E). u.held_weight) s.views id v w at in let r = h.reserved_weight in let k = c.weights in omega arith);
       counted = (let t = sum_set (λ (u : View E). one_if u.is_live) s.views id v w at in let r = h.counted in let e : one_if v.is_live ≡ one_if w.is_live = ap one_if (was_live ∙ sym c.is_live) in omega arith);
       all_made = new_made;
       no_first = h.no_first;

@@ -1,8 +1,10 @@
 pub mod Visits
 pub mod Closing
+pub mod Entering
 pub mod Joining
 pub mod Keeps
 pub mod Mailing
+pub mod Signs
 pub mod Splitting
 pub mod Steps
 pub mod Weights

@@ -1,9 +1,10 @@
 -- The index of messages is that of the items, also after one more.
-use Rattle.std.proofs.Common.{◌≡◌, ℕ, zero, suc, ◌+◌, ◌-◌, ◌<◌, ◌≤◌, ◌==◌, ◌&&◌, ◌||◌, not, Bool, true, false, List, [], ◌∷◌, ◌++◌, length, Option, None, Some, MatchOption, get_or, take, refl, sym, ap, ◌∙◌, arith, length-append, append-nil, append_assoc, eq-eqb, ne_eqb}
+use Rattle.std.proofs.Common.{◌≡◌, ℕ, zero, suc, ◌+◌, ◌-◌, ◌<◌, ◌≤◌, ◌==◌, ◌&&◌, ◌||◌, not, Bool, true, false, List, [], ◌∷◌, ◌++◌, length, Option, None, Some, MatchOption, All, get_or, take, refl, sym, ap, ◌∙◌, subst, arith, length-append, append-nil, append_assoc, eq-eqb, ne_eqb}
 use Rattle.std.specs.Prelude.{slice_get, sum_by}
 use Rattle.std.specs.List.{list_any}
 use Rattle.std.proofs.Math.Bool.{or-false}
 use Rattle.std.proofs.Math.ListN.{length-set}
+use Rattle.std.proofs.lemmas.List.Elements.{All-append}
 use Rattle.std.proofs.lemmas.List.Folds.{list_any-append}
 use Rattle.std.proofs.lemmas.Option.{slice_get_within, slice_get-get_or}
 use Rattle.std.proofs.lemmas.Bool.{cond_below, cond_above}
@@ -12,7 +13,7 @@ use native.Mathlib.Decide.{dec_lt}
 use Rattle.acc_posts.specs.declared.posting.Posting.{Posting}
 use Rattle.acc_posts.specs.declared.posting.Post.{Post}
 use Rattle.acc_posts.specs.Mail.{Mail, posting_at, nothing, taken, IsOpenTo, IsNext as IsNextOf, HasNone as HasNoneOf}
-use Rattle.acc_tape.specs.Messages.{is_number, messages_from, messages_of, is_taken, IsWaiting, HasNone, IsOldest}
+use Rattle.acc_tape.specs.Messages.{is_number, messages_from, messages_of, is_taken, IsWaiting, HasNone, IsOldest, AreOldest, IsSentBy, behind_all, posts_in}
 use Rattle.std.proofs.lemmas.List.Sums.{sum_by-cons, sum_by_push}
 use Rattle.acc_tape.specs.declared.content.Limits.{Limits}
 use Rattle.acc_tape.specs.Kept.{closed_from, after_taking, after_messages, IsIndexOf, IsKept}
@@ -91,6 +92,14 @@ slice_get_left (x ∷ xs) ys (suc k) low = slice_get_left xs ys k (omega arith)
 slice_get_right : {X : Type 0} (xs ys : List X) (k : ℕ) → slice_get (xs ++ ys) (length xs + k) ≡ slice_get ys k
 slice_get_right [] ys k = ap (λ m. slice_get ys m) (omega arith)
 slice_get_right (x ∷ xs) ys k = ap (λ m. slice_get (x ∷ (xs ++ ys)) m) (let e : suc (length xs) + k ≡ suc (length xs + k) = omega arith in e) ∙ slice_get_right xs ys k
+
+posts_in-snoc : {M : Type 0} (found : List (Post × M)) (pair : Post × M) → posts_in (found ++ pair ∷ []) ≡ posts_in found ++ pair.0 ∷ []
+posts_in-snoc [] pair = refl
+posts_in-snoc (x ∷ found) pair = ap (λ l. x.0 ∷ l) (posts_in-snoc found pair)
+
+all_one : {X : Type 0} (P : X → Type 0) (x : X) → P x → All P (x ∷ [])
+all_one P x is zero d low = is
+all_one P x is (suc k) d low = absurd (omega arith)
 
 module _ {E : Type 0} (took : E → Option ℕ) (sent_to : E → List ℕ) (is_lost : E → Bool) where
   abbrev count : List E → ℕ
@@ -177,6 +186,27 @@ module _ {E : Type 0} (took : E → Option ℕ) (sent_to : E → List ℕ) (is_l
     next_waits actor from None h = none_waits actor from h
     next_waits actor from (Some post) h = oldest_waits actor from post h
 
+  -- ---- messages that wait, one behind another
+
+  pub behind_all-snoc : (from : ℕ) (posts : List Post) (post : Post) → behind_all from (posts ++ post ∷ []) ≡ post.number + 1
+  behind_all-snoc from [] post = refl
+  behind_all-snoc from (p ∷ posts) post = behind_all-snoc (p.number + 1) posts post
+
+  pub oldest_more : (items : List E) (actor from : ℕ) (posts : List Post) (post : Post) → AreOldest took sent_to is_lost items actor from posts → IsOldest took sent_to is_lost items actor (behind_all from posts) post → AreOldest took sent_to is_lost items actor from (posts ++ post ∷ [])
+  oldest_more items actor from [] post old new = (new, tt)
+  oldest_more items actor from (p ∷ posts) post old new = (old.0, oldest_more items actor (p.number + 1) posts post old.1 new)
+
+  -- one more is found, behind those that were
+  pub found_more : {M : Type 0} (is_sent : E → ℕ → M → Type 0) (items : List E) (actor : ℕ) (found found' : List (Post × M)) (post : Post) (message : M) (last : ℕ) → found' ≡ found ++ (post, message) ∷ [] → last ≡ behind_all 0 (posts_in found)
+      → AreOldest took sent_to is_lost items actor 0 (posts_in found) → All (IsSentBy is_sent items) found → IsOldest took sent_to is_lost items actor last post → IsSentBy is_sent items (post, message)
+      → (post.number + 1 ≡ behind_all 0 (posts_in found')) × AreOldest took sent_to is_lost items actor 0 (posts_in found') × All (IsSentBy is_sent items) found'
+  found_more is_sent items actor found found' post message last is behind oldest sent next by =
+      let more = ap posts_in is ∙ posts_in-snoc found (post, message) in (
+        sym (ap (behind_all 0) more ∙ behind_all-snoc 0 (posts_in found) post),
+        subst (AreOldest took sent_to is_lost items actor 0) (sym more) (oldest_more items actor 0 (posts_in found) post oldest (subst (λ n. IsOldest took sent_to is_lost items actor n post) behind next)),
+        subst (All (IsSentBy is_sent items)) (sym is) (All-append (IsSentBy is_sent items) found ((post, message) ∷ []) sent (all_one (IsSentBy is_sent items) (post, message) by)),
+      )
+
   -- ---- one more item
 
   -- a message that is taken is closed, the others are as before
@@ -237,23 +267,23 @@ module _ {E : Type 0} (took : E → Option ℕ) (sent_to : E → List ℕ) (is_l
         }
 
   -- what a board keeps, after an item entered it
-  pub keeps_more : (bytes : E → ℕ) (fits : List E → Type 0) (items : List E) (weight reserved reserved_weight : ℕ) (limits : Limits) (capacity : ℕ) (mail : Mail) → IsKept took sent_to is_lost bytes fits items weight reserved reserved_weight limits capacity mail
-      → (item : E) (w size : ℕ) → size ≡ bytes item → size ≤ w → length (sent_to item) ≤ bytes item → 0 < reserved → w ≤ reserved_weight
-      → (taking mid last : Mail) → taking ≡ after_taking (took item) mail → mid ≡ record taking { room = taking.room - (w - length (sent_to item)); takings = taking.takings - 0 } → last ≡ after_messages (messages_from (length items) 0 (is_lost item) (sent_to item)) mid
-      → (capacity' : ℕ) → capacity' ≡ capacity
-      → (fits items → fits (items ++ item ∷ []))
-      → IsKept took sent_to is_lost bytes fits (items ++ item ∷ []) (weight + size) (reserved - 1) (reserved_weight - w) limits capacity' last
-  keeps_more bytes fits items weight reserved reserved_weight limits capacity mail i item w size is low_size short some low taking mid last a b c capacity' same next =
+  pub keeps_more : (bytes : E → ℕ) (fits : List E → Type 0) (items : List E) (weight reserved reserved_weight : ℕ) (limits : Limits) (room : ℕ) (mail : Mail) → IsKept took sent_to is_lost bytes fits items weight reserved reserved_weight limits room mail
+      → (item : E) (k w size : ℕ) → size ≡ bytes item → size ≤ w → length (sent_to item) ≤ bytes item → 1 ≤ k → k ≤ reserved → w ≤ reserved_weight
+      → (taking mid last : Mail) → taking ≡ after_taking (took item) mail → mid ≡ record taking { room = taking.room - (w - length (sent_to item)); takings = taking.takings - (k - 1) } → last ≡ after_messages (messages_from (length items) 0 (is_lost item) (sent_to item)) mid
+      → (room' : ℕ) → room' ≡ room - (1 + length (sent_to item)) - (k - 1) - (w - length (sent_to item))
+      → (fits items → fits (items ++ item ∷ [])) → (items' : List E) → items' ≡ items ++ item ∷ []
+      → IsKept took sent_to is_lost bytes fits items' (weight + size) (reserved - k) (reserved_weight - w) limits room' last
+  keeps_more bytes fits items weight reserved reserved_weight limits room mail i item k w size is low_size short some low low' taking mid last a b c room' same next items' so =
       let rooms : (x : Option ℕ) → ((after_taking x mail).room ≡ mail.room) × ((after_taking x mail).takings ≡ mail.takings - 1) = after_room mail in
       let r = rooms (took item) in
       let n = length-messages_from (length items) 0 (is_lost item) (sent_to item) in
       let l = length-append items (item ∷ []) in
-      rw (c, b, a, same) record {
-        weighs = (λ k. i.weighs k + is k) ∙ sym (sum_by_push bytes items item);
+      rw (so, c, b, a, same) record {
+        weighs = (λ j. i.weighs j + is j) ∙ sym (sum_by_push bytes items item);
         within_items = (let q = i.within_items in omega arith);
         within_places = (let q = i.within_places in omega arith);
         within_weight = (let q = i.within_weight in omega arith);
-        room = (let q = i.room in omega arith);
+        has_room = (let q = i.has_room in omega arith);
         messages = (let q = i.messages in let r0 = r.0 in omega arith);
         takings = (let q = i.takings in let r1 = r.1 in omega arith);
         index = more items item mail i.index (took item) refl _ refl refl;
@@ -263,3 +293,43 @@ module _ {E : Type 0} (took : E → Option ℕ) (sent_to : E → List ℕ) (is_l
       after_room : (mail : Mail) (x : Option ℕ) → ((after_taking x mail).room ≡ mail.room) × ((after_taking x mail).takings ≡ mail.takings - 1)
       after_room mail None = (refl, refl)
       after_room mail (Some m) = (refl, refl)
+
+  -- what a board keeps, after more or less is reserved
+  module _ (bytes : E → ℕ) (fits : List E → Type 0) (items : List E) (weight reserved reserved_weight : ℕ) (limits : Limits) (room : ℕ) (mail : Mail) (i : IsKept took sent_to is_lost bytes fits items weight reserved reserved_weight limits room mail) where
+    abbrev Kept : List E → ℕ → ℕ → ℕ → Mail → Type 0
+    Kept items' reserved' reserved_weight' room' mail' = IsKept took sent_to is_lost bytes fits items' weight reserved' reserved_weight' limits room' mail'
+
+    pub keeps_reserved : (k w room' : ℕ) (items' : List E) (mail' : Mail) → items' ≡ items → mail' ≡ record mail { room = mail.room + w; takings = mail.takings + k } → room' ≡ room + (k + w) → length items + (reserved + k) ≤ limits.items → length items + (reserved + k) ≤ 4294967295 → weight + (reserved_weight + w) ≤ limits.weight
+        → Kept items' (reserved + k) (reserved_weight + w) room' mail'
+    keeps_reserved k w room' items' mail' same is more within_items within_places within_weight = rw (same, is) record {
+      weighs = i.weighs;
+      within_items = within_items;
+      within_places = within_places;
+      within_weight = within_weight;
+      has_room = (let q = i.has_room in omega arith);
+      messages = (let q = i.messages in omega arith);
+      takings = (let q = i.takings in omega arith);
+      index = record { sent = i.index.sent; early = i.index.early };
+      fitting = i.fitting;
+    }
+
+    pub keeps_released : (k w room' : ℕ) (items' : List E) (mail' : Mail) → k ≤ reserved → w ≤ reserved_weight → items' ≡ items → mail' ≡ record mail { room = mail.room - w; takings = mail.takings - k } → room' ≡ room - k - w → Kept items' (reserved - k) (reserved_weight - w) room' mail'
+    keeps_released k w room' items' mail' low low' same is less = rw (same, is) record {
+      weighs = i.weighs;
+      within_items = (let q = i.within_items in omega arith);
+      within_places = (let q = i.within_places in omega arith);
+      within_weight = (let q = i.within_weight in omega arith);
+      has_room = (let q = i.has_room in omega arith);
+      messages = (let q = i.messages in omega arith);
+      takings = (let q = i.takings in omega arith);
+      index = record { sent = i.index.sent; early = i.index.early };
+      fitting = i.fitting;
+    }
+
+    pub keeps_same : (room' : ℕ) (items' : List E) (mail' : Mail) → items' ≡ items → mail' ≡ mail → room' ≡ room → Kept items' reserved reserved_weight room' mail'
+    keeps_same room' items' mail' same is room_is = rw (same, is, room_is) i
+
+    -- what was reserved is given up again
+    pub keeps_again : (k w room' : ℕ) (items' : List E) (mail' : Mail) → items' ≡ items → mail' ≡ record mail { room = mail.room + w - w; takings = mail.takings + k - k } → room' ≡ room → Kept items' reserved reserved_weight room' mail'
+    keeps_again k w room' items' mail' same is room_is =
+        keeps_same room' items' mail' same (is ∙ (λ j. record mail { room = (let e : mail.room + w - w ≡ mail.room = omega arith in e) j; takings = (let e : mail.takings + k - k ≡ mail.takings = omega arith in e) j })) room_is

@@ -1,5 +1,5 @@
 -- A seat is split from the first one, which keeps the rule.
-use Rattle.std.proofs.Common.{◌≡◌, ◌≢◌, ℕ, ◌+◌, ◌==◌, true, false, cond, List, [], ◌∷◌, ◌++◌, length, sum, set, None, Some, Contains, refl, sym, ap, ◌∙◌, subst, arith, inl, inr, ◌⊎◌, ⊎_elim, eq-eqb, ne_eqb, length-append}
+use Rattle.std.proofs.Common.{◌≡◌, ◌≢◌, ℕ, ◌+◌, ◌==◌, true, false, cond, List, [], ◌∷◌, ◌++◌, length, set, None, Some, Contains, refl, sym, ap, ◌∙◌, subst, arith, inl, inr, ◌⊎◌, ⊎_elim, eq-eqb, ne_eqb, length-append}
 use Rattle.std.specs.Prelude.{sum_by}
 use Rattle.std.proofs.lemmas.List.Sums.{sum_by_push}
 use Rattle.std.proofs.lemmas.List.Elements.{Contains-append_left, Contains-append_right, Contains-append_cases}
@@ -86,7 +86,7 @@ module _ {E : Type 0} (actor_of : E → ℕ) (limits : Limits) where
       seen = sit.seen;
       mine = sit.mine;
       seat = old_seat v.actor (not_new id v at rests.is_live) ∙ sit.seat;
-      first = λ z. let f = sit.first z in (ap (λ l. l ++ v.named ∷ []) f.0, f.1, f.2);
+      first = λ z. let f = sit.first z in (ap (λ l. l ++ v.named ∷ []) f.0, f.1, f.2, f.3);
       among = λ n. more_made v.actor (sit.among n);
       apart = sit.apart;
       waits = sit.waits;
@@ -170,8 +170,8 @@ module _ {E : Type 0} (actor_of : E → ℕ) (limits : Limits) where
       limits_are = h.limits_are;
       live = place_of (λ j x. x.is_live ≡ true → Sits actor_of limits h.b h.ticket h.serving h.slot made h.gone seat_of h.holder j x) (λ live. first_now) (λ j x ne there live. other_now j x there live (λ z. ne (same_first j x there live z))) (λ live. new_now);
       spent = place_of (λ j x. x.is_live ≡ false → IsSpent x) (λ dead. absurd (on (sym rests.is_live ∙ dead))) (λ j x ne there dead. h.spent j x there dead) (λ dead. absurd (on (sym rests.is_live ∙ dead)));
-      reserved = (let t = total (λ (x : View E). length x.held) in let r = h.reserved in omega arith);
-      reserved_weight = (let t = total (λ (x : View E). sum x.held) in let r = h.reserved_weight in omega arith);
+      reserved = (let t = total (λ (x : View E). x.held_items) in let r = h.reserved in omega arith);
+      reserved_weight = (let t = total (λ (x : View E). x.held_weight) in let r = h.reserved_weight in omega arith);
       counted = (let t = total (λ (x : View E). one_if x.is_live) in let r = h.counted in let o : one_if v.is_live ≡ 1 = ap one_if rests.is_live in let l = length-append h.made (v.named ∷ []) in omega arith);
       all_made = λ item is. more_made (actor_of item) (h.all_made item is);
       no_first = λ actor is. ⊎_elim (λ (x : Contains h.made actor). h.no_first actor x) (λ (x : Contains (v.named ∷ []) actor). λ z. some_actor (sym (in_one v.named actor x) ∙ z)) (Contains-append_cases h.made (v.named ∷ []) actor is);

@@ -1,5 +1,5 @@
 -- The steps of a turn keep the rule.
-use Rattle.std.proofs.Common.{◌≡◌, ◌≢◌, ℕ, zero, suc, ◌+◌, ◌%◌, ◌<◌, ◌==◌, true, false, cond, List, [], ◌∷◌, ◌++◌, length, sum, get_or, set, None, Some, refl, sym, ap, ◌∙◌, subst, arith, inl, inr, eq-eqb, ne_eqb, append-nil}
+use Rattle.std.proofs.Common.{◌≡◌, ◌≢◌, ℕ, zero, suc, ◌+◌, ◌%◌, ◌<◌, ◌==◌, true, false, cond, List, [], ◌∷◌, ◌++◌, get_or, set, None, Some, refl, sym, ap, ◌∙◌, subst, arith, inl, inr, eq-eqb, ne_eqb, append-nil}
 use Rattle.std.proofs.lemmas.List.{set-get_or}
 use Rattle.std.proofs.Math.Nat.{mod-eq_of_lt}
 use mathlib.Core.Option.{Option, none, some, some-injective, some-ne-none}
@@ -69,7 +69,7 @@ module _ {E : Type 0} (actor_of : E → ℕ) (limits : Limits) where
         seen = ([], refl);
         mine = refl;
         seat = refl;
-        first = λ z. (refl, refl, refl);
+        first = λ z. (refl, refl, refl, refl);
         among = λ nz. absurd (nz refl);
         apart = λ g is. absurd (in_none g is);
         waits = λ t is. absurd (no_some t is);
@@ -111,7 +111,7 @@ module _ {E : Type 0} (actor_of : E → ℕ) (limits : Limits) where
       same_actor = refl;
       same_made = refl;
       same_joined = refl;
-      first_held = λ z. (sits.first z).2;
+      first_held = λ z. let f = sits.first z in (f.2, f.3);
       low = omega arith;
       served = (let l = h.served in omega arith);
       limits_are = refl;
@@ -149,7 +149,7 @@ module _ {E : Type 0} (actor_of : E → ℕ) (limits : Limits) where
       same_actor = refl;
       same_made = refl;
       same_joined = refl;
-      first_held = λ z. (sits.first z).2;
+      first_held = λ z. let f = sits.first z in (f.2, f.3);
       low = h.low;
       served = h.served;
       limits_are = refl;
@@ -171,14 +171,14 @@ module _ {E : Type 0} (actor_of : E → ℕ) (limits : Limits) where
     learnt = record {
       seen = sits.seen;
       mine = sits.mine;
-      counted = (let a = sum_at (λ (u : View E). length u.held) s.views id v at in let r = h.reserved in omega arith);
-      weighed = (let a = sum_at (λ (u : View E). sum u.held) s.views id v at in let r = h.reserved_weight in omega arith);
+      counted = (let a = sum_at (λ (u : View E). u.held_items) s.views id v at in let r = h.reserved in omega arith);
+      weighed = (let a = sum_at (λ (u : View E). u.held_weight) s.views id v at in let r = h.reserved_weight in omega arith);
       limits = h.limits_are ∙ sym sits.limits_are;
     }
 
     -- ---- leaving
 
-    left_now : (c now : Content E) → v.taken ≡ Some c → MayLeave actor_of v.actor v.held c now → Changes actor_of limits s h id v (view_after actor_of v c now) now h.ticket (h.serving + 1) (some now) h.holder
+    left_now : (c now : Content E) → v.taken ≡ Some c → MayLeave actor_of v.actor v.held_items v.held_weight c now → Changes actor_of limits s h id v (view_after actor_of v c now) now h.ticket (h.serving + 1) (some now) h.holder
     left_now c now turn may =
         let mine = sits.turn c turn in
         let w = sits.waits h.serving mine.1 in record {
@@ -187,7 +187,7 @@ module _ {E : Type 0} (actor_of : E → ℕ) (limits : Limits) where
           same_actor = refl;
           same_made = refl;
           same_joined = refl;
-          first_held = may.first;
+          first_held = λ z. let f = may.first z in let s = sits.first z in let f0 = f.0 in let f1 = f.1 in let s2 = s.2 in let s3 = s.3 in (omega arith, omega arith);
           low = h.low;
           served = (let l = w.1 in omega arith);
           limits_are = may.limits ∙ ap (λ (x : Content E). x.limits) mine.0;
@@ -201,8 +201,8 @@ module _ {E : Type 0} (actor_of : E → ℕ) (limits : Limits) where
           others_wait = λ j t apart from below is. let not : t ≢ h.serving = (λ e. apart (sym is ∙ ap h.holder e ∙ w.2)) in (omega arith, below, is);
           others_turn = λ j u x apart there live e. let theirs = h.live j u there live in absurd (apart (sym (theirs.waits h.serving (theirs.turn x e).1).2 ∙ w.2));
           slot_is = inl refl;
-          counts = may.counts ∙ ap (λ (x : Content E). x.reserved + length (view_after actor_of v c now).held) mine.0;
-          weights = may.weights ∙ ap (λ (x : Content E). x.reserved_weight + sum (view_after actor_of v c now).held) mine.0;
+          counts = (let e = ap (λ (x : Content E). x.reserved) mine.0 in let k = may.counts in omega arith);
+          weights = (let e = ap (λ (x : Content E). x.reserved_weight) mine.0 in let k = may.weights in omega arith);
         }
 
   -- ---- the three steps, as the table asks for them
@@ -250,7 +250,7 @@ module _ {E : Type 0} (actor_of : E → ℕ) (limits : Limits) where
   unwrapped : (n : ℕ) → n < 4611686018427387904 → (n + 1) % 18446744073709551616 ≡ n + 1
   unwrapped n low = mod-eq_of_lt (omega arith)
 
-  pub leaves_ok : (slots id k : ℕ) (v : View E) (c now : Content E) → k ≡ 1 → v.is_live ≡ true → v.taken ≡ Some c → MayLeave actor_of v.actor v.held c now
+  pub leaves_ok : (slots id k : ℕ) (v : View E) (c now : Content E) → k ≡ 1 → v.is_live ≡ true → v.taken ≡ Some c → MayLeave actor_of v.actor v.held_items v.held_weight c now
       → Allows (Holds actor_of limits) slots id (v, (0, now) ∷ []) 1 (λ n. (n + k) % 18446744073709551616) (λ found after. after ≡ (view_after actor_of v c now, []))
   leaves_ok slots id k v c now one is_live turn may s h count at small =
       let sit = h.live id v at is_live in

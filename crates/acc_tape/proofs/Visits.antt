@@ -1,35 +1,46 @@
 -- What a call on the tape may leave in the slot, and what its seat knows then.
-use Rattle.std.proofs.Common.{◌≡◌, ◌≢◌, ℕ, ◌+◌, ◌-◌, ◌<◌, ◌≤◌, ◌==◌, true, List, [], ◌∷◌, ◌++◌, length, sum, Contains, Result, Ok, Err, OnOk, OnErr, All, get_or, refl, sym, ap, ◌∙◌, subst, arith, length-append, append-nil}
+use Rattle.std.proofs.Common.{◌≡◌, ◌≢◌, ℕ, ◌+◌, ◌-◌, ◌≤◌, ◌==◌, true, List, [], ◌∷◌, ◌++◌, length, take, Contains, Result, Ok, Err, OnOk, OnErr, All, get_or, refl, sym, ap, ◌∙◌, subst, arith, length-append, append-nil}
 use Rattle.std.specs.Prelude.{sum_by}
+use mathlib.Core.List.{IsPrefix}
 use Rattle.std.proofs.Math.Seq.{get_or-append_seam}
-use Rattle.std.proofs.lemmas.Bool.{cond_below, cond_above}
 use Rattle.std.proofs.lemmas.List.Elements.{filter-append}
-use Rattle.std.proofs.lemmas.List.Sums.{sum_by_push}
 use Rattle.atomic_table.specs.Table.{Me, rest}
 use Rattle.atomic_table.specs.Seated.{TableId}
 use Rattle.acc_tape.specs.declared.content.Content.{Content}
 use Rattle.acc_tape.specs.declared.content.Limits.{Limits}
 use Rattle.acc_tape.specs.declared.view.View.{View}
 use Rattle.acc_tape.specs.declared.view.Gone.{Gone}
-use Rattle.acc_tape.specs.Lists.{without, items_of}
-use Rattle.acc_tape.specs.Seats.{SeatView, Turns}
+use Rattle.acc_tape.specs.Lists.{items_of}
+use Rattle.acc_tape.specs.Seats.{SeatView, Turns, ComeLast}
 use Rattle.acc_tape.specs.Turn.{IsResting, Learns, MayLeave, CanLeave, IsWithin, waiting, turning, left, view_after, held_after, now_of, seat_view, with_joined}
-use Rattle.acc_tape.proofs.Weights.{prefix_longer, in_none, in_one, without_one, item_of_actor}
+use Rattle.acc_tape.proofs.Weights.{prefix_longer, in_none, in_one, in_front, all_of}
 
--- the weights of a seat after one more, one less, and neither
-module _ {E : Type 0} (held : List ℕ) (before now : Content E) where
-  more_held : before.reserved < now.reserved → held_after held before now ≡ held ++ (now.reserved_weight - before.reserved_weight) ∷ []
-  more_held low = sym (cond_below before.reserved now.reserved _ _ low)
+-- what is reserved for a seat after the same, more, and less is reserved for all
+same_held : (held before now : ℕ) → now ≡ before → held_after held before now ≡ held
+same_held held before now is = omega arith
 
-  less_held : now.reserved < before.reserved → held_after held before now ≡ without (before.reserved_weight - now.reserved_weight) held
-  less_held low = sym (cond_above before.reserved now.reserved _ _ _ (omega arith) refl) ∙ sym (cond_below now.reserved before.reserved _ _ low)
+more_held : (held before now more : ℕ) → now ≡ before + more → held_after held before now ≡ held + more
+more_held held before now more is = omega arith
 
-  same_held : now.reserved ≡ before.reserved → held_after held before now ≡ held
-  same_held same = sym (cond_above before.reserved now.reserved _ _ _ (omega arith) refl) ∙ sym (cond_above now.reserved before.reserved _ _ _ (omega arith) refl)
+less_held : (held before now less : ℕ) → less ≤ held → held ≤ before → now ≡ before - less → held_after held before now ≡ held - less
+less_held held before now less low high is = omega arith
+
+-- a fact of a result that is Ok
+pub on_ok : {T F P Q : Type 0} (r : Result T F) → (P → Q) → OnOk r P → OnOk r Q
+on_ok (Ok x) f p = f p
+on_ok (Err e) f p = tt
+
+pub on_err : {T F P Q : Type 0} (r : Result T F) → (P → Q) → OnErr r P → OnErr r Q
+on_err (Ok x) f p = tt
+on_err (Err e) f p = f p
 
 module _ {E : Type 0} (actor_of bytes : E → ℕ) (fits : List E → Type 0) where
   abbrev M : Type 0
   M = Me (Content E) (View E)
+
+  -- what a seat may leave
+  abbrev pub May : View E → Content E → Content E → Type 0
+  May v x now = MayLeave actor_of v.actor v.held_items v.held_weight x now
 
   -- ---- the turn
 
@@ -42,7 +53,7 @@ module _ {E : Type 0} (actor_of bytes : E → ℕ) (fits : List E → Type 0) wh
       let same : turn.1 ≡ x = sym (ap now_of (sym value) ∙ ap (λ n. now_of n.1) turn.2) in
       subst (Opened v m) same (turn.0, turn.2, turn.3)
 
-  pub can_leave : (v : View E) (m : M) (x now : Content E) → Opened v m x → v.is_live ≡ true → MayLeave actor_of v.actor v.held x now → CanLeave actor_of (m.0, (0, now) ∷ rest m.1)
+  pub can_leave : (v : View E) (m : M) (x now : Content E) → Opened v m x → v.is_live ≡ true → May v x now → CanLeave actor_of (m.0, (0, now) ∷ rest m.1)
   can_leave v m x now o is_live may =
       subst (λ (n : M). CanLeave actor_of (n.0, (0, now) ∷ rest n.1)) (sym o.1) (is_live, (x, now, refl, refl, may))
 
@@ -51,76 +62,75 @@ module _ {E : Type 0} (actor_of bytes : E → ℕ) (fits : List E → Type 0) wh
 
   -- ---- what may be left
 
-  pub same_may : (v : View E) (x now : Content E) → IsResting (v, []) → now.items ≡ x.items → now.reserved ≡ x.reserved → now.reserved_weight ≡ x.reserved_weight → now.limits ≡ x.limits → MayLeave actor_of v.actor v.held x now
-  same_may v x now rests items reserved weight limits =
-      let h = same_held v.held x now reserved in record {
-        new = [];
-        grows = items ∙ sym (append-nil x.items);
-        by_it = λ item is. absurd (in_none item is);
-        limits = limits;
-        counts = (let l = ap length h in omega arith);
-        weights = (let l = ap sum h in omega arith);
-        first = λ z. h ∙ rests.first z;
-      }
+  pub same_may : (v : View E) (x now : Content E) → IsResting (v, []) → now.items ≡ x.items → now.reserved ≡ x.reserved → now.reserved_weight ≡ x.reserved_weight → now.limits ≡ x.limits → May v x now
+  same_may v x now rests items reserved weight limits = record {
+    new = [];
+    grows = items ∙ sym (append-nil x.items);
+    by_it = λ item is. absurd (in_none item is);
+    limits = limits;
+    counts = omega arith;
+    weights = omega arith;
+    first = λ z. (reserved, weight);
+  }
 
-  pub still_may : (v : View E) (x now : Content E) → IsResting (v, []) → now ≡ x → MayLeave actor_of v.actor v.held x now
+  pub still_may : (v : View E) (x now : Content E) → IsResting (v, []) → now ≡ x → May v x now
   still_may v x now rests is = same_may v x now rests (ap (λ (c : Content E). c.items) is) (ap (λ (c : Content E). c.reserved) is) (ap (λ (c : Content E). c.reserved_weight) is) (ap (λ (c : Content E). c.limits) is)
 
-  pub more_may : (v : View E) (x now : Content E) (w : ℕ) → v.actor ≢ 0 → now ≡ record x { reserved = x.reserved + 1; reserved_weight = x.reserved_weight + w } → (MayLeave actor_of v.actor v.held x now) × (held_after v.held x now ≡ v.held ++ w ∷ [])
-  more_may v x now w nz is =
-      let r : now.reserved ≡ x.reserved + 1 = ap (λ (c : Content E). c.reserved) is in
-      let rw' : now.reserved_weight ≡ x.reserved_weight + w = ap (λ (c : Content E). c.reserved_weight) is in
-      let h : held_after v.held x now ≡ v.held ++ w ∷ [] = more_held v.held x now (omega arith) ∙ ap (λ n. v.held ++ n ∷ []) (omega arith) in (
-        record {
-          new = [];
-          grows = ap (λ (c : Content E). c.items) is ∙ sym (append-nil x.items);
-          by_it = λ item is. absurd (in_none item is);
-          limits = ap (λ (c : Content E). c.limits) is;
-          counts = (let l = ap length h ∙ length-append v.held (w ∷ []) in omega arith);
-          weights = (let l = ap sum h ∙ sum_by_push (λ (n : ℕ). n) v.held w in omega arith);
-          first = λ z. absurd (nz z);
-        },
-        h,
-      )
+  pub more_may : (v : View E) (x now : Content E) (k w : ℕ) → v.actor ≢ 0 → now ≡ record x { reserved = x.reserved + k; reserved_weight = x.reserved_weight + w } → May v x now
+  more_may v x now k w nz is =
+      let r : now.reserved ≡ x.reserved + k = ap (λ (c : Content E). c.reserved) is in
+      let rw' : now.reserved_weight ≡ x.reserved_weight + w = ap (λ (c : Content E). c.reserved_weight) is in record {
+        new = [];
+        grows = ap (λ (c : Content E). c.items) is ∙ sym (append-nil x.items);
+        by_it = λ item is. absurd (in_none item is);
+        limits = ap (λ (c : Content E). c.limits) is;
+        counts = omega arith;
+        weights = omega arith;
+        first = λ z. absurd (nz z);
+      }
 
-  -- one reservation less, and some items of the seat's actor more
-  pub less_may : (v : View E) (x now : Content E) (w : ℕ) (new : List E) → IsResting (v, []) → Learns actor_of v x → Contains v.held w → ((item : E) → Contains new item → actor_of item ≡ v.actor) → now ≡ record x { items = x.items ++ new; reserved = x.reserved - 1; reserved_weight = x.reserved_weight - w }
-      → (MayLeave actor_of v.actor v.held x now) × (held_after v.held x now ≡ without w v.held)
-  less_may v x now w new rests learns holds own is =
-      let r : now.reserved ≡ x.reserved - 1 = ap (λ (c : Content E). c.reserved) is in
+  -- the board with so much less reserved, and some items more
+  abbrev pub Less : Content E → ℕ → ℕ → List E → Content E
+  Less x k w new = record x { items = x.items ++ new; reserved = x.reserved - k; reserved_weight = x.reserved_weight - w }
+
+  abbrev pub Released : Content E → ℕ → ℕ → Content E
+  Released x k w = record x { reserved = x.reserved - k; reserved_weight = x.reserved_weight - w }
+
+  pub released : (x : Content E) (k w : ℕ) → Released x k w ≡ Less x k w []
+  released x k w i = record x { items = sym (append-nil x.items) i; reserved = x.reserved - k; reserved_weight = x.reserved_weight - w }
+
+  -- so much less is reserved for the seat, and some items of its actor are more
+  pub less_may : (v : View E) (x now : Content E) (k w : ℕ) (new : List E) → IsResting (v, []) → k ≤ v.held_items → w ≤ v.held_weight → ((item : E) → Contains new item → (actor_of item ≡ v.actor) × (1 ≤ k)) → now ≡ Less x k w new → May v x now
+  less_may v x now k w new rests low low' own is =
+      let r : now.reserved ≡ x.reserved - k = ap (λ (c : Content E). c.reserved) is in
       let rw' : now.reserved_weight ≡ x.reserved_weight - w = ap (λ (c : Content E). c.reserved_weight) is in
-      let o = without_one w v.held holds in
-      let o0 = o.0 in
-      let o1 = o.1 in
-      let c0 = learns.counted in
-      let c1 = learns.weighed in
-      let nz : v.actor ≢ 0 = (λ z. in_none w (subst (λ l. Contains l w) (rests.first z) holds)) in
-      let h : held_after v.held x now ≡ without w v.held = less_held v.held x now (omega arith) ∙ ap (λ n. without n v.held) (omega arith) in (
-        record {
-          new = new;
-          grows = ap (λ (c : Content E). c.items) is;
-          by_it = λ item in'. (own item in', nz);
-          limits = ap (λ (c : Content E). c.limits) is;
-          counts = (let l = ap length h in omega arith);
-          weights = (let l = ap sum h in omega arith);
-          first = λ z. absurd (nz z);
-        },
-        h,
-      )
+      record {
+        new = new;
+        grows = ap (λ (c : Content E). c.items) is;
+        by_it = λ item in'. let o = own item in' in let some = o.1 in (o.0, λ z. let none = (rests.first z).0 in omega arith);
+        limits = ap (λ (c : Content E). c.limits) is;
+        counts = omega arith;
+        weights = omega arith;
+        first = λ z. let f = rests.first z in let f0 = f.0 in let f1 = f.1 in (omega arith, omega arith);
+      }
 
   -- ---- what the seat knows after the turn
 
   pub record After (old new : SeatView E) (x now : Content E) : Type 0 where
     pub turns : Turns actor_of bytes fits old new
     pub made : new.made ≡ old.made
-    pub held : new.held ≡ held_after old.held x now
+    pub held_items : new.held_items ≡ held_after old.held_items x.reserved now.reserved
+    pub held_weight : new.held_weight ≡ held_after old.held_weight x.reserved_weight now.reserved_weight
+    pub counted : old.held_items ≤ x.reserved
+    pub weighed : old.held_weight ≤ x.reserved_weight
+    pub begins : IsPrefix old.seen x.items
     pub seen : new.seen ≡ now.items
     pub out_count : new.out_count ≡ now.reserved
     pub out_weight : new.out_weight ≡ now.reserved_weight
     pub had : old.mine ≡ items_of actor_of old.actor x.items
     pub has : new.mine ≡ items_of actor_of old.actor now.items
 
-  turned : (v : View E) (x now : Content E) (table : TableId) → Learns actor_of v x → MayLeave actor_of v.actor v.held x now → IsWithin bytes fits now → After (seat_view table v) (seat_view table (view_after actor_of v x now)) x now
+  turned : (v : View E) (x now : Content E) (table : TableId) → Learns actor_of v x → May v x now → IsWithin bytes fits now → After (seat_view table v) (seat_view table (view_after actor_of v x now)) x now
   turned v x now table learns may within =
       let limits : now.limits ≡ v.limits = may.limits ∙ learns.limits in
       let c = may.counts in
@@ -139,7 +149,11 @@ module _ {E : Type 0} (actor_of bytes : E → ℕ) (fits : List E → Type 0) wh
           fitting = within.fitting;
         };
         made = refl;
-        held = refl;
+        held_items = refl;
+        held_weight = refl;
+        counted = learns.counted;
+        weighed = learns.weighed;
+        begins = learns.seen;
         seen = refl;
         out_count = refl;
         out_weight = refl;
@@ -147,28 +161,53 @@ module _ {E : Type 0} (actor_of bytes : E → ℕ) (fits : List E → Type 0) wh
         has = refl;
       }
 
-  pub after : (v : View E) (x now : Content E) (table table' : TableId) (m : M) (old : SeatView E) → Learns actor_of v x → MayLeave actor_of v.actor v.held x now → IsWithin bytes fits now → seat_view table v ≡ old → table' ≡ table → m ≡ (view_after actor_of v x now, []) → After old (seat_view table' m.0) x now
+  pub after : (v : View E) (x now : Content E) (table table' : TableId) (m : M) (old : SeatView E) → Learns actor_of v x → May v x now → IsWithin bytes fits now → seat_view table v ≡ old → table' ≡ table → m ≡ (view_after actor_of v x now, []) → After old (seat_view table' m.0) x now
   after v x now table table' m old learns may within is same left =
       subst (λ (p : SeatView E × SeatView E). After p.0 p.1 x now) (λ i. (is i, seat_view (sym same i) (sym left i).0)) (turned v x now table learns may within)
 
-  pub rests_after : (v : View E) (x now : Content E) (m : M) → v.is_live ≡ true → MayLeave actor_of v.actor v.held x now → m ≡ (view_after actor_of v x now, []) → IsResting m
-  rests_after v x now m is_live may left = subst IsResting (sym left) record { is_live = is_live; no_ticket = refl; no_turn = refl; no_slot = refl; first = may.first }
+  pub rests_after : (v : View E) (x now : Content E) (m : M) → IsResting (v, []) → May v x now → m ≡ (view_after actor_of v x now, []) → IsResting m
+  rests_after v x now m rests may left =
+      subst IsResting (sym left) record {
+        is_live = rests.is_live;
+        no_ticket = refl;
+        no_turn = refl;
+        no_slot = refl;
+        first = λ z. let f = rests.first z in let s = may.first z in let f0 = f.0 in let f1 = f.1 in let s0 = s.0 in let s1 = s.1 in (omega arith, omega arith);
+      }
 
-  -- the items that the seat entered are the same, or one more
+  -- the items that the seat entered are the same, or some more
   pub same_mine : (old new : SeatView E) (x now : Content E) → After old new x now → now.items ≡ x.items → new.mine ≡ old.mine
   same_mine old new x now a is = a.has ∙ ap (items_of actor_of old.actor) is ∙ sym a.had
 
-  pub more_mine : (old new : SeatView E) (x now : Content E) (item : E) → After old new x now → now.items ≡ x.items ++ item ∷ [] → actor_of item ≡ old.actor → new.mine ≡ old.mine ++ item ∷ []
-  more_mine old new x now item a is own =
-      a.has ∙ ap (items_of actor_of old.actor) is ∙ filter-append (λ i. actor_of i == old.actor) x.items (item ∷ []) ∙ (λ i. sym a.had i ++ item_of_actor actor_of old.actor item own i)
+  pub more_mine : (old new : SeatView E) (x now : Content E) (items : List E) → After old new x now → now.items ≡ x.items ++ items → ((item : E) → Contains items item → actor_of item ≡ old.actor) → new.mine ≡ old.mine ++ items
+  more_mine old new x now items a is own =
+      a.has ∙ ap (items_of actor_of old.actor) is ∙ filter-append (λ i. actor_of i == old.actor) x.items items ∙ (λ i. sym a.had i ++ all_of actor_of old.actor items own i)
+
+  -- they stand last
+  pub last_come : (old new : SeatView E) (x now : Content E) (items : List E) → After old new x now → now.items ≡ x.items ++ items → fits x.items → ComeLast actor_of fits old new.seen items
+  last_come old new x now items a is fitting = record { before = x.items; seen_is = a.seen ∙ is; begins = a.begins; mine = sym a.had; fitting = fitting }
+
+  -- what is reserved for the seat
+  pub same_kept : (old new : SeatView E) (x now : Content E) → After old new x now → now.reserved ≡ x.reserved → now.reserved_weight ≡ x.reserved_weight → (new.held_items ≡ old.held_items) × (new.held_weight ≡ old.held_weight)
+  same_kept old new x now a count weight = (a.held_items ∙ same_held old.held_items x.reserved now.reserved count, a.held_weight ∙ same_held old.held_weight x.reserved_weight now.reserved_weight weight)
+
+  pub more_kept : (old new : SeatView E) (x now : Content E) (k w : ℕ) → After old new x now → now ≡ record x { reserved = x.reserved + k; reserved_weight = x.reserved_weight + w } → (new.held_items ≡ old.held_items + k) × (new.held_weight ≡ old.held_weight + w)
+  more_kept old new x now k w a is = (
+    a.held_items ∙ more_held old.held_items x.reserved now.reserved k (ap (λ (c : Content E). c.reserved) is),
+    a.held_weight ∙ more_held old.held_weight x.reserved_weight now.reserved_weight w (ap (λ (c : Content E). c.reserved_weight) is),
+  )
+
+  pub less_kept : (old new : SeatView E) (x now : Content E) (k w : ℕ) (items : List E) → After old new x now → k ≤ old.held_items → w ≤ old.held_weight → now ≡ Less x k w items → (new.held_items ≡ old.held_items - k) × (new.held_weight ≡ old.held_weight - w)
+  less_kept old new x now k w items a low low' is = (
+    a.held_items ∙ less_held old.held_items x.reserved now.reserved k low a.counted (ap (λ (c : Content E). c.reserved) is),
+    a.held_weight ∙ less_held old.held_weight x.reserved_weight now.reserved_weight w low' a.weighed (ap (λ (c : Content E). c.reserved_weight) is),
+  )
 
   -- ---- a reservation
 
-  pub reserves : (v : View E) (x now : Content E) (w : ℕ) {F : Type 0} (r : Result (Unit {0}) F) → IsResting (v, []) → v.actor ≢ 0 → OnOk r (now ≡ record x { reserved = x.reserved + 1; reserved_weight = x.reserved_weight + w }) → OnErr r (now ≡ x)
-      → (MayLeave actor_of v.actor v.held x now) × OnOk r (held_after v.held x now ≡ v.held ++ w ∷ []) × OnErr r (held_after v.held x now ≡ v.held) × (now.items ≡ x.items)
-  reserves v x now w (Ok u) rests nz ok err = let m = more_may v x now w nz ok in (m.0, m.1, tt, ap (λ (c : Content E). c.items) ok)
-  reserves v x now w (Err e) rests nz ok err =
-      (same_may v x now rests (ap (λ (c : Content E). c.items) err) (ap (λ (c : Content E). c.reserved) err) (ap (λ (c : Content E). c.reserved_weight) err) (ap (λ (c : Content E). c.limits) err), tt, same_held v.held x now (ap (λ (c : Content E). c.reserved) err), ap (λ (c : Content E). c.items) err)
+  pub reserves : (v : View E) (x now : Content E) (k w : ℕ) {F : Type 0} (r : Result (Unit {0}) F) → IsResting (v, []) → v.actor ≢ 0 → OnOk r (now ≡ record x { reserved = x.reserved + k; reserved_weight = x.reserved_weight + w }) → OnErr r (now ≡ x) → May v x now
+  reserves v x now k w (Ok u) rests nz ok err = more_may v x now k w nz ok
+  reserves v x now k w (Err e) rests nz ok err = still_may v x now rests err
 
   -- ---- a whole call
 
@@ -176,33 +215,53 @@ module _ {E : Type 0} (actor_of bytes : E → ℕ) (fits : List E → Type 0) wh
   bare m r = record { is_live = r.is_live; no_ticket = r.no_ticket; no_turn = r.no_turn; no_slot = refl; first = r.first }
 
   pub may_leave : (m : M) → IsResting m → (m1 : M) → ((ticket : ℕ) × (c : Content E) × (m1 ≡ (turning (waiting m.0 ticket) c, (0, c) ∷ [])) × Learns actor_of m.0 c) → (x : Content E) → m1.1 ≡ (0, x) ∷ rest m1.1
-      → (now : Content E) → MayLeave actor_of m.0.actor m.0.held x now → CanLeave actor_of (m1.0, (0, now) ∷ rest m1.1)
+      → (now : Content E) → May m.0 x now → CanLeave actor_of (m1.0, (0, now) ∷ rest m1.1)
   may_leave m rests m1 turn x value now may = can_leave m.0 m1 x now (opened m.0 m1 turn x value) rests.is_live may
 
   pub learns_of : (m m1 : M) → ((ticket : ℕ) × (c : Content E) × (m1 ≡ (turning (waiting m.0 ticket) c, (0, c) ∷ [])) × Learns actor_of m.0 c) → (x : Content E) → m1.1 ≡ (0, x) ∷ rest m1.1 → Learns actor_of m.0 x
   learns_of m m1 turn x value = (opened m.0 m1 turn x value).2
 
   pub visits : (m : M) (table : TableId) (old : SeatView E) → IsResting m → seat_view table m.0 ≡ old → (m1 : M) → ((ticket : ℕ) × (c : Content E) × (m1 ≡ (turning (waiting m.0 ticket) c, (0, c) ∷ [])) × Learns actor_of m.0 c) → (x : Content E) → m1.1 ≡ (0, x) ∷ rest m1.1
-      → (now : Content E) → MayLeave actor_of m.0.actor m.0.held x now → IsWithin bytes fits now → (table' : TableId) → table' ≡ table → (m2 : M) → m2 ≡ left actor_of (m1.0, (0, now) ∷ rest m1.1)
+      → (now : Content E) → May m.0 x now → IsWithin bytes fits now → (table' : TableId) → table' ≡ table → (m2 : M) → m2 ≡ left actor_of (m1.0, (0, now) ∷ rest m1.1)
       → (IsResting m2) × After old (seat_view table' m2.0) x now
   visits m table old rests is m1 turn x value now may within table' same m2 left' =
       let o = opened m.0 m1 turn x value in
       let e = closed m.0 m1 x now o m2 left' in
-      (rests_after m.0 x now m2 rests.is_live may e, after m.0 x now table table' m2 old o.2 may within is same e)
+      (rests_after m.0 x now m2 (bare m rests) may e, after m.0 x now table table' m2 old o.2 may within is same e)
 
-  -- a reservation given up, and an item entered
-  pub releases : (m : M) (x now : Content E) (w : ℕ) → IsResting m → Learns actor_of m.0 x → Contains m.0.held w → now ≡ record x { reserved = x.reserved - 1; reserved_weight = x.reserved_weight - w } → (MayLeave actor_of m.0.actor m.0.held x now) × (held_after m.0.held x now ≡ without w m.0.held)
-  releases m x now w rests learns holds is = less_may m.0 x now w [] (bare m rests) learns holds (λ item in'. absurd (in_none item in')) (is ∙ (λ k. record x { items = sym (append-nil x.items) k; reserved = x.reserved - 1; reserved_weight = x.reserved_weight - w }))
+  -- ---- what is reserved is given up, and items are entered
 
-  pub enters : (m : M) (x now : Content E) (w : ℕ) (item : E) → IsResting m → Learns actor_of m.0 x → Contains m.0.held w → actor_of item ≡ m.0.actor → now ≡ record x { items = x.items ++ item ∷ []; reserved = x.reserved - 1; reserved_weight = x.reserved_weight - w }
-      → (MayLeave actor_of m.0.actor m.0.held x now) × (held_after m.0.held x now ≡ without w m.0.held)
-  enters m x now w item rests learns holds own is = less_may m.0 x now w (item ∷ []) (bare m rests) learns holds (λ y in'. ap actor_of (in_one item y in') ∙ own) is
+  -- what a seat holds, as it is seen
+  pub holds_of : (m : M) (table : TableId) (old : SeatView E) (k w : ℕ) → seat_view table m.0 ≡ old → k ≤ old.held_items → w ≤ old.held_weight → (k ≤ m.0.held_items) × (w ≤ m.0.held_weight)
+  holds_of m table old k w is low low' = (subst (λ (s : SeatView E). k ≤ s.held_items) (sym is) low, subst (λ (s : SeatView E). w ≤ s.held_weight) (sym is) low')
 
-  pub holds_of : (m : M) (table : TableId) (old : SeatView E) (w : ℕ) → seat_view table m.0 ≡ old → Contains old.held w → Contains m.0.held w
-  holds_of m table old w is holds = subst (λ (s : SeatView E). Contains s.held w) (sym is) holds
+  pub enters : (m : M) (table : TableId) (old : SeatView E) (x now : Content E) (k w : ℕ) (items : List E) → IsResting m → seat_view table m.0 ≡ old → k ≤ old.held_items → w ≤ old.held_weight → ((item : E) → Contains items item → (actor_of item ≡ old.actor) × (1 ≤ k)) → now ≡ Less x k w items → May m.0 x now
+  enters m table old x now k w items rests same low low' own is =
+      let h = holds_of m table old k w same low low' in
+      less_may m.0 x now k w items (bare m rests) h.0 h.1 (λ item in'. let o = own item in' in (o.0 ∙ ap (λ (s : SeatView E). s.actor) (sym same), o.1)) is
+
+  pub releases : (m : M) (table : TableId) (old : SeatView E) (x now : Content E) (k w : ℕ) → IsResting m → seat_view table m.0 ≡ old → k ≤ old.held_items → w ≤ old.held_weight → now ≡ Released x k w → May m.0 x now
+  releases m table old x now k w rests same low low' is = enters m table old x now k w [] rests same low low' (λ item in'. absurd (in_none item in')) (is ∙ released x k w)
+
+  -- one item is entered, or none is
+  pub one_own : (k : ℕ) (item : E) (actor : ℕ) → 1 ≤ k → actor_of item ≡ actor → (y : E) → Contains (item ∷ []) y → (actor_of y ≡ actor) × (1 ≤ k)
+  one_own k item actor some own y in' = (ap actor_of (in_one item y in') ∙ own, some)
+
+  pub puts : (m : M) (table : TableId) (old : SeatView E) (x now : Content E) (k w : ℕ) (item : E) {F : Type 0} (r : Result (Unit {0}) F) → IsResting m → seat_view table m.0 ≡ old → 1 ≤ k → k ≤ old.held_items → w ≤ old.held_weight → actor_of item ≡ old.actor
+      → OnOk r (now ≡ Less x k w (item ∷ [])) → OnErr r (now ≡ Released x k w) → May m.0 x now
+  puts m table old x now k w item (Ok u) rests same some low low' own ok err = enters m table old x now k w (item ∷ []) rests same low low' (one_own k item old.actor some own) ok
+  puts m table old x now k w item (Err e) rests same some low low' own ok err = releases m table old x now k w rests same low low' err
+
+  pub put_kept : (old new : SeatView E) (x now : Content E) (k w : ℕ) (item : E) {F : Type 0} (r : Result (Unit {0}) F) → After old new x now → k ≤ old.held_items → w ≤ old.held_weight → OnOk r (now ≡ Less x k w (item ∷ [])) → OnErr r (now ≡ Released x k w) → (new.held_items ≡ old.held_items - k) × (new.held_weight ≡ old.held_weight - w)
+  put_kept old new x now k w item (Ok u) a low low' ok err = less_kept old new x now k w (item ∷ []) a low low' ok
+  put_kept old new x now k w item (Err e) a low low' ok err = less_kept old new x now k w [] a low low' (err ∙ released x k w)
+
+  -- a front of items of the actor
+  pub front_own : (k n : ℕ) (entering : List E) (actor : ℕ) → length entering ≤ k → All (λ item. actor_of item ≡ actor) entering → (y : E) → Contains (take n entering) y → (actor_of y ≡ actor) × (1 ≤ k)
+  front_own k n entering actor low own y in' = let f = in_front (λ item. actor_of item ≡ actor) n entering own y in' in let some = f.1 in (f.0, omega arith)
 
   -- the slot names an actor, and nothing else changes
-  pub stays_named : (m : M) (x now : Content E) (actor : ℕ) → IsResting m → now ≡ record x { named = actor } → MayLeave actor_of m.0.actor m.0.held x now
+  pub stays_named : (m : M) (x now : Content E) (actor : ℕ) → IsResting m → now ≡ record x { named = actor } → May m.0 x now
   stays_named m x now actor rests is = same_may m.0 x now (bare m rests) (ap (λ (c : Content E). c.items) is) (ap (λ (c : Content E). c.reserved) is) (ap (λ (c : Content E). c.reserved_weight) is) (ap (λ (c : Content E). c.limits) is)
 
   -- the first seat rests, however many were joined to it

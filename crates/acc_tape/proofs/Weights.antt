@@ -1,13 +1,12 @@
--- Lists read at a place, sums over them, beginnings of lists, and lists without one weight.
-use Rattle.std.proofs.Common.{◌≡◌, ◌≢◌, ℕ, zero, suc, ◌+◌, ◌<◌, ◌≤◌, ◌==◌, true, false, cond, List, [], ◌∷◌, ◌++◌, length, sum, get_or, set, refl, sym, ap, ◌∙◌, subst, arith, append-nil, append_assoc, Contains, eqb-true, eq-eqb}
+-- Lists read at a place, sums over them, beginnings of lists, and the items of an actor.
+use Rattle.std.proofs.Common.{◌≡◌, ◌≢◌, ℕ, zero, suc, ◌+◌, ◌<◌, ◌≤◌, ◌==◌, true, false, cond, List, [], ◌∷◌, ◌++◌, length, get_or, set, take, All, refl, sym, ap, ◌∙◌, subst, arith, append-nil, append_assoc, Contains, eqb-true, eq-eqb}
 use Rattle.std.specs.Prelude.{sum_by}
-use Rattle.std.proofs.lemmas.List.Sums.{sum_by-set, get_or-le-sum_by, sum_by-cons}
+use Rattle.std.proofs.lemmas.List.Sums.{sum_by-set, get_or-le-sum_by}
 use Rattle.std.proofs.lemmas.List.Elements.{filter-append}
 use mathlib.Core.Option.{some, some-injective, some-ne-none}
 use mathlib.Core.List.{IsPrefix}
 use lib.ListN.{get_elem?}
-use Rattle.std.proofs.lemmas.Bool.Decides.{nat_tests}
-use Rattle.acc_tape.specs.Lists.{without, items_of}
+use Rattle.acc_tape.specs.Lists.{items_of}
 
 module _ {A : Type 0} where
   pub at_place : (xs : List A) (i : ℕ) (x : A) → get_elem? xs i ≡ some x → (i < length xs) × (get_or xs i x ≡ x)
@@ -47,6 +46,13 @@ module _ {A : Type 0} where
   pub in_one : (x y : A) → Contains (x ∷ []) y → y ≡ x
   in_one x y h = let low : h.0 < 1 = h.1 in let z : h.0 ≡ 0 = omega arith in sym h.2 ∙ ap (λ k. get_or (x ∷ []) k y) z
 
+-- a value in front of a place of a list is one of the list's values
+pub in_front : {A : Type 0} (P : A → Type 0) (k : ℕ) (xs : List A) → All P xs → (x : A) → Contains (take k xs) x → P x × (1 ≤ length xs)
+in_front P zero xs all x is = absurd (in_none x is)
+in_front P (suc k) [] all x is = absurd (in_none x is)
+in_front P (suc k) (y ∷ ys) all x (zero, low, e) = (subst P e (all 0 x (omega arith)), omega arith)
+in_front P (suc k) (y ∷ ys) all x (suc n, low, e) = ((in_front P k ys (λ m d below. all (suc m) d (omega arith)) x (n, omega arith, e)).0, omega arith)
+
 module _ {E : Type 0} (actor_of : E → ℕ) where
   -- items of another actor change nothing
   pub none_of : (actor : ℕ) (new : List E) → ((item : E) → Contains new item → actor_of item ≢ actor) → items_of actor_of actor new ≡ []
@@ -58,27 +64,12 @@ module _ {E : Type 0} (actor_of : E → ℕ) where
   pub item_of_actor : (actor : ℕ) (item : E) → actor_of item ≡ actor → items_of actor_of actor (item ∷ []) ≡ item ∷ []
   item_of_actor actor item own = ap (λ b. cond b (item ∷ []) []) (eq-eqb (actor_of item) actor own)
 
+  -- where all are of the actor, none is left out
+  pub all_of : (actor : ℕ) (new : List E) → ((item : E) → Contains new item → actor_of item ≡ actor) → items_of actor_of actor new ≡ new
+  all_of actor [] h = refl
+  all_of actor (x ∷ xs) h =
+      ap (λ b. cond b (x ∷ items_of actor_of actor xs) (items_of actor_of actor xs)) (eq-eqb (actor_of x) actor (h x (0, omega arith, refl)))
+      ∙ ap (λ l. x ∷ l) (all_of actor xs (λ item c. h item (suc c.0, (let low = c.1 in omega arith), c.2)))
+
   pub others_items : (actor : ℕ) (items now new : List E) → now ≡ items ++ new → ((item : E) → Contains new item → actor_of item ≢ actor) → items_of actor_of actor items ≡ items_of actor_of actor now
   others_items actor items now new e h = sym (ap (items_of actor_of actor) e ∙ filter-append (λ item. actor_of item == actor) items new ∙ ap (λ l. items_of actor_of actor items ++ l) (none_of actor new h) ∙ append-nil (items_of actor_of actor items))
-
--- one weight less
-pub without_one : (w : ℕ) (held : List ℕ) → Contains held w → (length (without w held) + 1 ≡ length held) × (sum (without w held) + w ≡ sum held)
-without_one w [] h = absurd (in_none w h)
-without_one w (x ∷ xs) h =
-    elim (x == w) as (λ b. (x == w) ≡ b → (length (cond b xs (x ∷ without w xs)) + 1 ≡ length (x ∷ xs)) × (sum (cond b xs (x ∷ without w xs)) + w ≡ sum (x ∷ xs))) [
-      | true ↦ (λ e. let same : x ≡ w = eqb-true x w e in let s = sum_by-cons (λ (y : ℕ). y) x xs in (omega arith, omega arith))
-      | false ↦ (λ e. let r = without_one w xs (later e h) in let s = sum_by-cons (λ (y : ℕ). y) x xs in let t = sum_by-cons (λ (y : ℕ). y) x (without w xs) in let r0 = r.0 in let r1 = r.1 in (omega arith, omega arith))
-    ] refl
-  where
-    tail : (k : ℕ) → k < length (x ∷ xs) → get_or (x ∷ xs) k w ≡ w → (x == w) ≡ false → Contains xs w
-    tail zero low is off = absurd (true_false (sym (eq_true x w is) ∙ off))
-      where
-        true_false : true ≡ false → ⊥
-        true_false e = cc
-
-        eq_true : (a b : ℕ) → a ≡ b → (a == b) ≡ true
-        eq_true a b e = grind (arith, nat_tests)
-    tail (suc k) low is off = (k, omega arith, is)
-
-    later : (x == w) ≡ false → Contains (x ∷ xs) w → Contains xs w
-    later off c = tail c.0 c.1 c.2 off

@@ -3,12 +3,14 @@ use Rattle.std.specs.Prelude.{ℕ, ◌≤◌, Bool, false, List, [], ◌∷◌, 
 use Rattle.std.proofs.Common.{arith}
 use Rattle.std.proofs.lemmas.List.Sums.{sum_by-cons}
 use Rattle.acc_message.specs.declared.entry.Event.{Event}
-use Rattle.acc_message.specs.declared.entry.Event.TheVariants.{Message as TakesMessage}
+use Rattle.acc_message.specs.declared.entry.Event.TheVariants.{Begin, Message as TakesMessage}
 use Rattle.acc_message.specs.declared.item.Item.{Item}
 use Rattle.acc_message.specs.declared.item.Item.TheVariants.{Step, Skipped, Down}
 use Rattle.acc_message.specs.declared.message.Message.{Message}
+use Rattle.acc_message.specs.declared.note.Note.{Note}
+use Rattle.acc_stamp.specs.declared.stamps.TxnId.{TxnId}
 use Rattle.acc_message.specs.Fields.{envelope_of, to_of}
-use Rattle.acc_message.specs.Items.{sent_in}
+use Rattle.acc_message.specs.Items.{sent_in, id_drawn}
 use Rattle.acc_message_code.specs.MessageSpelling.{number_of, envelope_bytes, content_bytes, message_bytes}
 use Rattle.acc_message_code.specs.Weight.{weight_of_all, weight_of}
 
@@ -31,6 +33,16 @@ abbrev pub is_lost_item : Item → Bool
 is_lost_item (Step e) = e.lost
 is_lost_item (Skipped step cause) = false
 is_lost_item (Down actor) = false
+
+-- the transaction that an item begins, and the id that it drew for it
+abbrev pub sign_of_event : Event → List Note → Option (ℕ × Option TxnId)
+sign_of_event (Begin txn) notes = Some (txn, id_drawn notes)
+sign_of_event _ notes = None
+
+abbrev pub sign_of_item : Item → Option (ℕ × Option TxnId)
+sign_of_item (Step e) = sign_of_event e.event e.emitted.notes
+sign_of_item (Skipped step cause) = None
+sign_of_item (Down actor) = None
 
 abbrev pub addressee : Message → ℕ
 addressee m = (to_of m).0

@@ -25,12 +25,12 @@ module _ {E : Type 0} (took : E → Option ℕ) (sent_to : E → List ℕ) (is_l
     pub sent : mail.sent ≡ closed_from 0 (is_taken took items) (messages_of sent_to is_lost 0 items)
     pub early : (n : ℕ) → length mail.sent ≤ n → list_any (λ m. m == n) mail.early ≡ is_taken took items n
 
-  pub record IsKept (bytes : E → ℕ) (fits : List E → Type 0) (items : List E) (weight reserved reserved_weight : ℕ) (limits : Limits) (capacity : ℕ) (mail : Mail) : Type 0 where
+  pub record IsKept (bytes : E → ℕ) (fits : List E → Type 0) (items : List E) (weight reserved reserved_weight : ℕ) (limits : Limits) (room : ℕ) (mail : Mail) : Type 0 where
     pub weighs : weight ≡ sum_by bytes items
     pub within_items : length items + reserved ≤ limits.items
     pub within_places : length items + reserved ≤ 4294967295
     pub within_weight : weight + reserved_weight ≤ limits.weight
-    pub room : length items + reserved ≤ capacity
+    pub has_room : room ≡ reserved + reserved_weight
     pub messages : mail.room ≡ reserved_weight
     pub takings : mail.takings ≡ reserved
     pub index : IsIndexOf items mail

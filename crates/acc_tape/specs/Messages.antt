@@ -1,5 +1,5 @@
 -- The messages that the items of a list sent, in the order of their numbers, and which of them are still to be taken.
-use Rattle.std.specs.Prelude.{◌≡◌, ℕ, ◌+◌, ◌<◌, ◌≤◌, ◌==◌, not, Bool, true, false, List, [], ◌∷◌, ◌++◌, length, Option, None, Some, slice_get, sum_by, take}
+use Rattle.std.specs.Prelude.{◌≡◌, ℕ, ◌+◌, ◌<◌, ◌≤◌, ◌==◌, not, Bool, true, false, List, [], ◌∷◌, ◌++◌, length, map, Option, None, Some, slice_get, sum_by, take}
 use Rattle.std.specs.List.{list_any}
 use Rattle.acc_posts.specs.declared.posting.Posting.{Posting}
 use Rattle.acc_posts.specs.declared.posting.Post.{Post}
@@ -38,3 +38,25 @@ module _ {E : Type 0} (took : E → Option ℕ) (sent_to : E → List ℕ) (is_l
     pub waits : IsWaiting items actor post.number
     pub oldest : (n : ℕ) → from ≤ n → n < post.number → ¬ IsWaiting items actor n
     pub stands : (item : E) × (slice_get items post.place ≡ Some item) × (slice_get (sent_to item) post.index ≡ Some actor) × (post.number ≡ sum_by (λ i. length (sent_to i)) (take post.place items) + post.index)
+
+  -- these are the oldest such messages, in their order
+  abbrev pub AreOldest : List E → ℕ → ℕ → List Post → Type 0
+  AreOldest items actor from [] = Unit {0}
+  AreOldest items actor from (post ∷ posts) = IsOldest items actor from post × AreOldest items actor (post.number + 1) posts
+
+-- the number behind the one of the last message, or `from` where there is none
+abbrev pub behind_all : ℕ → List Post → ℕ
+behind_all from [] = from
+behind_all from (post ∷ posts) = behind_all (post.number + 1) posts
+
+abbrev pub behind_last : Option ℕ → ℕ
+behind_last None = 0
+behind_last (Some number) = number + 1
+
+-- messages with where they stand
+abbrev pub posts_in : {M : Type 0} → List (Post × M) → List Post
+posts_in found = map (λ pair. pair.0) found
+
+-- the item at its place sent the message
+abbrev pub IsSentBy : {E M : Type 0} → (E → ℕ → M → Type 0) → List E → Post × M → Type 0
+IsSentBy {E} is_sent items pair = (item : E) × (slice_get items pair.0.place ≡ Some item) × is_sent item pair.0.index pair.1

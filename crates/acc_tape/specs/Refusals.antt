@@ -5,9 +5,9 @@ use Rattle.acc_tape.specs.declared.error.TapeError.{TapeError}
 use Rattle.acc_tape.specs.declared.error.TapeError.TheVariants.{Full, OutOfMemory}
 use Rattle.acc_tape.specs.declared.content.Limits.{Limits}
 
--- Nothing is reserved for this reason, of so many items that are entered or reserved, which weigh so much: they are at the limit of items, or, where they aren't, the weight would pass the limit of bytes. Want of memory has no cause.
-abbrev pub Refuses : Limits → ℕ → ℕ → ℕ → TapeError → Type 0
-Refuses limits items bytes weight (Full Items number) = (number ≡ limits.items) × (limits.items ≤ items)
-Refuses limits items bytes weight (Full Bytes number) = (number ≡ limits.weight) × (items < limits.items) × (limits.weight < bytes + weight)
-Refuses limits items bytes weight (Full Document number) = ⊥
-Refuses limits items bytes weight OutOfMemory = Unit {0}
+-- No items that weigh so much are reserved for this reason, where so many, which weigh `bytes`, are entered or reserved: the items would pass the limit of items, or, where they wouldn't, the weight would pass the limit of bytes. Want of memory has no cause.
+abbrev pub Refuses : Limits → ℕ → ℕ → ℕ → ℕ → TapeError → Type 0
+Refuses limits count bytes items weight (Full Items number) = (number ≡ limits.items) × (limits.items < count + items)
+Refuses limits count bytes items weight (Full Bytes number) = (number ≡ limits.weight) × (count + items ≤ limits.items) × (limits.weight < bytes + weight)
+Refuses limits count bytes items weight (Full Document number) = ⊥
+Refuses limits count bytes items weight OutOfMemory = Unit {0}

@@ -1,5 +1,5 @@
 -- The rule of a tape's table: word 0 is the next ticket, word 1 the ticket that is served, and the slot has what the seats take turns with.
-use Rattle.std.specs.Prelude.{◌≡◌, ◌≢◌, ℕ, ◌+◌, ◌<◌, ◌≤◌, Bool, true, false, cond, List, [], ◌∷◌, ◌++◌, length, sum, sum_by, None, Some, Contains, ◌⊎◌}
+use Rattle.std.specs.Prelude.{◌≡◌, ◌≢◌, ℕ, ◌+◌, ◌<◌, ◌≤◌, Bool, true, false, cond, List, [], ◌∷◌, ◌++◌, length, sum_by, None, Some, Contains, ◌⊎◌}
 use mathlib.Core.List.{IsPrefix}
 use mathlib.Core.Option.{Option, none, some}
 use lib.ListN.{get_elem?}
@@ -20,14 +20,14 @@ module _ {E : Type 0} where
 
   -- a seat that was joined to the first one has no ticket, no turn and no reservation
   abbrev pub IsSpent : View E → Type 0
-  IsSpent v = (v.ticket ≡ None) × (v.taken ≡ None) × (v.held ≡ [])
+  IsSpent v = (v.ticket ≡ None) × (v.taken ≡ None) × (v.held_items ≡ 0) × (v.held_weight ≡ 0)
 
   -- the first seat after it was split for the actor that the slot named, and the new seat
   abbrev pub splitter : View E → View E
   splitter v = record v { made = v.made ++ v.named ∷ [] }
 
   abbrev pub newcomer : View E → View E
-  newcomer v = record v { actor = v.named; mine = []; held = []; made = []; joined = [] }
+  newcomer v = record v { actor = v.named; mine = []; held_items = 0; held_weight = 0; made = []; joined = [] }
 
   -- the first seat after another was joined to it
   abbrev pub gone_of : View E → Gone E
@@ -38,11 +38,11 @@ module _ {E : Type 0} where
 
   -- the view of the first seat of a new tape
   abbrev pub first_view : Limits → View E
-  first_view limits = record { is_live = true; limits = limits; actor = 0; seen = []; mine = []; held = []; out_count = 0; out_weight = 0; named = 0; made = []; joined = []; ticket = None; taken = None }
+  first_view limits = record { is_live = true; limits = limits; actor = 0; seen = []; mine = []; held_items = 0; held_weight = 0; out_count = 0; out_weight = 0; named = 0; made = []; joined = []; ticket = None; taken = None }
 
   -- the view of a seat that was joined to the first one
   abbrev pub spent_view : View E
-  spent_view = record { is_live = false; limits = record { items = 0; weight = 0 }; actor = 0; seen = []; mine = []; held = []; out_count = 0; out_weight = 0; named = 0; made = []; joined = []; ticket = None; taken = None }
+  spent_view = record { is_live = false; limits = record { items = 0; weight = 0 }; actor = 0; seen = []; mine = []; held_items = 0; held_weight = 0; out_count = 0; out_weight = 0; named = 0; made = []; joined = []; ticket = None; taken = None }
 
   module _ (actor_of : E → ℕ) where
     -- a seat at its place id: each ticket has one holder and each actor one seat
@@ -51,7 +51,7 @@ module _ {E : Type 0} where
       pub seen : IsPrefix v.seen b.items
       pub mine : v.mine ≡ items_of actor_of v.actor b.items
       pub seat : seat_of v.actor ≡ id
-      pub first : v.actor ≡ 0 → (v.made ≡ made) × (v.joined ≡ gone) × (v.held ≡ [])
+      pub first : v.actor ≡ 0 → (v.made ≡ made) × (v.joined ≡ gone) × (v.held_items ≡ 0) × (v.held_weight ≡ 0)
       pub among : v.actor ≢ 0 → Contains made v.actor
       pub apart : (g : Gone E) → Contains gone g → g.actor ≢ v.actor
       pub waits : (t : ℕ) → v.ticket ≡ Some t → (serving ≤ t) × (t < ticket) × (holder t ≡ id)
@@ -82,8 +82,8 @@ module _ {E : Type 0} where
       pub live : (id : ℕ) (v : View E) → get_elem? s.views id ≡ some v → v.is_live ≡ true → Sits limits b ticket serving slot made gone seat_of holder id v
       pub spent : (id : ℕ) (v : View E) → get_elem? s.views id ≡ some v → v.is_live ≡ false → IsSpent v
       -- what they hold is what is reserved, and each that was split is live or was joined
-      pub reserved : sum_by (λ v. length v.held) s.views ≡ b.reserved
-      pub reserved_weight : sum_by (λ v. sum v.held) s.views ≡ b.reserved_weight
+      pub reserved : sum_by (λ v. v.held_items) s.views ≡ b.reserved
+      pub reserved_weight : sum_by (λ v. v.held_weight) s.views ≡ b.reserved_weight
       pub counted : sum_by (λ v. one_if v.is_live) s.views + length gone ≡ length made + 1
       -- each item is of an actor for which a seat was split, and that seat is live or was joined
       pub all_made : (item : E) → Contains b.items item → Contains made (actor_of item)

@@ -1,5 +1,5 @@
 -- Seats as contracts see them.
-use Rattle.std.specs.Prelude.{◌≡◌, ℕ, ◌+◌, ◌≤◌, List, [], ◌∷◌, ◌++◌, length, sum, sum_by}
+use Rattle.std.specs.Prelude.{◌≡◌, ℕ, ◌+◌, ◌≤◌, List, [], ◌∷◌, ◌++◌, length, sum_by, take}
 use mathlib.Core.List.{IsPrefix}
 use Rattle.atomic_table.specs.Seated.{TableId}
 use Rattle.acc_tape.specs.declared.content.Limits.{Limits}
@@ -10,18 +10,19 @@ pub record TapeName : Type 0 where
   pub table : TableId
   pub limits : Limits
 
--- The tape of a seat, its actor, the list that it has seen, the items that it entered, its reserved weights, the number and the sum of all weights that the seats held reserved at its last call, and the actors for which it was split. The first seat has actor 0, and it alone is split.
+-- The tape of a seat, its actor, the list that it has seen, the items that it entered, how many items and bytes are reserved for it, how many were reserved for all seats at its last call, and the actors for which it was split. The first seat has actor 0, and it alone is split.
 pub record SeatView (E : Type 0) : Type 0 where
   pub tape : TapeName
   pub actor : ℕ
   pub seen : List E
   pub mine : List E
-  pub held : List ℕ
+  pub held_items : ℕ
+  pub held_weight : ℕ
   pub out_count : ℕ
   pub out_weight : ℕ
   pub made : List ℕ
 
--- What holds of a seat after each call: it has seen the whole list, which begins with what it had seen and fits the tape's rules. The items of its actor in it are those that it entered, in order. The list and all reservations are within the limits, and the seat's own reservations are among them.
+-- What holds of a seat after each call: it has seen the whole list, which begins with what it had seen and fits the tape's rules. The items of its actor in it are those that it entered, in order. The list and all reservations are within the limits, and what is reserved for the seat is among them.
 pub record Turns {E : Type 0} (actor_of bytes : E → ℕ) (fits : List E → Type 0) (old new : SeatView E) : Type 0 where
   pub tape : new.tape ≡ old.tape
   pub actor : new.actor ≡ old.actor
@@ -29,22 +30,26 @@ pub record Turns {E : Type 0} (actor_of bytes : E → ℕ) (fits : List E → Ty
   pub mine : items_of actor_of new.actor new.seen ≡ new.mine
   pub within_items : length new.seen + new.out_count ≤ new.tape.limits.items
   pub within_weight : sum_by bytes new.seen + new.out_weight ≤ new.tape.limits.weight
-  pub counted : length new.held ≤ new.out_count
-  pub weighed : sum new.held ≤ new.out_weight
+  pub counted : new.held_items ≤ new.out_count
+  pub weighed : new.held_weight ≤ new.out_weight
   pub fitting : fits new.seen
 
 -- The item fits behind every list that fits, begins with what the seat has seen and has no other item of its actor than those that the seat entered. So it may be entered whatever others entered meanwhile.
 abbrev pub FitsBehind : {E : Type 0} → (E → ℕ) → (List E → Type 0) → SeatView E → E → Type 0
 FitsBehind {E} actor_of fits seat item = (before : List E) → IsPrefix seat.seen before → items_of actor_of seat.actor before ≡ seat.mine → fits before → fits (before ++ item ∷ [])
 
--- The item stands last, behind a list that fits, begins with what the seat had seen, and has of the seat's actor just what the seat had entered.
-pub record ComesLast {E : Type 0} (actor_of : E → ℕ) (fits : List E → Type 0) (old : SeatView E) (seen : List E) (item : E) : Type 0 where
+-- The same of items that are entered one behind another: whatever others entered, each front of them fits.
+abbrev pub FitAllBehind : {E : Type 0} → (E → ℕ) → (List E → Type 0) → SeatView E → List E → Type 0
+FitAllBehind {E} actor_of fits seat entering = (before : List E) → IsPrefix seat.seen before → items_of actor_of seat.actor before ≡ seat.mine → fits before → (k : ℕ) → fits (before ++ take k entering)
+
+-- The items stand last, behind a list that fits, begins with what the seat had seen, and has of the seat's actor just what the seat had entered.
+pub record ComeLast {E : Type 0} (actor_of : E → ℕ) (fits : List E → Type 0) (old : SeatView E) (seen entering : List E) : Type 0 where
   pub before : List E
-  pub seen_is : seen ≡ before ++ item ∷ []
+  pub seen_is : seen ≡ before ++ entering
   pub begins : IsPrefix old.seen before
   pub mine : items_of actor_of old.actor before ≡ old.mine
   pub fitting : fits before
 
--- the list ends with the item, which stands at this place
-abbrev pub EndsWith : {E : Type 0} → List E → ℕ → E → Type 0
-EndsWith {E} seen place item = (before : List E) × (seen ≡ before ++ item ∷ []) × (place ≡ length before)
+-- the same of one item
+abbrev pub ComesLast : {E : Type 0} → (E → ℕ) → (List E → Type 0) → SeatView E → List E → E → Type 0
+ComesLast actor_of fits old seen item = ComeLast actor_of fits old seen (item ∷ [])

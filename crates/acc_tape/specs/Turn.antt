@@ -1,19 +1,17 @@
 -- What a seat knows in the course of a turn.
-use Rattle.std.specs.Prelude.{◌≡◌, ◌≢◌, ℕ, ◌+◌, ◌-◌, ◌≤◌, true, cond, List, [], ◌∷◌, ◌++◌, length, sum, sum_by, Option, None, Some, Contains, nat_lt}
+use Rattle.std.specs.Prelude.{◌≡◌, ◌≢◌, ℕ, ◌+◌, ◌-◌, ◌≤◌, true, List, [], ◌∷◌, ◌++◌, length, sum_by, Option, None, Some, Contains}
 use mathlib.Core.List.{IsPrefix}
 use Rattle.atomic_table.specs.Table.{Me, Step}
 use Rattle.acc_tape.specs.declared.content.Content.{Content}
 use Rattle.acc_tape.specs.declared.view.View.{View}
 use Rattle.acc_tape.specs.declared.view.Gone.{Gone}
-use Rattle.acc_tape.specs.Lists.{without, items_of}
+use Rattle.acc_tape.specs.Lists.{items_of}
 use Rattle.atomic_table.specs.Seated.{TableId}
 use Rattle.acc_tape.specs.Seats.{SeatView}
 
--- the weights that a seat holds after a turn, in which what stood in the slot became `now`: one more, one less, or the same
-abbrev pub held_after : {E : Type 0} → List ℕ → Content E → Content E → List ℕ
-held_after held before now =
-    cond (nat_lt before.reserved now.reserved) (held ++ (now.reserved_weight - before.reserved_weight) ∷ [])
-    (cond (nat_lt now.reserved before.reserved) (without (before.reserved_weight - now.reserved_weight) held) held)
+-- how much is reserved for a seat after a turn in which what is reserved for all became `now`
+abbrev pub held_after : ℕ → ℕ → ℕ → ℕ
+held_after held before now = held + now - before
 
 module _ {E : Type 0} where
   abbrev pub nothing : Content E
@@ -41,7 +39,7 @@ module _ {E : Type 0} where
     pub no_ticket : m.0.ticket ≡ None
     pub no_turn : m.0.taken ≡ None
     pub no_slot : m.1 ≡ []
-    pub first : m.0.actor ≡ 0 → m.0.held ≡ []
+    pub first : m.0.actor ≡ 0 → (m.0.held_items ≡ 0) × (m.0.held_weight ≡ 0)
 
   -- a seat draws a ticket
   abbrev pub draws : Step (Content E) → Me (Content E) (View E) → ℕ → Me (Content E) (View E) → Type 0
@@ -52,8 +50,8 @@ module _ {E : Type 0} where
     pub record Learns (v : View E) (c : Content E) : Type 0 where
       pub seen : IsPrefix v.seen c.items
       pub mine : v.mine ≡ items_of actor_of v.actor c.items
-      pub counted : length v.held ≤ c.reserved
-      pub weighed : sum v.held ≤ c.reserved_weight
+      pub counted : v.held_items ≤ c.reserved
+      pub weighed : v.held_weight ≤ c.reserved_weight
       pub limits : c.limits ≡ v.limits
 
     -- a seat looks at the serving number, and takes what stands in the slot where it is its ticket
@@ -62,20 +60,20 @@ module _ {E : Type 0} where
 
     -- a seat after its turn
     abbrev pub view_after : View E → Content E → Content E → View E
-    view_after v before now = record v { seen = now.items; mine = items_of actor_of v.actor now.items; held = held_after v.held before now; out_count = now.reserved; out_weight = now.reserved_weight; named = now.named; ticket = None; taken = None }
+    view_after v before now = record v { seen = now.items; mine = items_of actor_of v.actor now.items; held_items = held_after v.held_items before.reserved now.reserved; held_weight = held_after v.held_weight before.reserved_weight now.reserved_weight; out_count = now.reserved; out_weight = now.reserved_weight; named = now.named; ticket = None; taken = None }
 
     abbrev pub left : Me (Content E) (View E) → Me (Content E) (View E)
     left m = (view_after m.0 (taken_of m.0.taken) (now_of m.1), [])
 
-    -- what a seat may leave in the slot: the same items with some of its own behind them, and what is reserved but for its own reservations
-    pub record MayLeave (actor : ℕ) (held : List ℕ) (before now : Content E) : Type 0 where
+    -- what a seat may leave in the slot: the same items with some of its own behind them, and at least what is reserved for the others
+    pub record MayLeave (actor held_items held_weight : ℕ) (before now : Content E) : Type 0 where
       pub new : List E
       pub grows : now.items ≡ before.items ++ new
       pub by_it : (item : E) → Contains new item → (actor_of item ≡ actor) × (actor ≢ 0)
       pub limits : now.limits ≡ before.limits
-      pub counts : now.reserved + length held ≡ before.reserved + length (held_after held before now)
-      pub weights : now.reserved_weight + sum held ≡ before.reserved_weight + sum (held_after held before now)
-      pub first : actor ≡ 0 → held_after held before now ≡ []
+      pub counts : before.reserved ≤ held_items + now.reserved
+      pub weights : before.reserved_weight ≤ held_weight + now.reserved_weight
+      pub first : actor ≡ 0 → (now.reserved ≡ before.reserved) × (now.reserved_weight ≡ before.reserved_weight)
 
 -- what stands in the slot is within the limits and fits the rules
 pub record IsWithin {E : Type 0} (bytes : E → ℕ) (fits : List E → Type 0) (c : Content E) : Type 0 where
@@ -86,11 +84,11 @@ pub record IsWithin {E : Type 0} (bytes : E → ℕ) (fits : List E → Type 0) 
 module _ {E : Type 0} (actor_of : E → ℕ) where
   -- a seat that has taken what stood in the slot may leave what stands there now
   abbrev pub CanLeave : Me (Content E) (View E) → Type 0
-  CanLeave m = (m.0.is_live ≡ true) × ((before now : Content E) × (m.0.taken ≡ Some before) × (m.1 ≡ (0, now) ∷ []) × MayLeave actor_of m.0.actor m.0.held before now)
+  CanLeave m = (m.0.is_live ≡ true) × ((before now : Content E) × (m.0.taken ≡ Some before) × (m.1 ≡ (0, now) ∷ []) × MayLeave actor_of m.0.actor m.0.held_items m.0.held_weight before now)
 
 -- a seat as contracts see it
 abbrev pub seat_view : {E : Type 0} → TableId → View E → SeatView E
-seat_view table v = record { tape = record { table = table; limits = v.limits }; actor = v.actor; seen = v.seen; mine = v.mine; held = v.held; out_count = v.out_count; out_weight = v.out_weight; made = v.made }
+seat_view table v = record { tape = record { table = table; limits = v.limits }; actor = v.actor; seen = v.seen; mine = v.mine; held_items = v.held_items; held_weight = v.held_weight; out_count = v.out_count; out_weight = v.out_weight; made = v.made }
 
 -- a seat that is joined to the first one, and the first one after some were
 abbrev pub gone_seat : {E : Type 0} → SeatView E → Gone E

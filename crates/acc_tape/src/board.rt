@@ -1,9 +1,7 @@
 //! What stands in the slot of a tape: the list, what is reserved, and the index of messages. Its calls are made by the
 //! seat that has the turn.
-ghost use Rattle.std.specs.Prelude.{◌≡◌, ℕ, ◌+◌, ◌-◌, ◌^◌, ◌<◌, ◌≤◌, [], ◌∷◌, ◌++◌, length, sum_by, map, Some, slice_get, IfOk, IfErr, OnOk, OnErr, IsErr, MatchOption, MatchResult};
-ghost use Rattle.std.specs.Arc.{arc_value};
-ghost use Rattle.acc_tape.specs.declared.error.PlaceError.TheVariants.{NoPlace};
-ghost use Rattle.acc_tape.specs.Messages.{IsOldest, HasNone, messages_from};
+ghost use Rattle.std.specs.Prelude.{◌≡◌, ℕ, ◌+◌, ◌-◌, ◌^◌, ◌<◌, ◌≤◌, [], ◌∷◌, ◌++◌, length, sum_by, take, All, Some, slice_get, vec_capacity, IfOk, IfErr, OnOk, OnErr, MatchOption};
+ghost use Rattle.acc_tape.specs.Messages.{IsOldest, HasNone, AreOldest, IsSentBy, behind_all, behind_last, posts_in, messages_from};
 ghost use Rattle.acc_tape.specs.Kept.{after_taking, after_messages};
 ghost use Rattle.acc_tape.specs.Refusals.{Refuses};
 ghost use Rattle.acc_tape.specs.Turn.{IsWithin};
@@ -17,11 +15,13 @@ use acc_message::Which;
 use acc_posts::{Post, Posts};
 use std::alloc::Global;
 use std::marker::{Model, PhantomData};
-use std::sync::Arc;
+
+// The items of a tape and those that are reserved are at most so many, so that a place has 32 bits.
+const MOST_PLACES: u64 = u32::MAX as u64;
 
 #[derive(Drop)]
 pub struct Board<E: Posted, R: Rules<E>> {
-    items: Vec<Arc<E>>,
+    items: E::List,
     weight: u64,
     reserved: u64,
     reserved_weight: u64,
@@ -33,17 +33,14 @@ pub struct Board<E: Posted, R: Rules<E>> {
 }
 
 impl<E: Posted, R: Rules<E>> Model for Board<E, R> {
-    ghost use Rattle.std.specs.Prelude.{◌≡◌, ◌+◌, ◌≤◌, length, map, sum_by};
-    ghost use Rattle.std.specs.Arc.{arc_value};
-    ghost use Rattle.std.specs.Vec.{vec_len, vec_capacity};
     ghost use Rattle.acc_tape.specs.declared.content.Content.{Content};
     ghost use Rattle.acc_tape.specs.Kept.{IsKept};
 
     ghost Value = { Content E };
 
-    ghost view = { λ b. record { items = map arc_value b.items.items; reserved = b.reserved; reserved_weight = b.reserved_weight; limits = b.limits; named = b.named } };
+    ghost view = { λ b. record { items = E.in_list b.items; reserved = b.reserved; reserved_weight = b.reserved_weight; limits = b.limits; named = b.named } };
 
-    ghost invariant = { λ b. IsKept E.took E.sent_to E.is_lost E.bytes R.fits (map arc_value b.items.items) b.weight b.reserved b.reserved_weight b.limits (vec_capacity b.items) b.posts };
+    ghost invariant = { λ b. IsKept E.took E.sent_to E.is_lost E.bytes R.fits (E.in_list b.items) b.weight b.reserved b.reserved_weight b.limits (E.room b.items) b.posts };
 }
 
 impl<E: Posted, R: Rules<E>> Board<E, R> {
@@ -52,7 +49,7 @@ impl<E: Posted, R: Rules<E>> Board<E, R> {
         ensures { IfOk result (λ board. board ≡ record { items = []; reserved = 0; reserved_weight = 0; limits = limits; named = 0 }) }
     {
         Ok(Board {
-            items: Vec::new(alloc),
+            items: E::list(alloc),
             weight: 0,
             reserved: 0,
             reserved_weight: 0,
@@ -63,19 +60,20 @@ impl<E: Posted, R: Rules<E>> Board<E, R> {
         })
     }
 
-    /// Reserves an item and so many bytes, so that entering it takes no memory. Otherwise, and where the items, or the messages with
-    /// the bytes that are reserved, would be 2^32 or more, all is as before.
-    pub fn reserve(&mut self, weight: u64) -> Result<(), TapeError>
-        ensures ok { OnOk result (self.new ≡ record self.old { reserved = self.old.reserved + 1; reserved_weight = self.old.reserved_weight + weight }) }
+    /// Reserves so many items and bytes, so that there is room for them. Otherwise, and where the items, or the messages with the
+    /// items and bytes that are reserved, would be 2^32 or more, all is as before.
+    pub fn reserve(&mut self, count: u64, weight: u64) -> Result<(), TapeError>
+        ensures ok { OnOk result (self.new ≡ record self.old { reserved = self.old.reserved + count; reserved_weight = self.old.reserved_weight + weight }) }
         ensures err { OnErr result (self.new ≡ self.old) }
         ensures within { IsWithin E.bytes R.fits self.new }
-        ensures cause { IfErr result (Refuses self.old.limits (length self.old.items + self.old.reserved) (sum_by E.bytes self.old.items + self.old.reserved_weight) weight) }
+        ensures cause { IfErr result (Refuses self.old.limits (length self.old.items + self.old.reserved) (sum_by E.bytes self.old.items + self.old.reserved_weight) count weight) }
     {
         let Limits {
             items: most_items,
             weight: most_weight,
         } = self.limits;
-        if self.items.len() as u64 + self.reserved >= most_items {
+        let places = E::len(&self.items) + self.reserved;
+        if most_items - places < count {
             return Err(TapeError::Full {
                 which: Which::Items,
                 number: most_items,
@@ -87,14 +85,15 @@ impl<E: Posted, R: Rules<E>> Board<E, R> {
                 number: most_weight,
             });
         }
-        if self.items.len() as u64 + self.reserved >= u64::from(u32::MAX) {
+        if MOST_PLACES - places < count {
             return Err(TapeError::OutOfMemory);
         }
-        if self.items.reserve(self.reserved as usize + 1).is_err() {
+        self.posts.reserve(weight, count)?;
+        if E::reserve(&mut self.items, count + weight).is_err() {
+            self.posts.release(weight, count);
             return Err(TapeError::OutOfMemory);
         }
-        self.posts.reserve(weight)?;
-        self.reserved += 1;
+        self.reserved += count;
         self.reserved_weight += weight;
         Ok(())
     }
@@ -107,48 +106,91 @@ impl<E: Posted, R: Rules<E>> Board<E, R> {
         self.named = actor;
     }
 
-    /// Gives up a reservation.
-    pub fn release(&mut self, weight: u64)
-        requires { (0 < self.old.reserved) × (weight ≤ self.old.reserved_weight) }
-        ensures released { self.new ≡ record self.old { reserved = self.old.reserved - 1; reserved_weight = self.old.reserved_weight - weight } }
+    /// Gives up so much of what is reserved.
+    pub fn release(&mut self, count: u64, weight: u64)
+        requires { (count ≤ self.old.reserved) × (weight ≤ self.old.reserved_weight) }
+        ensures released { self.new ≡ record self.old { reserved = self.old.reserved - count; reserved_weight = self.old.reserved_weight - weight } }
         ensures within { IsWithin E.bytes R.fits self.new }
     {
-        self.posts.release(weight, 1);
-        self.reserved -= 1;
+        self.posts.release(weight, count);
+        E::release(&mut self.items, count);
+        E::release(&mut self.items, weight);
+        self.reserved -= count;
         self.reserved_weight -= weight;
     }
 
-    /// Gives up a reservation and appends an item, whose place is answered.
-    pub fn enter(&mut self, weight: u64, bytes: u64, item: Arc<E>) -> u64
-        requires reserved { (0 < self.old.reserved) × (weight ≤ self.old.reserved_weight) }
-        requires bytes { (bytes ≡ E.bytes (arc_value item)) × (bytes ≤ weight) }
-        requires fits { R.fits self.old.items → R.fits (self.old.items ++ arc_value item ∷ []) }
-        ensures entered { self.new ≡ record self.old { items = self.old.items ++ arc_value item ∷ []; reserved = self.old.reserved - 1; reserved_weight = self.old.reserved_weight - weight } }
+    /// Gives up so much of what is reserved, and appends an item. Where the room that it wants beside is refused, no item is
+    /// appended.
+    pub fn put(&mut self, count: u64, weight: u64, bytes: u64, item: E) -> Result<(), OutOfMemory>
+        requires reserved { (1 ≤ count) × (count ≤ self.old.reserved) × (weight ≤ self.old.reserved_weight) }
+        requires bytes { (bytes ≡ E.bytes item) × (bytes ≤ weight) }
+        requires fits { R.fits self.old.items → R.fits (self.old.items ++ item ∷ []) }
+        ensures ok { OnOk result (self.new ≡ record self.old { items = self.old.items ++ item ∷ []; reserved = self.old.reserved - count; reserved_weight = self.old.reserved_weight - weight }) }
+        ensures err { OnErr result (self.new ≡ record self.old { reserved = self.old.reserved - count; reserved_weight = self.old.reserved_weight - weight }) }
         ensures within { IsWithin E.bytes R.fits self.new }
-        ensures place { result ≡ length self.old.items }
         ensures fits { R.fits self.old.items }
     {
-        let place = self.items.len() as u64;
-        note_taking(&mut self.posts, &*item);
-        self.posts.release(weight - item.sent(), 0);
-        note_messages(&mut self.posts, &*item, place as u32);
+        if E::prepare(&mut self.items, &item).is_err() {
+            self.release(count, weight);
+            return Err(OutOfMemory);
+        }
+        let place = E::len(&self.items);
+        let sent = item.sent();
+        note_taking(&mut self.posts, &item);
+        self.posts.release(weight - sent, count - 1);
+        note_messages(&mut self.posts, &item, place as u32);
+        E::push(&mut self.items, item);
+        E::release(&mut self.items, count - 1);
+        E::release(&mut self.items, weight - sent);
         self.weight += bytes;
-        self.reserved -= 1;
+        self.reserved -= count;
         self.reserved_weight -= weight;
-        self.items.push_reserved(item);
-        place
+        Ok(())
     }
 
-    /// The item at a place.
-    pub fn fetch(&self, place: u64) -> Result<Arc<E>, PlaceError>
-        ensures ok { IfOk result (λ item. slice_get self.now.items place ≡ Some (arc_value item)) }
-        ensures cause { IfErr result (λ error. error ≡ NoPlace → length self.now.items ≤ place) }
+    /// Gives up so much of what is reserved, and appends items one behind another, up to one for which `put` is refused.
+    pub fn put_all(&mut self, count: u64, weight: u64, entering: Vec<E>) -> Result<(), OutOfMemory>
+        requires reserved { (length entering.items ≤ count) × (count ≤ self.old.reserved) × (weight ≤ self.old.reserved_weight) }
+        requires bytes { All E.weighs entering.items × (sum_by E.bytes entering.items ≤ weight) }
+        requires fits { R.fits self.old.items → (k : ℕ) → R.fits (self.old.items ++ take k entering.items) }
+        ensures front { (k : ℕ) × (self.new ≡ record self.old { items = self.old.items ++ take k entering.items; reserved = self.old.reserved - count; reserved_weight = self.old.reserved_weight - weight }) × OnOk result (take k entering.items ≡ entering.items) × OnErr result (k < length entering.items) }
+        ensures within { IsWithin E.bytes R.fits self.new }
+        ensures fits { R.fits self.old.items }
+    {
+        self.confirm();
+        let mut items_left = count;
+        let mut weight_left = weight;
+        for item in entering {
+            let bytes = item.weight();
+            items_left -= 1;
+            weight_left -= bytes;
+            if self.put(1, bytes, bytes, item).is_err() {
+                self.release(items_left, weight_left);
+                return Err(OutOfMemory);
+            }
+        }
+        self.release(items_left, weight_left);
+        Ok(())
+    }
+
+    // What stands in the slot is within the limits and fits the rules.
+    #[inline(always)]
+    fn confirm(&self)
         ensures within { IsWithin E.bytes R.fits self.now }
     {
-        if place >= self.items.len() as u64 {
+        let _ = &self.items;
+    }
+
+    /// What is told of the item at a place.
+    pub fn fetch(&self, place: u64) -> Result<E::Sign, PlaceError>
+        ensures ok { IfOk result (λ sign. (item : E) × (slice_get self.now.items place ≡ Some item) × (sign ≡ E.sign_of item)) }
+        ensures err { OnErr result (length self.now.items ≤ place) }
+        ensures within { IsWithin E.bytes R.fits self.now }
+    {
+        if place >= E::len(&self.items) {
             return Err(PlaceError::NoPlace);
         }
-        Arc::try_clone(&self.items[place as usize]).map_err(|_| PlaceError::OutOfMemory)
+        Ok(E::sign(&self.items, place))
     }
 
     /// The oldest message that waits for an actor.
@@ -160,21 +202,6 @@ impl<E: Posted, R: Rules<E>> Board<E, R> {
         self.posts.next_for(actor)
     }
 
-    /// The oldest message that waits for an actor, and the item that sent it.
-    pub fn next_with_item(&mut self, actor: u32) -> Result<Option<(Post, Arc<E>)>, OutOfMemory>
-        ensures same { self.new ≡ self.old }
-        ensures within { IsWithin E.bytes R.fits self.new }
-        ensures next { IfOk result (λ found. MatchOption found (HasNone E.took E.sent_to E.is_lost self.old.items actor 0) (λ pair. IsOldest E.took E.sent_to E.is_lost self.old.items actor 0 pair.0 × (slice_get self.old.items pair.0.place ≡ Some (arc_value pair.1)))) }
-    {
-        let Some(post) = self.posts.next_for(actor) else {
-            return Ok(None);
-        };
-        let Ok(item) = self.fetch(post.place) else {
-            return Err(OutOfMemory);
-        };
-        Ok(Some((post, item)))
-    }
-
     /// The oldest message that waits for an actor and has a greater number.
     pub fn next_after(&mut self, actor: u32, number: u64) -> Option<Post>
         ensures same { self.new ≡ self.old }
@@ -184,9 +211,55 @@ impl<E: Posted, R: Rules<E>> Board<E, R> {
         self.posts.next_after(actor, number)
     }
 
-    /// The items, in their own memory.
-    pub fn into_items(self) -> Vec<Arc<E>>
-        ensures items { map arc_value result.items ≡ self.items }
+    // The oldest message that waits for an actor, behind the last one if there is one.
+    fn next_behind(&mut self, actor: u32, last: Option<u64>) -> Option<Post>
+        ensures same { self.new ≡ self.old }
+        ensures next { MatchOption result (HasNone E.took E.sent_to E.is_lost self.old.items actor (behind_last last)) (IsOldest E.took E.sent_to E.is_lost self.old.items actor (behind_last last)) }
+    {
+        match last {
+            None => self.next_for(actor),
+            Some(number) => self.next_after(actor, number),
+        }
+    }
+
+    // A message of an item.
+    fn message(&self, post: Post) -> Result<E::Message, OutOfMemory>
+        requires { (item : E) × (slice_get self.now.items post.place ≡ Some item) × (post.index < length (E.sent_to item)) }
+        ensures message { IfOk result (λ message. IsSentBy E.is_sent self.now.items (post, message)) }
+    {
+        E::message(&self.items, post.place, post.index)
+    }
+
+    /// The oldest messages that wait for an actor, as many as there is room for.
+    pub fn collect(
+        &mut self,
+        actor: u32,
+        found: &mut Vec<(Post, E::Message)>,
+    ) -> Result<(), OutOfMemory>
+        requires { found.old.items ≡ [] }
+        ensures same { self.new ≡ self.old }
+        ensures within { IsWithin E.bytes R.fits self.new }
+        ensures room { vec_capacity found.new ≡ vec_capacity found.old }
+        ensures oldest { AreOldest E.took E.sent_to E.is_lost self.old.items actor 0 (posts_in found.new.items) }
+        ensures sent { All (IsSentBy E.is_sent self.old.items) found.new.items }
+        ensures all { OnOk result (length found.new.items < vec_capacity found.new → HasNone E.took E.sent_to E.is_lost self.old.items actor (behind_all 0 (posts_in found.new.items))) }
+    {
+        self.confirm();
+        let mut last = None;
+        for _ in 0..found.capacity() {
+            let Some(post) = self.next_behind(actor, last) else {
+                return Ok(());
+            };
+            let message = self.message(post)?;
+            found.push_reserved((post, message));
+            last = Some(post.number);
+        }
+        Ok(())
+    }
+
+    /// The list of items.
+    pub fn into_items(self) -> E::List
+        ensures items { E.in_list result ≡ self.items }
         ensures fits { R.fits self.items }
     {
         let Board {

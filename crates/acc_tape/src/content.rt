@@ -8,8 +8,8 @@ pub struct Limits {
     pub weight: u64,
 }
 
-/// The items, the number and the sum of all reserved weights, the limits, and the actor for which a seat is split next. No
-/// value of it is made.
+/// The items, the numbers of reserved items and bytes, the limits, and the actor for which a seat is split next. No value of it
+/// is made.
 pub struct Content<E> {
     pub items: LinkedList<E>,
     pub reserved: u64,

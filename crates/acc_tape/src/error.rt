@@ -9,17 +9,15 @@ use std::fmt;
 pub enum TapeError {
     /// The items or the bytes that are entered or reserved would pass this number.
     Full { which: Which, number: u64 },
-    /// Memory was refused, or the items, or the messages with the bytes that are reserved, would be 2^32 or more.
+    /// Memory was refused, or the items, or the messages with the items and bytes that are reserved, would be 2^32 or more.
     OutOfMemory,
 }
 
-/// Why no item is fetched.
+/// Why nothing is told of an item.
 #[derive(Clone, Copy, Debug, PartialEq, Eq)]
 pub enum PlaceError {
     /// The list has no such place.
     NoPlace,
-    /// Memory was refused.
-    OutOfMemory,
 }
 
 impl fmt::Display for TapeError {
@@ -33,11 +31,9 @@ impl fmt::Display for TapeError {
 
 impl fmt::Display for PlaceError {
     fn fmt<W: fmt::Write>(&self, f: &mut fmt::Formatter<W>) -> fmt::Result {
-        let text = match self {
-            PlaceError::NoPlace => "no item has this place",
-            PlaceError::OutOfMemory => "out of memory",
-        };
-        write!(f, "{text}")
+        match self {
+            PlaceError::NoPlace => write!(f, "no item has this place"),
+        }
     }
 }
 

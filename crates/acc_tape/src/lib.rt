@@ -4,7 +4,6 @@
 mod board;
 mod calls;
 mod content;
-mod entered;
 mod error;
 mod item;
 mod law;
@@ -16,7 +15,6 @@ mod tape;
 mod view;
 
 pub use acc_posts::Post;
-pub use entered::Entered;
 pub use error::{PlaceError, TapeError};
 pub use posted::Posted;
 pub use rules::Rules;

@@ -1,8 +1,21 @@
-//! What a tape asks of an item.
-ghost use Rattle.std.specs.Prelude.{◌≡◌, ℕ, ◌<◌, ◌≤◌, ◌^◌, Bool, List, Option, length, Some, slice_get};
+//! What a tape asks of an item, and of the list that it keeps items in.
+ghost use Rattle.std.specs.Prelude.{◌≡◌, ℕ, ◌+◌, ◌-◌, ◌<◌, ◌≤◌, ◌^◌, Bool, List, [], ◌∷◌, ◌++◌, Option, length, Some, slice_get, IfOk, OnOk, OnErr};
+
+use acc_base::OutOfMemory;
+use std::alloc::Global;
 
 /// An item that a tape can hold: who enters it, which message it took, which messages it sent, and what it weighs.
 pub trait Posted: Drop {
+    /// A list of items. Room is made in it ahead, and each item and each message uses up one of it.
+    type List: Drop;
+
+    /// A message that an item sent.
+    type Message: Drop;
+
+    /// What `fetch` tells of an item: of an item of a run, the transaction that it begins and the id that it drew, and `None`
+    /// where it begins none.
+    type Sign: Copy;
+
     /// The actor of the item.
     ghost actor_of: { Self → ℕ };
 
@@ -20,6 +33,21 @@ pub trait Posted: Drop {
 
     /// What is asked of an item that is weighed.
     ghost weighs: { Self → Type 0 };
+
+    /// The message is the one that the item sent as its message with this index.
+    ghost is_sent: { Self → ℕ → Self.Message → Type 0 };
+
+    /// What is told of the item.
+    ghost sign_of: { Self → Self.Sign };
+
+    /// The items of a list.
+    ghost in_list: { Self.List → List Self };
+
+    /// For how many more items and messages a list has room.
+    ghost room: { Self.List → ℕ };
+
+    /// The list has all room that the item wants beside that for itself and its messages.
+    ghost is_ready: { Self.List → Self → Type 0 };
 
     fn actor(&self) -> u32
         ensures { result ≡ actor_of self.now };
@@ -40,6 +68,50 @@ pub trait Posted: Drop {
     fn weight(&self) -> u64
         requires { weighs self.now × (bytes self.now < 2 ^ 64) }
         ensures { result ≡ bytes self.now };
+
+    /// A list of no items, with no room.
+    fn list(alloc: Global) -> Self::List
+        ensures items { in_list result ≡ [] }
+        ensures room { room result ≡ 0 };
+
+    /// How many items a list has.
+    fn len(list: &Self::List) -> u64
+        ensures { result ≡ length (in_list list.now) };
+
+    /// Makes room for so many more items and messages in all, beside what there is room for already.
+    fn reserve(list: &mut Self::List, more: u64) -> Result<(), OutOfMemory>
+        ensures items { in_list list.new ≡ in_list list.old }
+        ensures ok { OnOk result (room list.new ≡ room list.old + more) }
+        ensures err { OnErr result (room list.new ≡ room list.old) };
+
+    /// Gives up room for so many items and messages.
+    fn release(list: &mut Self::List, less: u64)
+        requires { less ≤ room list.old }
+        ensures items { in_list list.new ≡ in_list list.old }
+        ensures room { room list.new ≡ room list.old - less };
+
+    /// Makes the room that the item wants beside that for itself and its messages.
+    fn prepare(list: &mut Self::List, item: &Self) -> Result<(), OutOfMemory>
+        ensures items { in_list list.new ≡ in_list list.old }
+        ensures room { room list.new ≡ room list.old }
+        ensures ok { OnOk result (is_ready list.new item.now) };
+
+    /// Appends an item. It uses up room for itself and each of its messages.
+    fn push(list: &mut Self::List, item: Self)
+        requires room { length (sent_to item) < room list.old }
+        requires ready { is_ready list.old item }
+        ensures items { in_list list.new ≡ in_list list.old ++ item ∷ [] }
+        ensures room { room list.new ≡ room list.old - (1 + length (sent_to item)) };
+
+    /// The message with this index among those that the item at a place sent.
+    fn message(list: &Self::List, place: u64, index: u64) -> Result<Self::Message, OutOfMemory>
+        requires { (item : Self) × (slice_get (in_list list.now) place ≡ Some item) × (index < length (sent_to item)) }
+        ensures { IfOk result (λ message. (item : Self) × (slice_get (in_list list.now) place ≡ Some item) × is_sent item index message) };
+
+    /// What is told of the item at a place.
+    fn sign(list: &Self::List, place: u64) -> Self::Sign
+        requires { place < length (in_list list.now) }
+        ensures { (item : Self) × (slice_get (in_list list.now) place ≡ Some item) × (result ≡ sign_of item) };
 
     /// Each message has a byte.
     ghost enough: { (item : Self) → length (sent_to item) ≤ bytes item };

@@ -6,7 +6,6 @@ ghost use Rattle.acc_tape.specs.Rule.{gone_of};
 ghost use Rattle.acc_tape.specs.Seats.{Turns};
 ghost use Rattle.acc_tape.specs.Turn.{IsResting, with_joined, gone_seat};
 
-use crate::entered::Entered;
 use crate::law::{Gather, Part};
 use crate::posted::Posted;
 use crate::rules::Rules;
@@ -27,9 +26,9 @@ impl<E: Posted, R: Rules<E>> Tape<E, R> {
         requires first { first.old.actor ≡ 0 }
         requires actor { (actor ≢ 0) × (¬ Contains first.old.made actor) }
         ensures turn { Turns E.actor_of E.bytes R.fits first.old first.new }
-        ensures same { (first.new.mine ≡ first.old.mine) × (first.new.held ≡ first.old.held) }
+        ensures same { (first.new.mine ≡ first.old.mine) × (first.new.held_items ≡ first.old.held_items) × (first.new.held_weight ≡ first.old.held_weight) }
         ensures made { first.new.made ≡ first.old.made ++ actor ∷ [] }
-        ensures seat { IfOk result (λ seat. seat ≡ record first.new { actor = actor; mine = []; held = []; made = [] }) }
+        ensures seat { IfOk result (λ seat. seat ≡ record first.new { actor = actor; mine = []; held_items = 0; held_weight = 0; made = [] }) }
         ensures ok { IsOk result }
     {
         self.begin(rt, &mut first.token);
@@ -45,14 +44,14 @@ impl<E: Posted, R: Rules<E>> Tape<E, R> {
         self,
         first: Seat<E, R>,
         others: Seats<E, R>,
-    ) -> Result<Entered<E>, (Tape<E, R>, Seat<E, R>, Seats<E, R>)>
+    ) -> Result<E::List, (Tape<E, R>, Seat<E, R>, Seats<E, R>)>
         requires first { (first.tape ≡ self) × (first.actor ≡ 0) }
-        requires others { All (λ seat. (seat.tape ≡ self) × (seat.held ≡ [])) others }
+        requires others { All (λ seat. (seat.tape ≡ self) × (seat.held_items ≡ 0) × (seat.held_weight ≡ 0)) others }
         requires all { length others ≡ length first.made }
-        ensures first { IfOk result (λ items. IsPrefix first.seen items) }
-        ensures seats { IfOk result (λ items. All (λ seat. IsPrefix seat.seen items × (items_of E.actor_of seat.actor items ≡ seat.mine) × Contains first.made seat.actor) others) }
-        ensures owned { IfOk result (All (λ item. Any (λ seat. seat.actor ≡ E.actor_of item) others)) }
-        ensures fits { IfOk result (λ items. R.fits items) }
+        ensures first { IfOk result (λ list. IsPrefix first.seen (E.in_list list)) }
+        ensures seats { IfOk result (λ list. All (λ seat. IsPrefix seat.seen (E.in_list list) × (items_of E.actor_of seat.actor (E.in_list list) ≡ seat.mine) × Contains first.made seat.actor) others) }
+        ensures owned { IfOk result (λ list. All (λ item. Any (λ seat. seat.actor ≡ E.actor_of item) others) (E.in_list list)) }
+        ensures fits { IfOk result (λ list. R.fits (E.in_list list)) }
         ensures ok { IsOk result }
     {
         let Seat { mut token } = first;
@@ -61,14 +60,14 @@ impl<E: Posted, R: Rules<E>> Tape<E, R> {
         let mut closed = table.close_with(token);
         let board = closed.take(0);
         closed.free();
-        Ok(Entered::from_vec(board.into_items()))
+        Ok(board.into_items())
     }
 
     // Joins seats to the first one.
     fn gather(&self, first: &mut Token<E, R>, others: Seats<E, R>)
         requires tape { first.old.table_id ≡ self.now.table }
         requires first { IsResting first.old.me × (first.old.me.0.actor ≡ 0) }
-        requires others { All (λ seat. (seat.tape ≡ self.now) × (seat.held ≡ [])) others }
+        requires others { All (λ seat. (seat.tape ≡ self.now) × (seat.held_items ≡ 0) × (seat.held_weight ≡ 0)) others }
         ensures tape { first.new.table_id ≡ first.old.table_id }
         ensures joined { first.new.me ≡ with_joined first.old.me (map gone_seat others) }
     {

@@ -55,7 +55,7 @@ impl<E: Posted, R: Rules<E>> Tape<E, R> {
     ) -> Result<(Tape<E, R>, Seat<E, R>), OutOfMemory>
         requires { R.fits [] }
         ensures limits { IfOk result (λ made. made.0.limits ≡ record { items = items; weight = weight }) }
-        ensures seat { IfOk result (λ made. made.1 ≡ record { tape = made.0; actor = 0; seen = []; mine = []; held = []; out_count = 0; out_weight = 0; made = [] }) }
+        ensures seat { IfOk result (λ made. made.1 ≡ record { tape = made.0; actor = 0; seen = []; mine = []; held_items = 0; held_weight = 0; out_count = 0; out_weight = 0; made = [] }) }
     {
         let limits = Limits { items, weight };
         let board = Board::new(alloc, limits)?;

@@ -17,8 +17,10 @@ pub struct View<E> {
     pub actor: u32,
     pub seen: LinkedList<E>,
     pub mine: LinkedList<E>,
-    pub held: LinkedList<u64>,
-    // The number and the sum of all reserved weights at the last call.
+    // How many items and bytes are reserved for it.
+    pub held_items: u64,
+    pub held_weight: u64,
+    // The numbers of all reserved items and bytes at the last call.
     pub out_count: u64,
     pub out_weight: u64,
     // The actor that the slot named at the last call.

@@ -10,7 +10,8 @@ pub record IsChair (tape : TapeName) (chair : Chair) : Type 0 where
   pub tape_is : chair.seat.tape ≡ tape
   pub actor_is : chair.seat.actor ≡ chair.actor
   pub actor_isnt : chair.actor ≢ 0
-  pub held_is : chair.seat.held ≡ chair.held.items
+  pub items_are : chair.seat.held_items ≡ chair.items
+  pub bytes_are : chair.seat.held_weight ≡ chair.bytes
 
 -- the first seat is of this tape, and each that was split from it has its chair
 pub record IsHall (hall : Hall) : Type 0 where

@@ -3,7 +3,7 @@ ghost use Rattle.std.specs.Prelude.{◌≡◌};
 ghost use Rattle.acc_tape_tables.specs.Halls.{IsChair};
 
 use crate::chair::{Chair, Draft, Reel};
-use crate::sample::Sample;
+use crate::sample::Name;
 use acc_tape::{PlaceError, Post, TapeError};
 use anyhow::{Result, anyhow};
 use std::alloc::Global;
@@ -12,13 +12,37 @@ use std::sync::Wait;
 /// What a seat does.
 #[derive(Debug, Drop)]
 pub enum Act {
-    Reserve { bytes: u64 },
-    Release { bytes: u64 },
-    Enter { weight: u64, draft: Draft },
-    Fetch { place: u64 },
-    Next { to: u32 },
-    After { to: u32, number: u64 },
-    Item { to: u32 },
+    Reserve {
+        items: u64,
+        bytes: u64,
+    },
+    Release {
+        items: u64,
+        bytes: u64,
+    },
+    Enter {
+        weight: u64,
+        draft: Draft,
+    },
+    EnterAll {
+        items: u64,
+        weight: u64,
+        drafts: Vec<Draft>,
+    },
+    Fetch {
+        place: u64,
+    },
+    Next {
+        to: u32,
+    },
+    After {
+        to: u32,
+        number: u64,
+    },
+    Collect {
+        to: u32,
+        most: usize,
+    },
 }
 
 /// Lets a seat act, and tells the answer.
@@ -33,42 +57,74 @@ pub fn take<W: Wait>(
     ensures { IsChair tape.now chair.new }
 {
     match act {
-        Act::Reserve { bytes } => match chair.reserve(rt, tape, bytes) {
+        Act::Reserve { items, bytes } => match chair.reserve(rt, tape, items, bytes) {
             Ok(()) => told(alloc, "ok"),
             Err(error) => refused(alloc, error),
         },
-        Act::Release { bytes } => match chair.release(rt, tape, bytes) {
-            true => told(alloc, "ok"),
-            false => told(alloc, "not held"),
-        },
-        Act::Enter { weight, draft } => match chair.enter(rt, alloc, tape, weight, draft)? {
-            Some(place) => Ok(format!(in alloc; "{place}")?),
-            None => told(alloc, "not held"),
-        },
+        Act::Release { items, bytes } => given(alloc, chair.release(rt, tape, items, bytes)),
+        Act::Enter { weight, draft } => given(alloc, chair.enter(rt, tape, weight, draft)?),
+        Act::EnterAll {
+            items,
+            weight,
+            drafts,
+        } => given(
+            alloc,
+            chair.enter_all(rt, alloc, tape, items, weight, drafts)?,
+        ),
         Act::Fetch { place } => match tape.fetch(rt, &mut chair.seat, place) {
-            Ok(item) => Ok(name(alloc, &*item)?),
+            Ok(name) => Ok(named(alloc, name)?),
             Err(PlaceError::NoPlace) => told(alloc, "none"),
-            Err(error) => Err(error.into()),
         },
         Act::Next { to } => post(alloc, tape.next_for(rt, &mut chair.seat, to)),
         Act::After { to, number } => {
             post(alloc, tape.next_after(rt, &mut chair.seat, to, number))
         }
-        Act::Item { to } => match tape.next_with_item(rt, &mut chair.seat, to)? {
-            Some((post, item)) => with_item(alloc, post, &*item),
-            None => told(alloc, "none"),
-        },
+        Act::Collect { to, most } => collect(rt, alloc, tape, chair, to, most),
     }
 }
 
+// Collects at most so many messages, and tells each.
+fn collect<W: Wait>(
+    rt: &W,
+    alloc: Global,
+    tape: &Reel,
+    chair: &mut Chair,
+    to: u32,
+    most: usize,
+) -> Result<String>
+    requires { IsChair tape.now chair.old }
+    ensures { IsChair tape.now chair.new }
+{
+    let mut found = Vec::with_capacity(alloc, most)?;
+    tape.collect(rt, &mut chair.seat, to, &mut found)?;
+    let mut told = String::new(alloc);
+    for (post, name) in found {
+        if !told.is_empty() {
+            told.push_str(", ")?;
+        }
+        told.push_str(&with_item(alloc, post, name)?)?;
+    }
+    if told.is_empty() {
+        told.push_str("none")?;
+    }
+    Ok(told)
+}
+
 /// An item: its actor, a dot, and how many that entered before.
-pub fn name(alloc: Global, item: &Sample) -> Result<String> {
-    let Sample { actor, number, .. } = item;
+pub fn named(alloc: Global, name: Name) -> Result<String> {
+    let Name { actor, number } = name;
     Ok(format!(in alloc; "{actor}.{number}")?)
 }
 
 fn told(alloc: Global, text: &str) -> Result<String> {
     Ok(text.to_string(alloc)?)
+}
+
+fn given(alloc: Global, was_held: bool) -> Result<String> {
+    match was_held {
+        true => told(alloc, "ok"),
+        false => told(alloc, "not held"),
+    }
 }
 
 fn refused(alloc: Global, error: TapeError) -> Result<String> {
@@ -91,16 +147,15 @@ fn post(alloc: Global, post: Option<Post>) -> Result<String> {
     }
 }
 
-fn with_item(alloc: Global, post: Post, item: &Sample) -> Result<String> {
+fn with_item(alloc: Global, post: Post, name: Name) -> Result<String> {
     let Post {
         number,
         place,
         index,
     } = post;
-    let Sample {
+    let Name {
         actor,
         number: before,
-        ..
-    } = item;
+    } = name;
     Ok(format!(in alloc; "{number} at {place}.{index} of {actor}.{before}")?)
 }

@@ -2,9 +2,10 @@
 ghost use Rattle.std.specs.Prelude.{◌≡◌, ◌<◌, length, All, OnOk};
 ghost use Rattle.acc_tape_tables.specs.Halls.{IsChair, IsHall};
 
-use crate::act::{self, Act, name};
+use crate::act::{self, Act, named};
 use crate::chair::{Chair, Draft, Reel};
 use crate::hall::Hall;
+use crate::sample::name_of;
 use crate::threads::{self, Crowd};
 use anyhow::{Context, Result};
 use serde_json::Value;
@@ -119,9 +120,13 @@ fn act_at<W: Wait>(
 
 fn read(alloc: Global, kind: &str, parts: &[Value]) -> Result<Option<Act>> {
     match (kind, parts) {
-        ("enter", [weight, bytes, taken, to, is_lost]) => {
-            let to = actors(alloc, to)?;
-            Ok(entering(weight, bytes, taken, to, is_lost))
+        ("enter", [weight, parts @ ..]) => {
+            let draft = draft(alloc, parts)?;
+            Ok(weight.as_u64().map(|weight| Act::Enter { weight, draft }))
+        }
+        ("enter all", [items, weight, drafts @ ..]) => {
+            let drafts = drafted(alloc, drafts)?;
+            Ok(entering_all(items, weight, drafts))
         }
         _ => Ok(act(kind, parts)),
     }
@@ -130,9 +135,19 @@ fn read(alloc: Global, kind: &str, parts: &[Value]) -> Result<Option<Act>> {
 fn act(kind: &str, parts: &[Value]) -> Option<Act> {
     match (kind, parts) {
         ("reserve", [bytes]) => Some(Act::Reserve {
+            items: 1,
+            bytes: bytes.as_u64()?,
+        }),
+        ("reserve", [items, bytes]) => Some(Act::Reserve {
+            items: items.as_u64()?,
             bytes: bytes.as_u64()?,
         }),
         ("release", [bytes]) => Some(Act::Release {
+            items: 1,
+            bytes: bytes.as_u64()?,
+        }),
+        ("release", [items, bytes]) => Some(Act::Release {
+            items: items.as_u64()?,
             bytes: bytes.as_u64()?,
         }),
         ("fetch", [place]) => Some(Act::Fetch {
@@ -143,30 +158,50 @@ fn act(kind: &str, parts: &[Value]) -> Option<Act> {
             to: number(to)?,
             number: after.as_u64()?,
         }),
-        ("item", [to]) => Some(Act::Item { to: number(to)? }),
+        ("item", [to]) => Some(Act::Collect {
+            to: number(to)?,
+            most: 1,
+        }),
+        ("collect", [to, most]) => Some(Act::Collect {
+            to: number(to)?,
+            most: usize::try_from(most.as_u64()?).ok()?,
+        }),
         _ => None,
     }
 }
 
-fn entering(
-    weight: &Value,
-    bytes: &Value,
-    taken: &Value,
-    to: Vec<u32>,
-    is_lost: &Value,
-) -> Option<Act> {
+fn entering_all(items: &Value, weight: &Value, drafts: Vec<Draft>) -> Option<Act> {
+    Some(Act::EnterAll {
+        items: items.as_u64()?,
+        weight: weight.as_u64()?,
+        drafts,
+    })
+}
+
+fn drafted(alloc: Global, lists: &[Value]) -> Result<Vec<Draft>> {
+    let mut drafts = Vec::new(alloc);
+    for list in lists {
+        let parts = list.as_array().context("no list of an item's parts")?;
+        drafts.push(draft(alloc, parts.as_slice())?)?;
+    }
+    Ok(drafts)
+}
+
+fn draft(alloc: Global, parts: &[Value]) -> Result<Draft> {
+    let [bytes, taken, to, is_lost] = parts else {
+        return None.context("an item of another form");
+    };
     let taken = match taken.is_null() {
         true => None,
-        false => Some(taken.as_u64()?),
+        false => Some(taken.as_u64().context("no number of a message")?),
     };
-    Some(Act::Enter {
-        weight: weight.as_u64()?,
-        draft: Draft {
-            bytes: bytes.as_u64()?,
-            taken,
-            to,
-            is_lost: is_lost.as_bool()?,
-        },
+    Ok(Draft {
+        bytes: bytes.as_u64().context("no bytes")?,
+        taken,
+        to: actors(alloc, to)?,
+        is_lost: is_lost
+            .as_bool()
+            .context("not told whether messages are lost")?,
     })
 }
 
@@ -187,11 +222,11 @@ fn closed(alloc: Global, hall: Hall) -> Result<String>
     requires { IsHall hall }
 {
     let mut told = String::new(alloc);
-    for item in hall.close(alloc)?.as_slice() {
+    for item in hall.close(alloc)?.items {
         if !told.is_empty() {
             told.push_str(" ")?;
         }
-        told.push_str(&name(alloc, &**item)?)?;
+        told.push_str(&named(alloc, name_of(&item))?)?;
     }
     Ok(told)
 }

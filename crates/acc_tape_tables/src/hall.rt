@@ -1,11 +1,11 @@
 //! A tape with all its seats.
-ghost use Rattle.std.specs.Prelude.{◌≡◌, ◌<◌, [], length, All, IfOk, OnOk, IfSome};
+ghost use Rattle.std.specs.Prelude.{◌≡◌, ◌<◌, length, All, IfOk, OnOk, IfSome};
 ghost use Rattle.acc_tape_tables.specs.Halls.{IsChair, IsHall};
 
 use crate::chair::{Chair, Reel};
-use crate::sample::{Anything, Sample};
+use crate::sample::{Anything, Sample, Samples};
 use acc_base::Sequence;
-use acc_tape::{Entered, Seat, Seats, Tape};
+use acc_tape::{Seat, Seats, Tape};
 use anyhow::{Result, bail, ensure};
 use std::alloc::Global;
 use std::sync::Wait;
@@ -45,7 +45,8 @@ impl Hall {
         self.chairs.push(Chair {
             actor,
             seat,
-            held: Vec::new(alloc),
+            items: 0,
+            bytes: 0,
             entered: 0,
         })?;
         Ok(())
@@ -59,7 +60,7 @@ impl Hall {
     }
 
     /// All items. No seat may hold a reservation.
-    pub fn close(self, alloc: Global) -> Result<Entered<Sample>>
+    pub fn close(self, alloc: Global) -> Result<Samples>
         requires { IsHall self }
     {
         let Hall {
@@ -70,7 +71,7 @@ impl Hall {
         } = self;
         let seats = seats(alloc, &tape, chairs)?;
         match tape.close(first, seats) {
-            Ok(entered) => Ok(entered),
+            Ok(samples) => Ok(samples),
             Err(_) => bail!("a tape that stays"),
         }
     }
@@ -79,7 +80,7 @@ impl Hall {
 // The seats of chairs that hold nothing.
 fn seats(alloc: Global, tape: &Reel, chairs: Vec<Chair>) -> Result<Seats<Sample, Anything>>
     requires { All (IsChair tape.now) chairs.items }
-    ensures { IfOk result (λ seats. (length seats ≡ length chairs.items) × All (λ seat. (seat.tape ≡ tape.now) × (seat.held ≡ [])) seats) }
+    ensures { IfOk result (λ seats. (length seats ≡ length chairs.items) × All (λ seat. (seat.tape ≡ tape.now) × (seat.held_items ≡ 0) × (seat.held_weight ≡ 0)) seats) }
 {
     let mut seats = Sequence::new(alloc);
     for chair in chairs {
@@ -92,14 +93,18 @@ fn seats(alloc: Global, tape: &Reel, chairs: Vec<Chair>) -> Result<Seats<Sample,
 }
 
 // The seat of a chair that holds nothing.
-#[tactic(auto, using(crate::proofs::Chairs::is_free))]
 fn free_seat(tape: &Reel, chair: Chair) -> Option<Seat<Sample, Anything>>
     requires { IsChair tape.now chair }
-    ensures { IfSome result (λ seat. (seat.tape ≡ tape.now) × (seat.held ≡ [])) }
+    ensures { IfSome result (λ seat. (seat.tape ≡ tape.now) × (seat.held_items ≡ 0) × (seat.held_weight ≡ 0)) }
 {
-    let Chair { seat, held, .. } = chair;
-    match held.len() == 0 {
-        true => Some(seat),
-        false => None,
+    let Chair {
+        seat,
+        items,
+        bytes,
+        ..
+    } = chair;
+    if items > 0 || bytes > 0 {
+        return None;
     }
+    Some(seat)
 }

@@ -9,14 +9,19 @@
 //! A step is an array that ends with its answer:
 //!
 //! - `["seat", ACTOR, "ok"]`: a seat for an actor;
-//! - `["reserve", ACTOR, BYTES, ANSWER]`: `ok`, `full items` or `full bytes` with the limit;
-//! - `["release", ACTOR, BYTES, ANSWER]`: `ok`, or `not held`;
+//! - `["reserve", ACTOR, BYTES, ANSWER]`, `["reserve", ACTOR, ITEMS, BYTES, ANSWER]`: an item or so many with so many bytes: `ok`, `full items`
+//!   or `full bytes` with the limit;
+//! - `["release", ACTOR, BYTES, ANSWER]`, `["release", ACTOR, ITEMS, BYTES, ANSWER]`: `ok`, or `not held` where not so much is reserved;
 //! - `["enter", ACTOR, RESERVED, BYTES, TAKEN, [TO, ..], LOST, ANSWER]`: an item of so many bytes, of which each message has one, in place of
-//!   a reservation; TAKEN is the number of a message or null, LOST whether the messages are lost. The item's place, or `not held`;
+//!   one and so many bytes that are reserved; TAKEN is the number of a message or null, LOST whether the messages are lost. `ok`, or
+//!   `not held` where not so much is reserved or the item weighs more;
+//! - `["enter all", ACTOR, ITEMS, RESERVED, [BYTES, TAKEN, [TO, ..], LOST], .., ANSWER]`: the same of items one behind another, in place of so
+//!   many and so many bytes;
 //! - `["fetch", ACTOR, PLACE, ANSWER]`: the item at a place, as its actor, a dot and how many that entered before; or `none`;
 //! - `["next", ACTOR, TO, ANSWER]`, `["after", ACTOR, TO, NUMBER, ANSWER]`: the oldest message that waits for an actor, also behind a number: its
 //!   number, the place of its item and its index there; or `none`;
-//! - `["item", ACTOR, TO, ANSWER]`: the same with the item that sent it;
+//! - `["item", ACTOR, TO, ANSWER]`: the oldest with the item that sent it;
+//! - `["collect", ACTOR, TO, MOST, ANSWER]`: so many of the oldest, each with the item that sent it, with commas between; or `none`;
 //! - `["close", ANSWER]`: all items. No seat holds a reservation, and the case ends.
 //!
 //! Threads tell how many items were entered and how many reservations refused, where the items of each actor stand in the order in

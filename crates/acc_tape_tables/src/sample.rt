@@ -1,7 +1,9 @@
 //! The items of the table.
-ghost use Rattle.std.specs.Prelude.{◌+◌, length};
+ghost use Rattle.std.specs.Prelude.{◌≡◌};
 
+use acc_base::OutOfMemory;
 use acc_tape::{Posted, Rules};
+use std::alloc::Global;
 
 /// An item: whose it is, how many items its actor entered before it, the message that it took, the actors to which its
 /// messages go, whether these are lost, and its bytes beside one for each message.
@@ -15,9 +17,29 @@ pub struct Sample {
     pub more: u64,
 }
 
+/// Who entered an item, and how many items that actor entered before it.
+#[derive(Clone, Copy, Debug, PartialEq, Eq)]
+pub struct Name {
+    pub actor: u32,
+    pub number: u64,
+}
+
+/// A list of items, and for how many more items and messages it has room.
+#[derive(Debug, Drop)]
+pub struct Samples {
+    pub items: Vec<Sample>,
+    pub room: u64,
+}
+
 impl Posted for Sample {
-    ghost use Rattle.std.specs.Prelude.{◌+◌, length};
+    ghost use Rattle.std.specs.Prelude.{◌≡◌, ◌+◌, ◌<◌, length, vec_len, vec_capacity};
     ghost use Rattle.acc_tape_tables.specs.Samples.{bytes_of, has_enough};
+
+    type List = Samples;
+
+    type Message = Name;
+
+    type Sign = Name;
 
     ghost actor_of = { λ sample. sample.actor };
 
@@ -30,6 +52,16 @@ impl Posted for Sample {
     ghost bytes = { bytes_of };
 
     ghost weighs = { λ _. Unit {0} };
+
+    ghost is_sent = { λ sample index name. (name.actor ≡ sample.actor) × (name.number ≡ sample.number) };
+
+    ghost sign_of = { λ sample. record { actor = sample.actor; number = sample.number } };
+
+    ghost in_list = { λ samples. samples.items.items };
+
+    ghost room = { λ samples. samples.room };
+
+    ghost is_ready = { λ samples _. vec_len samples.items < vec_capacity samples.items };
 
     fn actor(&self) -> u32 {
         self.actor
@@ -55,7 +87,55 @@ impl Posted for Sample {
         self.more + self.to.len() as u64
     }
 
+    fn list(alloc: Global) -> Samples {
+        Samples {
+            items: Vec::new(alloc),
+            room: 0,
+        }
+    }
+
+    fn len(list: &Samples) -> u64 {
+        list.items.len() as u64
+    }
+
+    fn reserve(list: &mut Samples, more: u64) -> Result<(), OutOfMemory> {
+        list.room = list.room.checked_add(more).ok_or(OutOfMemory)?;
+        Ok(())
+    }
+
+    fn release(list: &mut Samples, less: u64) {
+        list.room -= less;
+    }
+
+    fn prepare(list: &mut Samples, _item: &Sample) -> Result<(), OutOfMemory> {
+        list.items.reserve(1)?;
+        Ok(())
+    }
+
+    fn push(list: &mut Samples, item: Sample) {
+        list.room -= 1 + item.to.len() as u64;
+        list.items.push_reserved(item);
+    }
+
+    fn message(list: &Samples, place: u64, _index: u64) -> Result<Name, OutOfMemory> {
+        Ok(name_of(&list.items[place as usize]))
+    }
+
+    fn sign(list: &Samples, place: u64) -> Name {
+        name_of(&list.items[place as usize])
+    }
+
     ghost enough = { has_enough };
+}
+
+/// The name of an item.
+pub fn name_of(sample: &Sample) -> Name
+    ensures { result ≡ record { actor = sample.now.actor; number = sample.now.number } }
+{
+    Name {
+        actor: sample.actor,
+        number: sample.number,
+    }
 }
 
 /// The rules of a tape on which every list may stand.

@@ -8,7 +8,7 @@ use crate::sample::Sample;
 use acc_tape::TapeError;
 use anyhow::{Result, ensure};
 use std::alloc::Global;
-use std::sync::{Arc, Wait};
+use std::sync::Wait;
 use std::thread;
 use std::thread::Threads;
 
@@ -49,7 +49,7 @@ pub fn told<R: Threads + Wait + Sync>(rt: &R, alloc: Global, crowd: &Crowd) -> R
         chairs,
     };
     let entered = hall.close(alloc)?;
-    let items = entered.as_slice();
+    let items = entered.items.as_slice();
     for actor in 1..=crowd.actors {
         ensure!(
             are_in_order(items, actor),
@@ -132,10 +132,10 @@ fn attempt<W: Wait>(
     ensures { IsChair tape.now chair.new }
 {
     let weight = crowd.weight;
-    chair.reserve(rt, tape, weight)?;
+    chair.reserve(rt, tape, 1, weight)?;
     if crowd.given > 0 && number % crowd.given == 0 {
-        chair.release(rt, tape, weight);
-        chair.reserve(rt, tape, weight)?;
+        chair.release(rt, tape, 1, weight);
+        chair.reserve(rt, tape, 1, weight)?;
     }
     let taken = tape
         .next_for(rt, &mut chair.seat, chair.actor)
@@ -147,7 +147,7 @@ fn attempt<W: Wait>(
     };
     let mut to = Vec::new(alloc);
     if to.push(next).is_err() {
-        chair.release(rt, tape, weight);
+        chair.release(rt, tape, 1, weight);
         return Err(TapeError::OutOfMemory);
     }
     let draft = Draft {
@@ -156,9 +156,9 @@ fn attempt<W: Wait>(
         to,
         is_lost: false,
     };
-    match chair.enter(rt, alloc, tape, weight, draft)? {
-        Some(_) => Ok(()),
-        None => Err(TapeError::OutOfMemory),
+    match chair.enter(rt, tape, weight, draft)? {
+        true => Ok(()),
+        false => Err(TapeError::OutOfMemory),
     }
 }
 
@@ -184,7 +184,7 @@ fn left(alloc: Global, tape: &Reel, worked: Vec<Worked>) -> Result<(Vec<Chair>, 
 }
 
 // Whether the items of an actor are numbered in their order, and the messages that they took rise.
-fn are_in_order(items: &[Arc<Sample>], actor: u32) -> bool {
+fn are_in_order(items: &[Sample], actor: u32) -> bool {
     let mut next: u64 = 0;
     let mut least: u64 = 0;
     for item in items {

@@ -34,7 +34,7 @@ pub struct Outcome {
 }
 
 impl Reply {
-    /// An equal reply, in memory of its own.
+    /// An equal reply, which shares its content with this one and takes no memory of its own.
     pub fn copy(&self) -> Result<Reply, OutOfMemory>
         ensures { IfOk result (λ copy. copy ≡ self.now) }
     {
@@ -52,7 +52,7 @@ impl Duplicate for Reply {
 }
 
 impl Outcome {
-    /// An equal outcome, in memory of its own.
+    /// An equal outcome, which shares its content with this one and takes no memory of its own.
     pub fn copy(&self) -> Result<Outcome, OutOfMemory>
         ensures { IfOk result (λ copy. copy ≡ self.now) }
     {

@@ -215,7 +215,7 @@ impl Waiting {
         if messages == 0 {
             return Ok(());
         }
-        self.posts.reserve(messages)?;
+        self.posts.reserve(messages, 1)?;
         self.posts.release(0, 1);
         Ok(())
     }

@@ -1,5 +1,5 @@
 -- The seats are those of the desks, and all actors stand for what the tape held.
-use Rattle.std.proofs.Common.{List, length, map, sym, ◌∙◌, ap, subst}
+use Rattle.std.proofs.Common.{List, length, map, refl, sym, ◌∙◌, ap, subst}
 use Rattle.std.proofs.lemmas.List.{length-map}
 use Rattle.acc_schedule.specs.Content.{Content}
 use Rattle.acc_desk.specs.Fits.{fits_plan}
@@ -27,5 +27,5 @@ returns-clause-rested g c =
     closes d.is_image d.faults d.strict d.armed d.content d.synced d.written g.J.Planned.strict c.args.plan.now c.args.tape c.requires.is_plan
     c.turns_go_by.ensures.together c.turns_go_by.ensures.each c.nobody_goes_down.ensures c.closed_items_are_within.ensures c.desks_stand_at_the_end.ensures
     c.requires.limits.0 c.requires.limits.1 c.args.desks.items c.requires.actors c.requires.sound
-    _ c.in_ok-seats.seats _ _ c.in_ok-seats.rests.items c.in_ok-seats.ensures.seats c.in_ok-seats.ensures.rests (c.from_vec.ensures ∙ c.into_vec.ensures)
-    (record { come = c.in-Ok.ensures.seats; owned = c.in-Ok.ensures.owned; fits = subst (λ (plan : Content). fits_plan plan c.in-Ok.entered) (sym c.requires.plan) c.in-Ok.ensures.fits })
+    _ c.in_ok-seats.seats _ _ c.in_ok-seats.rests.items c.in_ok-seats.ensures.seats c.in_ok-seats.ensures.rests refl
+    (record { come = c.in-Ok.ensures.seats; owned = c.in-Ok.ensures.owned; fits = subst (λ (plan : Content). fits_plan plan c.in-Ok.entered.items) (sym c.requires.plan) c.in-Ok.ensures.fits })

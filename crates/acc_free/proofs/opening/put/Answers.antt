@@ -25,7 +25,8 @@ new-desk-requires-clause-seat g c =
       own,
       (λ none. c.requires.some (sym own ∙ none)),
       ap (λ (s : SeatView Item). s.mine) is,
-      ap (λ (s : SeatView Item). s.held) is,
+      ap (λ (s : SeatView Item). s.held_items) is,
+      ap (λ (s : SeatView Item). s.held_weight) is,
     )
 
 pub new-desk-requires-clause-serving : goal.new-desk-requires-clause-serving

@@ -44,7 +44,7 @@ pub returns-in_err-ended-clause-limit : goal.returns-in_err-ended-clause-limit
 returns-in_err-ended-clause-limit g c =
     let plan = c.args.plan.now in
     let strict = g.J.Planned.strict in
-    let items = reverse c.in_ok-rests.entered in
+    let items = reverse c.in_ok-rests.entered.items in
     let r = c.in_ok-rests.ensures.rested in
     let error = c.in_err-ended.field-0.0 in
     limit_told (EndsFreely strict plan []) error c.from_residual-in_err-ended.result c.from_residual-in_err-ended.ensures.1

@@ -1,27 +1,30 @@
--- The head stands behind the others, and its messages behind theirs.
-use Rattle.std.proofs.Common.{◌≡◌, ◌+◌, ◌++◌, ◌∷◌, [], length, sym, ap, ap₂, ◌∙◌, subst, arith, length-append}
-use Rattle.acc_message.specs.Joined.{until_of, item_of, joined, IsStretch}
-use Rattle.acc_message.proofs.Joined.{stretch_more, joined_more}
+-- The head stands behind the others, and its notes and messages behind theirs.
+use Rattle.std.proofs.Common.{◌≡◌, ◌+◌, ◌++◌, ◌∷◌, [], length, ap, ap₂, ◌∙◌, arith}
+use Rattle.acc_message.specs.Joined.{until_of, noted_of, joined}
+use Rattle.acc_message.proofs.Joined.{stretch_by, joined_more}
 use Rattle.acc_message.proofs.head.put.Goals as goal
 
 pub returns-clause-items : goal.returns-clause-items
 returns-clause-items c =
     let heads = c.args.heads.now.items in
+    let notes = c.args.notes.now.items in
     let messages = c.args.messages.now.items in
-    let head = c.parted-head.result.0 in
-    let out = c.parted-head.result.1 in
-    let until : until_of head ≡ length messages + length out = omega (arith, c.parted-head.ensures.until, ap length c.parted-head.ensures.messages, c.len.ensures) in
-    ap₂ (joined 0) c.push_reserved.ensures.items c.append.ensures.items
-    ∙ joined_more heads head 0 messages out c.requires.stretch until
-    ∙ ap (λ item. joined 0 heads messages ++ item ∷ []) c.parted-head.ensures.item
+    let parted = c.parted-noted in
+    let noted : noted_of parted.result.0 ≡ length notes + length parted.result.1 = omega (arith, parted.ensures.noted, ap length parted.ensures.notes, c.len.ensures) in
+    let until : until_of parted.result.0 ≡ length messages + length parted.result.2 = omega (arith, parted.ensures.until, ap length parted.ensures.messages, c.len-2.ensures) in
+    ap (λ l. joined 0 0 l c.append.new.list.items c.append-2.new.list.items) c.push_reserved.ensures.items
+    ∙ ap₂ (joined 0 0 (heads ++ parted.result.0 ∷ [])) c.append.ensures.items c.append-2.ensures.items
+    ∙ joined_more heads parted.result.0 0 0 notes parted.result.1 messages parted.result.2 c.requires.noted noted c.requires.stretch until
+    ∙ ap (λ item. joined 0 0 heads notes messages ++ item ∷ []) parted.ensures.item
+
+pub returns-clause-noted : goal.returns-clause-noted
+returns-clause-noted c =
+    let parted = c.parted-noted in
+    let noted : noted_of parted.result.0 ≡ length c.args.notes.now.items + length parted.result.1 = omega (arith, parted.ensures.noted, ap length parted.ensures.notes, c.len.ensures) in
+    stretch_by noted_of c.args.heads.now.items _ parted.result.0 c.args.notes.now.items parted.result.1 _ c.requires.noted noted c.push_reserved.ensures.items c.append.ensures.items
 
 pub returns-clause-stretch : goal.returns-clause-stretch
 returns-clause-stretch c =
-    let heads = c.args.heads.now.items in
-    let messages = c.args.messages.now.items in
-    let head = c.parted-head.result.0 in
-    let out = c.parted-head.result.1 in
-    let all = ap length c.append.ensures.items ∙ length-append messages out in
-    let until : until_of head ≡ length c.append.new.messages.items = omega (arith, c.parted-head.ensures.until, ap length c.parted-head.ensures.messages, c.len.ensures, all) in
-    subst (λ l. IsStretch 0 l (length c.append.new.messages.items)) (sym c.push_reserved.ensures.items)
-    (subst (IsStretch 0 (heads ++ head ∷ [])) until (stretch_more heads head 0 (length messages) c.requires.stretch (omega (arith, until, all))))
+    let parted = c.parted-noted in
+    let until : until_of parted.result.0 ≡ length c.args.messages.now.items + length parted.result.2 = omega (arith, parted.ensures.until, ap length parted.ensures.messages, c.len-2.ensures) in
+    stretch_by until_of c.args.heads.now.items _ parted.result.0 c.args.messages.now.items parted.result.2 _ c.requires.stretch until c.push_reserved.ensures.items c.append-2.ensures.items

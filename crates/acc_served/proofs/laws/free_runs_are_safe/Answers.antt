@@ -1,4 +1,4 @@
-use Rattle.acc_safe_runs.proofs.EveryRun.{agreement_holds, coverage_holds, serial_holds}
+use Rattle.acc_every_run.proofs.EveryRun.{agreement_holds, coverage_holds, serial_holds}
 use Rattle.acc_follow.specs.Schedules.{cluster_of}
 use Rattle.acc_served.proofs.laws.free_runs_are_safe.Goals as goal
 

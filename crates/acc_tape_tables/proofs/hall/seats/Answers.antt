@@ -1,5 +1,5 @@
 -- One more seat that holds nothing.
-use Rattle.std.proofs.Common.{◌≡◌, [], All, sym, subst}
+use Rattle.std.proofs.Common.{◌≡◌, All, sym, subst}
 use Rattle.std.proofs.lemmas.List.Elements.{All-push}
 use Rattle.acc_tape.specs.Seats.{SeatView}
 use Rattle.acc_tape_tables.specs.declared.sample.Sample.{Sample}
@@ -15,7 +15,7 @@ loop-chair-preserved c =
     let l = c.loop-chair.invariant in
     let next = c.in-Some.ensures.steps.0 in
     let tape = c.args.tape.now in
-    let Free : SeatView Sample → Type 0 = λ seat. (seat.tape ≡ tape) × (seat.held ≡ []) in
+    let Free : SeatView Sample → Type 0 = λ seat. (seat.tape ≡ tape) × (seat.held_items ≡ 0) × (seat.held_weight ≡ 0) in
     record {
       can_next = tt;
       is_finite = tt;

@@ -1,5 +1,5 @@
 -- The seats so far are those of the first chairs, and hold nothing.
-use Rattle.std.proofs.Common.{◌≡◌, ◌++◌, [], length, All}
+use Rattle.std.proofs.Common.{◌≡◌, ◌++◌, length, All}
 use Rattle.std.specs.Vec.Iter.{into_iter_items}
 use Rattle.acc_tape_tables.proofs.hall.seats.Given as goal
 
@@ -9,5 +9,5 @@ invariant-loop-chair l = record {
   is_finite : goal.iterator-loop-chair.is_finite l.chair-iterator;
   rest : l.yielded ++ into_iter_items l.chair-iterator ≡ l.fn.chairs.items;
   count : length l.seats ≡ length l.yielded;
-  free : All (λ seat. (seat.tape ≡ l.fn.tape) × (seat.held ≡ [])) l.seats;
+  free : All (λ seat. (seat.tape ≡ l.fn.tape) × (seat.held_items ≡ 0) × (seat.held_weight ≡ 0)) l.seats;
 }

@@ -10,19 +10,19 @@ pub history_over-requires : goal.history_over-requires
 history_over-requires g c =
     let stopped = c.requires.standing.0 in
     let over = c.requires.standing.1 in (
-      items_standing c.args.plan.now c.args.items stopped (sound_standing (cluster_of c.args.plan.now) (behind_items c.args.items stopped) over.sound),
-      few_items (reverse c.args.items) over.within,
+      items_standing c.args.plan.now c.args.items.items stopped (sound_standing (cluster_of c.args.plan.now) (behind_items c.args.items.items stopped) over.sound),
+      few_items (reverse c.args.items.items) over.within,
     )
 
 pub returns-clause-ok : goal.returns-clause-ok
 returns-clause-ok g c = λ stopped over.
-    cluster_stands g.D.Disk.is_image g.D.Disk.faults c.args.plan.now c.args.slots.items c.in_ok-slots.slots.items c.in_ok-slots.ensures c.requires.actors c.args.items stopped over
+    cluster_stands g.D.Disk.is_image g.D.Disk.faults c.args.plan.now c.args.slots.items c.in_ok-slots.slots.items c.in_ok-slots.ensures c.requires.actors c.args.items.items stopped over
     _ refl (c.in_ok-history.ensures stopped)
 
 pub returns-clause-strict : goal.returns-clause-strict
 returns-clause-strict g c = λ stopped disks over strictly. record {
   stands = returns-clause-ok g c stopped over;
   strictly =
-      actors_strictly g.D.Disk.is_image g.D.Disk.faults c.args.plan.now c.args.slots.items c.in_ok-slots.slots.items c.in_ok-slots.ensures c.requires.actors c.args.items stopped over
+      actors_strictly g.D.Disk.is_image g.D.Disk.faults c.args.plan.now c.args.slots.items c.in_ok-slots.slots.items c.in_ok-slots.ensures c.requires.actors c.args.items.items stopped over
       g.D.Disk.strict g.D.Disk.armed g.D.Disk.content g.D.Disk.synced g.D.Disk.written disks strictly;
 }

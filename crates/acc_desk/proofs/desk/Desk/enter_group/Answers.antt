@@ -1,89 +1,58 @@
-use Rattle.std.proofs.Common.{◌≡◌, ◌≢◌, ◌+◌, ◌<◌, true, false, List, [], ◌∷◌, length, get_or, drop, Result, Ok, Err, refl, sym, ◌∙◌, ap, subst, arith}
-use Rattle.std.specs.Prelude.{OnOk, OnErr}
-use Rattle.std.specs.Result.{is_err}
-use Rattle.std.specs.Vec.Iter.{into_iter_items}
-use Rattle.std.proofs.lemmas.Bool.{true≢false}
-use Rattle.acc_actors.specs.declared.stops.Unsent.{Unsent}
-use Rattle.acc_desk.specs.Desks.{IsSeated}
-use Rattle.acc_desk.specs.Groups.{IsEnteringDesk}
-use Rattle.acc_desk.proofs.Next.{drop_next}
-use Rattle.acc_desk.proofs.Puts.{get_there, next_left, none_left}
+use Rattle.std.proofs.Common.{◌≡◌, ◌≤◌, List, length, sym, ap, subst, arith}
+use Rattle.std.specs.Prelude.{All, sum_by}
+use Rattle.acc_message.specs.declared.item.Item.{Item}
+use Rattle.acc_message.specs.Items.{sent_in}
+use Rattle.acc_message_code.specs.Short.{IsShortMessage}
+use Rattle.acc_message_code.specs.Weight.{weight_of}
+use Rattle.acc_tape.specs.ItemViews.{actor_of_item}
+use Rattle.acc_tape.specs.Seats.{Turns, FitAllBehind, ComeLast}
+use Rattle.acc_desk.specs.Fits.{fits_plan}
+use Rattle.acc_desk.proofs.Seating.{holds_items, holds_weight, held_none}
+use Rattle.acc_desk.proofs.Puts.{puts_few, puts_own, puts_short, puts_weigh, puts_fit, puts_on}
 use Rattle.acc_desk.proofs.desk.Desk.enter_group.Goals as goal
 
--- what holds where an error came, and where none did
-when_err : {A E P : Type 0} (r : Result A E) → is_err r ≡ true → OnErr r P → P
-when_err (Ok a) some h = absurd (true≢false (sym some))
-when_err (Err e) some h = h
+pub let_go-requires-clause-seated : goal.let_go-requires-clause-seated
+let_go-requires-clause-seated g c = c.requires.group.1.seated
 
-when_ok : {A E P : Type 0} (r : Result A E) → is_err r ≡ false → OnOk r P → P
-when_ok (Ok a) none h = h
-when_ok (Err e) none h = absurd (true≢false none)
+pub put_all-requires-clause-held : goal.put_all-requires-clause-held
+put_all-requires-clause-held g c =
+    let self = c.args.self.now in
+    let q = c.requires.group in
+    let n = ap (λ (l : List Item). length l) c.in-Ok.ensures in
+    let f = puts_few g.D.Disk.is_image g.D.Disk.faults g.D.Disk.strict g.D.Disk.armed g.D.Disk.content g.D.Disk.synced g.D.Disk.written g.J.Planned.strict c.args.plan.now c.args.tape.now c.requires.limits self.actor self.commands self.gone self.slot c.args.hold q.0 c.args.unsent self.seat q.1 in (
+      omega arith,
+      holds_items self.seat c.args.hold q.1.seated.held_is,
+      holds_weight self.seat c.args.hold q.1.seated.held_is,
+    )
 
-empty_is : {X : Type 0} (l : List X) → length l ≡ 0 → l ≡ []
-empty_is [] none = refl
-empty_is (x ∷ l) none = absurd (omega (arith, none))
+pub put_all-requires-clause-own : goal.put_all-requires-clause-own
+put_all-requires-clause-own g c =
+    let self = c.args.self.now in
+    let q = c.requires.group in
+    subst (All (λ item. actor_of_item item ≡ self.seat.actor)) (sym c.in-Ok.ensures) (puts_own g.D.Disk.is_image g.D.Disk.faults g.D.Disk.strict g.D.Disk.armed g.D.Disk.content g.D.Disk.synced g.D.Disk.written g.J.Planned.strict c.args.plan.now c.args.tape.now c.requires.limits self.actor self.commands self.gone self.slot c.args.hold q.0 c.args.unsent self.seat q.1)
 
-pub enter_one-requires-clause-group : goal.enter_one-requires-clause-group
-enter_one-requires-clause-group g c =
-    let self = c.loop-one.self in
-    let ws = c.args.weights.now in
-    let place = c.loop-one.place in
-    let weight = get_or ws place 0 in
-    let group = c.loop-one.invariant.group in
-    let here = drop_next ws place weight (get_there ws place c.if-place-weights.false) in
-    let left = subst (λ (l : List Unsent). IsEnteringDesk g.D.Disk.is_image g.D.Disk.faults g.D.Disk.strict g.D.Disk.armed g.D.Disk.content g.D.Disk.synced g.D.Disk.written g.J.Planned.strict c.args.plan.now c.args.tape.now (drop place ws) self.actor self.seat self.slot self.commands self.gone group.0 l) c.in-Some.ensures.steps.0 group.1 in
-    let n = next_left g.D.Disk.is_image g.D.Disk.faults g.D.Disk.strict g.D.Disk.armed g.D.Disk.content g.D.Disk.synced g.D.Disk.written g.J.Planned.strict c.args.plan.now c.args.tape.now c.requires.limits self.actor self.commands self.gone self.slot (drop place ws) weight (drop (place + 1) ws) self.seat group.0 c.in-Some.one (into_iter_items c.next.new.self) here left in
-    (drop (place + 1) ws, n.0, n.1, into_iter_items c.next.new.self, n.2)
+pub put_all-requires-clause-bytes : goal.put_all-requires-clause-bytes
+put_all-requires-clause-bytes g c =
+    let self = c.args.self.now in
+    let q = c.requires.group in (
+      subst (All (λ item. All IsShortMessage (sent_in item))) (sym c.in-Ok.ensures) (puts_short g.D.Disk.is_image g.D.Disk.faults g.D.Disk.strict g.D.Disk.armed g.D.Disk.content g.D.Disk.synced g.D.Disk.written g.J.Planned.strict c.args.plan.now c.args.tape.now c.requires.limits self.actor self.commands self.gone self.slot c.args.hold q.0 c.args.unsent self.seat q.1),
+      subst (λ (items : List Item). sum_by weight_of items ≤ c.args.hold.weight) (sym c.in-Ok.ensures) (puts_weigh g.D.Disk.is_image g.D.Disk.faults g.D.Disk.strict g.D.Disk.armed g.D.Disk.content g.D.Disk.synced g.D.Disk.written g.J.Planned.strict c.args.plan.now c.args.tape.now c.requires.limits self.actor self.commands self.gone self.slot c.args.hold q.0 c.args.unsent self.seat q.1),
+    )
 
-pub release_from-requires-clause-seated : goal.release_from-requires-clause-seated
-release_from-requires-clause-seated g c =
-    let self = c.loop-one.self in
-    let ws = c.args.weights.now in
-    let place = c.loop-one.place in
-    let weight = get_or ws place 0 in
-    let group = c.loop-one.invariant.group in
-    let here = drop_next ws place weight (get_there ws place c.if-place-weights.false) in
-    when_err c.enter_one.result (sym c.is_err.ensures.value ∙ c.if-is_err.true) c.enter_one.ensures.err (drop (place + 1) ws) (subst (λ held. IsSeated c.args.tape.now self.actor held self.seat) here group.1.seated)
-
-pub loop-one-preserved : goal.loop-one-preserved
-loop-one-preserved g c =
-    let self = c.loop-one.self in
-    let ws = c.args.weights.now in
-    let place = c.loop-one.place in
-    let weight = get_or ws place 0 in
-    let group = c.loop-one.invariant.group in
-    let here = drop_next ws place weight (get_there ws place c.if-place-weights.false) in
-    let left = subst (λ (l : List Unsent). IsEnteringDesk g.D.Disk.is_image g.D.Disk.faults g.D.Disk.strict g.D.Disk.armed g.D.Disk.content g.D.Disk.synced g.D.Disk.written g.J.Planned.strict c.args.plan.now c.args.tape.now (drop place ws) self.actor self.seat self.slot self.commands self.gone group.0 l) c.in-Some.ensures.steps.0 group.1 in
-    let n = next_left g.D.Disk.is_image g.D.Disk.faults g.D.Disk.strict g.D.Disk.armed g.D.Disk.content g.D.Disk.synced g.D.Disk.written g.J.Planned.strict c.args.plan.now c.args.tape.now c.requires.limits self.actor self.commands self.gone self.slot (drop place ws) weight (drop (place + 1) ws) self.seat group.0 c.in-Some.one (into_iter_items c.next.new.self) here left in
-    record {
-      can_next = tt;
-      is_finite = tt;
-      same = (c.enter_one.ensures.same.0 ∙ c.loop-one.invariant.same.0, c.enter_one.ensures.same.2 ∙ c.loop-one.invariant.same.1);
-      group = (n.1, when_ok c.enter_one.result (sym c.is_err.ensures.value ∙ c.if-is_err.false) c.enter_one.ensures.ok (drop (place + 1) ws) n.0 n.1 (into_iter_items c.next.new.self) n.2);
-      left = let l = c.loop-one.invariant.left in let n = ap (λ (l : List Unsent). length l) c.in-Some.ensures.steps.0 in omega arith;
-      entered = let m = c.loop-one.invariant.entered in let more = when_ok c.enter_one.result (sym c.is_err.ensures.value ∙ c.if-is_err.false) c.enter_one.ensures.entered in omega arith;
-    }
+pub put_all-requires-clause-fits : goal.put_all-requires-clause-fits
+put_all-requires-clause-fits g c =
+    let self = c.args.self.now in
+    let q = c.requires.group in
+    subst (λ p. FitAllBehind actor_of_item (fits_plan p) self.seat c.in-Ok.items.items) c.requires.plan
+    (subst (FitAllBehind actor_of_item (fits_plan c.args.plan.now) self.seat) (sym c.in-Ok.ensures) (puts_fit g.D.Disk.is_image g.D.Disk.faults g.D.Disk.strict g.D.Disk.armed g.D.Disk.content g.D.Disk.synced g.D.Disk.written g.J.Planned.strict c.args.plan.now c.args.tape.now c.requires.limits self.actor self.commands self.gone self.slot c.args.hold q.0 c.args.unsent self.seat q.1))
 
 pub returns-clause-ok : goal.returns-clause-ok
 returns-clause-ok g c =
-    let self = c.loop-one.self in
-    let group = c.loop-one.invariant.group in
-    let left = c.loop-one.one-iterator in
-    c.release_from-2.ensures.sound
-    (none_left g.D.Disk.is_image g.D.Disk.faults g.D.Disk.strict g.D.Disk.armed g.D.Disk.content g.D.Disk.synced g.D.Disk.written g.J.Planned.strict c.args.plan.now c.args.tape.now c.requires.limits self.actor self.commands self.gone self.slot (drop c.loop-one.place c.args.weights.now) self.seat group.0 (into_iter_items left) (empty_is (into_iter_items left) (sym left.rest.ok.0 ∙ c.in-None.ensures.steps.0)) group.1)
-
--- a list that isn't empty has an element
-some_in : {X : Type 0} (l : List X) → l ≢ [] → 0 < length l
-some_in [] some = absurd (some refl)
-some_in (x ∷ l) some = omega arith
-
-pub returns-clause-entered : goal.returns-clause-entered
-returns-clause-entered g c = λ some.
-    let left = c.loop-one.one-iterator in
-    let none = empty_is (into_iter_items left) (sym left.rest.ok.0 ∙ c.in-None.ensures.steps.0) in
-    let n = ap (λ (l : List Unsent). length l) none in
-    let l = c.loop-one.invariant.left in
-    let m = c.loop-one.invariant.entered in
-    let s = some_in c.args.unsent some in
-    let same = ap length c.release_from-2.ensures.mine in
-    omega arith
+    let self = c.args.self.now in
+    let q = c.requires.group in
+    let new = c.put_all.new.seat in
+    let turns = subst (λ p. Turns actor_of_item weight_of (fits_plan p) self.seat new) (sym c.requires.plan) c.put_all.ensures.turn in
+    let last = subst (λ p. ComeLast actor_of_item (fits_plan p) self.seat new.seen c.in-Ok.items.items) (sym c.requires.plan) c.in_ok-put_all.ensures.behind in
+    puts_on g.D.Disk.is_image g.D.Disk.faults g.D.Disk.strict g.D.Disk.armed g.D.Disk.content g.D.Disk.synced g.D.Disk.written g.J.Planned.strict c.args.plan.now c.args.tape.now c.requires.limits self.actor self.commands self.gone self.slot c.args.hold q.0 c.args.unsent self.seat q.1 new turns
+    (held_none self.seat new c.args.hold q.1.seated.held_is c.put_all.ensures.held.0 c.put_all.ensures.held.1)
+    (subst (ComeLast actor_of_item (fits_plan c.args.plan.now) self.seat new.seen) c.in-Ok.ensures last)

@@ -2,17 +2,16 @@ use Rattle.std.proofs.Common.{◌∙◌}
 use Rattle.acc_desk.proofs.Joining.{none_joined, some_joined}
 use Rattle.acc_desk.proofs.desk.Desk.finish.Goals as goal
 
-pub release_from-requires-clause-seated : goal.release_from-requires-clause-seated
-release_from-requires-clause-seated g c = c.requires.group.3.desk.seated
+pub let_go-requires-clause-seated : goal.let_go-requires-clause-seated
+let_go-requires-clause-seated g c = c.requires.group.4.desk.seated
 
 pub returns-then-staged-eq0-clause-ok : goal.returns-then-staged-eq0-clause-ok
 returns-then-staged-eq0-clause-ok g c =
     let self = c.args.self.now in
     let q = c.requires.group in
-    c.release_from.ensures.sound
-    (none_joined g.D.Disk.is_image g.D.Disk.faults g.D.Disk.strict g.D.Disk.armed g.D.Disk.content g.D.Disk.synced g.D.Disk.written g.J.Planned.strict c.args.plan.now c.args.tape.now c.requires.limits self.actor self.commands self.gone q.0 self.slot q.1 c.args.weights.now self.seat (q.2 ∙ c.if-staged-eq0.true) q.3)
+    c.let_go.ensures.sound (none_joined g.D.Disk.is_image g.D.Disk.faults g.D.Disk.strict g.D.Disk.armed g.D.Disk.content g.D.Disk.synced g.D.Disk.written g.J.Planned.strict c.args.plan.now c.args.tape.now c.requires.limits self.actor self.commands self.gone q.0 self.slot q.1 q.2 c.args.hold self.seat q.4 (q.3 ∙ c.if-staged-eq0.true))
 
 pub settle-requires-clause-group : goal.settle-requires-clause-group
 settle-requires-clause-group g c =
     let q = c.requires.group in
-    (q.0, q.1, some_joined q.1 c.args.staged q.2 c.if-staged-eq0.false, q.3)
+    (q.0, q.1, q.2, some_joined q.1 c.args.staged q.3 c.if-staged-eq0.false, q.4)

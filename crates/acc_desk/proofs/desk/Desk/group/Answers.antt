@@ -1,29 +1,75 @@
-use Rattle.std.proofs.Common.{◌≡◌, ◌≢◌, ◌⊎◌, ℕ, zero, suc, ◌<◌, length, drop, inl, inr, refl, sym, ◌∙◌, ap, subst, arith}
+use Rattle.std.proofs.Common.{◌≤◌, [], length, map, drop, sym, ◌∙◌, ap, subst, arith}
+use Rattle.std.proofs.lemmas.List.{length-map}
+use Rattle.acc_message_code.specs.Weight.{weight_of}
+use Rattle.acc_tape.specs.ItemViews.{actor_of_item}
+use Rattle.acc_tape.specs.Seats.{Turns}
+use Rattle.acc_desk.specs.Desks.{newest, no_hold}
+use Rattle.acc_desk.specs.Fits.{fits_plan}
+use Rattle.acc_desk.specs.Groups.{joining_of, CanAllJoin}
 use Rattle.acc_desk.specs.Outcomes.{HasNoRoom}
+use Rattle.acc_desk.proofs.Seating.{held_same, desk_on}
+use Rattle.acc_desk.proofs.Puts.{up_moves}
+use Rattle.acc_desk.proofs.Joining.{begins_gathering}
+use Rattle.acc_desk.proofs.Finding.{found_may_join}
 use Rattle.acc_desk.proofs.desk.Desk.group.Goals as goal
 
--- some were staged, or none
-some_or_none : {P Q : Type 0} (staged : ℕ) → (staged ≢ 0 → P) → (staged ≡ 0 → Q) → P ⊎ Q
-some_or_none zero some none = inr (none refl)
-some_or_none (suc n) some none = inl (some (λ is. absurd (omega (arith, is))))
+pub returns-then-is_empty-clause-ok : goal.returns-then-is_empty-clause-ok
+returns-then-is_empty-clause-ok g c =
+    let self = c.args.self.now in
+    let new = c.collect.new.seat in
+    let same = c.collect.ensures.same in
+    let turns = subst (λ p. Turns actor_of_item weight_of (fits_plan p) self.seat new) (sym c.requires.plan) c.collect.ensures.turn in
+    desk_on c.args.plan.now c.args.tape.now c.requires.limits self.actor g.D.Disk.is_image g.D.Disk.faults g.D.Disk.strict g.D.Disk.armed g.D.Disk.content g.D.Disk.synced g.D.Disk.written g.J.Planned.strict self.commands self.gone self.slot no_hold no_hold self.seat new c.requires.desk turns same.0 (held_same self.seat new no_hold c.requires.desk.seated.held_is same.1 same.2)
+
+pub gather-staged-requires-clause-desk : goal.gather-staged-requires-clause-desk
+gather-staged-requires-clause-desk g c =
+    let self = c.args.self.now in
+    let new = c.collect.new.seat in
+    let same = c.collect.ensures.same in
+    let turns = subst (λ p. Turns actor_of_item weight_of (fits_plan p) self.seat new) (sym c.requires.plan) c.collect.ensures.turn in
+    desk_on c.args.plan.now c.args.tape.now c.requires.limits self.actor g.D.Disk.is_image g.D.Disk.faults g.D.Disk.strict g.D.Disk.armed g.D.Disk.content g.D.Disk.synced g.D.Disk.written g.J.Planned.strict self.commands self.gone self.slot no_hold no_hold self.seat new c.requires.desk turns same.0 (held_same self.seat new no_hold c.requires.desk.seated.held_is same.1 same.2)
+
+pub gather-staged-requires-clause-up : goal.gather-staged-requires-clause-up
+gather-staged-requires-clause-up g c =
+    let self = c.args.self.now in
+    let new = c.collect.new.seat in
+    let same = c.collect.ensures.same in
+    let turns = subst (λ p. Turns actor_of_item weight_of (fits_plan p) self.seat new) (sym c.requires.plan) c.collect.ensures.turn in
+    up_moves g.D.Disk.is_image g.D.Disk.faults g.D.Disk.strict g.D.Disk.armed g.D.Disk.content g.D.Disk.synced g.D.Disk.written g.J.Planned.strict c.args.plan.now c.args.tape.now c.requires.limits self.actor self.commands self.gone self.slot self.slot [] 0 no_hold no_hold self.seat new
+    (begins_gathering g.D.Disk.is_image g.D.Disk.faults g.D.Disk.strict g.D.Disk.armed g.D.Disk.content g.D.Disk.synced g.D.Disk.written g.J.Planned.strict c.args.plan.now c.args.tape.now c.requires.limits self.actor self.commands self.gone self.slot self.seat c.requires.kind c.requires.up c.requires.desk)
+    turns same.0 (held_same self.seat new no_hold c.requires.desk.seated.held_is same.1 same.2)
+
+pub gather-staged-requires-clause-found : goal.gather-staged-requires-clause-found
+gather-staged-requires-clause-found g c =
+    let self = c.args.self.now in
+    let new = c.collect.new.seat in
+    let list = c.collect.new.found in
+    let same = c.collect.ensures.same in
+    let left = drop self.gone self.commands in
+    let turns = subst (λ p. Turns actor_of_item weight_of (fits_plan p) self.seat new) (sym c.requires.plan) c.collect.ensures.turn in
+    let up =
+    up_moves g.D.Disk.is_image g.D.Disk.faults g.D.Disk.strict g.D.Disk.armed g.D.Disk.content g.D.Disk.synced g.D.Disk.written g.J.Planned.strict c.args.plan.now c.args.tape.now c.requires.limits self.actor self.commands self.gone self.slot self.slot [] 0 no_hold no_hold self.seat new
+    (begins_gathering g.D.Disk.is_image g.D.Disk.faults g.D.Disk.strict g.D.Disk.armed g.D.Disk.content g.D.Disk.synced g.D.Disk.written g.J.Planned.strict c.args.plan.now c.args.tape.now c.requires.limits self.actor self.commands self.gone self.slot self.seat c.requires.kind c.requires.up c.requires.desk)
+    turns same.0 (held_same self.seat new no_hold c.requires.desk.seated.held_is same.1 same.2) in
+    let few : length (map joining_of list.items) ≤ 16 =
+    (let n = length-map list.items joining_of in let long = list.ok.0 in let within = list.ok.1 in let room = c.collect.ensures.room in let most = c.in_ok-found.ensures.exact in omega arith) in
+    subst (λ found. CanAllJoin c.args.plan.now (newest new) self.actor left (map joining_of found)) (sym c.as_slice.ensures.value)
+    (found_may_join c.args.plan.now self.actor new c.requires.kind up left list.items c.collect.ensures.oldest c.collect.ensures.sent few)
 
 pub returns-in-Full-clause-came : goal.returns-in-Full-clause-came
 returns-in-Full-clause-came g c =
     let plan = c.args.plan.now in
     let tape = c.args.tape.now in
+    let self = c.args.self.now in
     let staged = c.gather-staged.new.self in
     let same = c.gather-staged.ensures.same in
-    let mine = c.gather-staged.ensures.mine in
     let full = c.gather-staged.ensures.full c.in-Full.is in
+    let still = c.finish.ensures.none full.0 full.1 in
     let seat = c.finish.new.self.seat in
-    some_or_none c.gather-staged.result.0
-    (λ some. subst (λ items. length items < length seat.mine) mine (c.in_ok-turned.ensures.some some))
-    (λ none.
-    let still = c.finish.ensures.none none (ap length c.as_slice.ensures.value ∙ full.0 ∙ none) in
-    let room = subst (λ s. HasNoRoom plan tape staged.actor (drop staged.gone staged.commands) s) (sym still.0) (full.1 none) in
+    let room = subst (λ s. HasNoRoom plan tape staged.actor (drop staged.gone staged.commands) s) (sym still.0) full.2 in
     let room_gone = subst (λ gone. HasNoRoom plan tape staged.actor (drop gone staged.commands) seat) same.2 room in
-    let room_left = subst (λ commands. HasNoRoom plan tape staged.actor (drop c.args.self.now.gone commands) seat) same.1 room_gone in (
-      ap (λ s. s.mine) still.0 ∙ mine,
+    let room_left = subst (λ commands. HasNoRoom plan tape staged.actor (drop self.gone commands) seat) same.1 room_gone in (
+      ap (λ s. s.mine) still.0 ∙ c.gather-staged.ensures.mine ∙ c.collect.ensures.same.0,
       still.1 ∙ same.2,
-      subst (λ a. HasNoRoom plan tape a (drop c.args.self.now.gone c.args.self.now.commands) seat) same.0 room_left,
-    ))
+      subst (λ a. HasNoRoom plan tape a (drop self.gone self.commands) seat) same.0 room_left,
+    )

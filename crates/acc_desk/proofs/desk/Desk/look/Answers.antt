@@ -1,10 +1,11 @@
-use Rattle.std.proofs.Common.{[], Some, sym, ◌∙◌, ap, subst}
+use Rattle.std.proofs.Common.{sym, ◌∙◌, subst}
 use Rattle.acc_message_code.specs.Weight.{weight_of}
 use Rattle.acc_follow.specs.Schedules.{cluster_of}
 use Rattle.acc_tape.specs.ItemViews.{actor_of_item}
 use Rattle.acc_tape.specs.Seats.{Turns}
+use Rattle.acc_desk.specs.Desks.{no_hold}
 use Rattle.acc_desk.specs.Fits.{fits_plan}
-use Rattle.acc_desk.proofs.Seating.{desk_on}
+use Rattle.acc_desk.proofs.Seating.{held_same, desk_on}
 use Rattle.acc_desk.proofs.Begun.{id_at}
 use Rattle.acc_desk.proofs.desk.Desk.look.Goals as goal
 
@@ -12,18 +13,19 @@ pub returns-in-Err-NoPlace-clause-ok : goal.returns-in-Err-NoPlace-clause-ok
 returns-in-Err-NoPlace-clause-ok g c =
     let self = c.loop-place.self in
     let turns = subst (λ p. Turns actor_of_item weight_of (fits_plan p) self.seat c.fetch.new.seat) (sym c.requires.plan) c.fetch.ensures.turn in
-    desk_on c.args.plan.now c.args.tape.now c.requires.limits self.actor g.D.Disk.is_image g.D.Disk.faults g.D.Disk.strict g.D.Disk.armed g.D.Disk.content g.D.Disk.synced g.D.Disk.written g.J.Planned.strict self.commands self.gone self.slot [] [] self.seat c.fetch.new.seat c.loop-place.invariant.desk turns c.fetch.ensures.same.0 (c.fetch.ensures.same.1 ∙ c.loop-place.invariant.desk.seated.held_is)
+    desk_on c.args.plan.now c.args.tape.now c.requires.limits self.actor g.D.Disk.is_image g.D.Disk.faults g.D.Disk.strict g.D.Disk.armed g.D.Disk.content g.D.Disk.synced g.D.Disk.written g.J.Planned.strict self.commands self.gone self.slot no_hold no_hold self.seat c.fetch.new.seat c.loop-place.invariant.desk turns c.fetch.ensures.same.0 (held_same self.seat c.fetch.new.seat no_hold c.loop-place.invariant.desk.seated.held_is c.fetch.ensures.same.1 c.fetch.ensures.same.2)
 
 pub returns-in-Some-clause-ok : goal.returns-in-Some-clause-ok
 returns-in-Some-clause-ok g c =
     let self = c.loop-place.self in
     let turns = subst (λ p. Turns actor_of_item weight_of (fits_plan p) self.seat c.fetch.new.seat) (sym c.requires.plan) c.fetch.ensures.turn in
-    desk_on c.args.plan.now c.args.tape.now c.requires.limits self.actor g.D.Disk.is_image g.D.Disk.faults g.D.Disk.strict g.D.Disk.armed g.D.Disk.content g.D.Disk.synced g.D.Disk.written g.J.Planned.strict self.commands self.gone self.slot [] [] self.seat c.fetch.new.seat c.loop-place.invariant.desk turns c.fetch.ensures.same.0 (c.fetch.ensures.same.1 ∙ c.loop-place.invariant.desk.seated.held_is)
+    desk_on c.args.plan.now c.args.tape.now c.requires.limits self.actor g.D.Disk.is_image g.D.Disk.faults g.D.Disk.strict g.D.Disk.armed g.D.Disk.content g.D.Disk.synced g.D.Disk.written g.J.Planned.strict self.commands self.gone self.slot no_hold no_hold self.seat c.fetch.new.seat c.loop-place.invariant.desk turns c.fetch.ensures.same.0 (held_same self.seat c.fetch.new.seat no_hold c.loop-place.invariant.desk.seated.held_is c.fetch.ensures.same.1 c.fetch.ensures.same.2)
 
 pub returns-in-Some-clause-found : goal.returns-in-Some-clause-found
 returns-in-Some-clause-found g c =
     let turns = subst (λ p. Turns actor_of_item weight_of (fits_plan p) c.loop-place.self.seat c.fetch.new.seat) (sym c.requires.plan) c.fetch.ensures.turn in
-    id_at (cluster_of c.args.plan.now) c.fetch.new.seat.seen c.loop-place.place c.deref.result.now c.args.txn c.in-Some.id turns.fitting.run.stands (c.in-Ok.ensures.ok ∙ ap Some (sym c.deref.ensures)) c.in-Some.ensures.begins
+    let found = c.in-Ok.ensures.ok in
+    id_at (cluster_of c.args.plan.now) c.fetch.new.seat.seen c.loop-place.place found.0 c.args.txn c.in-Some.id turns.fitting.run.stands found.1 (c.in-Some.ensures.begins found.0 (sym found.2))
 
 pub loop-place-preserved : goal.loop-place-preserved
 loop-place-preserved g c =
@@ -32,5 +34,5 @@ loop-place-preserved g c =
     record {
       same = c.loop-place.invariant.same;
       mine = c.fetch.ensures.same.0 ∙ c.loop-place.invariant.mine;
-      desk = desk_on c.args.plan.now c.args.tape.now c.requires.limits self.actor g.D.Disk.is_image g.D.Disk.faults g.D.Disk.strict g.D.Disk.armed g.D.Disk.content g.D.Disk.synced g.D.Disk.written g.J.Planned.strict self.commands self.gone self.slot [] [] self.seat c.fetch.new.seat c.loop-place.invariant.desk turns c.fetch.ensures.same.0 (c.fetch.ensures.same.1 ∙ c.loop-place.invariant.desk.seated.held_is);
+      desk = desk_on c.args.plan.now c.args.tape.now c.requires.limits self.actor g.D.Disk.is_image g.D.Disk.faults g.D.Disk.strict g.D.Disk.armed g.D.Disk.content g.D.Disk.synced g.D.Disk.written g.J.Planned.strict self.commands self.gone self.slot no_hold no_hold self.seat c.fetch.new.seat c.loop-place.invariant.desk turns c.fetch.ensures.same.0 (held_same self.seat c.fetch.new.seat no_hold c.loop-place.invariant.desk.seated.held_is c.fetch.ensures.same.1 c.fetch.ensures.same.2);
     }

@@ -16,7 +16,10 @@ pub settle-requires : goal.settle-requires
 settle-requires g c =
     let self = c.args.self.now in
     let q = c.requires.group in
-    settle_asks g.D.Disk.is_image g.D.Disk.faults g.D.Disk.strict g.D.Disk.armed g.D.Disk.content g.D.Disk.synced g.D.Disk.written g.J.Planned.strict c.args.plan.now c.args.tape.now c.requires.limits self.actor self.commands self.gone q.0 self.slot q.1 c.args.weights.now self.seat q.3
+    settle_asks g.D.Disk.is_image g.D.Disk.faults g.D.Disk.strict g.D.Disk.armed g.D.Disk.content g.D.Disk.synced g.D.Disk.written g.J.Planned.strict c.args.plan.now c.args.tape.now c.requires.limits self.actor self.commands self.gone q.0 self.slot q.1 q.2 c.args.hold self.seat q.4
+
+pub let_go-requires-clause-seated : goal.let_go-requires-clause-seated
+let_go-requires-clause-seated g c = c.requires.group.4.desk.seated
 
 pub enter_group-requires-clause-group : goal.enter_group-requires-clause-group
 enter_group-requires-clause-group g c =
@@ -27,7 +30,7 @@ enter_group-requires-clause-group g c =
     → IsStrictSlot g.D.Disk.strict g.D.Disk.armed g.D.Disk.content g.D.Disk.synced g.D.Disk.written c.args.plan.now s disks self.actor self.slot
     → HasSettledStrictly g.D.Disk.strict g.D.Disk.armed g.D.Disk.content g.D.Disk.synced g.D.Disk.written c.args.plan.now s disks self.actor staged c.settle.new.self o) c.in-Some.is c.in-Ok.ensures.strict in (
       events_of q.1,
-      settled_some g.D.Disk.is_image g.D.Disk.faults g.D.Disk.strict g.D.Disk.armed g.D.Disk.content g.D.Disk.synced g.D.Disk.written g.J.Planned.strict c.args.plan.now c.args.tape.now c.requires.limits self.actor self.commands self.gone q.0 self.slot q.1 c.args.weights.now self.seat q.3 c.settle.new.self c.in-Some.unsent settled strictly q.2,
+      settled_some g.D.Disk.is_image g.D.Disk.faults g.D.Disk.strict g.D.Disk.armed g.D.Disk.content g.D.Disk.synced g.D.Disk.written g.J.Planned.strict c.args.plan.now c.args.tape.now c.requires.limits self.actor self.commands self.gone q.0 self.slot q.1 q.2 c.args.hold self.seat q.4 c.settle.new.self c.in-Some.unsent settled strictly q.3,
     )
 
 pub enter_down-requires-clause-group : goal.enter_down-requires-clause-group
@@ -40,7 +43,7 @@ enter_down-requires-clause-group g c =
     → HasSettledStrictly g.D.Disk.strict g.D.Disk.armed g.D.Disk.content g.D.Disk.synced g.D.Disk.written c.args.plan.now s disks self.actor staged c.settle.new.self o) c.in-None.is c.in-Ok.ensures.strict in (
       q.0,
       q.1,
-      settled_none g.D.Disk.is_image g.D.Disk.faults g.D.Disk.strict g.D.Disk.armed g.D.Disk.content g.D.Disk.synced g.D.Disk.written g.J.Planned.strict c.args.plan.now c.args.tape.now c.requires.limits self.actor self.commands self.gone q.0 self.slot q.1 c.args.weights.now self.seat q.3 c.settle.new.self settled strictly q.2,
+      settled_none g.D.Disk.is_image g.D.Disk.faults g.D.Disk.strict g.D.Disk.armed g.D.Disk.content g.D.Disk.synced g.D.Disk.written g.J.Planned.strict c.args.plan.now c.args.tape.now c.requires.limits self.actor self.commands self.gone q.0 self.slot q.1 q.2 c.args.hold self.seat q.4 c.settle.new.self settled strictly q.3,
     )
 
 -- a group that isn't empty gives a step
@@ -61,5 +64,5 @@ returns-in-Some-clause-entered g c =
     let strictly = subst (λ (o : Option (List Unsent)). (s : Situation) (staged : List Event) (disks : Disks) → IsStaged g.D.Disk.is_image g.D.Disk.faults c.args.plan.now s self.actor staged self.slot → staged ≢ []
     → IsStrictSlot g.D.Disk.strict g.D.Disk.armed g.D.Disk.content g.D.Disk.synced g.D.Disk.written c.args.plan.now s disks self.actor self.slot
     → HasSettledStrictly g.D.Disk.strict g.D.Disk.armed g.D.Disk.content g.D.Disk.synced g.D.Disk.written c.args.plan.now s disks self.actor staged c.settle.new.self o) c.in-Some.is c.in-Ok.ensures.strict in
-    let desk = settled_some g.D.Disk.is_image g.D.Disk.faults g.D.Disk.strict g.D.Disk.armed g.D.Disk.content g.D.Disk.synced g.D.Disk.written g.J.Planned.strict c.args.plan.now c.args.tape.now c.requires.limits self.actor self.commands self.gone q.0 self.slot q.1 c.args.weights.now self.seat q.3 c.settle.new.self c.in-Some.unsent settled strictly q.2 in
-    then_ok c.enter_group.result (λ more. more (some_given _ _ _ q.1 _ c.in-Some.unsent q.2 desk.entering.steps)) c.enter_group.ensures.entered
+    let desk = settled_some g.D.Disk.is_image g.D.Disk.faults g.D.Disk.strict g.D.Disk.armed g.D.Disk.content g.D.Disk.synced g.D.Disk.written g.J.Planned.strict c.args.plan.now c.args.tape.now c.requires.limits self.actor self.commands self.gone q.0 self.slot q.1 q.2 c.args.hold self.seat q.4 c.settle.new.self c.in-Some.unsent settled strictly q.3 in
+    then_ok c.enter_group.result (λ more. more (some_given _ _ _ q.1 _ c.in-Some.unsent q.3 desk.entering.steps)) c.enter_group.ensures.entered

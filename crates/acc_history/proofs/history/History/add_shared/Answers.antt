@@ -1,6 +1,8 @@
-use Rattle.std.proofs.Common.{◌++◌, [], ◌∷◌, ap, ◌∙◌}
+use Rattle.std.proofs.Common.{◌++◌, [], ◌∷◌, sym, ap, ◌∙◌}
 use Rattle.std.specs.Arc.{arc_value}
 use Rattle.acc_message.specs.Growing.{Growing}
+use Rattle.acc_message.specs.Items.{sent_in}
+use Rattle.acc_message.specs.Shown.{with_sent}
 use Rattle.acc_history.proofs.Raised.{begun_more}
 use Rattle.acc_history.proofs.Entered.{holds_added}
 use Rattle.acc_history.proofs.history.History.add_shared.Goals as goal
@@ -8,8 +10,11 @@ use Rattle.acc_history.proofs.history.History.add_shared.Goals as goal
 pub returns-clause-stands : goal.returns-clause-stands
 returns-clause-stands c = λ s h takes.
     let item = arc_value c.args.item in
+    let entered = with_sent c.of-shown.result c.sent_by-messages.result.now in
+    let sent = c.sent_by-messages.ensures ∙ ap sent_in (c.deref-3.ensures ∙ sym c.deref-2.ensures) in
+    let same = ap (λ out. with_sent c.of-shown.result out) sent ∙ c.of-shown.ensures ∙ c.deref-2.ensures in
     let admitted = c.in_ok-place.ensures in
     let more = ap (λ (l : Growing). l.items) c.share.ensures ∙ ap (λ l. l ++ item ∷ []) admitted.items.0 in record {
-      holds = holds_added h.holds item takes c.admit.new.self.waiting c.enter.new.waiting c.deref-3.result.now _ c.in_ok-place.place admitted.same c.deref-3.ensures admitted.place more c.enter.ensures.sent c.enter.ensures.downs;
-      begun = λ txn. begun_more s item c.deref-2.result.now txn _ _ c.deref-2.ensures (admitted.begun txn) (h.begun txn);
+      holds = holds_added h.holds item takes c.admit.new.self.waiting c.enter.new.waiting entered _ c.in_ok-place.place admitted.same same admitted.place more c.enter.ensures.sent c.enter.ensures.downs;
+      begun = λ txn. begun_more s item entered txn _ _ same (admitted.begun txn) (h.begun txn);
     }

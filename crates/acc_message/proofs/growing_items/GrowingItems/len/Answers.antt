@@ -11,5 +11,5 @@ pub returns : goal.returns
 returns c =
     let inside = c.self.inside in
     let items = ap (λ (l : Growing). length l.items) c.self.view_is in
-    let all = length-append (map arc_value inside.shared.items) (joined 0 inside.heads.items inside.messages.items) in
-    omega (arith, items, all, length-map inside.shared.items arc_value, length-joined inside.heads.items 0 inside.messages.items, c.len.ensures, c.len-2.ensures, inside.shared.ok.0, inside.heads.ok.0)
+    let all = length-append (map arc_value inside.shared.items) (joined 0 0 inside.heads.items inside.notes.items inside.messages.items) in
+    omega (arith, items, all, length-map inside.shared.items arc_value, length-joined inside.heads.items 0 0 inside.notes.items inside.messages.items, c.len.ensures, c.len-2.ensures, inside.shared.ok.0, inside.heads.ok.0)

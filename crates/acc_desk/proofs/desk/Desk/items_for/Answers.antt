@@ -1,0 +1,37 @@
+use Rattle.std.proofs.Common.{◌≡◌, List, [], ◌∷◌, ◌++◌, length, map, refl, sym, ◌∙◌, ap, arith}
+use Rattle.std.specs.Vec.Iter.{into_iter_items}
+use Rattle.std.proofs.lemmas.List.{append-nil, append_assoc}
+use Rattle.acc_actors.specs.declared.stops.Unsent.{Unsent}
+use Rattle.acc_message.specs.declared.item.Item.{Item}
+use Rattle.acc_desk.specs.Groups.{item_of_unsent}
+use Rattle.acc_desk.proofs.desk.Desk.items_for.Goals as goal
+
+empty_is : {X : Type 0} (l : List X) → length l ≡ 0 → l ≡ []
+empty_is [] none = refl
+empty_is (x ∷ l) none = absurd (omega (arith, none))
+
+pub loop-one-preserved : goal.loop-one-preserved
+loop-one-preserved g c =
+    let a = c.args.self.now.actor in
+    let items = c.loop-one.items.items in
+    let later = map (item_of_unsent a) (into_iter_items c.next.new.self) in
+    record {
+      can_next = tt;
+      is_finite = tt;
+      made =
+          ap (λ (l : List Item). l ++ later) c.in_ok-push.ensures.items
+          ∙ append_assoc items (c.item_for.result ∷ []) later
+          ∙ ap (λ (item : Item). items ++ item ∷ later) c.item_for.ensures
+          ∙ sym (ap (λ (l : List Unsent). items ++ map (item_of_unsent a) l) c.in-Some.ensures.steps.0)
+          ∙ c.loop-one.invariant.made;
+    }
+
+pub returns : goal.returns
+returns g c =
+    let a = c.args.self.now.actor in
+    let items = c.loop-one.items.items in
+    let left = c.loop-one.one-iterator in
+    let none = empty_is (into_iter_items left) (sym left.rest.ok.0 ∙ c.in-None.ensures.steps.0) in
+    sym (append-nil items)
+    ∙ sym (ap (λ (l : List Unsent). items ++ map (item_of_unsent a) l) none)
+    ∙ c.loop-one.invariant.made
