@@ -1,4 +1,5 @@
 pub mod Over
+pub mod Waiters
 pub mod Shelf
 pub mod Waits
 pub mod Stands

@@ -10,10 +10,11 @@ ghost use Rattle.acc_record.specs.Learning.{IsLearnt, is_covered_by, is_below_ac
 use crate::record::{KeptRecord, Record, Records};
 use crate::shared_accepted::SharedAccepted;
 use crate::shelf::Shelf;
+use crate::waiters::Waiters;
 use acc_base::OutOfMemory;
 use acc_deps::{Deps, Settled};
 use acc_index::{Index, Share};
-use acc_stamp::{Ballot, Ballots, Stamp, TxnId};
+use acc_stamp::{Ballot, Stamp, TxnId};
 use acc_topology::Topology;
 use acc_txn::Body;
 
@@ -137,7 +138,7 @@ fn fresh(id: TxnId, body: &Body) -> Result<KeptRecord, OutOfMemory>
         accepted: None,
         committed: None,
         stable: None,
-        waiters: Ballots::new(alloc),
+        waiters: Waiters::new(alloc),
         opened: false,
         outcome: None,
         applied: false,

@@ -8,6 +8,7 @@ mod share;
 mod shared_accepted;
 mod shelf;
 mod vote;
+mod waiters;
 
 pub use cells::Cells;
 pub use learn::Noting;
@@ -15,3 +16,4 @@ pub use record::{KeptRecord, Record, Records};
 pub use shared_accepted::SharedAccepted;
 pub use shelf::{Shelf, Waits, Watch};
 pub use vote::Vote;
+pub use waiters::Waiters;
