@@ -8,6 +8,7 @@ ghost use Rattle.acc_tape.specs.Turn.{IsWithin};
 
 use crate::content::{Content, Limits};
 use crate::error::{PlaceError, TapeError};
+use crate::first::first_posts;
 use crate::posted::Posted;
 use crate::rules::Rules;
 use acc_base::OutOfMemory;
@@ -55,7 +56,7 @@ impl<E: Posted, R: Rules<E>> Board<E, R> {
             reserved_weight: 0,
             limits,
             named: 0,
-            posts: Posts::new(alloc)?,
+            posts: first_posts(alloc)?,
             rules: PhantomData,
         })
     }

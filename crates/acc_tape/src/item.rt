@@ -5,6 +5,7 @@ ghost use Rattle.acc_message.specs.Items.{id_drawn};
 ghost use Rattle.acc_message.specs.Shown.{with_sent};
 ghost use Rattle.acc_tape.specs.ItemViews.{sign_of_item};
 
+use crate::first::FIRST_ROOM;
 use crate::posted::Posted;
 use acc_base::OutOfMemory;
 use acc_message::{Event, GrowingItems, Item, Message, Note, Shown, notes_of, sent_by};
@@ -111,7 +112,14 @@ impl Posted for Item {
     }
 
     fn list(alloc: Global) -> GrowingItems {
-        GrowingItems::new(alloc)
+        let mut items = GrowingItems::new(alloc);
+        if items.reserve(FIRST_ROOM).is_ok() {
+            items.release(FIRST_ROOM);
+        }
+        if items.reserve_notes(FIRST_ROOM).is_ok() {
+            let _none = items.reserve_notes(0);
+        }
+        items
     }
 
     fn len(list: &GrowingItems) -> u64 {

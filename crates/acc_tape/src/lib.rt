@@ -5,6 +5,7 @@ mod board;
 mod calls;
 mod content;
 mod error;
+mod first;
 mod item;
 mod law;
 mod posted;
