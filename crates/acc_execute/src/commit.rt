@@ -9,8 +9,8 @@ ghost use Rattle.acc_opened_laws.specs.Opened.{executed};
 ghost use Rattle.acc_execute.specs.Executed.{after_turn};
 
 use acc_opening::Turn;
-use acc_record::{KeptRecord, Record, Records};
-use acc_stamp::{Ballots, TxnId};
+use acc_record::{KeptRecord, Record, Records, Waiters};
+use acc_stamp::TxnId;
 
 /// Keeps the own record in place of the one that is kept.
 pub(crate) fn keep(records: &mut Records, id: TxnId, own: KeptRecord)
@@ -84,7 +84,7 @@ fn change(there: &mut Record, turn: Turn)
 {
     if turn.opens {
         there.opened = true;
-        there.waiters = Ballots::new(there.waiters.allocator());
+        there.waiters = Waiters::new(there.waiters.allocator());
     }
     if turn.applies {
         there.applied = true;

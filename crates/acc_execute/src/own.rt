@@ -10,7 +10,7 @@ ghost use Rattle.acc_execute.specs.Owned.{with_proposed, with_decided, with_sett
 use acc_base::{Duplicate, OutOfMemory};
 use acc_deps::{Deps, Settled};
 use acc_message::SharedOutcome;
-use acc_record::{KeptRecord, Record};
+use acc_record::{KeptRecord, Record, Waiters};
 use acc_stamp::{Ballot, Ballots, Stamp, TxnId};
 use acc_txn::Body;
 
@@ -45,7 +45,7 @@ fn fresh(id: TxnId, body: &Body) -> Result<KeptRecord, OutOfMemory>
         accepted: None,
         committed: None,
         stable: None,
-        waiters: Ballots::new(alloc),
+        waiters: Waiters::new(alloc),
         opened: false,
         outcome: None,
         applied: false,
@@ -90,19 +90,9 @@ fn copy_decided(copy: &mut Record, there: &Record) -> Result<(), OutOfMemory>
     copy.opened = there.opened;
     copy.applied = there.applied;
     copy.stable = there.stable.copy()?;
-    copy.waiters = copy_of_waiters(&there.waiters)?;
+    copy.waiters = there.waiters.copy()?;
     copy.outcome = there.outcome.copy()?;
     Ok(())
-}
-
-// Mostly nobody waits any more, or yet, and nothing is to be copied.
-fn copy_of_waiters(there: &Ballots) -> Result<Ballots, OutOfMemory>
-    ensures { IfOk result (λ copy. copy ≡ there.now) }
-{
-    if there.is_empty() {
-        return Ok(Ballots::new(there.allocator()));
-    }
-    there.copy()
 }
 
 /// Puts down what is decided, unless that is known.
@@ -131,8 +121,22 @@ pub(crate) fn wait(own: &mut Record, ballot: Ballot) -> Result<(), OutOfMemory>
     ensures { OnOk result (own.new ≡ with_waiter ballot own.old) }
 {
     if !own.opened {
-        add_ballot(&mut own.waiters, ballot)?;
+        add_waiter(&mut own.waiters, ballot)?;
     }
+    Ok(())
+}
+
+fn add_waiter(waiters: &mut Waiters, ballot: Ballot) -> Result<(), OutOfMemory>
+    ensures { OnOk result (waiters.new ≡ ballots_with ballot waiters.old) }
+{
+    let alloc = waiters.allocator();
+    if waiters.is_empty() {
+        *waiters = Waiters::one(alloc, ballot);
+        return Ok(());
+    }
+    let mut ballots = Ballots::from_slice(alloc, waiters.as_slice())?;
+    add_ballot(&mut ballots, ballot)?;
+    *waiters = Waiters::many(alloc, ballots)?;
     Ok(())
 }
 

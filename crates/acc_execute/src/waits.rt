@@ -1,5 +1,5 @@
 //! The lists of who waits for whom, as a plan changes them.
-ghost use Rattle.std.specs.Prelude.{◌≡◌, ◌+◌, ◌≤◌, true, false, IsTrue, [], None, Some, OnOk, vec_len, vec_capacity};
+ghost use Rattle.std.specs.Prelude.{◌≡◌, ◌+◌, ◌≤◌, true, false, IsTrue, [], None, Some, IfOk, OnOk, vec_len, vec_capacity};
 ghost use Rattle.std.specs.BTreeMap as tree;
 ghost use Rattle.acc_stamp.specs.declared.stamps.TxnId.{TxnId};
 ghost use Rattle.acc_stamp.specs.Stamp.{id_cmp};
@@ -12,6 +12,9 @@ use acc_base::OutOfMemory;
 use acc_opening::{Touched, TouchedWaits};
 use acc_record::{Waits, Watch};
 use acc_stamp::TxnId;
+
+/// A list with fewer watches grows by no more than it needs.
+const SHORT: usize = 4;
 
 /// Makes room for what a plan adds. What waits stays in any case.
 pub(crate) fn make_room(waits: &mut Waits, touched: &TouchedWaits) -> Result<(), OutOfMemory>
@@ -35,15 +38,35 @@ fn make_room_for(waits: &mut Waits, id: TxnId, change: &Touched) -> Result<(), O
     }
 }
 
-// Makes room in a list that there is.
+// Makes room in a list that there is. A short one gets no more than it needs, since most lists stay short.
 fn widen(list: &mut Vec<Watch>, change: &Touched) -> Result<(), OutOfMemory>
     ensures same { list.new.items ≡ list.old.items }
     ensures len { vec_len list.new ≡ vec_len list.old }
     ensures capacity { vec_capacity list.old ≤ vec_capacity list.new }
     ensures room { OnOk result (vec_len list.new + vec_len change.now.added ≤ vec_capacity list.new) }
 {
-    list.reserve(change.added.len())?;
+    let more = change.added.len();
+    let length = list.len();
+    if more <= list.capacity() - length {
+        return Ok(());
+    }
+    if length < SHORT {
+        *list = with_room(list, more)?;
+        return Ok(());
+    }
+    list.reserve(more)?;
     Ok(())
+}
+
+// The same watches, with room for so many more.
+fn with_room(list: &Vec<Watch>, more: usize) -> Result<Vec<Watch>, OutOfMemory>
+    ensures same { IfOk result (λ wider. wider.items ≡ list.now.items) }
+    ensures room { IfOk result (λ wider. vec_len list.now + more ≤ vec_capacity wider) }
+{
+    let room = list.len().checked_add(more).ok_or(OutOfMemory)?;
+    let mut wider = Vec::with_capacity(*list.allocator(), room)?;
+    wider.extend_from_slice(list)?;
+    Ok(wider)
 }
 
 // Puts a list with the room where there is none.

@@ -104,6 +104,19 @@ fn note_item(
     Ok(total)
 }
 
+// Asks ahead for room for all messages of these items. Without memory for them the room grows with each item.
+fn ask_ahead(waiting: &mut Waiting, items: &GrowingItems)
+    ensures { waiting.new ≡ waiting.old }
+{
+    let mut sent: u64 = 0;
+    for place in 0..items.len() {
+        sent = sent.saturating_add(items.sent(place).len() as u64);
+    }
+    if waiting.reserve(sent).is_ok() {
+        waiting.release(sent);
+    }
+}
+
 impl History {
     /// The past of a cluster that has done nothing.
     pub fn new(alloc: Global) -> Result<History, OutOfMemory>
@@ -146,6 +159,7 @@ impl History {
         ensures weighed { IfOk result (λ history. IsWeighed history (situation_of items.items)) }
     {
         let mut waiting = Waiting::new(alloc)?;
+        ask_ahead(&mut waiting, &items);
         let mut begun = Vec::new(alloc);
         let mut weight = 0;
         for place in 0..items.len() {

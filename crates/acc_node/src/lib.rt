@@ -5,6 +5,7 @@
 mod clients;
 mod error;
 mod heard;
+mod kept;
 mod node;
 mod running;
 mod step_weight;

@@ -16,6 +16,7 @@ ghost use Rattle.acc_node.specs.Stands.{StandsFor, Takes, Runs, IsSame, Enters, 
 use crate::clients::{one_note, reply_note};
 use crate::error::NodeError;
 use crate::heard::{Heard, silent};
+use crate::kept::{KeptRecovery, KeptRunning};
 use crate::running::Running;
 use acc_base::{OutOfMemory, Sequence};
 use acc_coord::Coord;
@@ -34,7 +35,7 @@ pub struct Node {
     alloc: Global,
     pub(crate) clock: Clock,
     begun: BTreeMap<u32, TxnId>,
-    attempts: BTreeMap<TxnId, Running>,
+    attempts: BTreeMap<TxnId, KeptRunning>,
     clients: BTreeMap<TxnId, ()>,
 }
 
@@ -133,7 +134,8 @@ impl Node {
         let id = TxnId(self.clock.peek());
         let (coord, out) = Coord::begin(topology, id, body)?;
         let notes = one_note(out.allocator(), Note::Begin { id })?;
-        self.enter(txn, id, Running::Coordinating(coord))?;
+        let running = KeptRunning::new(self.alloc, Running::Coordinating(coord))?;
+        self.enter(txn, id, running)?;
         self.clock.draw();
         Ok(Emitted { notes, out })
     }
@@ -156,7 +158,9 @@ impl Node {
         let ballot = Ballot(self.clock.peek());
         let (recovery, out) = Recovery::begin(topology, id, ballot, body.copy()?)?;
         let notes = one_note(out.allocator(), Note::Recover { id, ballot })?;
-        self.attempts.insert(id, Running::Recovering(recovery))?;
+        let kept = KeptRecovery::new(self.alloc, recovery)?;
+        let running = KeptRunning::new(self.alloc, Running::Recovering(kept))?;
+        self.attempts.insert(id, running)?;
         self.clock.draw();
         Ok(Emitted { notes, out })
     }
@@ -328,7 +332,7 @@ impl Node {
     }
 
     // Enters a begun transaction with its first attempt, and opens its client. After an error the node is as before.
-    fn enter(&mut self, txn: u32, id: TxnId, running: Running) -> Result<(), OutOfMemory>
+    fn enter(&mut self, txn: u32, id: TxnId, running: KeptRunning) -> Result<(), OutOfMemory>
         requires { get nat_cmp self.old.begun txn ≡ None }
         ensures ok { OnOk result (Enters self.old self.new txn id running) }
         ensures err { OnErr result (IsSame self.old self.new) }
@@ -342,7 +346,7 @@ impl Node {
     }
 
     // Opens the client of a transaction and enters its first attempt. After an error the node is as before.
-    fn open_first(&mut self, id: TxnId, running: Running) -> Result<(), OutOfMemory>
+    fn open_first(&mut self, id: TxnId, running: KeptRunning) -> Result<(), OutOfMemory>
         ensures ok { OnOk result (Opens self.old self.new id running) }
         ensures err { OnErr result (IsSame self.old self.new) }
         ensures begun { self.new.begun ≡ self.old.begun }

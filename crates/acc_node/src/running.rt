@@ -7,16 +7,16 @@ ghost use Rattle.acc_node.specs.declared.running.Running.TheVariants.{Coordinati
 ghost use Rattle.acc_node.specs.Stands.{RunsAs, Refuses, SlowsDown};
 
 use crate::error::NodeError;
+use crate::kept::KeptRecovery;
 use acc_coord::{Coord, SlowError};
 use acc_message::Messages;
-use acc_recover::Recovery;
 use acc_topology::Topology;
 
 /// An attempt that a node runs: one that asks for evidence, or one that is past that or is the first at its transaction.
 #[derive(Debug, Drop)]
 pub(crate) enum Running {
     Coordinating(Coord),
-    Recovering(Recovery),
+    Recovering(KeptRecovery),
 }
 
 impl Running {

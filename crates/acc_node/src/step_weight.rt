@@ -8,12 +8,13 @@ ghost use Rattle.acc_recover.specs.Stands.{StandsFor as Recovers, WouldJudgeAs};
 ghost use Rattle.acc_node.specs.Stands.{RunsAs};
 ghost use Rattle.acc_node.specs.Weighing.{AttemptSendsShort, JudgedSendsShort};
 
+use crate::kept::KeptRecovery;
 use crate::running::Running;
 use acc_base::OutOfMemory;
 use acc_coord::Coord;
 use acc_message::Message;
 use acc_message_code::messages_length;
-use acc_recover::{Judged, Recovery};
+use acc_recover::Judged;
 use acc_stamp::TxnId;
 use acc_topology::Topology;
 
@@ -40,7 +41,7 @@ impl Running {
 
 // The same of an attempt that goes on as a recovery judged.
 fn weigh_judged(
-    recovery: &Recovery,
+    recovery: &KeptRecovery,
     topology: &Topology,
     id: TxnId,
     judged: Judged,

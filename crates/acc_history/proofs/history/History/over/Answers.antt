@@ -14,7 +14,7 @@ use Rattle.acc_history.proofs.history.History.over.Goals as goal
 
 pub loop-place-init : goal.loop-place-init
 loop-place-init c = record {
-  holds = holds_behind [] (λ a. refl) [] _ refl c.in_ok-waiting.ensures;
+  holds = holds_behind [] (λ a. refl) [] _ refl (c.ask_ahead.ensures ∙ c.in_ok-waiting.ensures);
   begun = λ txn. ap (λ ids. begun_in ids txn) c.new-begun.ensures.items;
   weighs = refl;
 }

@@ -1,4 +1,4 @@
-use Rattle.std.proofs.Common.{◌≡◌, List, sym, ap, ◌∙◌}
+use Rattle.std.proofs.Common.{◌≡◌, List, sym, ap, subst, ◌∙◌}
 use Rattle.std.specs.Prelude.{Option, None}
 use Rattle.std.specs.Ordering.{nat_cmp}
 use Rattle.std.specs.BTreeMap.{get}
@@ -7,7 +7,9 @@ use Rattle.acc_stamp.specs.declared.stamps.TxnId.{TxnId}
 use Rattle.acc_stamp.specs.Clock.{next_stamp, after_draw}
 use Rattle.acc_message.specs.declared.note.Note.{Note}
 use Rattle.acc_message.specs.declared.entry.Emitted.{Emitted}
-use Rattle.acc_node.specs.declared.running.Running.TheVariants.{Coordinating}
+use Rattle.acc_message.specs.Coordinator.{begun}
+use Rattle.acc_node.specs.declared.running.Running.{Running}
+use Rattle.acc_node.specs.Stands.{RunsAs}
 use Rattle.acc_node.proofs.Keys.{none_if}
 use Rattle.acc_node.proofs.Standing.{begins_stands}
 use Rattle.acc_node.proofs.Drawing.{begin_emits}
@@ -28,6 +30,7 @@ returns-clause-ok c = λ number start acts s.
           ap with_notes c.in_ok-notes.ensures
           ∙ begin_emits layout number start acts old s c.args.txn x c.args.body.now c.in_ok-coord.out drawn c.in_ok-coord.ensures.sends;
       stands =
-          begins_stands layout number start acts old _ c.args.txn x (Coordinating c.in_ok-coord.coord) c.args.body.now fresh drawn c.in_ok-coord.ensures.stands
+          begins_stands layout number start acts old _ c.args.txn x c.in_ok-running.running c.args.body.now fresh drawn
+          (subst (λ (r : Running). RunsAs layout x r (begun c.args.body.now)) (sym c.in_ok-running.ensures) c.in_ok-coord.ensures.stands)
           (c.draw.ensures.after ∙ ap after_draw entered.clock) entered.begun entered.clients entered.attempts s;
     }
