@@ -126,6 +126,7 @@ pub(crate) fn wait(own: &mut Record, ballot: Ballot) -> Result<(), OutOfMemory>
     Ok(())
 }
 
+// Adds a ballot in its place, unless it is there.
 fn add_waiter(waiters: &mut Waiters, ballot: Ballot) -> Result<(), OutOfMemory>
     ensures { OnOk result (waiters.new ≡ ballots_with ballot waiters.old) }
 {
@@ -134,20 +135,13 @@ fn add_waiter(waiters: &mut Waiters, ballot: Ballot) -> Result<(), OutOfMemory>
         *waiters = Waiters::one(alloc, ballot);
         return Ok(());
     }
-    let mut ballots = Ballots::from_slice(alloc, waiters.as_slice())?;
-    add_ballot(&mut ballots, ballot)?;
-    *waiters = Waiters::many(alloc, ballots)?;
-    Ok(())
-}
-
-fn add_ballot(ballots: &mut Ballots, ballot: Ballot) -> Result<(), OutOfMemory>
-    ensures { OnOk result (ballots.new ≡ ballots_with ballot ballots.old) }
-{
-    let place = place_of(ballots.as_slice(), ballot);
-    if is_at(ballots.as_slice(), place, ballot) {
+    let place = place_of(waiters.as_slice(), ballot);
+    if is_at(waiters.as_slice(), place, ballot) {
         return Ok(());
     }
+    let mut ballots = Ballots::from_slice(alloc, waiters.as_slice())?;
     ballots.insert(place, ballot)?;
+    *waiters = Waiters::many(alloc, ballots)?;
     Ok(())
 }
 

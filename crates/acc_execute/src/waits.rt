@@ -1,5 +1,5 @@
 //! The lists of who waits for whom, as a plan changes them.
-ghost use Rattle.std.specs.Prelude.{◌≡◌, ◌+◌, ◌≤◌, true, false, IsTrue, [], None, Some, IfOk, OnOk, vec_len, vec_capacity};
+ghost use Rattle.std.specs.Prelude.{◌≡◌, ◌+◌, ◌≤◌, true, false, IsTrue, [], None, Some, OnOk, vec_len, vec_capacity};
 ghost use Rattle.std.specs.BTreeMap as tree;
 ghost use Rattle.acc_stamp.specs.declared.stamps.TxnId.{TxnId};
 ghost use Rattle.acc_stamp.specs.Stamp.{id_cmp};
@@ -46,27 +46,12 @@ fn widen(list: &mut Vec<Watch>, change: &Touched) -> Result<(), OutOfMemory>
     ensures room { OnOk result (vec_len list.new + vec_len change.now.added ≤ vec_capacity list.new) }
 {
     let more = change.added.len();
-    let length = list.len();
-    if more <= list.capacity() - length {
-        return Ok(());
+    if list.len() < SHORT {
+        list.reserve_exact(more)?;
+    } else {
+        list.reserve(more)?;
     }
-    if length < SHORT {
-        *list = with_room(list, more)?;
-        return Ok(());
-    }
-    list.reserve(more)?;
     Ok(())
-}
-
-// The same watches, with room for so many more.
-fn with_room(list: &Vec<Watch>, more: usize) -> Result<Vec<Watch>, OutOfMemory>
-    ensures same { IfOk result (λ wider. wider.items ≡ list.now.items) }
-    ensures room { IfOk result (λ wider. vec_len list.now + more ≤ vec_capacity wider) }
-{
-    let room = list.len().checked_add(more).ok_or(OutOfMemory)?;
-    let mut wider = Vec::with_capacity(*list.allocator(), room)?;
-    wider.extend_from_slice(list)?;
-    Ok(wider)
 }
 
 // Puts a list with the room where there is none.

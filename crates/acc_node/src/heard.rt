@@ -9,12 +9,11 @@ ghost use Rattle.acc_node.specs.declared.running.Running.TheVariants.{Coordinati
 ghost use Rattle.acc_node.specs.Stands.{RunsAs, Hears, JudgedAs, turned, waits};
 
 use crate::clients::{answer_client, one_note};
-use crate::kept::KeptRecovery;
 use crate::running::Running;
 use acc_base::OutOfMemory;
 use acc_coord::Coord;
 use acc_message::{Emitted, Message, Messages, Note, Notes};
-use acc_recover::Judged;
+use acc_recover::{Judged, Recovery};
 use acc_stamp::TxnId;
 use acc_topology::Topology;
 use std::alloc::Global;
@@ -59,7 +58,7 @@ impl Running {
             Running::Coordinating(coord) => coordinate(coord, topology, is_open, m),
             Running::Recovering(recovery) => {
                 let judged = recovery.on_answer(topology, m)?;
-                let (heard, coord) = follow(recovery, topology, id, judged)?;
+                let (heard, coord) = follow(recovery.get(), topology, id, judged)?;
                 self.turn(coord);
                 Ok(heard)
             }
@@ -99,7 +98,7 @@ fn coordinate(
 
 // How an attempt that asked for evidence goes on: as a coordinator, where there is a choice.
 fn follow(
-    recovery: &KeptRecovery,
+    recovery: &Recovery,
     topology: &Topology,
     id: TxnId,
     judged: Judged,

@@ -2,15 +2,11 @@
 ghost use Rattle.std.specs.Prelude.{◌≡◌, IfOk, IfErr, OnErr};
 ghost use Rattle.acc_stamp.specs.declared.stamps.TxnId.{TxnId};
 ghost use Rattle.acc_stamp.specs.Actor.{home_of};
-ghost use Rattle.acc_topology.specs.Layout.{Layout};
 ghost use Rattle.acc_message.specs.Attempts.{Attempt, majority_everywhere};
 ghost use Rattle.acc_message.specs.Coordinator.{reaction};
-ghost use Rattle.acc_message_code.specs.Weight.{weight_of_all};
 ghost use Rattle.acc_coord.specs.Stands.{is_voting_phase};
-ghost use Rattle.acc_coord.specs.Weighing.{sent_on};
-ghost use Rattle.acc_recover.specs.Stands.{StandsFor as Recovers, Judges, WouldJudge, KeepsUnlessWaits};
+ghost use Rattle.acc_recover.specs.Stands.{StandsFor as Recovers, Judges, KeepsUnlessWaits};
 ghost use Rattle.acc_node.specs.Stands.{RunsAs, Hears, Refuses, SlowsDown};
-ghost use Rattle.acc_node.specs.Weighing.{AttemptSendsShort};
 
 use crate::error::NodeError;
 use crate::heard::Heard;
@@ -18,9 +14,8 @@ use crate::running::Running;
 use acc_base::OutOfMemory;
 use acc_message::{Message, Messages};
 use acc_recover::{Judged, Recovery};
-use acc_stamp::{Ballot, TxnId};
+use acc_stamp::TxnId;
 use acc_topology::Topology;
-use acc_txn::Body;
 use std::alloc::Global;
 use std::marker::Model;
 
@@ -47,7 +42,14 @@ impl KeptRunning {
         Ok(KeptRunning { place })
     }
 
-    /// What the attempt at a transaction makes of a message that is no Inform. Without memory the attempt is as before.
+    /// The attempt.
+    pub(crate) fn get(&self) -> &Running
+        ensures { result.now ≡ self.now }
+    {
+        self.place.as_ref()
+    }
+
+    /// What the attempt makes of a message, as `Running::hear` says. Without memory the attempt is as before.
     pub(crate) fn hear(
         &mut self,
         topology: &Topology,
@@ -62,7 +64,7 @@ impl KeptRunning {
         self.place.as_mut().hear(topology, id, is_open, m)
     }
 
-    /// Gives the fast path of a first attempt that waits for votes up.
+    /// Gives the fast path of the attempt up, as `Running::go_slow` says. After an error the attempt is as before.
     pub(crate) fn go_slow(&mut self, topology: &Topology) -> Result<Messages, NodeError>
         ensures ok { IfOk result (λ out. (x : TxnId) (a : Attempt) → RunsAs topology.now x self.old a → SlowsDown topology.now x self.new out a) }
         ensures refused { IfErr result (λ error. (x : TxnId) (a : Attempt) → RunsAs topology.now x self.old a →
@@ -71,23 +73,10 @@ impl KeptRunning {
     {
         self.place.as_mut().go_slow(topology)
     }
-
-    /// The sum of the lengths of what `encode` makes of each message that the attempt would send if it took this one.
-    pub(crate) fn weigh(
-        &self,
-        topology: &Topology,
-        id: TxnId,
-        m: &Message,
-    ) -> Result<u64, OutOfMemory>
-        requires { AttemptSendsShort topology.now id self.now m.now }
-        ensures { IfOk result (λ weight. (a : Attempt) → RunsAs topology.now id self.now a → weight ≡ weight_of_all (sent_on topology.now id a m.now)) }
-    {
-        self.place.as_ref().weigh(topology, id, m)
-    }
 }
 
-/// A recovery in a place of its own, which contracts see as the recovery. Few attempts are one, and it takes more memory than
-/// the others.
+/// A recovery in a place of its own, which contracts see as the recovery. Few attempts are recoveries, and one takes more memory
+/// than any other attempt.
 #[derive(Debug, Drop)]
 pub(crate) struct KeptRecovery {
     place: Box<Recovery>,
@@ -110,21 +99,14 @@ impl KeptRecovery {
         Ok(KeptRecovery { place })
     }
 
-    /// The ballot of the attempt.
-    pub(crate) fn ballot(&self) -> Ballot
-        ensures { (layout : Layout) (x : TxnId) (a : Attempt) → Recovers layout x self.now a → result ≡ a.ballot }
+    /// The recovery.
+    pub(crate) fn get(&self) -> &Recovery
+        ensures { result.now ≡ self.now }
     {
-        self.place.as_ref().ballot()
+        self.place.as_ref()
     }
 
-    /// The body of the transaction.
-    pub(crate) fn body(&self) -> &Body
-        ensures { (layout : Layout) (x : TxnId) (a : Attempt) → Recovers layout x self.now a → result.now ≡ a.body }
-    {
-        self.place.as_ref().body()
-    }
-
-    /// Takes a message about the transaction, as the recovery does.
+    /// Takes a message about the transaction, as `Recovery::on_answer` says. Without memory the recovery is as before.
     pub(crate) fn on_answer(
         &mut self,
         topology: &Topology,
@@ -135,12 +117,5 @@ impl KeptRecovery {
         ensures err { OnErr result (self.new ≡ self.old) }
     {
         self.place.as_mut().on_answer(topology, m)
-    }
-
-    /// What `on_answer` would answer to a message, without a change.
-    pub(crate) fn judge(&self, topology: &Topology, m: &Message) -> Result<Judged, OutOfMemory>
-        ensures { IfOk result (λ judged. (x : TxnId) → (a : Attempt) → Recovers topology.now x self.now a → WouldJudge topology.now x a m.now judged) }
-    {
-        self.place.as_ref().judge(topology, m)
     }
 }

@@ -228,7 +228,7 @@ impl Node {
     {
         let id = m.id();
         match self.attempts.get(&id) {
-            Some(running) => running.weigh(topology, id, m),
+            Some(running) => running.get().weigh(topology, id, m),
             None => Ok(0),
         }
     }

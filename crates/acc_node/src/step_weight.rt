@@ -8,13 +8,12 @@ ghost use Rattle.acc_recover.specs.Stands.{StandsFor as Recovers, WouldJudgeAs};
 ghost use Rattle.acc_node.specs.Stands.{RunsAs};
 ghost use Rattle.acc_node.specs.Weighing.{AttemptSendsShort, JudgedSendsShort};
 
-use crate::kept::KeptRecovery;
 use crate::running::Running;
 use acc_base::OutOfMemory;
 use acc_coord::Coord;
 use acc_message::Message;
 use acc_message_code::messages_length;
-use acc_recover::Judged;
+use acc_recover::{Judged, Recovery};
 use acc_stamp::TxnId;
 use acc_topology::Topology;
 
@@ -32,6 +31,7 @@ impl Running {
         match self {
             Running::Coordinating(coord) => coord.weigh_answer(topology, m),
             Running::Recovering(recovery) => {
+                let recovery = recovery.get();
                 let judged = recovery.judge(topology, m)?;
                 weigh_judged(recovery, topology, id, judged)
             }
@@ -41,7 +41,7 @@ impl Running {
 
 // The same of an attempt that goes on as a recovery judged.
 fn weigh_judged(
-    recovery: &KeptRecovery,
+    recovery: &Recovery,
     topology: &Topology,
     id: TxnId,
     judged: Judged,

@@ -5,8 +5,8 @@ use acc_base::OutOfMemory;
 use acc_posts::Posts;
 use std::alloc::Global;
 
-/// For so many items, notes and messages a new tape asks for memory at once. The C library maps blocks of such a size, and moves the map
-/// when a block grows, in place of its bytes; what is never touched of it takes no memory. Without it the lists grow from nothing.
+/// For so many items, notes and messages a new tape asks for memory at once. That is some 50 MB of addresses: the C library mostly maps
+/// blocks of such a size, and what is never touched of a map takes no memory. Where it is refused the lists grow as they are filled.
 pub(crate) const FIRST_ROOM: usize = 262_144;
 
 /// An index of no messages, with no room that is promised.

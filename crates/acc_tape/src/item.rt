@@ -116,9 +116,7 @@ impl Posted for Item {
         if items.reserve(FIRST_ROOM).is_ok() {
             items.release(FIRST_ROOM);
         }
-        if items.reserve_notes(FIRST_ROOM).is_ok() {
-            let _none = items.reserve_notes(0);
-        }
+        let _more = items.reserve_notes(FIRST_ROOM);
         items
     }
 

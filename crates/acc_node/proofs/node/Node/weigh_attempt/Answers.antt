@@ -16,16 +16,16 @@ pub weigh-requires : goal.weigh-requires
 weigh-requires c =
     let layout = c.args.topology.now in
     let n = c.args.self.now in
-    let running = c.in-Some.running.now in
-    let found : get id_cmp n.attempts (id_of c.args.m.now) ≡ Some running = subst (λ (z : TxnId). get id_cmp n.attempts z ≡ Some running) c.id-id.ensures (sym c.in-Some.ensures.value) in
+    let running = c.get-in-Some.result.now in
+    let found : get id_cmp n.attempts (id_of c.args.m.now) ≡ Some running = subst (λ (z : TxnId). get id_cmp n.attempts z ≡ Some running) c.id-id.ensures (sym c.in-Some.ensures.value ∙ ap Some (sym c.get-in-Some.ensures)) in
     subst (λ (z : TxnId). AttemptSendsShort layout z running c.args.m.now) (sym c.id-id.ensures) (attempt_sends_short layout n c.args.m.now running c.requires.short c.requires.other found)
 
 pub returns-in-Some : goal.returns-in-Some
 returns-in-Some c =
     let layout = c.args.topology.now in
     let n = c.args.self.now in
-    let running = c.in-Some.running.now in
-    let found : get id_cmp n.attempts (id_of c.args.m.now) ≡ Some running = subst (λ (z : TxnId). get id_cmp n.attempts z ≡ Some running) c.id-id.ensures (sym c.in-Some.ensures.value) in
+    let running = c.get-in-Some.result.now in
+    let found : get id_cmp n.attempts (id_of c.args.m.now) ≡ Some running = subst (λ (z : TxnId). get id_cmp n.attempts z ≡ Some running) c.id-id.ensures (sym c.in-Some.ensures.value ∙ ap Some (sym c.get-in-Some.ensures)) in
     IfOk-weaker c.weigh.result _ _
     (λ weight h. attempt_weighs layout n c.args.m.now running weight c.requires.other found
     (subst (λ (z : TxnId). (a : Attempt) → RunsAs layout z running a → weight ≡ weight_of_all (sent_on layout z a c.args.m.now)) c.id-id.ensures h))

@@ -4,7 +4,8 @@ use Rattle.acc_stamp.specs.Actor.{home_of}
 use Rattle.acc_message.specs.Coordinator.{reaction}
 use Rattle.acc_node.specs.declared.running.Running.{Running}
 use Rattle.acc_node.specs.declared.running.Running.TheVariants.{Coordinating, Recovering as IsRecovering}
-use Rattle.acc_node.specs.Stands.{RunsAs, Hears}
+use Rattle.acc_recover.specs.declared.recovery.Recovery.{Recovery}
+use Rattle.acc_node.specs.Stands.{RunsAs, Hears, JudgedAs}
 use Rattle.acc_node.proofs.Hearing.{recovered, stays_unless_waits}
 use Rattle.acc_node.proofs.running.Running.hear.Goals as goal
 
@@ -24,4 +25,5 @@ returns-in_ok-heard-in-Recovering-clause-ok c = λ a s.
     let before = subst (λ (r : Running). RunsAs layout x r a) c.in-Recovering.is s in
     subst (λ (r : Running). Hears layout x r c.args.is_open e.heard (reaction layout (home_of x a.ballot) x a c.args.m.now)) (sym c.turn.ensures)
     (recovered layout x old c.on_answer.new.self a c.args.m.now c.in_ok-judged-in-Recovering.judged e.heard e.coord c.args.is_open
-    (c.in_ok-judged-in-Recovering.ensures.ok x a before) c.in_ok-judged-in-Recovering.ensures.kept e.ensures.ok before)
+    (c.in_ok-judged-in-Recovering.ensures.ok x a before) c.in_ok-judged-in-Recovering.ensures.kept
+    (subst (λ (r : Recovery). JudgedAs layout x r c.in_ok-judged-in-Recovering.judged e.heard e.coord) c.get.ensures e.ensures.ok) before)

@@ -3,6 +3,8 @@ use Rattle.std.proofs.lemmas.Result.{IfOk-weaker}
 use Rattle.acc_stamp.specs.Actor.{home_of}
 use Rattle.acc_message.specs.Coordinator.{reaction}
 use Rattle.acc_node.specs.declared.running.Running.{Running}
+use Rattle.acc_recover.specs.declared.recovery.Recovery.{Recovery}
+use Rattle.acc_recover.specs.Stands.{StandsFor as Recovers}
 use Rattle.acc_node.specs.Stands.{RunsAs}
 use Rattle.acc_node.proofs.running.Running.weigh.Goals as goal
 
@@ -11,7 +13,7 @@ weigh_judged-requires c =
     let layout = c.args.topology.now in
     let x = c.args.id in
     let q = c.requires in
-    let stands = subst (λ (r : Running). RunsAs layout x r q.attempt) c.in-Recovering.is q.runs in
+    let stands = subst (λ (r : Recovery). Recovers layout x r q.attempt) (sym c.get-recovery.ensures) (subst (λ (r : Running). RunsAs layout x r q.attempt) c.in-Recovering.is q.runs) in
     record {
       attempt = q.attempt;
       reaction = reaction layout (home_of x q.attempt.ballot) x q.attempt c.args.m.now;
@@ -27,6 +29,6 @@ returns-in_ok-judged-in-Recovering c =
     let x = c.args.id in
     IfOk-weaker c.weigh_judged.result _ _
     (λ weight h a s.
-    let stands = subst (λ (r : Running). RunsAs layout x r a) c.in-Recovering.is s in
+    let stands = subst (λ (r : Recovery). Recovers layout x r a) (sym c.get-recovery.ensures) (subst (λ (r : Running). RunsAs layout x r a) c.in-Recovering.is s) in
     h a (reaction layout (home_of x a.ballot) x a c.args.m.now) stands (c.in_ok-judged-in-Recovering.ensures x a stands))
     c.weigh_judged.ensures
