@@ -1,5 +1,6 @@
 //! A line of the table.
-use acc_base::{Bytes, OutOfMemory, Sequence, Text};
+use crate::fields::{document, is_so, items, number, numbers, words};
+use acc_base::{Bytes, Sequence, Text};
 use anyhow::{Context, Result};
 use serde_json::Value;
 use std::alloc::Global;
@@ -13,111 +14,101 @@ pub enum Wanted<'l> {
     Whole(&'l str),
     /// What it ends with.
     End(&'l str),
+    /// What its last line begins with.
+    Last(&'l str),
 }
 
-/// A command line with its source and its sink, and how it has to end.
+/// How a command has to end.
+#[derive(Clone, Copy)]
+pub struct Ending<'l> {
+    pub status: u64,
+    pub wanted: Wanted<'l>,
+    /// The disks that were given back, each with the number of its actor and the bytes in base 16.
+    pub left: &'l [Value],
+}
+
+/// A source, and which of its reads fail.
 #[derive(Drop)]
-pub struct Case<'l> {
-    pub words: Sequence<Text>,
+pub struct Given {
     pub document: Bytes,
     pub piece: u64,
     pub reads: Sequence<u64>,
+}
+
+/// A sink, and which of its writes fail.
+#[derive(Drop)]
+pub struct Taken {
     pub takes: u64,
     pub writes: Sequence<u64>,
+}
+
+/// Which calls of whose disk fail.
+#[derive(Drop)]
+pub struct Failing {
     pub disk: u32,
     pub calls: Sequence<u64>,
-    pub status: u64,
-    pub wanted: Wanted<'l>,
+}
+
+/// A command line with its source, its sink, its disks and its gate, and how it has to end.
+#[derive(Drop)]
+pub struct Case<'l> {
+    pub words: Sequence<Text>,
+    pub given: Given,
+    pub taken: Taken,
+    pub failing: Failing,
+    pub meets: bool,
+    pub ending: Ending<'l>,
 }
 
 impl<'l> Case<'l> {
     /// The case that a line has.
     pub fn read(alloc: Global, line: &'l Value) -> Result<Case<'l>> {
-        let wanted = ending(line).context("a line that wants no ending")?;
+        let ending = ending(line).context("a line that wants no ending")?;
         Ok(Case {
-            words: words(alloc, line)?,
-            document: document(alloc, line)?,
-            piece: number(line, "piece", PIECE),
-            reads: numbers(alloc, line, "reads")?,
-            takes: number(line, "takes", PIECE),
-            writes: numbers(alloc, line, "writes")?,
-            disk: u32::try_from(number(line, "disk", 0)).unwrap_or(0),
-            calls: numbers(alloc, line, "calls")?,
-            status: wanted.0,
-            wanted: wanted.1,
+            words: words(alloc, line, "words")?,
+            given: given(alloc, line)?,
+            taken: taken(alloc, line)?,
+            failing: failing(alloc, line)?,
+            meets: is_so(line, "meets"),
+            ending,
         })
     }
 }
 
-fn ending(line: &Value) -> Option<(u64, Wanted<'_>)> {
-    let text = match line.get("ends") {
-        Some(end) => Wanted::End(end.as_str()?),
-        None => Wanted::Whole(line.get("written")?.as_str()?),
-    };
-    Some((line.get("status")?.as_u64()?, text))
+fn given(alloc: Global, line: &Value) -> Result<Given> {
+    Ok(Given {
+        document: document(alloc, line, "document")?,
+        piece: number(line, "piece", PIECE),
+        reads: numbers(alloc, line, "reads")?,
+    })
 }
 
-fn number(line: &Value, name: &str, otherwise: u64) -> u64 {
-    match line.get(name) {
-        Some(number) => number.as_u64().unwrap_or(otherwise),
-        None => otherwise,
+fn taken(alloc: Global, line: &Value) -> Result<Taken> {
+    Ok(Taken {
+        takes: number(line, "takes", PIECE),
+        writes: numbers(alloc, line, "writes")?,
+    })
+}
+
+fn failing(alloc: Global, line: &Value) -> Result<Failing> {
+    Ok(Failing {
+        disk: u32::try_from(number(line, "disk", 0)).unwrap_or(0),
+        calls: numbers(alloc, line, "calls")?,
+    })
+}
+
+fn ending(line: &Value) -> Option<Ending<'_>> {
+    Some(Ending {
+        status: line.get("status")?.as_u64()?,
+        wanted: wanted(line)?,
+        left: items(line, "left"),
+    })
+}
+
+fn wanted(line: &Value) -> Option<Wanted<'_>> {
+    match (line.get("ends"), line.get("last")) {
+        (Some(end), _) => Some(Wanted::End(end.as_str()?)),
+        (_, Some(last)) => Some(Wanted::Last(last.as_str()?)),
+        _ => Some(Wanted::Whole(line.get("written")?.as_str()?)),
     }
-}
-
-/// The items of an array, and none where there is no array.
-fn items<'l>(line: &'l Value, name: &str) -> &'l [Value] {
-    match line.get(name) {
-        Some(Value::Array(items)) => items.as_slice(),
-        _ => &[],
-    }
-}
-
-fn numbers(alloc: Global, line: &Value, name: &str) -> Result<Sequence<u64>, OutOfMemory> {
-    let mut numbers = Sequence::new(alloc);
-    for item in items(line, name) {
-        numbers.push(item.as_u64().unwrap_or(0))?;
-    }
-    Ok(numbers)
-}
-
-fn words(alloc: Global, line: &Value) -> Result<Sequence<Text>, OutOfMemory> {
-    let mut words = Sequence::new(alloc);
-    for item in items(line, "words") {
-        words.push(text(alloc, item)?)?;
-    }
-    Ok(words)
-}
-
-fn text(alloc: Global, item: &Value) -> Result<Text, OutOfMemory> {
-    Sequence::from_slice(alloc, item.as_str().unwrap_or("").as_bytes())
-}
-
-/// The bytes of a text, as many spaces as a number says, or the document that a seed gives with so many transactions.
-fn document(alloc: Global, line: &Value) -> Result<Bytes, OutOfMemory> {
-    if let [seed, txns] = items(line, "document") {
-        return generated(
-            alloc,
-            seed.as_u64().unwrap_or(0),
-            txns.as_u64().unwrap_or(1),
-        );
-    }
-    let Some(document) = line.get("document") else {
-        return Ok(Sequence::new(alloc));
-    };
-    match document.as_u64() {
-        Some(count) => spaces(alloc, count),
-        None => text(alloc, document),
-    }
-}
-
-fn generated(alloc: Global, seed: u64, txns: u64) -> Result<Bytes, OutOfMemory> {
-    acc_generator::generate(alloc, seed, txns.clamp(1, 2000) as u32)
-}
-
-fn spaces(alloc: Global, count: u64) -> Result<Bytes, OutOfMemory> {
-    let mut spaces = Sequence::new(alloc);
-    for _ in 0..count {
-        spaces.push(b' ')?;
-    }
-    Ok(spaces)
 }

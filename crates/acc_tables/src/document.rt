@@ -2,7 +2,7 @@
 use acc_base::OutOfMemory;
 use acc_schedule::{Plan, PlanError, PlanKind, read};
 use anyhow::Result;
-use std::alloc::Global;
+use std::alloc::{AllocError, Global};
 
 /// The counts of the plan that a document says, or its refusal.
 pub fn answer(alloc: Global, document: &str) -> Result<String> {
@@ -17,7 +17,7 @@ pub fn answer(alloc: Global, document: &str) -> Result<String> {
             },
         ) => {
             let path = std::str::from_utf8(path.as_slice())?;
-            refusal(alloc, kind, path, detail, at)
+            Ok(refusal(alloc, kind, path, detail, at)?)
         }
         Err(PlanError::OutOfMemory) => Err(OutOfMemory.into()),
     }
@@ -33,11 +33,17 @@ fn counts(alloc: Global, plan: &Plan) -> Result<String> {
     )?)
 }
 
-fn refusal(alloc: Global, kind: PlanKind, path: &str, detail: u32, at: u64) -> Result<String> {
+fn refusal(
+    alloc: Global,
+    kind: PlanKind,
+    path: &str,
+    detail: u32,
+    at: u64,
+) -> Result<String, AllocError> {
     let number = kind as u32;
-    Ok(match kind {
-        PlanKind::Text => format!(in alloc; "bad {number} {path} {detail} at {at}")?,
-        _ if detail != 0 => format!(in alloc; "bad {number} {path} {detail}")?,
-        _ => format!(in alloc; "bad {number} {path}")?,
-    })
+    match kind {
+        PlanKind::Text => format!(in alloc; "bad {number} {path} {detail} at {at}"),
+        _ if detail != 0 => format!(in alloc; "bad {number} {path} {detail}"),
+        _ => format!(in alloc; "bad {number} {path}"),
+    }
 }

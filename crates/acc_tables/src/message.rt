@@ -8,12 +8,14 @@ use acc_message_code::{CodeError, decode, encode, laws, message_length};
 use anyhow::Result;
 use std::alloc::Global;
 
-/// The message that some bytes in base 16 say, or their fault.
-pub fn answer(alloc: Global, digits: &str) -> Result<String> {
-    let bytes = hex::decode(alloc, digits)?;
-    let bytes = bytes.as_slice();
+/// The message that some bytes say, or their fault.
+pub fn answer(alloc: Global, bytes: &[u8]) -> Result<String> {
     match decode(alloc, bytes) {
-        Ok(message) => spelled(alloc, &message, bytes),
+        Ok(message) => {
+            let told = spelled(alloc, &message, bytes);
+            drop(message);
+            told
+        }
         Err(error) => fault(alloc, error),
     }
 }

@@ -3,7 +3,7 @@ use crate::text::fault;
 use crate::told::told_outcome;
 use acc_base::{InlineText, OutOfMemory, Sequence};
 use acc_lang::parse_v2;
-use acc_txn::Outcome;
+use acc_txn::{Body, Outcome};
 use acc_value::{CellList, Key, Value as Held};
 use anyhow::{Context, Result};
 use serde_json::Value;
@@ -12,13 +12,15 @@ use std::alloc::Global;
 /// The outcome on these cells of the body that a text says in version 2, or the text's fault.
 pub fn answer(alloc: Global, text: &str, cells: &[Value]) -> Result<String> {
     match parse_v2(alloc, text) {
-        Ok(body) => {
-            let before = cell_list(alloc, cells)?;
-            let outcome = body.evaluate(&before)?;
-            outcome_text(alloc, &outcome)
-        }
+        Ok(body) => evaluated(alloc, &body, cells),
         Err(error) => fault(alloc, error),
     }
+}
+
+fn evaluated(alloc: Global, body: &Body, cells: &[Value]) -> Result<String> {
+    let before = cell_list(alloc, cells)?;
+    let outcome = body.evaluate(&before)?;
+    outcome_text(alloc, &outcome)
 }
 
 fn cell_list(alloc: Global, cells: &[Value]) -> Result<CellList> {

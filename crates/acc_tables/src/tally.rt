@@ -1,77 +1,49 @@
-//! How many answers agree.
-use crate::case::Case;
-use std::fmt;
+//! How many answers are as wanted.
+use anyhow::{Result, ensure};
+use std::io;
 
-/// How many answers of one kind came, and how many of them agree.
+/// How many lines were read, how many of them ask for answers, and how many of these are as wanted.
 #[derive(Clone, Copy)]
 pub struct Tally {
-    agree: u64,
+    lines: u64,
     all: u64,
+    agree: u64,
 }
 
 impl Tally {
-    fn new() -> Tally {
-        Tally { agree: 0, all: 0 }
+    /// Nothing read yet.
+    pub fn new() -> Tally {
+        Tally {
+            lines: 0,
+            all: 0,
+            agree: 0,
+        }
     }
 
-    /// Counts an answer.
-    pub fn count(&mut self, agrees: bool) {
+    /// The number of the next line.
+    pub fn next_line(&mut self) -> u64 {
+        self.lines = self.lines.saturating_add(1);
+        self.lines
+    }
+
+    /// Counts whether the answers of this line are as wanted. None for a heading.
+    pub fn count(&mut self, rt: &impl Print, agrees: Option<bool>) -> io::Result<()> {
+        let Some(agrees) = agrees else {
+            return Ok(());
+        };
         self.all = self.all.saturating_add(1);
         if agrees {
             self.agree = self.agree.saturating_add(1);
+            return Ok(());
         }
+        println!(rt; "line {}: other answers", self.lines)
     }
 
-    fn is_whole(&self) -> bool {
-        self.agree == self.all
-    }
-}
-
-impl fmt::Display for Tally {
-    fn fmt<W: fmt::Write>(&self, f: &mut fmt::Formatter<W>) -> fmt::Result {
-        write!(f, "{} of {}", self.agree, self.all)
-    }
-}
-
-/// The tallies of all kinds.
-#[derive(Clone, Copy)]
-pub struct Tallies {
-    pub texts: Tally,
-    pub texts_v2: Tally,
-    pub outcomes: Tally,
-    pub documents: Tally,
-    pub messages: Tally,
-}
-
-impl Tallies {
-    /// Nothing counted yet.
-    pub fn new() -> Tallies {
-        Tallies {
-            texts: Tally::new(),
-            texts_v2: Tally::new(),
-            outcomes: Tally::new(),
-            documents: Tally::new(),
-            messages: Tally::new(),
-        }
-    }
-
-    /// The tally of the case's kind.
-    pub fn of(&mut self, case: &Case<'_>) -> &mut Tally {
-        match case {
-            Case::Text(_) => &mut self.texts,
-            Case::TextV2(_) => &mut self.texts_v2,
-            Case::Outcome(_, _) => &mut self.outcomes,
-            Case::Document(_) => &mut self.documents,
-            Case::Message(_) => &mut self.messages,
-        }
-    }
-
-    /// Whether no answer differs.
-    pub fn all_agree(&self) -> bool {
-        self.texts.is_whole()
-            && self.texts_v2.is_whole()
-            && self.outcomes.is_whole()
-            && self.documents.is_whole()
-            && self.messages.is_whole()
+    /// Tells the counts. Fails where some answers differ.
+    pub fn end(&self, rt: &impl Print) -> Result<()> {
+        let Tally { all, agree, .. } = self;
+        println!(rt; "as wanted: {agree} of {all}")?;
+        ensure!(agree == all, "some answers differ");
+        Ok(())
     }
 }

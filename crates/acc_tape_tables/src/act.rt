@@ -4,13 +4,14 @@ ghost use Rattle.acc_tape_tables.specs.Halls.{IsChair};
 
 use crate::chair::{Chair, Draft, Reel};
 use crate::sample::Name;
+use acc_base::OutOfMemory;
 use acc_tape::{PlaceError, Post, TapeError};
-use anyhow::{Result, anyhow};
+use anyhow::{Context, Result};
 use std::alloc::Global;
 use std::sync::Wait;
 
 /// What a seat does.
-#[derive(Debug, Drop)]
+#[derive(Drop)]
 pub enum Act {
     Reserve {
         items: u64,
@@ -57,24 +58,18 @@ pub fn take<W: Wait>(
     ensures { IsChair tape.now chair.new }
 {
     match act {
-        Act::Reserve { items, bytes } => match chair.reserve(rt, tape, items, bytes) {
-            Ok(()) => told(alloc, "ok"),
-            Err(error) => refused(alloc, error),
-        },
+        Act::Reserve { items, bytes } => { reserved(alloc, chair.reserve(rt, tape, items, bytes)) }
         Act::Release { items, bytes } => given(alloc, chair.release(rt, tape, items, bytes)),
-        Act::Enter { weight, draft } => given(alloc, chair.enter(rt, tape, weight, draft)?),
+        Act::Enter { weight, draft } => entered(alloc, chair.enter(rt, tape, weight, draft)),
         Act::EnterAll {
             items,
             weight,
             drafts,
-        } => given(
+        } => entered(
             alloc,
-            chair.enter_all(rt, alloc, tape, items, weight, drafts)?,
+            chair.enter_all(rt, alloc, tape, items, weight, drafts),
         ),
-        Act::Fetch { place } => match tape.fetch(rt, &mut chair.seat, place) {
-            Ok(name) => Ok(named(alloc, name)?),
-            Err(PlaceError::NoPlace) => told(alloc, "none"),
-        },
+        Act::Fetch { place } => fetched(alloc, tape.fetch(rt, &mut chair.seat, place)),
         Act::Next { to } => post(alloc, tape.next_for(rt, &mut chair.seat, to)),
         Act::After { to, number } => {
             post(alloc, tape.next_after(rt, &mut chair.seat, to, number))
@@ -97,17 +92,27 @@ fn collect<W: Wait>(
 {
     let mut found = Vec::with_capacity(alloc, most)?;
     tape.collect(rt, &mut chair.seat, to, &mut found)?;
+    collected(alloc, found.as_slice())
+}
+
+// Messages with the items that sent them.
+fn collected(alloc: Global, found: &[(Post, Name)]) -> Result<String> {
+    if found.is_empty() {
+        return told(alloc, "none");
+    }
     let mut told = String::new(alloc);
     for (post, name) in found {
-        if !told.is_empty() {
-            told.push_str(", ")?;
-        }
-        told.push_str(&with_item(alloc, post, name)?)?;
-    }
-    if told.is_empty() {
-        told.push_str("none")?;
+        add(alloc, &mut told, *post, *name)?;
     }
     Ok(told)
+}
+
+fn add(alloc: Global, told: &mut String, post: Post, name: Name) -> Result<()> {
+    if !told.is_empty() {
+        told.push_str(", ")?;
+    }
+    told.push_str(&with_item(alloc, post, name)?)?;
+    Ok(())
 }
 
 /// An item: its actor, a dot, and how many that entered before.
@@ -116,7 +121,8 @@ pub fn named(alloc: Global, name: Name) -> Result<String> {
     Ok(format!(in alloc; "{actor}.{number}")?)
 }
 
-fn told(alloc: Global, text: &str) -> Result<String> {
+/// A text alone.
+pub fn told(alloc: Global, text: &str) -> Result<String> {
     Ok(text.to_string(alloc)?)
 }
 
@@ -127,10 +133,22 @@ fn given(alloc: Global, was_held: bool) -> Result<String> {
     }
 }
 
-fn refused(alloc: Global, error: TapeError) -> Result<String> {
-    match error {
-        TapeError::Full { which, number } => Ok(format!(in alloc; "full {which} {number}")?),
-        TapeError::OutOfMemory => Err(anyhow!("out of memory")),
+fn reserved(alloc: Global, came: Result<(), TapeError>) -> Result<String> {
+    match came {
+        Ok(()) => told(alloc, "ok"),
+        Err(TapeError::Full { which, number }) => Ok(format!(in alloc; "full {which} {number}")?),
+        Err(TapeError::OutOfMemory) => None.context("out of memory"),
+    }
+}
+
+fn entered(alloc: Global, came: Result<bool, OutOfMemory>) -> Result<String> {
+    given(alloc, came?)
+}
+
+fn fetched(alloc: Global, came: Result<Name, PlaceError>) -> Result<String> {
+    match came {
+        Ok(name) => named(alloc, name),
+        Err(PlaceError::NoPlace) => told(alloc, "none"),
     }
 }
 

@@ -5,7 +5,7 @@ ghost use Rattle.acc_tape_tables.specs.Halls.{IsChair, IsHall};
 use crate::act::{self, Act, named};
 use crate::chair::{Chair, Draft, Reel};
 use crate::hall::Hall;
-use crate::sample::name_of;
+use crate::sample::{Sample, name_of};
 use crate::threads::{self, Crowd};
 use anyhow::{Context, Result};
 use serde_json::Value;
@@ -19,22 +19,48 @@ pub fn agrees<R: Threads + Wait + Sync>(
     alloc: Global,
     line: &Value,
 ) -> Result<Option<bool>> {
-    let parts = line.as_array().context("no array")?;
-    match parts.as_slice() {
-        [kind, _] if kind.as_str() == Some("part") => Ok(None),
-        [kind, items, bytes, steps @ ..] if kind.as_str() == Some("tape") => {
-            let items = items.as_u64().context("no limit of items")?;
-            let bytes = bytes.as_u64().context("no limit of bytes")?;
-            let hall = Hall::new(alloc, items, bytes)?;
-            Ok(Some(goes(rt, alloc, hall, steps)?))
-        }
-        [kind, parts @ .., wanted] if kind.as_str() == Some("threads") => {
-            let crowd = crowd(parts).context("threads of another form")?;
-            let told = threads::told(rt, alloc, &crowd)?;
-            Ok(Some(wanted.as_str() == Some(told.as_str())))
-        }
+    match kind_of(line) {
+        Some(("part", [_])) => Ok(None),
+        Some(("tape", [items, bytes, steps @ ..])) => tape(rt, alloc, items, bytes, steps),
+        Some(("threads", [parts @ .., wanted])) => crowded(rt, alloc, parts, wanted),
         _ => None.context("a line of another form"),
     }
+}
+
+// The word with which an array begins, and what stands behind it.
+fn kind_of(list: &Value) -> Option<(&str, &[Value])> {
+    match list.as_array()?.as_slice() {
+        [kind, parts @ ..] => Some((kind.as_str()?, parts)),
+        [] => None,
+    }
+}
+
+// Whether the steps on a tape with these limits go as wanted.
+fn tape<W: Wait>(
+    rt: &W,
+    alloc: Global,
+    items: &Value,
+    bytes: &Value,
+    steps: &[Value],
+) -> Result<Option<bool>> {
+    match (items.as_u64(), bytes.as_u64()) {
+        (Some(items), Some(bytes)) => {
+            Ok(Some(goes(rt, alloc, Hall::new(alloc, items, bytes)?, steps)?))
+        }
+        _ => None.context("no limit"),
+    }
+}
+
+// Whether threads tell what is wanted.
+fn crowded<R: Threads + Wait + Sync>(
+    rt: &R,
+    alloc: Global,
+    parts: &[Value],
+    wanted: &Value,
+) -> Result<Option<bool>> {
+    let crowd = crowd(parts).context("threads of another form")?;
+    let told = threads::told(rt, alloc, &crowd)?;
+    Ok(Some(wanted.as_str() == Some(told.as_str())))
 }
 
 // What threads do.
@@ -52,27 +78,71 @@ fn crowd(parts: &[Value]) -> Option<Crowd> {
     }
 }
 
+// How the steps of a tape went.
+#[derive(Clone, Copy)]
+enum Course<'l> {
+    // Up to a close, of which this is wanted.
+    Closes(&'l Value),
+    // All of them as wanted, or up to one that wasn't.
+    Ends(bool),
+}
+
 // Whether steps go as wanted. They end with a close, or leave the tape.
-fn goes<W: Wait>(rt: &W, alloc: Global, mut hall: Hall, steps: &[Value]) -> Result<bool>
+fn goes<W: Wait>(rt: &W, alloc: Global, hall: Hall, steps: &[Value]) -> Result<bool>
     requires { IsHall hall }
 {
+    let mut hall = hall;
+    match go_on(rt, alloc, &mut hall, steps) {
+        Ok(Course::Closes(wanted)) => { Ok(wanted.as_str() == Some(closed(alloc, hall)?.as_str())) }
+        Ok(Course::Ends(as_wanted)) => {
+            drop(hall);
+            Ok(as_wanted)
+        }
+        Err(error) => {
+            drop(hall);
+            Err(error)
+        }
+    }
+}
+
+// Takes steps up to a close, or to one whose answer isn't the wanted one.
+fn go_on<'l, W: Wait>(
+    rt: &W,
+    alloc: Global,
+    hall: &mut Hall,
+    steps: &'l [Value],
+) -> Result<Course<'l>>
+    requires { IsHall hall.old }
+    ensures { OnOk result (IsHall hall.new) }
+{
     for step in steps {
-        let parts = step.as_array().context("a step of another form")?;
-        match parts.as_slice() {
-            [kind, wanted] if kind.as_str() == Some("close") => {
-                return Ok(wanted.as_str() == Some(closed(alloc, hall)?.as_str()));
-            }
-            [kind, parts @ .., wanted] => {
-                let kind = kind.as_str().context("a step without a word")?;
-                let told = moved(rt, alloc, &mut hall, kind, parts)?;
-                if wanted.as_str() != Some(told.as_str()) {
-                    return Ok(false);
+        match kind_of(step) {
+            Some(("close", [wanted])) => return Ok(Course::Closes(wanted)),
+            Some((kind, [parts @ .., wanted])) => {
+                if !moves(rt, alloc, hall, kind, parts, wanted)? {
+                    return Ok(Course::Ends(false));
                 }
             }
             _ => return None.context("a step of another form"),
         }
     }
-    Ok(true)
+    Ok(Course::Ends(true))
+}
+
+// Takes a step, and tells whether the answer is the wanted one.
+fn moves<W: Wait>(
+    rt: &W,
+    alloc: Global,
+    hall: &mut Hall,
+    kind: &str,
+    parts: &[Value],
+    wanted: &Value,
+) -> Result<bool>
+    requires { IsHall hall.old }
+    ensures { OnOk result (IsHall hall.new) }
+{
+    let told = moved(rt, alloc, hall, kind, parts)?;
+    Ok(wanted.as_str() == Some(told.as_str()))
 }
 
 // Takes a step, and tells the answer.
@@ -91,13 +161,37 @@ fn moved<W: Wait>(
     };
     let actor = number(actor).context("no actor")?;
     if kind == "seat" {
-        hall.add(rt, alloc, actor)?;
-        return Ok("ok".to_string(alloc)?);
+        return seated(rt, alloc, hall, actor);
     }
-    let act = read(alloc, kind, parts)?.context("a step of another form")?;
-    let place = hall.place(actor).context("an actor without a seat")?;
+    acted(rt, alloc, hall, actor, read(alloc, kind, parts)?)
+}
+
+// Adds a seat.
+fn seated<W: Wait>(rt: &W, alloc: Global, hall: &mut Hall, actor: u32) -> Result<String>
+    requires { IsHall hall.old }
+    ensures { OnOk result (IsHall hall.new) }
+{
+    hall.add(rt, alloc, actor)?;
+    act::told(alloc, "ok")
+}
+
+// Lets the seat of an actor act, and tells the answer.
+fn acted<W: Wait>(
+    rt: &W,
+    alloc: Global,
+    hall: &mut Hall,
+    actor: u32,
+    act: Option<Act>,
+) -> Result<String>
+    requires { IsHall hall.old }
+    ensures { OnOk result (IsHall hall.new) }
+{
+    let place = hall.place(actor);
     let Hall { tape, chairs, .. } = hall;
-    act_at(rt, alloc, tape, chairs, place, act)
+    match (act, place) {
+        (Some(act), Some(place)) => act_at(rt, alloc, tape, chairs, place, act),
+        _ => None.context("a step of another form, or an actor without a seat"),
+    }
 }
 
 // Lets the seat of a chair act, and tells the answer.
@@ -125,46 +219,57 @@ fn read(alloc: Global, kind: &str, parts: &[Value]) -> Result<Option<Act>> {
             Ok(weight.as_u64().map(|weight| Act::Enter { weight, draft }))
         }
         ("enter all", [items, weight, drafts @ ..]) => {
-            let drafts = drafted(alloc, drafts)?;
-            Ok(entering_all(items, weight, drafts))
+            Ok(entering_all(items, weight, drafted(alloc, drafts)?))
         }
-        _ => Ok(act(kind, parts)),
+        (_, [first]) => Ok(short_act(kind, first.as_u64())),
+        (_, [first, second]) => Ok(long_act(kind, first.as_u64(), second.as_u64())),
+        _ => Ok(None),
     }
 }
 
-fn act(kind: &str, parts: &[Value]) -> Option<Act> {
-    match (kind, parts) {
-        ("reserve", [bytes]) => Some(Act::Reserve {
+// The act with one number.
+fn short_act(kind: &str, number: Option<u64>) -> Option<Act> {
+    let number = number?;
+    match kind {
+        "reserve" => Some(Act::Reserve {
             items: 1,
-            bytes: bytes.as_u64()?,
+            bytes: number,
         }),
-        ("reserve", [items, bytes]) => Some(Act::Reserve {
-            items: items.as_u64()?,
-            bytes: bytes.as_u64()?,
-        }),
-        ("release", [bytes]) => Some(Act::Release {
+        "release" => Some(Act::Release {
             items: 1,
-            bytes: bytes.as_u64()?,
+            bytes: number,
         }),
-        ("release", [items, bytes]) => Some(Act::Release {
-            items: items.as_u64()?,
-            bytes: bytes.as_u64()?,
-        }),
-        ("fetch", [place]) => Some(Act::Fetch {
-            place: place.as_u64()?,
-        }),
-        ("next", [to]) => Some(Act::Next { to: number(to)? }),
-        ("after", [to, after]) => Some(Act::After {
-            to: number(to)?,
-            number: after.as_u64()?,
-        }),
-        ("item", [to]) => Some(Act::Collect {
-            to: number(to)?,
-            most: 1,
-        }),
-        ("collect", [to, most]) => Some(Act::Collect {
-            to: number(to)?,
-            most: usize::try_from(most.as_u64()?).ok()?,
+        "fetch" => Some(Act::Fetch { place: number }),
+        _ => received(kind, u32::try_from(number).ok()?),
+    }
+}
+
+// The act that asks for the oldest message to an actor.
+fn received(kind: &str, to: u32) -> Option<Act> {
+    match kind {
+        "next" => Some(Act::Next { to }),
+        "item" => Some(Act::Collect { to, most: 1 }),
+        _ => None,
+    }
+}
+
+// The act with two numbers.
+fn long_act(kind: &str, first: Option<u64>, second: Option<u64>) -> Option<Act> {
+    match (kind, first, second) {
+        ("reserve", Some(items), Some(bytes)) => Some(Act::Reserve { items, bytes }),
+        ("release", Some(items), Some(bytes)) => Some(Act::Release { items, bytes }),
+        (_, Some(to), Some(number)) => messages(kind, u32::try_from(to).ok()?, number),
+        _ => None,
+    }
+}
+
+// The act that asks for messages to an actor, behind a number or so many.
+fn messages(kind: &str, to: u32, number: u64) -> Option<Act> {
+    match kind {
+        "after" => Some(Act::After { to, number }),
+        "collect" => Some(Act::Collect {
+            to,
+            most: usize::try_from(number).ok()?,
         }),
         _ => None,
     }
@@ -221,12 +326,18 @@ fn number(value: &Value) -> Option<u32> {
 fn closed(alloc: Global, hall: Hall) -> Result<String>
     requires { IsHall hall }
 {
+    let samples = hall.close(alloc)?;
     let mut told = String::new(alloc);
-    for item in hall.close(alloc)?.items {
-        if !told.is_empty() {
-            told.push_str(" ")?;
-        }
-        told.push_str(&named(alloc, name_of(&item))?)?;
+    for item in samples.items.as_slice() {
+        add(alloc, &mut told, item)?;
     }
     Ok(told)
+}
+
+fn add(alloc: Global, told: &mut String, item: &Sample) -> Result<()> {
+    if !told.is_empty() {
+        told.push_str(" ")?;
+    }
+    told.push_str(&named(alloc, name_of(item))?)?;
+    Ok(())
 }

@@ -24,7 +24,7 @@ pub struct Chair {
 
 /// What is to be entered: the bytes of the item, the message that it takes, the actors to which its messages go, and
 /// whether these are lost.
-#[derive(Debug, Drop)]
+#[derive(Drop)]
 pub struct Draft {
     pub bytes: u64,
     pub taken: Option<u64>,

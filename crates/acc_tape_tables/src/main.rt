@@ -36,30 +36,36 @@ mod case;
 mod chair;
 mod hall;
 mod sample;
+mod tally;
 mod threads;
 
-use anyhow::{Context, Result, ensure};
+use anyhow::{Context, Result};
 use serde_json::Value;
-use std::io::{BufRead, BufReader};
+use std::alloc::Global;
+use std::io::{self, BufRead, BufReader};
+use std::sync::Wait;
+use std::thread::Threads;
+use tally::Tally;
+
+/// Counts whether the answers of the next line are the wanted ones.
+fn compare<R: Print + Threads + Wait + Sync>(
+    rt: &R,
+    alloc: Global,
+    tally: &mut Tally,
+    line: io::Result<String>,
+) -> Result<()> {
+    let number = tally.next_line();
+    let line = Value::from_str(alloc, &line?)?;
+    let agrees = case::agrees(rt, alloc, &line).context(format_args!("line {number}"))?;
+    tally.count(rt, agrees)?;
+    Ok(())
+}
 
 fn main(rt: HostRuntime) -> Result<()> {
     let alloc = rt.alloc();
-    let mut agree: u64 = 0;
-    let mut all: u64 = 0;
-    for (place, line) in BufReader::new(alloc, rt.reader())?.lines(alloc).enumerate() {
-        let number = place.saturating_add(1);
-        let line = Value::from_str(alloc, line?.as_str())?;
-        let agrees = case::agrees(&rt, alloc, &line);
-        if let Some(agrees) = agrees.context(format_args!("line {number}"))? {
-            all = all.saturating_add(1);
-            if agrees {
-                agree = agree.saturating_add(1);
-            } else {
-                println!(rt; "line {number}: other answers")?;
-            }
-        }
+    let mut tally = Tally::new();
+    for line in BufReader::new(alloc, rt.reader())?.lines(alloc) {
+        compare(&rt, alloc, &mut tally, line)?;
     }
-    println!(rt; "as wanted: {agree} of {all}")?;
-    ensure!(agree == all, "some answers differ");
-    Ok(())
+    tally.end(&rt)
 }

@@ -7,7 +7,7 @@ use std::alloc::Global;
 
 /// An item: whose it is, how many items its actor entered before it, the message that it took, the actors to which its
 /// messages go, whether these are lost, and its bytes beside one for each message.
-#[derive(Debug, Drop)]
+#[derive(Drop)]
 pub struct Sample {
     pub actor: u32,
     pub number: u64,
@@ -18,14 +18,14 @@ pub struct Sample {
 }
 
 /// Who entered an item, and how many items that actor entered before it.
-#[derive(Clone, Copy, Debug, PartialEq, Eq)]
+#[derive(Clone, Copy)]
 pub struct Name {
     pub actor: u32,
     pub number: u64,
 }
 
 /// A list of items, and for how many more items and messages it has room.
-#[derive(Debug, Drop)]
+#[derive(Drop)]
 pub struct Samples {
     pub items: Vec<Sample>,
     pub room: u64,

@@ -1,19 +1,19 @@
 //! Actors on threads of their own.
-ghost use Rattle.std.specs.Prelude.{◌≡◌, length, All, IfOk};
+ghost use Rattle.std.specs.Prelude.{◌≡◌, length, All, IfOk, OnOk};
 ghost use Rattle.acc_tape_tables.specs.Halls.{IsChair, IsHall};
 
 use crate::chair::{Chair, Draft, Reel};
 use crate::hall::Hall;
-use crate::sample::Sample;
+use crate::sample::{Sample, Samples};
 use acc_tape::TapeError;
 use anyhow::{Result, ensure};
 use std::alloc::Global;
 use std::sync::Wait;
-use std::thread;
 use std::thread::Threads;
+use std::{mem, thread};
 
 /// The limits of a tape, and what so many actors do with it.
-#[derive(Clone, Copy, Debug)]
+#[derive(Clone, Copy)]
 pub struct Crowd {
     pub items: u64,
     pub bytes: u64,
@@ -33,29 +33,41 @@ pub struct Worked {
 
 /// Lets the actors work, and tells how many items were entered and how many reservations refused.
 pub fn told<R: Threads + Wait + Sync>(rt: &R, alloc: Global, crowd: &Crowd) -> Result<String> {
-    let hall = opened(rt, alloc, crowd)?;
-    let Hall {
-        tape,
-        first,
-        made,
-        chairs,
-    } = hall;
-    let worked = side_by_side(rt, &tape, crowd, chairs)?;
-    let (chairs, refused) = left(alloc, &tape, worked)?;
-    let hall = Hall {
-        tape,
-        first,
-        made,
-        chairs,
-    };
-    let entered = hall.close(alloc)?;
-    let items = entered.items.as_slice();
-    for actor in 1..=crowd.actors {
-        ensure!(
-            are_in_order(items, actor),
-            "the items of an actor are out of order"
-        );
+    let mut hall = opened(rt, alloc, crowd)?;
+    match put_to_work(rt, alloc, &mut hall, crowd) {
+        Ok(refused) => counted(alloc, crowd, &hall.close(alloc)?, refused),
+        Err(error) => {
+            drop(hall);
+            Err(error)
+        }
     }
+}
+
+// Lets the actors of a hall work, and gives how many reservations were refused.
+fn put_to_work<R: Threads + Wait + Sync>(
+    rt: &R,
+    alloc: Global,
+    hall: &mut Hall,
+    crowd: &Crowd,
+) -> Result<u64>
+    requires { IsHall hall.old }
+    ensures { OnOk result (IsHall hall.new) }
+{
+    let Hall { tape, chairs, .. } = hall;
+    let seated = mem::replace(chairs, Vec::new(alloc));
+    let worked = side_by_side(rt, tape, crowd, seated)?;
+    let (left, refused) = left(alloc, tape, worked)?;
+    drop(mem::replace(chairs, left));
+    Ok(refused)
+}
+
+// How many items were entered, each in its order, and how many reservations were refused.
+fn counted(alloc: Global, crowd: &Crowd, entered: &Samples, refused: u64) -> Result<String> {
+    let items = entered.items.as_slice();
+    ensure!(
+        (1..=crowd.actors).all(|actor| are_in_order(items, actor)),
+        "the items of an actor are out of order"
+    );
     let count = items.len();
     Ok(format!(in alloc; "entered {count} refused {refused}")?)
 }

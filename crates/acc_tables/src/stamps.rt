@@ -1,0 +1,16 @@
+//! Stamps as texts.
+use acc_stamp::Stamp;
+use anyhow::{Context, Result};
+
+/// The stamp of two numbers with a point in between.
+pub fn stamp(word: &str) -> Result<Stamp> {
+    parsed(word).context("no stamp")
+}
+
+fn parsed(word: &str) -> Option<Stamp> {
+    let (h, origin) = word.split_once('.')?;
+    match (h.parse::<u64>(), origin.parse::<u32>()) {
+        (Ok(h), Ok(origin)) => Some(Stamp { h, origin }),
+        _ => None,
+    }
+}

@@ -1,6 +1,0 @@
--- Each seat has its chair.
-use Rattle.acc_tape_tables.specs.Halls.{IsHall}
-use Rattle.acc_tape_tables.proofs.case.goes.Given as goal
-
-abbrev pub invariant-loop-step : goal.invariant-loop-step
-invariant-loop-step g l = IsHall l.hall
