@@ -23,11 +23,11 @@ use Rattle.acc_record.specs.declared.shelf.Shelf.{Shelf}
 use Rattle.acc_record.specs.Shelf.{record_at}
 use Rattle.acc_record.specs.Stands.{StandsFor, AnswersByRules}
 use Rattle.acc_record.specs.Learning.{deps_below, body_of, known_or_fresh}
-use Rattle.acc_shelf_laws.proofs.After.{after_accept}
-use Rattle.acc_shelf_laws.proofs.QuietSteps.{quiet_answers}
-use Rattle.acc_answers.specs.Refusal.{refusal_or}
-use Rattle.acc_answers.proofs.Rivals.{share_in}
-use Rattle.acc_answers.proofs.VoteLaw.{counts, refused, dependencies}
+use Rattle.acc_record.proofs.After.{after_accept}
+use Rattle.acc_record.proofs.QuietSteps.{quiet_answers}
+use Rattle.acc_record.specs.Refusal.{refusal_or}
+use Rattle.acc_record.proofs.Rivals.{share_in}
+use Rattle.acc_record.proofs.VoteLaw.{counts, refused, dependencies}
 use Rattle.acc_accept.specs.Accepting.{refusal_at, accept_ok, with_accepted, IsGrantingBy}
 use Rattle.acc_accept.proofs.Granting.{IsGrant, quiet}
 

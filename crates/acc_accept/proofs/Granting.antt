@@ -18,12 +18,12 @@ use Rattle.acc_record.specs.declared.shelf.Shelf.{Shelf}
 use Rattle.acc_record.specs.Shelf.{record_at}
 use Rattle.acc_record.specs.Steps.{record_after, stamps_in, stamps_told, QuietStep}
 use Rattle.acc_record.specs.Learning.{body_of, known_or_fresh}
-use Rattle.acc_shelf_laws.specs.LearntAs.{IsLearntAs}
-use Rattle.acc_shelf_laws.proofs.After.{after_nack, after_decided}
-use Rattle.acc_shelf_laws.proofs.Learnt.{Tells, quiet_from_learnt}
-use Rattle.acc_answers.specs.Refusal.{refusal_or}
-use Rattle.acc_answers.proofs.Rivals.{share_in}
-use Rattle.acc_answers.proofs.Telling.{refusal_cases, tells_time}
+use Rattle.acc_record.specs.LearntAs.{IsLearntAs}
+use Rattle.acc_record.proofs.After.{after_nack, after_decided}
+use Rattle.acc_record.proofs.Learnt.{Tells, quiet_from_learnt}
+use Rattle.acc_record.specs.Refusal.{refusal_or}
+use Rattle.acc_record.proofs.Rivals.{share_in}
+use Rattle.acc_record.proofs.Telling.{refusal_cases, tells_time}
 use Rattle.acc_accept.specs.Accepting.{refusal_at, IsGrantingBy}
 
 raised : (g t : ℕ) → max g t ≡ max (max t 0) g

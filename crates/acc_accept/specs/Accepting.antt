@@ -14,8 +14,8 @@ use Rattle.acc_record.specs.declared.record.Record.{Record}
 use Rattle.acc_record.specs.declared.shelf.Shelf.{Shelf}
 use Rattle.acc_record.specs.Shelf.{record_at}
 use Rattle.acc_record.specs.Learning.{deps_below, known_or_fresh}
-use Rattle.acc_shelf_laws.specs.LearntAs.{IsLearntAs}
-use Rattle.acc_answers.specs.Refusal.{refusal_of}
+use Rattle.acc_record.specs.LearntAs.{IsLearntAs}
+use Rattle.acc_record.specs.Refusal.{refusal_of}
 
 abbrev pub is_accept : Message → Bool
 is_accept (Accept from to id ballot body t deps) = true

@@ -1,101 +1,81 @@
--- What an actor that is up would send is what its durable node or store would send.
-use Rattle.std.proofs.Common.{◌≡◌, ◌≤◌, ◌<◌, ◌^◌, ℕ, false, List, Result, Ok, Err, sym, ◌∙◌, subst}
-use Rattle.std.specs.Prelude.{IfOk, All}
+-- What an actor in its slot would send is what its entry would send.
+use Rattle.std.proofs.Common.{◌≡◌, ℕ, false, List, Result, Ok, Err, IfOk, sym, ◌∙◌, ap, subst}
 use Rattle.acc_stamp.specs.declared.actors.Actor.{Actor}
+use Rattle.acc_stamp.specs.Actor.{node_of}
 use Rattle.acc_topology.specs.Layout.{Layout}
 use Rattle.acc_message.specs.declared.message.Message.{Message}
-use Rattle.acc_message.specs.NodeRules.{Act, Takes, node_emits, node_replay}
-use Rattle.acc_message.specs.StoreRules.{store_answer, replay}
-use Rattle.acc_message_code.specs.Short.{IsShortMessage}
-use Rattle.acc_message_code.specs.Weight.{weight_of_all}
-use Rattle.acc_node.specs.Weighing.{SendsShort, node_sends}
-use Rattle.acc_node.proofs.Clocks.{number_is}
-use Rattle.acc_store.specs.Stands.{IsStanding}
-use Rattle.acc_store.specs.Weighing as store_weighing
-use Rattle.acc_durable.specs.declared.node.DurableNode.{DurableNode}
-use Rattle.acc_durable.specs.declared.store.DurableStore.{DurableStore}
-use Rattle.acc_durable.specs.Node as durable
-use Rattle.acc_durable.specs.Store as durable_store
-use Rattle.acc_actors.specs.declared.node.NodeState.TheVariants.{Open}
-use Rattle.acc_actors.specs.declared.node.NodeActor.{NodeActor}
-use Rattle.acc_actors.specs.declared.store.StoreState.TheVariants.{Open as OpenStore}
-use Rattle.acc_actors.specs.declared.store.StoreActor.{StoreActor}
-use Rattle.acc_actors.specs.Stops.{Stop, Past, kept_with}
-use Rattle.acc_actors.specs.Node as node
-use Rattle.acc_actors.specs.Store as store_actor
-use Rattle.acc_actors.specs.Weighing.{NodeMayWeigh, StoreMayWeigh}
-use Rattle.acc_actors.proofs.Nodes as nodes
-use Rattle.acc_actors.proofs.Stores as stores
+use Rattle.acc_message.specs.declared.entry.Emitted.{Emitted}
+use Rattle.acc_message.specs.declared.entry.Event.{Event}
+use Rattle.acc_message.specs.declared.entry.Event.TheVariants.{Message as MessageEvent}
+use Rattle.acc_message.specs.NodeRules.{Act, Takes}
+use Rattle.acc_message.specs.Run.{clock_start, emits}
+use Rattle.acc_message_code.specs.Weight.{weight_of_all, weight_of}
+use Rattle.acc_run_laws.specs.Next.{MayDo}
+use Rattle.acc_run_laws.specs.Sends.{AreSendable}
+use Rattle.acc_run_laws.proofs.Sendable.{node_meets}
+use Rattle.acc_run_laws.specs.Asks.{emits_if}
+use Rattle.acc_payloads.specs.Stops.{Past}
+use Rattle.acc_durable_node.specs.Actor as node
+use Rattle.acc_durable_node.specs.Weighing.{NodeMayWeigh}
+use Rattle.acc_durable_node.specs.declared.actor.NodeActor.{NodeActor}
+use Rattle.acc_schedule.specs.Content.{Content}
+use Rattle.acc_pasts.proofs.Replayed.{node_emits_next}
+use Rattle.acc_pasts.proofs.Sound.{sound_standing}
+use Rattle.acc_schedule_runs.specs.Situations.{Situation, whole}
+use Rattle.acc_schedule_runs.specs.Moves.{event_in, entry_of}
+use Rattle.acc_schedule_runs.specs.Schedules.{cluster_of}
+use Rattle.acc_actors.specs.declared.slot.Slot.{Slot}
+use Rattle.acc_actors.specs.declared.slot.Slot.TheVariants.{Node}
+use Rattle.acc_actors.specs.Pasts.{node_past}
+use Rattle.acc_actors.specs.Asked.{IsAsked, MayAsk}
+use Rattle.acc_actors.proofs.Few.{less_than, few_whole}
 
--- ---- a node
+module _ {D : Type 0} (images : D → List ℕ → Type 0) (faults : D → ℕ) (plan : Content) (a : Actor) (slot : Slot D) (layout : Layout) (layout_is : layout ≡ plan.topology) where
+  abbrev start : ℕ
+  start = clock_start plan.starts (node_of a)
 
-module _ {D : Type 0} (images : D → List ℕ → Type 0) (layout : Layout) (actor : NodeActor D) (n : DurableNode D) (is : actor.state ≡ Open n) (sound : node.is_down actor ≡ false) where
-  up_here : (number start version : ℕ) (past : Past Act) → node.StandsFor images layout number start version past actor → node.IsUp layout number start version past n
-  up_here number start version past stands = nodes.up_in layout number start version past actor.state n is (stands.up sound)
+  -- what is asked of the actor may be done behind all that was entered
+  may_do : (s : Situation) (event : Event) (act : Act) (x : Slot D) → IsAsked images faults plan s a event act x → MayDo (cluster_of plan) (whole s) a act
+  may_do s event act x asked = record { event = event_in s event; act_is = asked.may.act_is; place = asked.may.place }
 
-  -- its clock draws for the node
-  pub few_nodes : (number start version : ℕ) (past : Past Act) → actor.name.number ≤ 15 → node.StandsFor images layout number start version past actor → n.node.clock.node ≤ 15
-  few_nodes number start version past few stands =
-      let up : node.IsUp layout number start version past n = up_here number start version past stands in
-      subst (λ (k : ℕ). k ≤ 15) (stands.number_is ∙ sym up.number_is ∙ sym (number_is layout n.number n.start n.node past.acts up.stands.stands)) few
+  -- what the rules give is what the entry has
+  is_entry : (s : Situation) (event : Event) (act : Act) (x : Slot D) (emitted : Emitted) → IsAsked images faults plan s a event act x → emits (cluster_of plan) (whole s) a act ≡ emitted
+      → weight_of_all emitted.out ≡ weight_of (entry_of (cluster_of plan) s a event false)
+  is_entry s event act x emitted asked is =
+      ap (λ (e : Emitted). weight_of_all e.out) (sym is ∙ ap (emits_if (cluster_of plan) (whole s) a) (sym asked.may.act_is))
 
-  pub sends_short : (m : Message) → NodeMayWeigh images layout actor m → SendsShort layout n.node (Takes m)
-  sends_short m may =
-      let up : node.IsUp layout may.number may.start may.version may.past n = up_here may.number may.start may.version may.past may.stands in
-      record {
-        number = n.number;
-        start = n.start;
-        acts = may.past.acts;
-        stands = up.stands.stands;
-        short =
-            nodes.by_own (λ a b c. All IsShortMessage (node_sends layout a b may.past.acts (Takes m))) may.number may.start may.version n.number n.start n.version
-            (sym up.number_is) (sym up.start_is) (sym up.version_is) may.short;
-        fits =
-            nodes.by_own (λ a b c. weight_of_all (node_sends layout a b may.past.acts (Takes m)) < 2 ^ 64) may.number may.start may.version n.number n.start n.version
-            (sym up.number_is) (sym up.start_is) (sym up.version_is) may.fits;
-      }
+  -- ---- a node
 
-  pub weighs : {E : Type 0} (act : Act) (r : Result ℕ E)
-      → IfOk r (λ weight. (acts : List Act) → durable.StandsFor layout n acts → weight ≡ weight_of_all (node_emits layout n.number n.start (node_replay layout n.number n.start acts) act).out)
-      → IfOk r (λ weight. (number start version : ℕ) (past : Past Act) → node.StandsFor images layout number start version past actor
-      → weight ≡ weight_of_all (node.emits_next layout number start past act).out)
-  weighs act (Ok weight) is_weight = λ number start version past stands.
-      let up : node.IsUp layout number start version past n = up_here number start version past stands in
-      nodes.by_own (λ a b c. weight ≡ weight_of_all (node_emits layout a b (node_replay layout a b past.acts) act).out) n.number n.start n.version number start version
-      up.number_is up.start_is up.version_is (is_weight past.acts up.stands)
-  weighs act (Err e) is_weight = tt
+  module _ (n : NodeActor D) (is : slot ≡ Node n) where
+    there : (s : Situation) (event : Event) (act : Act) → IsAsked images faults plan s a event act slot → IsAsked images faults plan s a event act (Node n)
+    there s event act asked = subst (λ (x : Slot D). IsAsked images faults plan s a event act x) is asked
 
--- ---- a store
+    pub node_may_weigh : (number : ℕ) (m : Message) → MayAsk images faults plan a (MessageEvent number) (Takes m) slot → NodeMayWeigh images layout n m
+    node_may_weigh number m may =
+        let s : Situation = may.0 in
+        let asked : IsAsked images faults plan s a (MessageEvent number) (Takes m) (Node n) = there s (MessageEvent number) (Takes m) may.1 in
+        let sends : AreSendable (node.emits_next plan.topology (node_of a) start (node_past (cluster_of plan) s a) (Takes m)).out =
+        (node_meets (cluster_of plan) (whole s) a (sound_standing (cluster_of plan) s asked.sound) (few_whole s asked.few) asked.stands.kind).sends
+        (Takes m) (may_do s (MessageEvent number) (Takes m) (Node n) asked) in
+        subst (λ (l : Layout). NodeMayWeigh images l n m) (sym layout_is) (record {
+          number = node_of a;
+          start = start;
+          version = plan.version;
+          past = node_past (cluster_of plan) s a;
+          stands = asked.stands.stands;
+          short = sends.short;
+          fits = less_than _ sends.weight;
+        })
 
-module _ {D : Type 0} (images : D → List ℕ → Type 0) (layout : Layout) (actor : StoreActor D) (s : DurableStore D) (is : actor.state ≡ OpenStore s) (sound : store_actor.is_down actor ≡ false) where
-  store_here : (own : Actor) (version : ℕ) (past : Past Message) (staged : List (Stop Message)) → store_actor.IsStaging images layout own version past staged actor → store_actor.IsUp layout own version past staged s
-  store_here own version past staged stands = stores.up_in layout own version past staged actor.state s is (stands.up sound)
-
-  pub store_stands : (m : Message) → store_actor.MayStage images layout actor m → IsStanding layout s.store
-  store_stands m may =
-      ((kept_with may.0 may.1.past).acts, (store_here may.1.own may.1.version may.1.past may.0 may.1.stands).stands.stands)
-
-  pub store_can : (m : Message) → StoreMayWeigh images layout actor m → stores.CanTake s m
-  store_can m may = stores.can_take images layout actor s m is sound may.may
-
-  pub store_sends_short : (m : Message) → StoreMayWeigh images layout actor m → store_weighing.SendsShort layout s.store m
-  store_sends_short m may =
-      let up : store_actor.IsUp layout may.own may.version may.past may.staged s = store_here may.own may.version may.past may.staged may.stands in
-      record {
-        messages = (kept_with may.staged may.past).acts;
-        stands = up.stands.stands;
-        short =
-            subst (λ (own : Actor). All IsShortMessage (store_answer layout own (replay layout own (kept_with may.staged may.past).acts) m)) (sym up.own_is) may.short;
-        fits =
-            subst (λ (own : Actor). weight_of_all (store_answer layout own (replay layout own (kept_with may.staged may.past).acts) m) < 2 ^ 64) (sym up.own_is) may.fits;
-      }
-
-  pub store_weighs : {E : Type 0} (m : Message) (r : Result ℕ E)
-      → IfOk r (λ weight. (messages : List Message) → durable_store.StandsFor layout s messages
-      → weight ≡ weight_of_all (store_answer layout (durable_store.actor_in s) (replay layout (durable_store.actor_in s) messages) m))
-      → IfOk r (λ weight. (own : Actor) (version : ℕ) (past : Past Message) (staged : List (Stop Message)) → store_actor.IsStaging images layout own version past staged actor
-      → weight ≡ weight_of_all (store_actor.emits_next layout own (kept_with staged past) m).out)
-  store_weighs m (Ok weight) is_weight = λ own version past staged stands.
-      let up : store_actor.IsUp layout own version past staged s = store_here own version past staged stands in
-      subst (λ (a : Actor). weight ≡ weight_of_all (store_answer layout a (replay layout a (kept_with staged past).acts) m)) up.own_is (is_weight (kept_with staged past).acts up.stands)
-  store_weighs m (Err e) is_weight = tt
+    pub node_weighs : {E : Type 0} (event : Event) (act : Act) (r : Result ℕ E)
+        → IfOk r (λ weight. (number start version : ℕ) (past : Past Act) → node.StandsFor images layout number start version past n
+        → weight ≡ weight_of_all (node.emits_next layout number start past act).out)
+        → IfOk r (λ weight. (s : Situation) → IsAsked images faults plan s a event act slot → weight ≡ weight_of (entry_of (cluster_of plan) s a event false))
+    node_weighs event act (Err e) is_weight = tt
+    node_weighs event act (Ok weight) is_weight = λ s asked.
+        let here : IsAsked images faults plan s a event act (Node n) = there s event act asked in
+        subst (λ (l : Layout). (number start version : ℕ) (past : Past Act) → node.StandsFor images l number start version past n
+        → weight ≡ weight_of_all (node.emits_next l number start past act).out) layout_is is_weight
+        (node_of a) start plan.version (node_past (cluster_of plan) s a) here.stands.stands
+        ∙ is_entry s event act (Node n) (node.emits_next plan.topology (node_of a) start (node_past (cluster_of plan) s a) act) here
+        (node_emits_next (cluster_of plan) (whole s) a act (sound_standing (cluster_of plan) s here.sound) here.stands.kind)

@@ -1,4 +1,5 @@
-pub mod Stops
-pub mod Node
-pub mod Store
-pub mod Weighing
+pub mod Pasts
+pub mod Slots
+pub mod Asked
+pub mod Stores
+pub mod Opened

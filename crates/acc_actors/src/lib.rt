@@ -1,15 +1,13 @@
-//! The actors of a cluster, each with its disk: up, or down since its disk failed.
+//! The actors of a plan, each over its disk in the slot that is kept for it, and what it is asked for there.
 //!
-//! An actor that is up is a durable node or store. Its disk's fault stops a step and takes it down; then it waits for a restart, which
-//! crashes the disk and reopens it. What was stopped is kept, since the journal may turn out to hold it.
+//! A slot stands for a situation if its actor does, by the items and the steps that its disk stopped. What an actor then gives is what the
+//! schedule enters for it, and other actors' items leave it alone.
 #![tactic(auto)]
 
-mod name;
-mod node;
-mod stops;
-mod store;
+mod fresh;
+mod slot;
+mod staging;
 mod weighing;
 
-pub use node::NodeActor;
-pub use stops::{Restarted, Unsent, Unsents};
-pub use store::StoreActor;
+pub use fresh::start_of;
+pub use slot::Slot;

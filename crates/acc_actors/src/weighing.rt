@@ -1,95 +1,86 @@
-//! How much an actor that is up would send. Nothing here makes a call of a disk.
-ghost use Rattle.std.specs.Prelude.{◌≡◌, false, ℕ, List, IfOk};
-ghost use Rattle.acc_stamp.specs.declared.actors.Actor.{Actor as Name};
-ghost use Rattle.acc_message.specs.declared.message.Message.{Message as Told};
-ghost use Rattle.acc_message.specs.NodeRules.{Act, Begins, Recovers, Takes};
-ghost use Rattle.acc_message_code.specs.Weight.{weight_of_all};
-ghost use Rattle.acc_actors.specs.Stops.{Stop, Past, kept_with};
+//! How much an actor in its slot would send. Nothing here makes a call of a disk.
+ghost use Rattle.std.specs.Prelude.{◌≡◌, false, List, IfOk};
+ghost use Rattle.acc_message.specs.declared.entry.Event.{Event as AnEvent};
+ghost use Rattle.acc_message.specs.NodeRules.{Begins, Recovers, Takes};
+ghost use Rattle.acc_message_code.specs.Weight.{weight_of};
+ghost use Rattle.acc_schedule_runs.specs.Situations.{Situation};
+ghost use Rattle.acc_schedule_runs.specs.Moves.{entry_of, entered_all};
+ghost use Rattle.acc_schedule_runs.specs.Schedules.{cluster_of};
 
-use crate::node::{NodeActor, NodeState};
-use crate::store::{StoreActor, StoreState};
+use crate::slot::Slot;
 use acc_base::OutOfMemory;
 use acc_message::Message;
 use acc_ports::Rig;
-use acc_stamp::TxnId;
-use acc_store::Prepared;
-use acc_topology::Topology;
+use acc_run_laws::numbers_alone::messages_have_numbers_alone;
+use acc_schedule::Plan;
+use acc_stamp::{Actor, TxnId};
 use acc_txn::Body;
 
-impl<D: Rig> NodeActor<D> {
-    ghost use Rattle.acc_actors.specs.Node.{StandsFor, MayBegin, MayRecover, emits_next, is_down};
-    ghost use Rattle.acc_actors.specs.Weighing.{NodeMayWeigh};
+impl<D: Rig> Slot<D> {
+    ghost use Rattle.acc_actors.specs.Asked.{IsAsked, MayAsk, IsAskedBehind, MayAskBehind};
 
-    /// How many bytes of encoded messages a begin would send now, of a transaction that the node hasn't begun.
+    /// How many bytes of encoded messages the node would send now if it began a transaction.
     pub fn weigh_begin(
         &self,
-        topology: &Topology,
+        plan: &Plan,
+        actor: Actor,
         txn: u32,
         body: &Body,
     ) -> Result<u64, OutOfMemory>
-        requires up { is_down self.now ≡ false }
-        requires may { MayBegin D.is_image topology.now self.now txn }
-        ensures { IfOk result (λ weight. (number start version : ℕ) (past : Past Act) → StandsFor D.is_image topology.now number start version past self.now
-            → weight ≡ weight_of_all (emits_next topology.now number start past (Begins txn body.now)).out) }
+        requires { MayAsk D.is_image D.faults plan.now actor (AnEvent.Begin txn) (Begins txn body.now) self.now }
+        ensures { IfOk result (λ weight. (s : Situation) → IsAsked D.is_image D.faults plan.now s actor (AnEvent.Begin txn) (Begins txn body.now) self.now
+            → weight ≡ weight_of (entry_of (cluster_of plan.now) s actor (AnEvent.Begin txn) false)) }
     {
-        let NodeState::Open(node) = &self.state else {
-            unreachable!()
-        };
-        node.weigh_begin(topology, txn, body)
+        let _actor = actor;
+        match self {
+            Slot::Node(node) => node.weigh_begin(&plan.topology, txn, body),
+            Slot::Empty | Slot::Store(_) => Err(OutOfMemory),
+        }
     }
 
     /// The same of a recover.
     pub fn weigh_recover(
         &self,
-        topology: &Topology,
+        plan: &Plan,
+        actor: Actor,
+        txn: u32,
         id: TxnId,
         body: &Body,
     ) -> Result<u64, OutOfMemory>
-        requires up { is_down self.now ≡ false }
-        requires may { MayRecover D.is_image topology.now self.now }
-        ensures { IfOk result (λ weight. (number start version : ℕ) (past : Past Act) → StandsFor D.is_image topology.now number start version past self.now
-            → weight ≡ weight_of_all (emits_next topology.now number start past (Recovers id body.now)).out) }
+        requires { MayAsk D.is_image D.faults plan.now actor (AnEvent.Recover txn) (Recovers id body.now) self.now }
+        ensures { IfOk result (λ weight. (s : Situation) → IsAsked D.is_image D.faults plan.now s actor (AnEvent.Recover txn) (Recovers id body.now) self.now
+            → weight ≡ weight_of (entry_of (cluster_of plan.now) s actor (AnEvent.Recover txn) false)) }
     {
-        let NodeState::Open(node) = &self.state else {
-            unreachable!()
-        };
-        node.weigh_recover(topology, id, body)
+        let _actor = actor;
+        let _txn = txn;
+        match self {
+            Slot::Node(node) => node.weigh_recover(&plan.topology, id, body),
+            Slot::Empty | Slot::Store(_) => Err(OutOfMemory),
+        }
     }
 
-    /// The same of a message.
-    pub fn weigh_take(&self, topology: &Topology, m: &Message) -> Result<u64, OutOfMemory>
-        requires up { is_down self.now ≡ false }
-        requires may { NodeMayWeigh D.is_image topology.now self.now m.now }
-        ensures { IfOk result (λ weight. (number start version : ℕ) (past : Past Act) → StandsFor D.is_image topology.now number start version past self.now
-            → weight ≡ weight_of_all (emits_next topology.now number start past (Takes m.now)).out) }
-    {
-        let NodeState::Open(node) = &self.state else {
-            unreachable!()
-        };
-        node.weigh_step(topology, m)
-    }
-}
-
-impl<D: Rig> StoreActor<D> {
-    ghost use Rattle.acc_actors.specs.Store.{IsStaging, emits_next, is_down};
-    ghost use Rattle.acc_actors.specs.Weighing.{StoreMayWeigh, IsPreparedBy};
-
-    /// How many bytes of encoded messages the step that was planned would send.
-    pub fn weigh(
+    /// The same of the message with this number, behind those that are staged.
+    pub fn weigh_take(
         &self,
-        topology: &Topology,
+        plan: &Plan,
+        actor: Actor,
+        number: u64,
         m: &Message,
-        prepared: &Prepared,
     ) -> Result<u64, OutOfMemory>
-        requires up { is_down self.now ≡ false }
-        requires may { StoreMayWeigh D.is_image topology.now self.now m.now }
-        requires prepared { IsPreparedBy topology.now self.now m.now prepared.now }
-        ensures { IfOk result (λ weight. (own : Name) (version : ℕ) (past : Past Told) (staged : List (Stop Told)) → IsStaging D.is_image topology.now own version past staged self.now
-            → weight ≡ weight_of_all (emits_next topology.now own (kept_with staged past) m.now).out) }
+        requires { MayAskBehind D.is_image D.faults plan.now actor (AnEvent.Message number) (Takes m.now) self.now }
+        ensures { IfOk result (λ weight. (s : Situation) (staged : List AnEvent) → IsAskedBehind D.is_image D.faults plan.now s actor staged (AnEvent.Message number) (Takes m.now) self.now
+            → weight ≡ weight_of (entry_of (cluster_of plan.now) (entered_all (cluster_of plan.now) s actor staged false) actor (AnEvent.Message number) false)) }
     {
-        let StoreState::Open(store) = &self.state else {
-            unreachable!()
-        };
-        store.weigh(topology, m, prepared)
+        messages_have_numbers_alone();
+        let _actor = actor;
+        let _number = number;
+        match self {
+            Slot::Empty => Err(OutOfMemory),
+            Slot::Node(node) => node.weigh_take(&plan.topology, m),
+            Slot::Store(store) => {
+                let prepared = store.prepare(&plan.topology, m)?;
+                store.weigh(&plan.topology, m, &prepared)
+            }
+        }
     }
 }

@@ -22,8 +22,8 @@ use Rattle.acc_message.specs.NodeRules.{Deed, next_draw, next_id, next_ballot}
 use Rattle.acc_safety.specs.Places.{StandsAt, Back}
 use Rattle.acc_safety.specs.NodeMoves.{Move, Wait, Propose, CommitTo, DecideBy, FinishWith, BlockBy, EndBy, made, Moves, DecidesFast, AdoptsStable, DecidesCommitted, Hears, Ignores, Counts, IsEnded, TakesOver}
 use Rattle.acc_safety.specs.Attempted.{Origin, FromBegin, FromRecover}
-use Rattle.acc_attempt_facts.proofs.Ranks.{rank, proposes_low, commits_low}
-use Rattle.acc_attempt_facts.proofs.Draws.{IsDraw, DrawsId, DrawsBallot, draw_differs, not_zero}
+use Rattle.acc_safety_laws.proofs.Ranks.{rank, proposes_low, commits_low}
+use Rattle.acc_safety_laws.proofs.Draws.{IsDraw, DrawsId, DrawsBallot, draw_differs, not_zero}
 use Rattle.acc_calm.specs.MessageCounts.{is_of_attempt}
 
 -- ---- counts

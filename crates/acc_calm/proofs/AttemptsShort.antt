@@ -37,9 +37,9 @@ use Rattle.acc_safety.proofs.Attempted.{origin_of}
 use Rattle.acc_safety.proofs.BodiesBegun.{begin_body, recover_body, attempt_body}
 use Rattle.acc_safety.proofs.Bridge.{same, same_itself, each_emits, node_is_actor}
 use Rattle.acc_safety.proofs.Frame.{homes_are_one}
-use Rattle.acc_attempt_facts.proofs.Ranks.{rank}
-use Rattle.acc_attempt_facts.proofs.Draws.{IsDraw, DrawsId, DrawsBallot}
-use Rattle.acc_serial.proofs.Steps.{Told, Outcome_told, Other_told, told, told_stays, node_emitted}
+use Rattle.acc_safety_laws.proofs.Ranks.{rank}
+use Rattle.acc_safety_laws.proofs.Draws.{IsDraw, DrawsId, DrawsBallot}
+use Rattle.acc_safety_laws.proofs.Steps.{Told, Outcome_told, Other_told, told, told_stays, node_emitted}
 use Rattle.acc_calm.proofs.ZeroBallots.{home_is_node}
 use Rattle.acc_calm.specs.MessageCounts.{is_of_attempt, sent_for_attempt, AttemptsAreShort}
 use Rattle.acc_calm.proofs.AttemptCounts.{none_counted, at_most_all, allowed, allowed_less, rank_most, GoesOn, moves_room, hears_room, other_made, finish_made, Started, started_back, started_from, not_begun_again, not_recovered_again}

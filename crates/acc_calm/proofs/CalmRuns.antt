@@ -41,17 +41,17 @@ use Rattle.acc_safety.proofs.Attempted.{origin_of}
 use Rattle.acc_safety.proofs.Bridge.{noted_by, node_is_actor, each_emits, EachEmits-past}
 use Rattle.acc_safety.proofs.Frame.{node_noted, past_of}
 use Rattle.acc_safety.proofs.BodiesBegun.{begin_body, attempt_body}
-use Rattle.acc_store_facts.proofs.Noted.{noting}
-use Rattle.acc_store_facts.proofs.Shown.{committed_is_seen}
-use Rattle.acc_attempt_facts.proofs.Draws.{node_of_draw}
-use Rattle.acc_attempt_facts.proofs.Stages.{one_proposal, one_commit, never_both}
-use Rattle.acc_attempt_facts.proofs.Last.{committed_last}
-use Rattle.acc_roots.proofs.Proposals.{proposals_have_roots}
-use Rattle.acc_roots.proofs.Commits.{commits_have_roots}
-use Rattle.acc_roots.proofs.Decisions.{decisions_have_roots, records_have_roots}
-use Rattle.acc_agreement.specs.Premises.{Premises}
-use Rattle.acc_agreement.proofs.Agreed.{one_timestamp}
-use Rattle.acc_agreement.proofs.BegunIds.{begin_noted}
+use Rattle.acc_safety_laws.proofs.Noted.{noting}
+use Rattle.acc_safety_laws.proofs.Shown.{committed_is_seen}
+use Rattle.acc_safety_laws.proofs.Draws.{node_of_draw}
+use Rattle.acc_safety_laws.proofs.Stages.{one_proposal, one_commit, never_both}
+use Rattle.acc_safety_laws.proofs.Last.{committed_last}
+use Rattle.acc_safety_laws.proofs.Proposals.{proposals_have_roots}
+use Rattle.acc_safety_laws.proofs.Commits.{commits_have_roots}
+use Rattle.acc_safety_laws.proofs.Decisions.{decisions_have_roots, records_have_roots}
+use Rattle.acc_safety_laws.specs.AgreementPremises.{Premises}
+use Rattle.acc_safety_laws.proofs.Agreed.{one_timestamp}
+use Rattle.acc_safety_laws.proofs.BegunIds.{begin_noted}
 use Rattle.acc_calm.proofs.Delivered.{IsCalmAct, acts_are_calm, TookStep}
 use Rattle.acc_calm.proofs.ZeroBallots.{home_is_node}
 use Rattle.acc_calm.proofs.Courses.{at_x, BegunIn, Finishing, over}

@@ -29,7 +29,7 @@ use Rattle.acc_safety.proofs.PlaceOrder.{StandsAt-whole, IsPast-rest, IsPast-tra
 use Rattle.acc_safety.proofs.Bridge.{same_itself, node_step, taken_was_sent, Sending-past}
 use Rattle.acc_safety.proofs.Frame.{past_of}
 use Rattle.acc_safety.proofs.Attempted.{origin_of}
-use Rattle.acc_attempt_facts.proofs.Ranks.{rank, advances}
+use Rattle.acc_safety_laws.proofs.Ranks.{rank, advances}
 use Rattle.acc_calm.proofs.AttemptCounts.{rank_most, started_from, not_begun_again}
 use Rattle.acc_calm.proofs.Delivered.{IsCalmAct, acts_are_calm}
 use Rattle.acc_calm.proofs.ZeroBallots.{all_zero, attempt_zero, nack_zero}

@@ -24,7 +24,7 @@ use Rattle.acc_safety.specs.Histories.{Sending}
 use Rattle.acc_safety.specs.Attempted.{Took}
 use Rattle.acc_safety.proofs.PlaceOrder.{passing, StandsAt-IsIn, StandsAt-whole, StandsAt-IsPast, IsPast-rest}
 use Rattle.acc_safety.proofs.Bridge.{same, same_itself, stands_at, node_step, deeds_of-past}
-use Rattle.acc_serial.proofs.Parts.{sending_is_sent}
+use Rattle.acc_safety_laws.proofs.Parts.{sending_is_sent}
 
 -- ---- lists
 

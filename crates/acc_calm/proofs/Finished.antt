@@ -42,9 +42,9 @@ use Rattle.acc_safety.specs.Valid.{IsStanding}
 use Rattle.acc_safety.proofs.PlaceOrder.{passing, any_from, map-IsIn, flat_map-IsIn, IsIn-append_left, IsIn-append_right, StandsAt-whole, IsPast-rest}
 use Rattle.acc_safety.proofs.Bridge.{node_step, each_emits, emits_at, each_answers}
 use Rattle.acc_safety.proofs.Meetings.{used-HasShard}
-use Rattle.acc_roots.proofs.Phased.{SentToAll}
-use Rattle.acc_roots.proofs.Within.{begun_has_store, sent_to_one}
-use Rattle.acc_serial.proofs.Steps.{Told, Outcome_told, Other_told, told, told_stays}
+use Rattle.acc_safety_laws.proofs.Phased.{SentToAll}
+use Rattle.acc_safety_laws.proofs.Within.{begun_has_store, sent_to_one}
+use Rattle.acc_safety_laws.proofs.Steps.{Told, Outcome_told, Other_told, told, told_stays}
 use Rattle.acc_calm.proofs.Delivered.{IsCalmAct, acts_are_calm, delivered, TookStep, took_step}
 use Rattle.acc_calm.proofs.ZeroBallots.{home_is_node}
 use Rattle.acc_calm.proofs.Reactions.{NotReadyIn}

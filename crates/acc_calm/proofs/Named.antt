@@ -41,13 +41,13 @@ use Rattle.acc_safety.proofs.Frame.{bodies_are_begun, store_sent}
 use Rattle.acc_safety.proofs.Meetings.{are_rivals}
 use Rattle.acc_safety.proofs.SetsNamed.{deps_are_sets}
 use Rattle.acc_safety.proofs.StoreNotions.{votes_are_made}
-use Rattle.acc_store_facts.proofs.Knowing.{known_itself, body_known-past}
-use Rattle.acc_store_facts.proofs.Polled.{vote_said, HaveVotes, preaccept_oks_vote, recover_oks_vote, answer_votes, known_body, answers_union, store_sent as answer_sent}
-use Rattle.acc_store_facts.proofs.Sent.{sent_accept_ok}
-use Rattle.acc_store_facts.proofs.Unheard.{accept_ok_is}
-use Rattle.acc_roots.proofs.Proposals.{proposals_have_roots}
-use Rattle.acc_roots.proofs.Commits.{commits_have_roots}
-use Rattle.acc_roots.proofs.Decisions.{records_have_roots}
+use Rattle.acc_safety_laws.proofs.Knowing.{known_itself, body_known-past}
+use Rattle.acc_safety_laws.proofs.Polled.{vote_said, HaveVotes, preaccept_oks_vote, recover_oks_vote, answer_votes, known_body, answers_union, store_sent as answer_sent}
+use Rattle.acc_safety_laws.proofs.Sent.{sent_accept_ok}
+use Rattle.acc_safety_laws.proofs.Unheard.{accept_ok_is}
+use Rattle.acc_safety_laws.proofs.Proposals.{proposals_have_roots}
+use Rattle.acc_safety_laws.proofs.Commits.{commits_have_roots}
+use Rattle.acc_safety_laws.proofs.Decisions.{records_have_roots}
 
 module _ (cluster : Cluster) (items : List Item) (standing : IsStanding cluster items) where
   begun : BodiesAreBegun cluster items

@@ -32,8 +32,8 @@ use Rattle.acc_safety.proofs.PlaceOrder.{none_is_in, only, IsIn-map, IsIn-append
 use Rattle.acc_safety.proofs.NodeMoved.{hears_all}
 use Rattle.acc_safety.proofs.Bridge.{EachStands-past, each_emits, emits_at, each_answers, answers_at, sender, Sending-past, deeds_of-past}
 use Rattle.acc_safety.proofs.Frame.{store_sent, node_sent, homes_are_one, past_of}
-use Rattle.acc_attempt_facts.proofs.Ranks.{rank}
-use Rattle.acc_serial.proofs.Steps.{Told, Outcome_told, Other_told, told}
+use Rattle.acc_safety_laws.proofs.Ranks.{rank}
+use Rattle.acc_safety_laws.proofs.Steps.{Told, Outcome_told, Other_told, told}
 use Rattle.acc_calm.proofs.Delivered.{IsCalmAct, acts_are_calm}
 use Rattle.acc_calm.proofs.ZeroBallots.{is_request, store_asks_nothing, answers_requests, step_sending, opening_asked, all_zero}
 

@@ -18,7 +18,7 @@ use Rattle.acc_message.specs.Fields.{from_of, ballot_of}
 use Rattle.acc_message.specs.Shares.{is_store_of}
 use Rattle.acc_message.specs.Attempts.{Attempt, Phase, Voting, Recovering, Accepting, Committing, Executing, fits, same_seat, counts, majority_everywhere, fast_everywhere, fast_lost_somewhere, outcome_from}
 use Rattle.acc_message.specs.Coordinator.{Reaction, stay, when, either, in_phase, with_answer, decide, commit, slow_down, finish, finish_with, own_stamp, highest_vote, agreed, path_of, end, after_answer, is_decided, is_past_recover, on_message, reaction}
-use Rattle.acc_attempt_facts.proofs.Ranks.{rank}
+use Rattle.acc_safety_laws.proofs.Ranks.{rank}
 use Rattle.acc_calm.proofs.AttemptCounts.{undecided_low}
 
 -- every phase but Recovering

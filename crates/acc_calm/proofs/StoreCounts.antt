@@ -26,7 +26,7 @@ use Rattle.acc_message.specs.Opening.{Standing, stable_ones, in_turn, is_ready, 
 use Rattle.acc_message.specs.StoreRules.{unless_stable, unless_promised, nack, stable_ballots_in, stable_ballots, opening_of, release, released, at_once, kept_or, read_by, read_ok, store_answer}
 use Rattle.acc_safety.specs.Histories.{EachAnswers}
 use Rattle.acc_actor_laws.proofs.TakenAlone.{taken_alone}
-use Rattle.acc_serial.proofs.Apart.{NotStanding, StandApart, turns-apart}
+use Rattle.acc_safety_laws.proofs.Apart.{NotStanding, StandApart, turns-apart}
 
 -- ---- Stables whose transaction isn't opened
 

@@ -38,8 +38,8 @@ use Rattle.acc_safety.proofs.Frame.{past_of}
 use Rattle.acc_safety.proofs.Attempted.{origin_of}
 use Rattle.acc_safety.proofs.BodiesBegun.{attempt_body}
 use Rattle.acc_safety.proofs.Meetings.{used-HasShard}
-use Rattle.acc_roots.proofs.Phased.{SentToAll, Entered, HasEntered, has_entered}
-use Rattle.acc_roots.proofs.Within.{begun_has_store, sent_to_one}
+use Rattle.acc_safety_laws.proofs.Phased.{SentToAll, Entered, HasEntered, has_entered}
+use Rattle.acc_safety_laws.proofs.Within.{begun_has_store, sent_to_one}
 use Rattle.acc_calm.proofs.Delivered.{delivered, acts_are_calm, IsCalmAct, TookStep, took_step}
 use Rattle.acc_calm.proofs.ZeroBallots.{home_is_node, attempt_zero, promise_zero}
 use Rattle.acc_calm.proofs.Reactions.{IsCalmPhase, is_told, NotReadyIn, IsHeard}

@@ -6,16 +6,16 @@ use Rattle.acc_stamp.specs.declared.actors.Actor.{Actor}
 use Rattle.acc_ports.specs.Strict.{Ranges}
 use Rattle.acc_schedule.specs.Actors.{actors}
 use Rattle.acc_schedule.specs.Content.{Content}
-use Rattle.acc_follow.specs.Situations.{Situation}
-use Rattle.acc_follow.specs.Schedules.{cluster_of}
-use Rattle.acc_strict.specs.Disks.{Disks, after_fail}
+use Rattle.acc_schedule_runs.specs.Situations.{Situation}
+use Rattle.acc_schedule_runs.specs.Schedules.{cluster_of}
+use Rattle.acc_schedule_runs.specs.Disks.{Disks, after_fail}
+use Rattle.acc_actors.specs.declared.slot.Slot.{Slot}
+use Rattle.acc_actors.specs.declared.slot.Slot.TheVariants.{Empty}
+use Rattle.acc_actors.specs.Slots.{SlotStands, IsStrictSlot}
+use Rattle.acc_actors.proofs.Apart.{apart_itself}
+use Rattle.acc_actors.proofs.Few.{entry_other}
 use Rattle.acc_cluster.specs.declared.cluster.Cluster.{Cluster}
-use Rattle.acc_cluster.specs.declared.slot.Slot.{Slot}
-use Rattle.acc_cluster.specs.declared.slot.Slot.TheVariants.{Empty}
-use Rattle.acc_cluster.specs.Slots.{SlotStands, IsStrictSlot}
 use Rattle.acc_cluster.specs.Stands.{slot_at, AreActors, StandsFor, AreStrict}
-use Rattle.acc_cluster.proofs.Apart.{apart_itself}
-use Rattle.acc_cluster.proofs.Few.{entry_other}
 use Rattle.acc_cluster.proofs.Stepped.{turned}
 use Rattle.acc_cluster.proofs.Taken.{within_any}
 use Rattle.acc_cluster.proofs.Written.{IsWritten, AllApart, write_is, actors_written, strict_written}

@@ -10,16 +10,16 @@ use Rattle.acc_message.specs.Run.{Cluster as RunCluster}
 use Rattle.acc_payloads.specs.Items.{downs_in}
 use Rattle.acc_schedule.specs.Actors.{actors}
 use Rattle.acc_schedule.specs.Content.{Content}
-use Rattle.acc_follow.specs.Situations.{Situation, IsOldestWaiting, NothingWaits, receiver_in}
-use Rattle.acc_follow.specs.Moves.{Answers, is_journalled, tried_if}
-use Rattle.acc_follow.specs.Schedules.{cluster_of}
-use Rattle.acc_follow.specs.Laws.{AgreeBelow}
-use Rattle.acc_strict.specs.Disks.{Disks, after_step}
-use Rattle.acc_strict.specs.Moves.{StrictSituation, tried_strictly}
-use Rattle.acc_strict.proofs.Answering.{behind, agree_behind, fails_behind, agree_on}
-use Rattle.acc_limits.specs.Limits.{EndsAt}
-use Rattle.acc_limits.specs.Fronts.{Begins, DrainsTo, comes}
-use Rattle.acc_limits.specs.StrictFronts.{StrictlyDrainsTo, comes as comes_strictly}
+use Rattle.acc_schedule_runs.specs.Situations.{Situation, IsOldestWaiting, NothingWaits, receiver_in}
+use Rattle.acc_schedule_runs.specs.Moves.{Answers, is_journalled, tried_if}
+use Rattle.acc_schedule_runs.specs.Schedules.{cluster_of}
+use Rattle.acc_schedule_runs.specs.Laws.{AgreeBelow}
+use Rattle.acc_schedule_runs.specs.Disks.{Disks, after_step}
+use Rattle.acc_schedule_runs.specs.StrictMoves.{StrictSituation, tried_strictly}
+use Rattle.acc_schedule_runs.proofs.Answering.{behind, agree_behind, fails_behind, agree_on}
+use Rattle.acc_schedule_runs.specs.Limits.{EndsAt}
+use Rattle.acc_schedule_runs.specs.Fronts.{Begins, DrainsTo, comes}
+use Rattle.acc_schedule_runs.specs.StrictFronts.{StrictlyDrainsTo, comes as comes_strictly}
 use Rattle.acc_cluster.specs.declared.cluster.Cluster.{Cluster}
 use Rattle.acc_cluster.specs.Stands.{StandsFor, AreStrict, faults_at}
 use Rattle.acc_cluster.specs.Steps.{RoseByDowns}

@@ -2,11 +2,11 @@
 use Rattle.std.proofs.Common.{ℕ, refl, subst}
 use Rattle.acc_message.specs.declared.entry.Event.TheVariants.{Message as MessageEvent}
 use Rattle.acc_message.specs.Run.{Cluster}
-use Rattle.acc_follow.specs.Situations.{Situation, IsOldestWaiting, NothingWaits, receiver_in}
-use Rattle.acc_follow.specs.Moves.{Answers, tried, Drains, stops, delivers}
-use Rattle.acc_strict.specs.Moves.{StrictSituation, tried_strictly, StrictDrains, stops as stops_strictly, delivers as delivers_strictly}
-use Rattle.acc_limits.specs.Fronts.{DrainsTo, comes, goes_on}
-use Rattle.acc_limits.specs.StrictFronts.{StrictlyDrainsTo, comes as comes_strictly, goes_on as goes_on_strictly}
+use Rattle.acc_schedule_runs.specs.Situations.{Situation, IsOldestWaiting, NothingWaits, receiver_in}
+use Rattle.acc_schedule_runs.specs.Moves.{Answers, tried, Drains, stops, delivers}
+use Rattle.acc_schedule_runs.specs.StrictMoves.{StrictSituation, tried_strictly, StrictDrains, stops as stops_strictly, delivers as delivers_strictly}
+use Rattle.acc_schedule_runs.specs.Fronts.{DrainsTo, comes, goes_on}
+use Rattle.acc_schedule_runs.specs.StrictFronts.{StrictlyDrainsTo, comes as comes_strictly, goes_on as goes_on_strictly}
 
 module _ (cluster : Cluster) where
   -- ---- with answers of the disks

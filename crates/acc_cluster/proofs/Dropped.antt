@@ -16,22 +16,22 @@ use Rattle.acc_schedule.specs.Content.{Content}
 use Rattle.acc_message.specs.Items.{message_at}
 use Rattle.acc_message.specs.Run.{is_down}
 use Rattle.acc_actor_laws.proofs.Standing.{not_none}
-use Rattle.acc_entering.proofs.Standing.{message_there}
-use Rattle.acc_entering.proofs.Skips.{message_skip_is, deliver_skip_is}
-use Rattle.acc_entering.proofs.Sound.{sound_dropped}
-use Rattle.acc_follow.specs.Situations.{Situation, whole, receiver_in, stopped_at}
-use Rattle.acc_follow.specs.Moves.{message_skip, deliver_skip, dropped_unless}
-use Rattle.acc_follow.specs.Schedules.{cluster_of}
-use Rattle.acc_limits.specs.Limits.{EndsAt, most_items}
+use Rattle.acc_pasts.proofs.Standing.{message_there}
+use Rattle.acc_pasts.proofs.Skips.{message_skip_is, deliver_skip_is}
+use Rattle.acc_pasts.proofs.Sound.{sound_dropped}
+use Rattle.acc_schedule_runs.specs.Situations.{Situation, whole, receiver_in, stopped_at}
+use Rattle.acc_schedule_runs.specs.Moves.{message_skip, deliver_skip, dropped_unless}
+use Rattle.acc_schedule_runs.specs.Schedules.{cluster_of}
+use Rattle.acc_schedule_runs.specs.Limits.{EndsAt, most_items}
 use Rattle.acc_history.specs.Stands as history
+use Rattle.acc_actors.specs.declared.slot.Slot.{Slot}
+use Rattle.acc_actors.proofs.Apart.{IsApart}
+use Rattle.acc_actors.proofs.Pasts.{stops_same}
 use Rattle.acc_cluster.specs.declared.cluster.Cluster.{Cluster}
-use Rattle.acc_cluster.specs.declared.slot.Slot.{Slot}
 use Rattle.acc_cluster.specs.Stands.{StandsFor, AreActors, AreStrict}
 use Rattle.acc_cluster.specs.Steps.{IfLimit}
 use Rattle.acc_cluster.specs.Tried.{HasStepped, HasChanged}
-use Rattle.acc_cluster.proofs.Apart.{IsApart}
 use Rattle.acc_cluster.proofs.Hits.{exit_is, full_at}
-use Rattle.acc_cluster.proofs.Pasts.{stops_same}
 use Rattle.acc_cluster.proofs.Written.{actors_same, strict_same}
 
 pub less_is : (n k : ℕ) → n < k → nat_lt n k ≡ true

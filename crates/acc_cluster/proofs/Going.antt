@@ -15,23 +15,23 @@ use Rattle.acc_message.specs.Items.{is_begun}
 use Rattle.acc_message.specs.Run.{Cluster, EachStands, is_down, IsNodeOf}
 use Rattle.acc_actor_laws.proofs.Standing.{not_none}
 use Rattle.acc_safety.proofs.BegunFacts.{WasBegun, begun_has}
-use Rattle.acc_safe_runs.specs.Asks.{home_of_txn}
-use Rattle.acc_safe_runs.specs.AskLaws.{HasTxn}
+use Rattle.acc_run_laws.specs.Asks.{home_of_txn}
+use Rattle.acc_run_laws.specs.AskLaws.{HasTxn}
 use Rattle.acc_safety.proofs.PlaceOrder.{IsIn-Contains}
-use Rattle.acc_receivers.proofs.Layouts.{at_node, at_home}
-use Rattle.acc_receivers.proofs.Receivers.{goes_to_actor}
+use Rattle.acc_run_laws.proofs.Layouts.{at_node, at_home}
+use Rattle.acc_run_laws.proofs.ReceiverFacts.{goes_to_actor}
 use Rattle.acc_schedule.specs.Actors.{actors}
 use Rattle.acc_schedule.specs.Content.{Content}
 use Rattle.acc_schedule.specs.Plan.{IsPlan}
-use Rattle.acc_entering.specs.Entries.{MayTake}
-use Rattle.acc_entering.specs.Stopped.{IsSound}
-use Rattle.acc_entering.proofs.Standing.{recover_may}
-use Rattle.acc_entering.proofs.Situations.{message_whole}
-use Rattle.acc_entering.proofs.Skips.{begin_goes, take_goes, deliver_up}
-use Rattle.acc_entering.proofs.Sound.{sound_standing}
-use Rattle.acc_follow.specs.Situations.{Situation, whole}
-use Rattle.acc_follow.specs.Moves.{event_in, begin_skip, deliver_skip}
-use Rattle.acc_follow.specs.Schedules.{cluster_of}
+use Rattle.acc_pasts.specs.Entries.{MayTake}
+use Rattle.acc_pasts.specs.Stopped.{IsSound}
+use Rattle.acc_pasts.proofs.Standing.{recover_may}
+use Rattle.acc_pasts.proofs.Situations.{message_whole}
+use Rattle.acc_pasts.proofs.Skips.{begin_goes, take_goes, deliver_up}
+use Rattle.acc_pasts.proofs.Sound.{sound_standing}
+use Rattle.acc_schedule_runs.specs.Situations.{Situation, whole}
+use Rattle.acc_schedule_runs.specs.Moves.{event_in, begin_skip, deliver_skip}
+use Rattle.acc_schedule_runs.specs.Schedules.{cluster_of}
 use Rattle.acc_cluster.proofs.Taken.{Goes}
 
 -- ---- plans

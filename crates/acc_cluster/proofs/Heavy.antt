@@ -4,8 +4,8 @@ use Rattle.std.proofs.lemmas.List.Sums.{sum_by-cons}
 use Rattle.acc_message.specs.declared.error.Which.TheVariants.{Bytes}
 use Rattle.acc_message.specs.declared.item.Item.{Item}
 use Rattle.acc_message_code.specs.Weight.{weight_of, weight_of_items}
-use Rattle.acc_follow.specs.Situations.{Situation}
-use Rattle.acc_limits.specs.Limits.{EndsAt, most_items}
+use Rattle.acc_schedule_runs.specs.Situations.{Situation}
+use Rattle.acc_schedule_runs.specs.Limits.{EndsAt, most_items}
 use Rattle.acc_history.specs.declared.history.History.{History}
 use Rattle.acc_cluster.specs.Entering.{HasPlace, IsPastOf}
 

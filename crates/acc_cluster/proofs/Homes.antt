@@ -5,11 +5,11 @@ use Rattle.std.proofs.lemmas.Option.{unwrap_or-slice_get, slice_get-get_or}
 use Rattle.acc_stamp.specs.declared.actors.Actor.{Actor}
 use Rattle.acc_stamp.specs.Actor.{actor_of}
 use Rattle.acc_topology.specs.Sets.{is_among}
-use Rattle.acc_bounds.proofs.Addresses.{node_low}
-use Rattle.acc_safe_runs.specs.Asks.{home_of_txn}
+use Rattle.acc_run_laws.proofs.Addresses.{node_low}
+use Rattle.acc_run_laws.specs.Asks.{home_of_txn}
 use Rattle.acc_schedule.specs.Content.{Content}
 use Rattle.acc_schedule.specs.Plan.{IsPlan}
-use Rattle.acc_follow.specs.Schedules.{cluster_of}
+use Rattle.acc_schedule_runs.specs.Schedules.{cluster_of}
 
 pub each_read : {T : Type 0} (P : T → Type 0) (xs : List T) (i : ℕ) (d : T) → AllByRecursion P xs → i < length xs → P (slice_index_or xs i d)
 each_read P [] i d all less = absurd (none less)

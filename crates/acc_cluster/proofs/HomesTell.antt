@@ -19,17 +19,18 @@ use Rattle.acc_safety.specs.RunLaws.{acts_done}
 use Rattle.acc_safety.specs.Valid.{IsStanding}
 use Rattle.acc_safety.proofs.BegunFacts.{begun_has}
 use Rattle.acc_safety.proofs.DrawFacts.{node_is, is_node-node}
-use Rattle.acc_durable.specs.declared.node.DurableNode.{DurableNode}
-use Rattle.acc_durable.specs.Node as node
+use Rattle.acc_durable_node.specs.declared.node.DurableNode.{DurableNode}
+use Rattle.acc_durable_node.specs.Node as node
 use Rattle.acc_schedule.specs.Content.{Content}
-use Rattle.acc_entering.specs.Stopped.{IsSound}
-use Rattle.acc_entering.proofs.Replayed.{node_replayed}
-use Rattle.acc_entering.proofs.Slowing.{begun_at_home, has_begun}
-use Rattle.acc_entering.proofs.Sound.{sound_standing}
-use Rattle.acc_follow.specs.Situations.{opened}
-use Rattle.acc_follow.specs.Schedules.{cluster_of}
+use Rattle.acc_pasts.specs.Stopped.{IsSound}
+use Rattle.acc_pasts.proofs.Replayed.{node_replayed}
+use Rattle.acc_pasts.proofs.SlowingFacts.{begun_at_home, has_begun}
+use Rattle.acc_pasts.proofs.Sound.{sound_standing}
+use Rattle.acc_schedule_runs.specs.Situations.{opened}
+use Rattle.acc_schedule_runs.specs.Schedules.{cluster_of}
 use Rattle.acc_history.specs.Begun.{begun_as, known_as}
-use Rattle.acc_cluster.specs.Opened.{IsNodeOf, HasDone, TellsOf}
+use Rattle.acc_actors.specs.Opened.{HasDone}
+use Rattle.acc_cluster.specs.Opened.{IsNodeOf, TellsOf}
 use Rattle.acc_cluster.proofs.Homes.{each_read}
 
 -- ---- one id more

@@ -12,22 +12,22 @@ use Rattle.acc_message.specs.declared.item.Item.{Item}
 use Rattle.acc_message.specs.NodeRules.{Act}
 use Rattle.acc_message.specs.Run.{clock_start, is_down}
 use Rattle.acc_payloads.specs.Items.{Keeps, KeepsImage, AreKept, ends_down, payloads_in}
-use Rattle.acc_actors.specs.declared.node.NodeActor.{NodeActor}
-use Rattle.acc_actors.specs.declared.store.StoreActor.{StoreActor}
-use Rattle.acc_actors.specs.Stops.{Stop, Past, some, HoldsPayloads}
-use Rattle.acc_actors.specs.Node as node
-use Rattle.acc_actors.specs.Store as store
+use Rattle.acc_durable_node.specs.declared.actor.NodeActor.{NodeActor}
+use Rattle.acc_durable_store.specs.declared.actor.StoreActor.{StoreActor}
+use Rattle.acc_payloads.specs.Stops.{Stop, Past, some, HoldsPayloads}
+use Rattle.acc_durable_node.specs.Actor as node
+use Rattle.acc_durable_store.specs.Actor as store
 use Rattle.acc_schedule.specs.Actors.{actors}
 use Rattle.acc_schedule.specs.Content.{Content}
-use Rattle.acc_entering.specs.Stopped.{CanAllGoOn, IsSound}
-use Rattle.acc_entering.proofs.Downs.{ends_is_down}
-use Rattle.acc_entering.proofs.Situations.{whole_alone}
-use Rattle.acc_follow.specs.Situations.{Situation, whole, stopped_at}
-use Rattle.acc_follow.specs.Schedules.{cluster_of}
-use Rattle.acc_cluster.specs.declared.slot.Slot.{Slot}
-use Rattle.acc_cluster.specs.declared.slot.Slot.TheVariants.{Empty, Node, Store}
-use Rattle.acc_cluster.specs.Pasts.{stops_at, stops_in, store_stops, node_past, store_past}
-use Rattle.acc_cluster.specs.Slots.{SlotStands, NodeStands, StoreStands, IsTaken}
+use Rattle.acc_pasts.specs.Stopped.{CanAllGoOn, IsSound}
+use Rattle.acc_pasts.proofs.Downs.{ends_is_down}
+use Rattle.acc_pasts.proofs.Situations.{whole_alone}
+use Rattle.acc_schedule_runs.specs.Situations.{Situation, whole, stopped_at}
+use Rattle.acc_schedule_runs.specs.Schedules.{cluster_of}
+use Rattle.acc_actors.specs.declared.slot.Slot.{Slot}
+use Rattle.acc_actors.specs.declared.slot.Slot.TheVariants.{Empty, Node, Store}
+use Rattle.acc_actors.specs.Pasts.{stops_at, stops_in, store_stops, node_past, store_past}
+use Rattle.acc_actors.specs.Slots.{SlotStands, NodeStands, StoreStands, IsTaken}
 use Rattle.acc_cluster.specs.Stands.{AreActors, slot_at}
 use Rattle.acc_cluster.specs.Ends.{entry_of, disks_from, LeavesHeld, Rises, AreDisksOf}
 

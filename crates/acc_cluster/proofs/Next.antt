@@ -13,15 +13,15 @@ use Rattle.acc_message.specs.Run.{Cluster as RunCluster}
 use Rattle.acc_schedule.specs.Content.{Content}
 use Rattle.acc_schedule.specs.declared.plan.Step.{Step}
 use Rattle.acc_schedule.specs.declared.plan.Step.TheVariants.{Drop, Restart, Fail, Drain}
-use Rattle.acc_follow.specs.Situations.{Situation}
-use Rattle.acc_follow.specs.Moves.{Answers, is_journalled, tried_if, stepped_unless, message_skip, dropped_unless, kept_if, reopened, restarted_if, IsNext}
-use Rattle.acc_follow.specs.Schedules.{cluster_of}
-use Rattle.acc_follow.specs.Laws.{AgreeBelow}
-use Rattle.acc_strict.specs.Disks.{Disks, after_step, after_fail, after_restart}
-use Rattle.acc_strict.specs.Moves.{StrictSituation, stepped_strictly, IsStrictNext}
-use Rattle.acc_limits.specs.Limits.{EndsAt}
-use Rattle.acc_limits.specs.Fronts.{ComesTo, Begins}
-use Rattle.acc_limits.specs.StrictFronts.{StrictlyComesTo}
+use Rattle.acc_schedule_runs.specs.Situations.{Situation}
+use Rattle.acc_schedule_runs.specs.Moves.{Answers, is_journalled, tried_if, stepped_unless, message_skip, dropped_unless, kept_if, reopened, restarted_if, IsNext}
+use Rattle.acc_schedule_runs.specs.Schedules.{cluster_of}
+use Rattle.acc_schedule_runs.specs.Laws.{AgreeBelow}
+use Rattle.acc_schedule_runs.specs.Disks.{Disks, after_step, after_fail, after_restart}
+use Rattle.acc_schedule_runs.specs.StrictMoves.{StrictSituation, stepped_strictly, IsStrictNext}
+use Rattle.acc_schedule_runs.specs.Limits.{EndsAt}
+use Rattle.acc_schedule_runs.specs.Fronts.{ComesTo, Begins}
+use Rattle.acc_schedule_runs.specs.StrictFronts.{StrictlyComesTo}
 use Rattle.acc_cluster.specs.declared.cluster.Cluster.{Cluster}
 use Rattle.acc_cluster.specs.Stands.{StandsFor, AreStrict}
 use Rattle.acc_cluster.specs.Steps.{StepsTo, StepsStrictly, EndsIn, EndsStrictlyIn}

@@ -17,24 +17,24 @@ use Rattle.acc_message.specs.NodeRules.{Act, Takes}
 use Rattle.acc_message_code.specs.Weight.{weight_of}
 use Rattle.acc_message.specs.Run.{Cluster as RunCluster, act_of, Stands, EachStands}
 use Rattle.acc_actor_laws.proofs.Standing.{not_none}
-use Rattle.acc_bounds.specs.Sends.{AreFew, AreSendable}
-use Rattle.acc_bounds.proofs.Sendable.{each_sendable}
+use Rattle.acc_run_laws.specs.Sends.{AreFew, AreSendable}
+use Rattle.acc_run_laws.proofs.Sendable.{each_sendable}
 use Rattle.acc_safety.specs.Places.{First}
 use Rattle.acc_safety.specs.Valid.{IsStanding}
 use Rattle.acc_safety.proofs.PlaceOrder.{Contains-IsIn, IsIn-map, each_at}
 use Rattle.acc_safety.proofs.SentFacts.{EachStands-after}
 use Rattle.acc_schedule.specs.Actors.{actors}
 use Rattle.acc_schedule.specs.Content.{Content}
-use Rattle.acc_entering.proofs.Situations.{joined_alone}
-use Rattle.acc_follow.specs.Situations.{Stopped, Situation, whole}
-use Rattle.acc_follow.specs.Schedules.{cluster_of}
-use Rattle.acc_strict.specs.Disks.{Disks}
-use Rattle.acc_limits.specs.Limits.{IsWithin}
+use Rattle.acc_pasts.proofs.Situations.{joined_alone}
+use Rattle.acc_schedule_runs.specs.Situations.{Stopped, Situation, whole}
+use Rattle.acc_schedule_runs.specs.Schedules.{cluster_of}
+use Rattle.acc_schedule_runs.specs.Disks.{Disks}
+use Rattle.acc_schedule_runs.specs.Limits.{IsWithin}
 use Rattle.acc_history.specs.Stands as history
-use Rattle.acc_cluster.specs.declared.slot.Slot.{Slot}
-use Rattle.acc_cluster.specs.declared.slot.Slot.TheVariants.{Empty, Node, Store}
+use Rattle.acc_actors.specs.declared.slot.Slot.{Slot}
+use Rattle.acc_actors.specs.declared.slot.Slot.TheVariants.{Empty, Node, Store}
+use Rattle.acc_actors.specs.Slots.{SlotStands, IsStrictSlot, IsTaken}
 use Rattle.acc_cluster.specs.declared.cluster.Cluster.{Cluster}
-use Rattle.acc_cluster.specs.Slots.{SlotStands, IsStrictSlot, IsTaken}
 use Rattle.acc_cluster.specs.Stands.{slot_at, AreActors, AreStrict, StandsFor}
 use Rattle.acc_cluster.specs.Over.{behind_items, actor_in, AreSlotsOf, IsOver, AreStrictSlots, ArePlaced, IsHistoryOver}
 use Rattle.acc_cluster.proofs.Filled.{all_push, all_before, all_turn, at_each, still_taken, now_taken}

@@ -4,8 +4,8 @@ use Rattle.std.proofs.lemmas.Bool.{true≢false, eq-eqb, eqb-true}
 use Rattle.std.proofs.lemmas.List.Elements.{filter-append}
 use Rattle.std.specs.List.{slice_index_or, slice_set, range_with_len}
 use Rattle.acc_topology.specs.Sets.{numbers, in_set, members}
-use Rattle.acc_cluster.specs.declared.slot.Slot.{Slot}
-use Rattle.acc_cluster.specs.declared.slot.Slot.TheVariants.{Empty}
+use Rattle.acc_actors.specs.declared.slot.Slot.{Slot}
+use Rattle.acc_actors.specs.declared.slot.Slot.TheVariants.{Empty}
 
 module _ {D : Type 0} where
   pub placed : (before slots : List (Slot D)) (place : ℕ) (slot : Slot D) → place < length slots → ((k : ℕ) → slice_index_or slots k Empty ≡ slice_index_or before k Empty)

@@ -16,37 +16,38 @@ use Rattle.acc_message.specs.declared.error.RunError.TheVariants.{Limit}
 use Rattle.acc_message.specs.declared.item.Item.{Item}
 use Rattle.acc_message.specs.declared.item.Item.TheVariants.{Down as WentDown}
 use Rattle.acc_message.specs.Items.{same_actor}
-use Rattle.acc_actors.specs.Stops.{some}
-use Rattle.acc_actors.specs.declared.stops.Unsent.{Unsent}
-use Rattle.acc_actors.specs.declared.stops.Restarted.{Restarted}
-use Rattle.acc_actors.specs.declared.stops.Restarted.TheVariants.{Up, Down}
+use Rattle.acc_payloads.specs.Stops.{some}
+use Rattle.acc_payloads.specs.declared.stops.Unsent.{Unsent}
+use Rattle.acc_payloads.specs.declared.stops.Restarted.{Restarted}
+use Rattle.acc_payloads.specs.declared.stops.Restarted.TheVariants.{Up, Down}
 use Rattle.acc_schedule.specs.Actors.{actors}
 use Rattle.acc_schedule.specs.Content.{Content}
-use Rattle.acc_entering.specs.Stopped.{IsSound}
-use Rattle.acc_entering.proofs.Sound.{sound_down, sound_restarted}
-use Rattle.acc_follow.specs.Situations.{Situation}
-use Rattle.acc_follow.specs.Moves.{with_item, entry_of, entered, kept_if, with_kept, reopened}
-use Rattle.acc_follow.proofs.StopLists.{all_earlier}
-use Rattle.acc_follow.specs.Schedules.{cluster_of}
-use Rattle.acc_strict.specs.Disks.{Disks, after_restart}
-use Rattle.acc_limits.specs.Limits.{IsWithin, EndsAt, most_items}
-use Rattle.acc_limits.specs.Fronts.{Begins}
+use Rattle.acc_pasts.specs.Stopped.{IsSound}
+use Rattle.acc_pasts.proofs.Sound.{sound_down, sound_restarted}
+use Rattle.acc_schedule_runs.specs.Situations.{Situation}
+use Rattle.acc_schedule_runs.specs.Moves.{with_item, entry_of, entered, kept_if, with_kept, reopened}
+use Rattle.acc_schedule_runs.proofs.StopLists.{all_earlier}
+use Rattle.acc_schedule_runs.specs.Schedules.{cluster_of}
+use Rattle.acc_schedule_runs.specs.Disks.{Disks, after_restart}
+use Rattle.acc_schedule_runs.specs.Limits.{IsWithin, EndsAt, most_items}
+use Rattle.acc_schedule_runs.specs.Fronts.{Begins}
+use Rattle.acc_actors.specs.declared.slot.Slot.{Slot}
+use Rattle.acc_actors.specs.declared.slot.Slot.TheVariants.{Empty}
+use Rattle.acc_actors.specs.Slots.{SlotStands, IsStrictSlot, faults_in}
+use Rattle.acc_actors.specs.Asked.{IsFew, HasRestartedAt, HasRestartedStrictlyAt, HasRoom}
+use Rattle.acc_actors.proofs.Apart.{apart_down, apart_reopened}
+use Rattle.acc_actors.proofs.Few.{entry_other}
+use Rattle.acc_actors.proofs.RestartPasts.{kept_can, downs_reopened}
 use Rattle.acc_cluster.specs.declared.cluster.Cluster.{Cluster}
-use Rattle.acc_cluster.specs.declared.slot.Slot.{Slot}
-use Rattle.acc_cluster.specs.declared.slot.Slot.TheVariants.{Empty}
-use Rattle.acc_cluster.specs.Slots.{SlotStands, IsStrictSlot, faults_in}
-use Rattle.acc_cluster.specs.Asked.{IsFew, HasRestartedAt, HasRestartedStrictlyAt}
 use Rattle.acc_history.specs.declared.history.History.{History}
 use Rattle.acc_history.specs.Stands as history
-use Rattle.acc_cluster.specs.Entering.{HasRoom, HasPlace, IsPastOf}
+use Rattle.acc_cluster.specs.Entering.{HasPlace, IsPastOf}
 use Rattle.acc_cluster.specs.Stands.{slot_at, StandsFor}
 use Rattle.acc_cluster.specs.Steps.{IfLimit}
 use Rattle.acc_cluster.specs.Tried.{HasRestarted, HitsLimitInRestart}
 use Rattle.acc_cluster.specs.Restarting.{AreSendableBehind, CanComeBack, HasReopened, come_up, EndsInRestart}
-use Rattle.acc_cluster.proofs.Apart.{apart_down, apart_reopened}
-use Rattle.acc_cluster.proofs.Few.{few_placed, entry_other}
+use Rattle.acc_cluster.proofs.Room.{few_placed}
 use Rattle.acc_cluster.proofs.RestartItems.{kept_sent, kept_sendable, limit_weaker, on_err, Enters, Ends}
-use Rattle.acc_cluster.proofs.RestartPasts.{kept_can, downs_reopened}
 use Rattle.acc_cluster.proofs.Stepped.{turned}
 use Rattle.acc_cluster.proofs.Written.{IsWritten, write_is, AllApart, actors_written, strict_written, rose_written}
 

@@ -21,35 +21,36 @@ use Rattle.acc_message.specs.NodeRules.{Act, Takes}
 use Rattle.acc_message.specs.Run.{Cluster, act_of}
 use Rattle.acc_message.specs.Coordinator.{silence}
 use Rattle.acc_actor_laws.proofs.Standing.{not_none}
-use Rattle.acc_bounds.specs.Sends.{AreSendable}
-use Rattle.acc_bounds.proofs.Everywhere.{all_from}
+use Rattle.acc_run_laws.specs.Sends.{AreSendable}
+use Rattle.acc_run_laws.proofs.Everywhere.{all_from}
 use Rattle.acc_message_code.specs.Short.{IsShortMessage}
 use Rattle.acc_safety.specs.Valid.{IsStanding}
 use Rattle.acc_safety.proofs.PlaceOrder.{none_is_in}
-use Rattle.acc_bounds.proofs.Sendable.{next_sendable}
-use Rattle.acc_safe_runs.specs.Asks.{emits_if}
-use Rattle.acc_actors.specs.Stops.{some}
-use Rattle.acc_actors.specs.declared.stops.Unsent.{Unsent}
-use Rattle.acc_entering.specs.Stopped.{CanGoOn, CanAllGoOn, IsSound}
-use Rattle.acc_entering.proofs.Situations.{message_whole}
-use Rattle.acc_entering.proofs.Standing.{may_do}
-use Rattle.acc_entering.proofs.Replayed.{restart_emits}
-use Rattle.acc_entering.proofs.Sound.{sound_standing}
-use Rattle.acc_follow.specs.Situations.{Situation, whole, without}
-use Rattle.acc_follow.specs.Moves.{with_item, with_stopped, event_in, entry_of, entered, kept_if, with_kept}
-use Rattle.acc_limits.specs.Limits.{IsWithin, EndsAt, most_items}
-use Rattle.acc_limits.specs.Fronts.{Begins}
+use Rattle.acc_run_laws.proofs.Sendable.{next_sendable}
+use Rattle.acc_run_laws.specs.Asks.{emits_if}
+use Rattle.acc_payloads.specs.Stops.{some}
+use Rattle.acc_payloads.specs.declared.stops.Unsent.{Unsent}
+use Rattle.acc_pasts.specs.Stopped.{CanGoOn, CanAllGoOn, IsSound}
+use Rattle.acc_pasts.proofs.Situations.{message_whole}
+use Rattle.acc_pasts.proofs.Standing.{may_do}
+use Rattle.acc_pasts.proofs.Replayed.{restart_emits}
+use Rattle.acc_pasts.proofs.Sound.{sound_standing}
+use Rattle.acc_schedule_runs.specs.Situations.{Situation, whole, without}
+use Rattle.acc_schedule_runs.specs.Moves.{with_item, with_stopped, event_in, entry_of, entered, kept_if, with_kept}
+use Rattle.acc_schedule_runs.specs.Limits.{IsWithin, EndsAt, most_items}
+use Rattle.acc_schedule_runs.specs.Fronts.{Begins}
 use Rattle.acc_history.specs.declared.history.History.{History}
 use Rattle.acc_history.specs.Stands.{EventTakesSent}
 use Rattle.acc_history.specs.Stands as history
 use Rattle.acc_history.proofs.Stopped.{stands_stopped}
-use Rattle.acc_cluster.specs.Entering.{HasRoom, HasPlace, IsPastOf, step_item}
+use Rattle.acc_actors.specs.Asked.{HasRoom, AreSteps, AreKeptSteps}
+use Rattle.acc_actors.proofs.Few.{few_whole}
+use Rattle.acc_actors.proofs.RestartPasts.{AllMay, all_may, standing_on, kept_can, kept_steps}
+use Rattle.acc_cluster.specs.Entering.{HasPlace, IsPastOf, step_item}
 use Rattle.acc_cluster.specs.Steps.{IfLimit}
-use Rattle.acc_cluster.specs.Asked.{AreSteps, AreKeptSteps}
 use Rattle.acc_cluster.specs.Restarting.{lost_item, with_lost, AreSendableBehind, CanComeBack, EndsInLost, come_up, EndsInRestart}
-use Rattle.acc_cluster.proofs.Few.{few_whole, few_placed}
+use Rattle.acc_cluster.proofs.Room.{few_placed}
 use Rattle.acc_cluster.proofs.Filled.{all_seam}
-use Rattle.acc_cluster.proofs.RestartPasts.{AllMay, all_may, standing_on, kept_can, kept_steps}
 
 -- ---- the restart itself
 

@@ -15,11 +15,11 @@ use Rattle.acc_message.specs.declared.item.Item.{Item}
 use Rattle.acc_message.specs.declared.item.Item.TheVariants.{Down}
 use Rattle.acc_message.specs.Run.{Cluster as RunCluster}
 use Rattle.acc_schedule.specs.Content.{Content}
-use Rattle.acc_entering.proofs.Skips.{deliver_skip_is, waiting_goes}
-use Rattle.acc_follow.specs.Situations.{Situation, waits, IsOldestWaiting, receiver_in}
-use Rattle.acc_follow.specs.Moves.{deliver_skip, entry_of, tried_if}
-use Rattle.acc_follow.specs.Schedules.{cluster_of}
-use Rattle.acc_limits.specs.Limits.{IsWithin, EndsAt, most_items}
+use Rattle.acc_pasts.proofs.Skips.{deliver_skip_is, waiting_goes}
+use Rattle.acc_schedule_runs.specs.Situations.{Situation, waits, IsOldestWaiting, receiver_in}
+use Rattle.acc_schedule_runs.specs.Moves.{deliver_skip, entry_of, tried_if}
+use Rattle.acc_schedule_runs.specs.Schedules.{cluster_of}
+use Rattle.acc_schedule_runs.specs.Limits.{IsWithin, EndsAt, most_items}
 use Rattle.acc_history.specs.declared.history.History.{History}
 use Rattle.acc_history.specs.Stands as history
 use Rattle.acc_cluster.specs.declared.cluster.Cluster.{Cluster}

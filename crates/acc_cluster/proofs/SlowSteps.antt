@@ -16,34 +16,34 @@ use Rattle.acc_message.specs.Items.{same_actor}
 use Rattle.acc_message.specs.NodeRules.{Slows}
 use Rattle.acc_message.specs.Run.{Cluster as RunCluster, IsHomeOf, is_down}
 use Rattle.acc_actor_laws.proofs.Standing.{not_none}
-use Rattle.acc_safe_runs.specs.Asks.{slow_skip, home_of_txn}
+use Rattle.acc_run_laws.specs.Asks.{slow_skip, home_of_txn}
 use Rattle.acc_safety.proofs.Bridge.{same}
 use Rattle.acc_safety.proofs.PlaceOrder.{IsIn-Contains}
-use Rattle.acc_receivers.proofs.Layouts.{at_home}
-use Rattle.acc_bounds.specs.Sends.{AreSendable}
+use Rattle.acc_run_laws.proofs.Layouts.{at_home}
+use Rattle.acc_run_laws.specs.Sends.{AreSendable}
 use Rattle.acc_schedule.specs.Actors.{actors}
 use Rattle.acc_schedule.specs.Content.{Content}
 use Rattle.acc_schedule.specs.Plan.{IsPlan}
-use Rattle.acc_entering.specs.Entries.{MayTake}
-use Rattle.acc_entering.proofs.Standing.{slow_may, slow_has_id}
-use Rattle.acc_entering.proofs.Sound.{sound_standing}
-use Rattle.acc_follow.specs.Situations.{Situation, whole}
-use Rattle.acc_follow.specs.Moves.{tried_if}
-use Rattle.acc_follow.specs.Schedules.{cluster_of}
-use Rattle.acc_strict.specs.Disks.{Disks}
-use Rattle.acc_limits.specs.Limits.{EndsAt}
+use Rattle.acc_pasts.specs.Entries.{MayTake}
+use Rattle.acc_pasts.proofs.Standing.{slow_may, slow_has_id}
+use Rattle.acc_pasts.proofs.Sound.{sound_standing}
+use Rattle.acc_schedule_runs.specs.Situations.{Situation, whole}
+use Rattle.acc_schedule_runs.specs.Moves.{tried_if}
+use Rattle.acc_schedule_runs.specs.Schedules.{cluster_of}
+use Rattle.acc_schedule_runs.specs.Disks.{Disks}
+use Rattle.acc_schedule_runs.specs.Limits.{EndsAt}
 use Rattle.acc_history.specs.declared.history.History.{History}
 use Rattle.acc_history.specs.Stands.{EventTakesSent}
+use Rattle.acc_actors.specs.declared.slot.Slot.{Slot}
+use Rattle.acc_actors.specs.declared.slot.Slot.TheVariants.{Empty}
+use Rattle.acc_actors.specs.Slots.{SlotStands, IsStrictSlot, faults_in}
+use Rattle.acc_actors.specs.Asked.{IsEmitted, HasTried, HasTriedStrictly, IsHomeUp, skips_slow}
+use Rattle.acc_actors.proofs.Apart.{apart_itself}
 use Rattle.acc_cluster.specs.declared.cluster.Cluster.{Cluster}
-use Rattle.acc_cluster.specs.declared.slot.Slot.{Slot}
-use Rattle.acc_cluster.specs.declared.slot.Slot.TheVariants.{Empty}
-use Rattle.acc_cluster.specs.Slots.{SlotStands, IsStrictSlot, faults_in}
 use Rattle.acc_cluster.specs.Entering.{HasPlace, IsPastOf}
 use Rattle.acc_cluster.specs.Stands.{slot_at, faults_at, StandsFor, AreStrict}
 use Rattle.acc_cluster.specs.Steps.{IfLimit}
-use Rattle.acc_cluster.specs.Asked.{IsEmitted, HasTried, HasTriedStrictly, IsHomeUp, skips_slow}
 use Rattle.acc_cluster.specs.Tried.{HasStepped, HitsLimit}
-use Rattle.acc_cluster.proofs.Apart.{apart_itself}
 use Rattle.acc_cluster.proofs.Going.{there_is}
 use Rattle.acc_cluster.proofs.Stepped.{has_stepped}
 use Rattle.acc_cluster.proofs.Taken.{Goes, on_ok, if_limit, within_any, sendable_at}

@@ -16,22 +16,23 @@ use Rattle.acc_payloads.specs.Items.{downs_in}
 use Rattle.acc_actor_laws.proofs.Standing.{not_none}
 use Rattle.acc_schedule.specs.Actors.{actors}
 use Rattle.acc_schedule.specs.Content.{Content}
-use Rattle.acc_entering.specs.Entries.{MayTake}
-use Rattle.acc_entering.specs.Stopped.{IsSound}
-use Rattle.acc_entering.proofs.Sound.{sound_entered, sound_stopped_one, sound_skip}
-use Rattle.acc_follow.specs.Situations.{Situation, whole}
-use Rattle.acc_follow.specs.Moves.{with_item, event_in, is_journalled, tried_if}
-use Rattle.acc_follow.specs.Schedules.{cluster_of}
-use Rattle.acc_strict.specs.Disks.{Disks, after_append, passed_in, after_step}
+use Rattle.acc_pasts.specs.Entries.{MayTake}
+use Rattle.acc_pasts.specs.Stopped.{IsSound}
+use Rattle.acc_pasts.proofs.Sound.{sound_entered, sound_stopped_one, sound_skip}
+use Rattle.acc_schedule_runs.specs.Situations.{Situation, whole}
+use Rattle.acc_schedule_runs.specs.Moves.{with_item, event_in, is_journalled, tried_if}
+use Rattle.acc_schedule_runs.specs.Schedules.{cluster_of}
+use Rattle.acc_payloads.specs.Appends.{after_append, passed_in}
+use Rattle.acc_schedule_runs.specs.Disks.{Disks, after_step}
+use Rattle.acc_actors.specs.declared.slot.Slot.{Slot}
+use Rattle.acc_actors.specs.Slots.{IsStrictSlot, faults_in}
+use Rattle.acc_actors.specs.Asked.{HasRoom, IsEmitted, HasTried, HasTriedStrictly}
+use Rattle.acc_actors.proofs.Apart.{IsApart, apart_skip, apart_tried}
+use Rattle.acc_actors.proofs.Few.{entry_other}
 use Rattle.acc_cluster.specs.declared.cluster.Cluster.{Cluster}
-use Rattle.acc_cluster.specs.declared.slot.Slot.{Slot}
-use Rattle.acc_cluster.specs.Slots.{IsStrictSlot, faults_in}
-use Rattle.acc_cluster.specs.Entering.{HasRoom, IsPastOf}
+use Rattle.acc_cluster.specs.Entering.{IsPastOf}
 use Rattle.acc_cluster.specs.Stands.{slot_at, AreActors, StandsFor, AreStrict}
-use Rattle.acc_cluster.specs.Asked.{IsEmitted, HasTried, HasTriedStrictly}
 use Rattle.acc_cluster.specs.Tried.{HasStepped}
-use Rattle.acc_cluster.proofs.Apart.{IsApart, apart_skip, apart_tried}
-use Rattle.acc_cluster.proofs.Few.{entry_other}
 use Rattle.acc_cluster.proofs.Written.{IsWritten, AllApart, actors_written, strict_written, rose_written, actors_same, strict_same}
 
 -- what is armed on the disks of others

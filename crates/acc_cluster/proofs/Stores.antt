@@ -1,97 +1,19 @@
 -- The store that stands at the number of an actor.
-use Rattle.std.proofs.Common.{◌≡◌, ℕ, ◌<◌, ◌≤◌, ◌⊎◌, inl, inr, false, List, [], Option, None, Some, IfSome, is_none, length, sym, ◌∙◌, ap, subst}
-use Rattle.std.proofs.lemmas.Bool.{true≢false}
+use Rattle.std.proofs.Common.{◌≡◌, ℕ, ◌<◌, ◌≤◌, List, Option, None, Some, IfSome, length, sym, ◌∙◌, subst}
 use Rattle.std.proofs.lemmas.List.{get_or_past}
 use Rattle.std.specs.List.{slice_index_or}
 use Rattle.acc_stamp.specs.declared.actors.Actor.{Actor}
-use Rattle.acc_topology.specs.Layout.{Layout}
-use Rattle.acc_message.specs.declared.message.Message.{Message}
-use Rattle.acc_message.specs.Run.{is_node, is_down}
-use Rattle.acc_message.specs.Taken.{Taken}
-use Rattle.acc_message.specs.StoreRules.{replay}
 use Rattle.acc_store.specs.declared.store.Store.{Store as OpenStore}
-use Rattle.acc_store.specs.Stands as open_store
-use Rattle.acc_actors.specs.Stops.{Stop, Past, kept_with}
-use Rattle.acc_actors.specs.Store as store
-use Rattle.acc_actors.specs.declared.store.StoreActor.{StoreActor}
-use Rattle.acc_actors.specs.declared.node.NodeActor.{NodeActor}
 use Rattle.acc_schedule.specs.Content.{Content}
-use Rattle.acc_entering.specs.Stopped.{IsSound}
-use Rattle.acc_entering.proofs.Replayed.{store_replayed}
-use Rattle.acc_entering.proofs.Sound.{sound_standing}
-use Rattle.acc_follow.specs.Situations.{Situation, whole}
-use Rattle.acc_follow.specs.Schedules.{cluster_of}
-use Rattle.acc_cluster.specs.declared.slot.Slot.{Slot}
-use Rattle.acc_cluster.specs.declared.slot.Slot.TheVariants.{Empty, Node, Store}
+use Rattle.acc_schedule_runs.specs.Situations.{Situation}
+use Rattle.acc_actors.specs.declared.slot.Slot.{Slot}
+use Rattle.acc_actors.specs.declared.slot.Slot.TheVariants.{Empty}
+use Rattle.acc_actors.specs.Slots.{SlotStands, IsTaken}
+use Rattle.acc_actors.specs.Stores.{IsStoreUp, IsStoreOf}
+use Rattle.acc_actors.proofs.Stores.{Shows, HidesNone}
 use Rattle.acc_cluster.specs.declared.cluster.Cluster.{Cluster}
-use Rattle.acc_cluster.specs.Pasts.{store_past}
-use Rattle.acc_cluster.specs.Slots.{NodeStands, StoreStands, SlotStands, IsTaken}
 use Rattle.acc_cluster.specs.Stands.{slot_at, StandsFor}
-use Rattle.acc_cluster.specs.Stores.{IsStoreUp, IsStoreOf}
 use Rattle.acc_cluster.proofs.Taken.{within_any}
-
--- what a slot shows
-abbrev pub Shows : {D : Type 0} → (D → List ℕ → Type 0) → (D → ℕ) → Slot D → OpenStore → Type 0
-Shows images faults slot t = (plan : Content) (s : Situation) (a : Actor) → IsSound (cluster_of plan) s → SlotStands images faults plan s a slot
-    → (is_node a ≡ false) × (is_down a (whole s) ≡ false) × IsStoreOf plan s a t
-
--- no store that is up stands there
-abbrev pub HidesNone : {D : Type 0} → (D → List ℕ → Type 0) → (D → ℕ) → Slot D → Type 0
-HidesNone images faults slot = (plan : Content) (s : Situation) (a : Actor) → SlotStands images faults plan s a slot → is_node a ≡ false → is_down a (whole s) ≡ false → ⊥
-
-module _ {D : Type 0} (images : D → List ℕ → Type 0) (faults : D → ℕ) (slot : Slot D) where
-  none_at_empty : slot ≡ Empty → HidesNone images faults slot
-  none_at_empty is plan s a h kind up = subst (λ (x : Slot D). SlotStands images faults plan s a x) is h
-
-  none_at_node : (n : NodeActor D) → slot ≡ Node n → HidesNone images faults slot
-  none_at_node n is plan s a h kind up =
-      let here : NodeStands images faults plan s a n = subst (λ (x : Slot D). SlotStands images faults plan s a x) is h in
-      absurd (true≢false (sym here.kind ∙ kind))
-
-  pub none_without_store : (slot ≡ Empty) ⊎ ((n : NodeActor D) × (slot ≡ Node n)) → HidesNone images faults slot
-  none_without_store (inl is) = none_at_empty is
-  none_without_store (inr is) = none_at_node is.0 is.1
-
-  module _ {R : Type 0} (view : R → OpenStore) (t : StoreActor D) (is : slot ≡ Store t) (o : Option R) (told : is_none o ≡ store.is_down t) where
-    here : (plan : Content) (s : Situation) (a : Actor) → SlotStands images faults plan s a slot → StoreStands images faults plan s a t
-    here plan s a h = subst (λ (x : Slot D). SlotStands images faults plan s a x) is h
-
-    pub taken_there : IfSome o (λ r. IsTaken slot)
-    taken_there = by o
-      where
-        by : (o : Option R) → IfSome o (λ r. IsTaken slot)
-        by None = tt
-        by (Some r) = subst (λ (x : Slot D). IsTaken x) (sym is) tt
-
-    pub none_at_store : o ≡ None → HidesNone images faults slot
-    none_at_store none plan s a h kind up =
-        let x : StoreStands images faults plan s a t = here plan s a h in
-        absurd (true≢false (sym (ap is_none none) ∙ told ∙ x.down ∙ up))
-
-    pub shown_at_store : IfSome o (λ r. (layout : Layout) (own : Actor) (version : ℕ) (past : Past Message) (staged : List (Stop Message)) → store.IsStaging images layout own version past staged t
-        → (open_store.actor_of (view r) ≡ own) × open_store.StandsFor layout (view r) (replay layout own (kept_with staged past).acts))
-        → IfSome o (λ r. Shows images faults slot (view r))
-    shown_at_store stands = by o told stands
-      where
-        by : (o : Option R) → is_none o ≡ store.is_down t
-            → IfSome o (λ r. (layout : Layout) (own : Actor) (version : ℕ) (past : Past Message) (staged : List (Stop Message)) → store.IsStaging images layout own version past staged t
-            → (open_store.actor_of (view r) ≡ own) × open_store.StandsFor layout (view r) (replay layout own (kept_with staged past).acts))
-            → IfSome o (λ r. Shows images faults slot (view r))
-        by None told stands = tt
-        by (Some r) told stands = λ plan s a sound h.
-            let x : StoreStands images faults plan s a t = here plan s a h in
-            let found = stands plan.topology a plan.version (store_past (cluster_of plan) s a) [] x.stands in (
-              x.kind,
-              sym x.down ∙ sym told,
-              record {
-                actor_is = found.0;
-                stands =
-                    subst (λ (history : List Taken). open_store.StandsFor plan.topology (view r) history)
-                    (sym (store_replayed (cluster_of plan) (whole s) a (sound_standing (cluster_of plan) s sound) x.kind)) found.1;
-              },
-            )
-
--- ---- in a cluster
 
 module _ {D : Type 0} (images : D → List ℕ → Type 0) (faults : D → ℕ) (cluster : Cluster D) (a : Actor) where
   pub none_past : length cluster.slots.items ≤ a.0 → (plan : Content) (s : Situation) → StandsFor images faults plan cluster s → IsStoreUp plan s a → ⊥

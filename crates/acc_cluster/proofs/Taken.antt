@@ -12,30 +12,30 @@ use Rattle.acc_message.specs.declared.error.RunError.{RunError}
 use Rattle.acc_message.specs.declared.error.RunError.TheVariants.{OutOfMemory}
 use Rattle.acc_message.specs.NodeRules.{Act}
 use Rattle.acc_message.specs.Run.{Cluster as RunCluster, kept_of, is_down}
-use Rattle.acc_safe_runs.specs.Asks.{emits_if}
-use Rattle.acc_bounds.specs.Sends.{AreSendable}
-use Rattle.acc_bounds.proofs.Sendable.{next_sendable}
+use Rattle.acc_run_laws.specs.Asks.{emits_if}
+use Rattle.acc_run_laws.specs.Sends.{AreSendable}
+use Rattle.acc_run_laws.proofs.Sendable.{next_sendable}
 use Rattle.acc_schedule.specs.Actors.{actors}
 use Rattle.acc_schedule.specs.Content.{Content}
-use Rattle.acc_entering.specs.Entries.{MayTake}
-use Rattle.acc_entering.proofs.Standing.{may_do}
-use Rattle.acc_entering.proofs.Sound.{sound_standing}
-use Rattle.acc_follow.specs.Situations.{Situation, whole}
-use Rattle.acc_follow.specs.Moves.{event_in, tried_if}
-use Rattle.acc_follow.specs.Schedules.{cluster_of}
-use Rattle.acc_strict.specs.Disks.{Disks}
-use Rattle.acc_limits.specs.Limits.{EndsAt}
+use Rattle.acc_pasts.specs.Entries.{MayTake}
+use Rattle.acc_pasts.proofs.Standing.{may_do}
+use Rattle.acc_pasts.proofs.Sound.{sound_standing}
+use Rattle.acc_schedule_runs.specs.Situations.{Situation, whole}
+use Rattle.acc_schedule_runs.specs.Moves.{event_in, tried_if}
+use Rattle.acc_schedule_runs.specs.Schedules.{cluster_of}
+use Rattle.acc_schedule_runs.specs.Disks.{Disks}
+use Rattle.acc_schedule_runs.specs.Limits.{EndsAt}
 use Rattle.acc_history.specs.Stands.{EventTakesSent}
+use Rattle.acc_actors.specs.declared.slot.Slot.{Slot}
+use Rattle.acc_actors.specs.declared.slot.Slot.TheVariants.{Empty}
+use Rattle.acc_actors.specs.Slots.{SlotStands, IsStrictSlot, faults_in}
+use Rattle.acc_actors.specs.Asked.{IsAsked, IsEmitted, HasTried, HasTriedStrictly}
+use Rattle.acc_actors.proofs.Few.{few_whole}
 use Rattle.acc_cluster.specs.declared.cluster.Cluster.{Cluster}
-use Rattle.acc_cluster.specs.declared.slot.Slot.{Slot}
-use Rattle.acc_cluster.specs.declared.slot.Slot.TheVariants.{Empty}
-use Rattle.acc_cluster.specs.Slots.{SlotStands, IsStrictSlot, faults_in}
 use Rattle.acc_cluster.specs.Entering.{HasPlace, IsPastOf}
 use Rattle.acc_cluster.specs.Stands.{slot_at, StandsFor}
 use Rattle.acc_cluster.specs.Steps.{IfLimit}
-use Rattle.acc_cluster.specs.Asked.{IsAsked, IsEmitted, HasTried, HasTriedStrictly}
 use Rattle.acc_cluster.specs.Tried.{HasStepped, HitsLimit}
-use Rattle.acc_cluster.proofs.Few.{few_whole}
 use Rattle.acc_cluster.proofs.Hits.{map_limit}
 use Rattle.acc_message.specs.Items.{same_actor}
 use Rattle.acc_safety.proofs.Bridge.{same}

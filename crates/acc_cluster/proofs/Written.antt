@@ -12,15 +12,15 @@ use Rattle.acc_payloads.specs.Items.{downs_in}
 use Rattle.acc_safety.proofs.Bridge.{same}
 use Rattle.acc_schedule.specs.Actors.{actors}
 use Rattle.acc_schedule.specs.Content.{Content}
-use Rattle.acc_follow.specs.Situations.{Situation}
-use Rattle.acc_follow.specs.Schedules.{cluster_of}
-use Rattle.acc_strict.specs.Disks.{Disks}
-use Rattle.acc_cluster.specs.declared.slot.Slot.{Slot}
-use Rattle.acc_cluster.specs.declared.slot.Slot.TheVariants.{Empty}
-use Rattle.acc_cluster.specs.Slots.{SlotStands, IsStrictSlot, faults_in, IsTaken}
+use Rattle.acc_schedule_runs.specs.Situations.{Situation}
+use Rattle.acc_schedule_runs.specs.Schedules.{cluster_of}
+use Rattle.acc_schedule_runs.specs.Disks.{Disks}
+use Rattle.acc_actors.specs.declared.slot.Slot.{Slot}
+use Rattle.acc_actors.specs.declared.slot.Slot.TheVariants.{Empty}
+use Rattle.acc_actors.specs.Slots.{SlotStands, IsStrictSlot, faults_in, IsTaken}
+use Rattle.acc_actors.proofs.Apart.{IsApart}
+use Rattle.acc_actors.proofs.Slots.{slot_apart, strict_apart}
 use Rattle.acc_cluster.specs.Stands.{slot_at, AreActors, AreStrict}
-use Rattle.acc_cluster.proofs.Apart.{IsApart}
-use Rattle.acc_cluster.proofs.Slots.{slot_apart, strict_apart}
 
 -- this stands at the actor's number now, and nothing else has changed
 pub record IsWritten {D : Type 0} (before now : List (Slot D)) (a : Actor) (slot : Slot D) : Type 0 where

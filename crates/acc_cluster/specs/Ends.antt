@@ -3,17 +3,17 @@ use Rattle.std.specs.Prelude.{◌≡◌, ℕ, ◌+◌, ◌≤◌, List, [], ◌�
 use Rattle.std.specs.List.{AllByRecursion}
 use Rattle.acc_stamp.specs.declared.actors.Actor.{Actor}
 use Rattle.acc_payloads.specs.Items.{Keeps}
-use Rattle.acc_actors.specs.Stops.{HoldsPayloads}
-use Rattle.acc_actors.specs.Node as node
-use Rattle.acc_actors.specs.Store as store
+use Rattle.acc_payloads.specs.Stops.{HoldsPayloads}
+use Rattle.acc_durable_node.specs.Actor as node
+use Rattle.acc_durable_store.specs.Actor as store
 use Rattle.acc_schedule.specs.Actors.{actors}
 use Rattle.acc_schedule.specs.Content.{Content}
-use Rattle.acc_follow.specs.Situations.{Situation}
-use Rattle.acc_follow.specs.Schedules.{cluster_of}
-use Rattle.acc_cluster.specs.Pasts.{node_past, store_past}
-use Rattle.acc_cluster.specs.Slots.{SlotStands}
-use Rattle.acc_cluster.specs.declared.slot.Slot.{Slot}
-use Rattle.acc_cluster.specs.declared.slot.Slot.TheVariants.{Empty, Node, Store}
+use Rattle.acc_schedule_runs.specs.Situations.{Situation}
+use Rattle.acc_schedule_runs.specs.Schedules.{cluster_of}
+use Rattle.acc_actors.specs.Pasts.{node_past, store_past}
+use Rattle.acc_actors.specs.Slots.{SlotStands}
+use Rattle.acc_actors.specs.declared.slot.Slot.{Slot}
+use Rattle.acc_actors.specs.declared.slot.Slot.TheVariants.{Empty, Node, Store}
 use Rattle.acc_cluster.specs.declared.ending.Ended.{Ended}
 
 -- ---- the disks of slots

@@ -1,12 +1,12 @@
 -- One item more.
-use Rattle.std.specs.Prelude.{◌+◌, ◌<◌, ◌^◌, Bool, length}
+use Rattle.std.specs.Prelude.{◌<◌, Bool, length}
 use Rattle.acc_stamp.specs.declared.actors.Actor.{Actor}
 use Rattle.acc_message.specs.declared.entry.Event.{Event}
 use Rattle.acc_message.specs.declared.entry.Emitted.{Emitted}
 use Rattle.acc_message.specs.declared.item.Item.{Item}
 use Rattle.acc_message.specs.declared.item.Item.TheVariants.{Step}
-use Rattle.acc_follow.specs.Situations.{Situation}
-use Rattle.acc_limits.specs.Limits.{IsWithin, most_items}
+use Rattle.acc_schedule_runs.specs.Situations.{Situation}
+use Rattle.acc_schedule_runs.specs.Limits.{IsWithin, most_items}
 use Rattle.acc_history.specs.declared.history.History.{History}
 use Rattle.acc_history.specs.Stands as history
 
@@ -20,11 +20,8 @@ step_item actor event emitted lost = Step (record { actor = actor; event = event
 
 -- ---- the past
 
--- the items are within the limits, with room for counting as many behind the earlier run
+-- the items are within the limits
 pub record IsPastOf (h : History) (s : Situation) : Type 0 where
   pub stands : history.StandsFor h s
   pub weighed : history.IsWeighed h s
   pub within : IsWithin s.own
-
-abbrev pub HasRoom : Situation → Type 0
-HasRoom s = length s.earlier + most_items < 2 ^ 31

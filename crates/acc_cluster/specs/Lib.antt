@@ -1,12 +1,8 @@
-pub mod Pasts
-pub mod Slots
 pub mod Stands
 pub mod Steps
 pub mod Entering
-pub mod Asked
 pub mod Tried
 pub mod Ends
 pub mod Opened
 pub mod Restarting
 pub mod Over
-pub mod Stores

@@ -1,5 +1,5 @@
 -- What a cluster begins with.
-use Rattle.std.specs.Prelude.{◌≡◌, ℕ, Bool, false, List, [], ◌++◌, map, Option, None, Some, Contains, IsTrue}
+use Rattle.std.specs.Prelude.{◌≡◌, ℕ, Bool, false, List, [], ◌++◌, map, Option, Some, Contains}
 use Rattle.std.specs.List.{AllByRecursion}
 use Rattle.acc_stamp.specs.declared.actors.Actor.{Actor}
 use Rattle.acc_stamp.specs.declared.stamps.TxnId.{TxnId}
@@ -7,26 +7,23 @@ use Rattle.acc_stamp.specs.Actor.{actor_of}
 use Rattle.acc_journal.specs.Layout.{Reads}
 use Rattle.acc_message.specs.declared.item.Item.{Item}
 use Rattle.acc_message.specs.Items.{is_begun, id_of_txn}
-use Rattle.acc_message.specs.Run.{clock_start, deeds_of, taken_of, is_node, is_down}
-use Rattle.acc_actor_laws.specs.TakenAlone.{messages_taken}
-use Rattle.acc_safety.specs.RunLaws.{acts_done}
-use Rattle.acc_payloads.specs.Items.{payloads_in, without_marks}
+use Rattle.acc_message.specs.Run.{clock_start, is_node, is_down}
 use Rattle.acc_schedule.specs.Actors.{actors}
 use Rattle.acc_schedule.specs.Content.{Content}
-use Rattle.acc_durable.specs.declared.node.DurableNode.{DurableNode}
-use Rattle.acc_durable.specs.declared.store.DurableStore.{DurableStore}
-use Rattle.acc_durable.specs.Node as node
-use Rattle.acc_durable.specs.Store as store
-use Rattle.acc_entering.specs.Stopped.{IsSound}
-use Rattle.acc_follow.specs.Situations.{opened}
-use Rattle.acc_follow.specs.Schedules.{cluster_of}
+use Rattle.acc_durable_node.specs.declared.node.DurableNode.{DurableNode}
+use Rattle.acc_durable_store.specs.declared.store.DurableStore.{DurableStore}
+use Rattle.acc_durable_store.specs.Store as store
+use Rattle.acc_pasts.specs.Stopped.{IsSound}
+use Rattle.acc_schedule_runs.specs.Situations.{opened}
+use Rattle.acc_schedule_runs.specs.Schedules.{cluster_of}
 use Rattle.acc_history.specs.Begun.{begun_as, known_as}
-use Rattle.acc_strict.specs.Disks.{fresh_disks}
+use Rattle.acc_schedule_runs.specs.Disks.{fresh_disks}
 use Rattle.acc_ports.specs.Strict.{Ranges}
-use Rattle.acc_cluster.specs.Entering.{HasRoom}
-use Rattle.acc_cluster.specs.Slots.{SlotStands, IsStrictSlot, IsTaken}
+use Rattle.acc_actors.specs.Asked.{HasRoom}
+use Rattle.acc_actors.specs.Opened.{HasDone, HasTaken, IsUnarmed}
+use Rattle.acc_actors.specs.Slots.{SlotStands, IsStrictSlot, IsTaken}
+use Rattle.acc_actors.specs.declared.slot.Slot.{Slot}
 use Rattle.acc_cluster.specs.Stands.{slot_at}
-use Rattle.acc_cluster.specs.declared.slot.Slot.{Slot}
 
 -- a durable node of the plan that isn't broken, and whose disk keeps its journal
 pub record IsNodeOf {D : Type 0} (images : D → List ℕ → Type 0) (plan : Content) (n : DurableNode D) : Type 0 where
@@ -41,15 +38,6 @@ pub record IsStoreOf {D : Type 0} (images : D → List ℕ → Type 0) (plan : C
   pub none_staged : t.journal.group ≡ []
   pub version_is : t.version ≡ plan.version
   pub lasts : (image : List ℕ) → images t.journal.disk image → Reads image t.journal.payloads
-
--- they stand for their parts in the earlier run
-pub record HasDone {D : Type 0} (plan : Content) (earlier : List Item) (n : DurableNode D) : Type 0 where
-  pub stands : node.StandsFor plan.topology n (acts_done (deeds_of (cluster_of plan) (actor_of n.number 0) earlier))
-  pub held : without_marks n.journal.payloads ≡ payloads_in (actor_of n.number 0) earlier
-
-pub record HasTaken {D : Type 0} (plan : Content) (earlier : List Item) (t : DurableStore D) : Type 0 where
-  pub stands : store.StandsFor plan.topology t (messages_taken (taken_of (cluster_of plan) (store.actor_in t) earlier))
-  pub held : without_marks t.journal.payloads ≡ payloads_in (store.actor_in t) earlier
 
 -- a store has the number of a store of the plan
 pub record IsStoreNumber {D : Type 0} (plan : Content) (t : DurableStore D) : Type 0 where
@@ -78,9 +66,6 @@ TellsOf plan nodes txn id =
     → known_as (Some id) ≡ begun_as (is_begun earlier txn) (id_of_txn earlier txn)
 
 -- all disks are strict, and nothing is armed there
-abbrev pub IsUnarmed : {D : Type 0} → (D → Bool) → (D → Option ℕ) → D → Type 0
-IsUnarmed strict armed disk = IsTrue (strict disk) × (armed disk ≡ None)
-
 pub record AreUnarmed {D : Type 0} (strict : D → Bool) (armed : D → Option ℕ) (nodes : List (DurableNode D)) (stores : List (DurableStore D)) : Type 0 where
   pub nodes_are : AllByRecursion (λ (n : DurableNode D). IsUnarmed strict armed n.journal.disk) nodes
   pub stores_are : AllByRecursion (λ (t : DurableStore D). IsUnarmed strict armed t.journal.disk) stores

@@ -6,15 +6,15 @@ use Rattle.acc_ports.specs.Strict.{Ranges}
 use Rattle.acc_message.specs.declared.item.Item.{Item}
 use Rattle.acc_schedule.specs.Actors.{actors}
 use Rattle.acc_schedule.specs.Content.{Content}
-use Rattle.acc_entering.specs.Stopped.{IsSound}
-use Rattle.acc_follow.specs.Situations.{Stopped, Situation}
-use Rattle.acc_follow.specs.Schedules.{cluster_of}
-use Rattle.acc_strict.specs.Disks.{Disks}
-use Rattle.acc_limits.specs.Limits.{IsWithin}
+use Rattle.acc_pasts.specs.Stopped.{IsSound}
+use Rattle.acc_schedule_runs.specs.Situations.{Stopped, Situation}
+use Rattle.acc_schedule_runs.specs.Schedules.{cluster_of}
+use Rattle.acc_schedule_runs.specs.Disks.{Disks}
+use Rattle.acc_schedule_runs.specs.Limits.{IsWithin}
 use Rattle.acc_history.specs.declared.history.History.{History}
 use Rattle.acc_history.specs.Stands as history
-use Rattle.acc_cluster.specs.declared.slot.Slot.{Slot}
-use Rattle.acc_cluster.specs.Slots.{SlotStands, IsStrictSlot, IsTaken}
+use Rattle.acc_actors.specs.declared.slot.Slot.{Slot}
+use Rattle.acc_actors.specs.Slots.{SlotStands, IsStrictSlot, IsTaken}
 use Rattle.acc_cluster.specs.Stands.{slot_at}
 
 -- these items, the oldest first, behind no earlier run, and the steps that faults of disks stopped; nothing was dropped

@@ -8,24 +8,24 @@ use Rattle.acc_message.specs.declared.error.Which.{Which}
 use Rattle.acc_message.specs.declared.item.Item.{Item}
 use Rattle.acc_message.specs.Items.{same_actor}
 use Rattle.acc_message.specs.Run.{Cluster}
-use Rattle.acc_actors.specs.Stops.{some}
-use Rattle.acc_actors.specs.declared.stops.Unsent.{Unsent}
-use Rattle.acc_actors.specs.declared.stops.Restarted.{Restarted}
-use Rattle.acc_actors.specs.declared.stops.Restarted.TheVariants.{Down}
-use Rattle.acc_bounds.specs.Sends.{AreSendable}
+use Rattle.acc_payloads.specs.Stops.{some}
+use Rattle.acc_payloads.specs.declared.stops.Unsent.{Unsent}
+use Rattle.acc_payloads.specs.declared.stops.Restarted.{Restarted}
+use Rattle.acc_payloads.specs.declared.stops.Restarted.TheVariants.{Down}
+use Rattle.acc_run_laws.specs.Sends.{AreSendable}
 use Rattle.acc_schedule.specs.Content.{Content}
-use Rattle.acc_follow.specs.Situations.{Situation}
-use Rattle.acc_follow.specs.Moves.{with_item, kept_if, reopened}
+use Rattle.acc_schedule_runs.specs.Situations.{Situation}
+use Rattle.acc_schedule_runs.specs.Moves.{with_item, kept_if, reopened}
 use Rattle.acc_history.specs.declared.history.History.{History}
 use Rattle.acc_history.specs.Stands.{EventTakesSent}
-use Rattle.acc_strict.specs.Disks.{Disks}
-use Rattle.acc_limits.specs.Limits.{EndsAt}
-use Rattle.acc_limits.specs.Fronts.{Begins}
-use Rattle.acc_cluster.specs.declared.slot.Slot.{Slot}
+use Rattle.acc_schedule_runs.specs.Disks.{Disks}
+use Rattle.acc_schedule_runs.specs.Limits.{EndsAt}
+use Rattle.acc_schedule_runs.specs.Fronts.{Begins}
+use Rattle.acc_actors.specs.declared.slot.Slot.{Slot}
+use Rattle.acc_actors.specs.Slots.{IsStrictSlot, faults_in}
+use Rattle.acc_actors.specs.Asked.{HasRestartedAt, HasRestartedStrictlyAt}
 use Rattle.acc_cluster.specs.Entering.{HasPlace, IsPastOf, step_item}
-use Rattle.acc_cluster.specs.Slots.{IsStrictSlot, faults_in}
 use Rattle.acc_cluster.specs.Stands.{slot_at}
-use Rattle.acc_cluster.specs.Asked.{HasRestartedAt, HasRestartedStrictlyAt}
 
 -- The actor has restarted in its slot, and the other slots are as before.
 pub record HasReopened {D : Type 0} (images : D → List ℕ → Type 0) (faults : D → ℕ) (strict : D → Bool) (armed : D → Option ℕ) (content synced : D → List ℕ) (written : D → Ranges) (plan : Content) (a : Actor) (choice : ℕ) (before now : List (Slot D)) (found : Restarted) (s : Situation) : Type 0 where

@@ -7,16 +7,17 @@ use Rattle.acc_stamp.specs.declared.actors.Actor.{Actor}
 use Rattle.acc_ports.specs.Strict.{Ranges}
 use Rattle.acc_schedule.specs.Actors.{actors}
 use Rattle.acc_schedule.specs.Content.{Content}
-use Rattle.acc_entering.specs.Stopped.{IsSound}
-use Rattle.acc_follow.specs.Situations.{Situation}
-use Rattle.acc_follow.specs.Schedules.{cluster_of}
-use Rattle.acc_strict.specs.Disks.{Disks}
-use Rattle.acc_strict.specs.Moves.{StrictSituation}
-use Rattle.acc_cluster.specs.declared.slot.Slot.{Slot}
-use Rattle.acc_cluster.specs.declared.slot.Slot.TheVariants.{Empty}
+use Rattle.acc_pasts.specs.Stopped.{IsSound}
+use Rattle.acc_schedule_runs.specs.Situations.{Situation}
+use Rattle.acc_schedule_runs.specs.Schedules.{cluster_of}
+use Rattle.acc_schedule_runs.specs.Disks.{Disks}
+use Rattle.acc_schedule_runs.specs.StrictMoves.{StrictSituation}
+use Rattle.acc_actors.specs.declared.slot.Slot.{Slot}
+use Rattle.acc_actors.specs.declared.slot.Slot.TheVariants.{Empty}
+use Rattle.acc_actors.specs.Asked.{HasRoom}
+use Rattle.acc_actors.specs.Slots.{SlotStands, IsStrictSlot, faults_in, IsTaken}
 use Rattle.acc_cluster.specs.declared.cluster.Cluster.{Cluster}
-use Rattle.acc_cluster.specs.Entering.{HasRoom, IsPastOf}
-use Rattle.acc_cluster.specs.Slots.{SlotStands, IsStrictSlot, faults_in, IsTaken}
+use Rattle.acc_cluster.specs.Entering.{IsPastOf}
 
 -- the slot of an actor
 abbrev pub slot_at : {D : Type 0} → List (Slot D) → Actor → Slot D

@@ -11,14 +11,14 @@ use Rattle.acc_payloads.specs.Items.{downs_in}
 use Rattle.acc_schedule.specs.Actors.{actors}
 use Rattle.acc_schedule.specs.Content.{Content}
 use Rattle.acc_schedule.specs.declared.plan.Step.{Step}
-use Rattle.acc_follow.specs.Situations.{Situation}
-use Rattle.acc_follow.specs.Moves.{Answers, IsNext}
-use Rattle.acc_follow.specs.Schedules.{cluster_of}
-use Rattle.acc_follow.specs.Laws.{AgreeBelow}
-use Rattle.acc_strict.specs.Moves.{StrictSituation, IsStrictNext}
-use Rattle.acc_limits.specs.Limits.{EndsAt}
-use Rattle.acc_limits.specs.Fronts.{ComesTo, Begins}
-use Rattle.acc_limits.specs.StrictFronts.{StrictlyComesTo}
+use Rattle.acc_schedule_runs.specs.Situations.{Situation}
+use Rattle.acc_schedule_runs.specs.Moves.{Answers, IsNext}
+use Rattle.acc_schedule_runs.specs.Schedules.{cluster_of}
+use Rattle.acc_schedule_runs.specs.Laws.{AgreeBelow}
+use Rattle.acc_schedule_runs.specs.StrictMoves.{StrictSituation, IsStrictNext}
+use Rattle.acc_schedule_runs.specs.Limits.{EndsAt}
+use Rattle.acc_schedule_runs.specs.Fronts.{ComesTo, Begins}
+use Rattle.acc_schedule_runs.specs.StrictFronts.{StrictlyComesTo}
 use Rattle.acc_cluster.specs.declared.cluster.Cluster.{Cluster}
 use Rattle.acc_cluster.specs.Stands.{StandsFor, StandsStrictly, faults_at}
 

@@ -10,15 +10,16 @@ use Rattle.acc_message.specs.declared.item.Item.TheVariants.{Skipped, Down}
 use Rattle.acc_message.specs.declared.error.Which.{Which}
 use Rattle.acc_message.specs.Run.{Cluster as RunCluster}
 use Rattle.acc_schedule.specs.Content.{Content}
-use Rattle.acc_follow.specs.Situations.{Situation}
-use Rattle.acc_follow.specs.Moves.{Answers, with_item, is_journalled, tried_if, kept_if, reopened, Drains}
-use Rattle.acc_follow.specs.Schedules.{cluster_of}
-use Rattle.acc_follow.specs.Laws.{AgreeBelow}
-use Rattle.acc_strict.specs.Disks.{Disks, fails_append, after_step, after_restart}
-use Rattle.acc_strict.specs.Moves.{StrictSituation, StrictDrains}
-use Rattle.acc_limits.specs.Limits.{EndsAt}
-use Rattle.acc_limits.specs.Fronts.{Begins, DrainsTo}
-use Rattle.acc_limits.specs.StrictFronts.{StrictlyDrainsTo}
+use Rattle.acc_schedule_runs.specs.Situations.{Situation}
+use Rattle.acc_schedule_runs.specs.Moves.{Answers, with_item, is_journalled, tried_if, kept_if, reopened, Drains}
+use Rattle.acc_schedule_runs.specs.Schedules.{cluster_of}
+use Rattle.acc_schedule_runs.specs.Laws.{AgreeBelow}
+use Rattle.acc_payloads.specs.Appends.{fails_append}
+use Rattle.acc_schedule_runs.specs.Disks.{Disks, after_step, after_restart}
+use Rattle.acc_schedule_runs.specs.StrictMoves.{StrictSituation, StrictDrains}
+use Rattle.acc_schedule_runs.specs.Limits.{EndsAt}
+use Rattle.acc_schedule_runs.specs.Fronts.{Begins, DrainsTo}
+use Rattle.acc_schedule_runs.specs.StrictFronts.{StrictlyDrainsTo}
 use Rattle.acc_cluster.specs.declared.cluster.Cluster.{Cluster}
 use Rattle.acc_cluster.specs.Stands.{StandsFor, AreStrict}
 use Rattle.acc_cluster.specs.Steps.{RoseByDowns}

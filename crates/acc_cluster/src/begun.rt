@@ -3,16 +3,17 @@ ghost use Rattle.std.specs.Prelude.{◌≡◌, ℕ, ◌<◌, ◌^◌, length, Li
 ghost use Rattle.std.specs.List.{AllByRecursion};
 ghost use Rattle.acc_message.specs.declared.item.Item.{Item as AnItem};
 ghost use Rattle.acc_message.specs.Items.{is_begun, id_of_txn};
-ghost use Rattle.acc_entering.specs.Stopped.{IsSound};
-ghost use Rattle.acc_follow.specs.Situations.{opened};
-ghost use Rattle.acc_follow.specs.Schedules.{cluster_of};
+ghost use Rattle.acc_pasts.specs.Stopped.{IsSound};
+ghost use Rattle.acc_schedule_runs.specs.Situations.{opened};
+ghost use Rattle.acc_schedule_runs.specs.Schedules.{cluster_of};
 ghost use Rattle.acc_history.specs.Begun.{begun_as, known_as};
-ghost use Rattle.acc_durable.specs.declared.node.DurableNode.{DurableNode as ANode};
-ghost use Rattle.acc_cluster.specs.Opened.{IsNodeOf, HasDone, TellsOf};
+ghost use Rattle.acc_durable_node.specs.declared.node.DurableNode.{DurableNode as ANode};
+ghost use Rattle.acc_actors.specs.Opened.{HasDone};
+ghost use Rattle.acc_cluster.specs.Opened.{IsNodeOf, TellsOf};
 
 use crate::opening::numbers_of;
 use acc_base::OutOfMemory;
-use acc_durable::DurableNode;
+use acc_durable_node::DurableNode;
 use acc_ports::Rig;
 use acc_schedule::Plan;
 use acc_stamp::TxnId;

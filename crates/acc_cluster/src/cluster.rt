@@ -6,11 +6,11 @@ ghost use Rattle.acc_message.specs.Items.{is_begun};
 ghost use Rattle.acc_message.specs.Run.{is_down};
 ghost use Rattle.acc_schedule.specs.Content.{Content};
 ghost use Rattle.acc_schedule.specs.Plan.{IsStep};
-ghost use Rattle.acc_follow.specs.Situations.{Situation, whole};
-ghost use Rattle.acc_follow.specs.Moves.{Answers};
-ghost use Rattle.acc_strict.specs.Moves.{StrictSituation};
+ghost use Rattle.acc_schedule_runs.specs.Situations.{Situation, whole};
+ghost use Rattle.acc_schedule_runs.specs.Moves.{Answers};
+ghost use Rattle.acc_schedule_runs.specs.StrictMoves.{StrictSituation};
 
-use crate::slot::Slot;
+use acc_actors::Slot;
 use acc_history::History;
 use acc_message::{GrowingItems, RunError};
 use acc_ports::Rig;
@@ -29,8 +29,8 @@ pub struct Cluster<D: Rig> {
 }
 
 impl<D: Rig + Drop> Cluster<D> {
+    ghost use Rattle.acc_actors.specs.Stores.{IsStoreUp, IsStoreOf};
     ghost use Rattle.acc_cluster.specs.Stands.{StandsFor, StandsStrictly};
-    ghost use Rattle.acc_cluster.specs.Stores.{IsStoreUp, IsStoreOf};
     ghost use Rattle.acc_cluster.specs.Steps.{StepsTo, StepsStrictly, IfLimit, EndsIn, EndsStrictlyIn};
 
     /// Takes the step of the schedule that has this number. After an error no step may follow. Where the step enters an item, one more has

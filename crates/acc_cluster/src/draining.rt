@@ -1,6 +1,6 @@
 //! Drains.
 ghost use Rattle.std.specs.Prelude.{ℕ, Bool, List, Option as Maybe, IfErr, OnOk};
-ghost use Rattle.acc_follow.specs.Situations.{Situation};
+ghost use Rattle.acc_schedule_runs.specs.Situations.{Situation};
 
 use crate::cluster::Cluster;
 use crate::entering::check_place;

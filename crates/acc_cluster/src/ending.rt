@@ -2,10 +2,10 @@
 ghost use Rattle.std.specs.Prelude.{◌≡◌, ℕ, ◌+◌, ◌++◌, IfOk, OnOk};
 ghost use Rattle.std.specs.List.{AllByRecursion};
 ghost use Rattle.acc_schedule.specs.Content.{Content};
-ghost use Rattle.acc_follow.specs.Situations.{Situation};
+ghost use Rattle.acc_schedule_runs.specs.Situations.{Situation};
 
 use crate::cluster::Cluster;
-use crate::slot::Slot;
+use acc_actors::Slot;
 use acc_base::OutOfMemory;
 use acc_message::Items;
 use acc_node::Node;

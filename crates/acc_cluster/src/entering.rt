@@ -5,13 +5,13 @@ ghost use Rattle.acc_message.specs.declared.error.RunError.{RunError as AnError}
 ghost use Rattle.acc_message.specs.declared.item.Item.{Item as AnItem};
 ghost use Rattle.acc_message.specs.Run.{Cluster as RunCluster};
 ghost use Rattle.acc_message_code.specs.Weight.{weight_of};
-ghost use Rattle.acc_bounds.specs.Sends.{AreSendable};
-ghost use Rattle.acc_follow.specs.Situations.{Situation};
-ghost use Rattle.acc_follow.specs.Moves.{with_item, tried_if};
-ghost use Rattle.acc_limits.specs.Limits.{EndsAt, most_items};
+ghost use Rattle.acc_run_laws.specs.Sends.{AreSendable};
+ghost use Rattle.acc_schedule_runs.specs.Situations.{Situation};
+ghost use Rattle.acc_schedule_runs.specs.Moves.{with_item, tried_if};
+ghost use Rattle.acc_schedule_runs.specs.Limits.{EndsAt, most_items};
 ghost use Rattle.acc_history.specs.Stands.{StandsFor, TakesSent, EventTakesSent};
+ghost use Rattle.acc_actors.specs.Asked.{IsEmitted};
 ghost use Rattle.acc_cluster.specs.Steps.{IfLimit};
-ghost use Rattle.acc_cluster.specs.Asked.{IsEmitted};
 ghost use Rattle.acc_cluster.specs.Entering.{HasPlace, IsPastOf, step_item};
 
 use acc_history::History;

@@ -9,16 +9,11 @@ mod cluster;
 mod draining;
 mod ending;
 mod entering;
-mod fresh;
 mod opening;
 mod over;
 mod restarting;
-mod slot;
-mod staging;
 mod stepping;
-mod weighing;
 
 pub use cluster::Cluster;
 pub use ending::{Disks, Ended, Remains};
 pub use over::Slots;
-pub use slot::Slot;

@@ -3,25 +3,23 @@ ghost use Rattle.std.specs.Prelude.{ℕ, ◌≡◌, ◌==◌, ◌<◌, ◌++◌,
 ghost use Rattle.std.specs.List.{AllByRecursion};
 ghost use Rattle.acc_topology.specs.Sets.{in_set, is_among, members};
 ghost use Rattle.acc_message.specs.declared.item.Item.{Item as AnItem};
-ghost use Rattle.acc_message.specs.Run.{clock_start};
-ghost use Rattle.acc_follow.specs.Situations.{opened};
-ghost use Rattle.acc_strict.specs.Moves.{opened_strictly};
-ghost use Rattle.acc_durable.specs.declared.node.DurableNode.{DurableNode as ANode};
-ghost use Rattle.acc_durable.specs.declared.store.DurableStore.{DurableStore as AStore};
+ghost use Rattle.acc_schedule_runs.specs.Situations.{opened};
+ghost use Rattle.acc_schedule_runs.specs.StrictMoves.{opened_strictly};
+ghost use Rattle.acc_durable_node.specs.declared.node.DurableNode.{DurableNode as ANode};
+ghost use Rattle.acc_durable_store.specs.declared.store.DurableStore.{DurableStore as AStore};
+ghost use Rattle.acc_actors.specs.declared.slot.Slot.TheVariants.{Empty};
 ghost use Rattle.acc_cluster.specs.Opened.{IsNodeOf, IsStoreOf, IsStoreNumber, AreActorsOf, IsEarlier, AreUnarmed, AreFilled, AreFilledStrictly};
-ghost use Rattle.acc_cluster.specs.declared.slot.Slot.TheVariants.{Empty};
 
 use crate::begun::begun_before;
 use crate::cluster::Cluster;
-use crate::slot::Slot;
-use acc_actors::{NodeActor, StoreActor};
+use acc_actors::{Slot, start_of};
 use acc_base::OutOfMemory;
-use acc_durable::{DurableNode, DurableStore};
+use acc_durable_node::{DurableNode, NodeActor};
+use acc_durable_store::{DurableStore, StoreActor};
 use acc_history::History;
 use acc_ports::Rig;
 use acc_schedule::Plan;
 use acc_stamp::actor;
-use acc_topology::NodeSpec;
 use acc_topology::sets::{NodeSet, contains};
 use std::alloc::Global;
 
@@ -189,16 +187,4 @@ fn put_member(numbers: &mut Vec<u32>, set: NodeSet, number: u32) -> Result<(), O
         numbers.push(number)?;
     }
     Ok(())
-}
-
-/// Where the clock of a node starts.
-pub(crate) fn start_of(starts: &[NodeSpec], node: u32) -> u64
-    ensures { result ≡ clock_start starts.now node }
-{
-    for spec in starts {
-        if spec.id == node {
-            return spec.clock;
-        }
-    }
-    0
 }

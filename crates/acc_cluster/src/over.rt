@@ -1,15 +1,15 @@
 //! A cluster over actors that stand already.
 ghost use Rattle.std.specs.Prelude.{◌≡◌, List, reverse, IfOk};
-ghost use Rattle.acc_bounds.specs.Sends.{AreFew};
+ghost use Rattle.acc_run_laws.specs.Sends.{AreFew};
 ghost use Rattle.acc_safety.specs.Valid.{IsStanding};
-ghost use Rattle.acc_follow.specs.Situations.{Stopped};
-ghost use Rattle.acc_follow.specs.Schedules.{cluster_of};
-ghost use Rattle.acc_strict.specs.Disks.{Disks};
+ghost use Rattle.acc_schedule_runs.specs.Situations.{Stopped};
+ghost use Rattle.acc_schedule_runs.specs.Schedules.{cluster_of};
+ghost use Rattle.acc_schedule_runs.specs.Disks.{Disks};
 ghost use Rattle.acc_cluster.specs.Over.{behind_items, ArePlaced, IsHistoryOver};
 
 use crate::cluster::Cluster;
 use crate::opening::put;
-use crate::slot::Slot;
+use acc_actors::Slot;
 use acc_base::OutOfMemory;
 use acc_history::History;
 use acc_history::laws::stopped_steps_are_apart;

@@ -29,22 +29,22 @@ use Rattle.acc_safety.specs.Places.{IsIn, First, Later}
 use Rattle.acc_safety.proofs.Bridge.{same_itself}
 use Rattle.acc_safety.proofs.DrawFacts.{is_node-node}
 use Rattle.acc_safety.proofs.NodeSent.{node_notes}
-use Rattle.acc_safe_runs.specs.AskLaws.{is_no_down}
+use Rattle.acc_run_laws.specs.AskLaws.{is_no_down}
 use Rattle.acc_payloads.specs.Items.{is_item_of}
 use Rattle.acc_schedule.specs.Actors.{actors}
 use Rattle.acc_schedule.specs.Content.{Content}
 use Rattle.acc_schedule.specs.declared.plan.Step.{Step}
 use Rattle.acc_schedule.specs.declared.plan.Step.TheVariants.{Begin, Deliver, Drop, Recover, Slow, Restart, Fail, Drain}
-use Rattle.acc_follow.specs.Schedules.{cluster_of}
-use Rattle.acc_follow.specs.Laws.{NobodyIsDown, IsCalmStep, EndsWithDrain}
+use Rattle.acc_schedule_runs.specs.Schedules.{cluster_of}
+use Rattle.acc_schedule_runs.specs.Laws.{NobodyIsDown, IsCalmStep, EndsWithDrain}
 use Rattle.acc_report_line.specs.declared.line.Line.{Line}
 use Rattle.acc_report_line.specs.declared.line.Line.TheVariants.{End}
 use Rattle.acc_report.specs.Report.{is_begin, last_line}
-use Rattle.acc_generated_runs.specs.Counts.{begun_by, AreApart, begins_in, replies_in, AreAnswered}
-use Rattle.acc_served.specs.Commands.{is_command_of, is_event_of, is_message}
-use Rattle.acc_served.specs.Turns.{Went, begins, aside, delivered, took, came_up, stopped, stayed, went_down, kept, kept_message, passed}
-use Rattle.acc_served.specs.FreeRun.{AreKnown}
-use Rattle.acc_served.specs.Served.{HasServed, IsServed, is_quiet, IsQuiet, HasNoRecover, IsBegunIn}
+use Rattle.acc_command_alone.specs.Counts.{begun_by, AreApart, begins_in, replies_in, AreAnswered}
+use Rattle.acc_free_laws.specs.Commands.{is_command_of, is_event_of, is_message}
+use Rattle.acc_free_laws.specs.Turns.{Went, begins, aside, delivered, took, came_up, stopped, stayed, went_down, kept, kept_message, passed}
+use Rattle.acc_free_laws.specs.FreeRun.{AreKnown}
+use Rattle.acc_free_laws.specs.Served.{HasServed, IsServed, is_quiet, IsQuiet, HasNoRecover, IsBegunIn}
 use Rattle.acc_command.specs.Free.{HasNoRestart}
 use Rattle.acc_command.proofs.FreeReports.{all_front, all_turned, all_filtered, nothing, no_down, no_stop}
 

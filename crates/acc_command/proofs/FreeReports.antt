@@ -14,7 +14,7 @@ use Rattle.acc_message.specs.Items.{notes_of}
 use Rattle.acc_topology.specs.Layout.{Layout}
 use Rattle.acc_safety.specs.Calm.{is_calm_event}
 use Rattle.acc_safety.proofs.Bridge.{same_itself}
-use Rattle.acc_safe_runs.specs.AskLaws.{is_no_down}
+use Rattle.acc_run_laws.specs.AskLaws.{is_no_down}
 use Rattle.acc_payloads.specs.Items.{is_item_of}
 use Rattle.acc_schedule.specs.Actors.{actors}
 use Rattle.acc_schedule.specs.Content.{Content}
@@ -22,19 +22,19 @@ use Rattle.acc_schedule.specs.Document.{Means}
 use Rattle.acc_schedule.specs.declared.plan.Step.{Step}
 use Rattle.acc_schedule.specs.declared.plan.Step.TheVariants.{Begin, Deliver, Drop, Recover, Slow, Restart, Fail, Drain}
 use Rattle.acc_schedule.proofs.AnswerFacts.{same_plan}
-use Rattle.acc_follow.specs.Schedules.{cluster_of}
-use Rattle.acc_follow.specs.Laws.{NobodyIsDown}
+use Rattle.acc_schedule_runs.specs.Schedules.{cluster_of}
+use Rattle.acc_schedule_runs.specs.Laws.{NobodyIsDown}
 use Rattle.acc_report_line.specs.declared.line.Line.{Line}
 use Rattle.acc_report_line.specs.declared.line.Line.TheVariants.{End}
 use Rattle.acc_report_line.specs.Texts.{lines_text}
 use Rattle.acc_report.specs.Report.{is_begin, is_reply, last_line, report_text}
-use Rattle.acc_served.specs.Commands.{is_command_of, is_restart, is_event_of, is_message}
-use Rattle.acc_served.specs.Turns.{Went, begins, aside, delivered, took, came_up, stopped, stayed, went_down, kept, kept_message, passed}
-use Rattle.acc_served.specs.FreeRun.{is_plain, AreKnown}
-use Rattle.acc_served.specs.Served.{HasServed, IsServed, is_quiet, IsQuiet, is_recover, HasNoRecover}
-use Rattle.acc_command.specs.Command.{IsReport, OverThreads}
-use Rattle.acc_command.specs.Free.{HasNoRestart}
-use Rattle.acc_command.proofs.CalmReports.{ends_with_last}
+use Rattle.acc_free_laws.specs.Commands.{is_command_of, is_restart, is_event_of, is_message}
+use Rattle.acc_free_laws.specs.Turns.{Went, begins, aside, delivered, took, came_up, stopped, stayed, went_down, kept, kept_message, passed}
+use Rattle.acc_free_laws.specs.FreeRun.{is_plain, AreKnown}
+use Rattle.acc_free_laws.specs.Served.{HasServed, IsServed, is_quiet, IsQuiet, is_recover, HasNoRecover}
+use Rattle.acc_command_alone.specs.Command.{IsReport}
+use Rattle.acc_command_alone.proofs.CalmReports.{ends_with_last}
+use Rattle.acc_command.specs.Free.{HasNoRestart, OverThreads}
 
 -- ---- lists
 

@@ -1,8 +1,31 @@
--- Schedules in which no actor comes back.
-use Rattle.std.specs.Prelude.{not, IsTrue, List}
+-- What `free` is over, and schedules in which no actor comes back.
+use Rattle.std.specs.Prelude.{ℕ, Bool, not, IsTrue, List, []}
 use Rattle.std.specs.List.{list_all}
+use Rattle.acc_message.specs.declared.item.Item.{Item}
+use Rattle.acc_schedule.specs.Content.{Content}
 use Rattle.acc_schedule.specs.declared.plan.Step.{Step}
-use Rattle.acc_served.specs.Commands.{is_restart}
+use Rattle.acc_schedule_runs.specs.Laws.{NobodyIsDown}
+use Rattle.acc_schedule_runs.specs.Limits.{EndsAt}
+use Rattle.acc_run.specs.Given.{GivesBack}
+use Rattle.acc_free_laws.specs.Commands.{is_restart}
+use Rattle.acc_free_laws.specs.Served.{IsServed}
+use Rattle.acc_free_ending.specs.Moves.{IsFreeFront}
+use Rattle.acc_command_alone.specs.Command.{Over}
+
+-- The items are served: actors took their turns side by side. Their disks came back, each keeping its actor in the items, and over strict
+-- ones nobody went down.
+pub record ServesOver {D : Type 0} (faults : D → ℕ) (images : D → List ℕ → Type 0) (strict : Bool) (before after : List (ℕ × D)) (plan : Content) (items : List Item) : Type 0 where
+  pub served : IsServed plan items
+  pub back : GivesBack faults images plan items before after
+  pub stayed : IsTrue strict → NobodyIsDown items
+
+-- all actors side by side, over these disks
+abbrev pub OverThreads : {D : Type 0} → (D → ℕ) → (D → List ℕ → Type 0) → Bool → List (ℕ × D) → List (ℕ × D) → Over
+OverThreads faults images strict before after =
+    record {
+      Items = ServesOver faults images strict before after;
+      Limits = λ plan items which number. EndsAt (IsFreeFront strict plan []) items which number;
+    }
 
 -- no step is a restart
 abbrev pub HasNoRestart : List Step → Type 0

@@ -3,16 +3,15 @@ ghost use Rattle.std.specs.Prelude.{◌≡◌, ◌≢◌, ◌≤◌, ℕ, length
 ghost use Rattle.acc_ports.specs.Faults.{Rose};
 ghost use Rattle.acc_schedule.specs.Content.{Content};
 ghost use Rattle.acc_schedule.specs.Document.{Means};
-ghost use Rattle.acc_command.specs.declared.words.Command.TheVariants.{Run, Check};
-ghost use Rattle.acc_command.specs.Words.{AsksForWorkers, IsCheckLine, IsGenerateLine, IsLine, IsRunLine, ReadsDocument, RunsDocument};
-ghost use Rattle.acc_command.specs.Command.{document_limit, Ends, EndsOnGiven, IsDone, IsGenerated, IsMade, IsUsage, Leaves, no_run, OverDisks, OverThreads};
+ghost use Rattle.acc_command_alone.specs.declared.words.Command.TheVariants.{Run, Check};
+ghost use Rattle.acc_command_alone.specs.Words.{AsksForWorkers, IsCheckLine, IsGenerateLine, IsRunLine};
+ghost use Rattle.acc_command_alone.specs.Command.{document_limit, Ends, EndsOnGiven, IsDone, IsGenerated, IsMade, IsUsage, Leaves, no_run, OverDisks};
+ghost use Rattle.acc_command.specs.Words.{IsLine, ReadsDocument, RunsDocument};
+ghost use Rattle.acc_command.specs.Free.{OverThreads};
 
-use crate::alone::accord_alone;
 use crate::free::free;
-use crate::remains::Remains;
-use crate::status::Status;
-use crate::words::workers_of;
 use acc_base::{OutOfMemory, Text};
+use acc_command_alone::{Remains, Status, accord_alone, workers_of};
 use acc_ports::{DiskMaker, Gate, Sink, Source};
 use std::sync::Wait;
 use std::thread::Threads;

@@ -2,22 +2,20 @@
 ghost use Rattle.std.specs.Prelude.{◌≡◌, ◌≢◌, ◌≤◌, length, IfOk, IfSome};
 ghost use Rattle.acc_ports.specs.Faults.{Rose};
 ghost use Rattle.acc_schedule.specs.Plan.{IsPlan};
-ghost use Rattle.acc_command.specs.declared.words.Command.TheVariants.{Run};
-ghost use Rattle.acc_command.specs.Command.{document_limit, Ends, EndsOnGiven, IsAccepted, IsDone, IsDue, Leaves, OverThreads, PlanEnds};
+ghost use Rattle.acc_command_alone.specs.declared.words.Command.TheVariants.{Run};
+ghost use Rattle.acc_command_alone.specs.Command.{document_limit, Ends, EndsOnGiven, IsAccepted, IsDone, IsDue, Leaves, PlanEnds};
+ghost use Rattle.acc_command.specs.Free.{OverThreads};
 
-use crate::alone::{DOCUMENT_LIMIT, LIMIT};
-use crate::lines::{limit_line, refusal_line};
-use crate::reading::read_plan;
-use crate::remains::Remains;
-use crate::reply::{Reply, say};
-use crate::status::Status;
 use acc_base::{Bytes, OutOfMemory, Sequence};
+use acc_command_alone::{
+    DOCUMENT_LIMIT, Remains, Reply, Status, TOO_LONG, limit_line, read_plan, refusal_line, say,
+};
 use acc_free::run_free;
+use acc_free_laws::laws::free_runs_are_safe;
 use acc_message::RunError;
 use acc_ports::{DiskMaker, Gate, ReadError, Sink, Source, read_all};
 use acc_report::text;
 use acc_schedule::Plan;
-use acc_served::laws::free_runs_are_safe;
 use std::alloc::Global;
 use std::sync::Wait;
 use std::thread::Threads;
@@ -49,7 +47,7 @@ where
 {
     match read_all(alloc, source, DOCUMENT_LIMIT) {
         Ok(bytes) => respond(rt, alloc, workers, bytes, sink, disks, gate, remains),
-        Err(ReadError::TooLong) => say(sink, LIMIT, Status::Limit),
+        Err(ReadError::TooLong) => say(sink, TOO_LONG, Status::Limit),
         Err(ReadError::Failed) => Status::ReadFault,
         Err(ReadError::OutOfMemory) => Status::OutOfMemory,
     }

@@ -1,7 +1,11 @@
 //! A line of the table.
+ghost use Rattle.std.specs.Prelude.{◌<◌};
+
 use crate::fields::{document, is_so, items, number, numbers, words};
-use acc_base::{Bytes, Sequence, Text};
-use anyhow::{Context, Result};
+use crate::meeting::Meeting;
+use acc_base::{OutOfMemory, Sequence, Text};
+use acc_ports::{MemMaker, MemSink, MemSource};
+use anyhow::{Result, bail};
 use serde_json::Value;
 use std::alloc::Global;
 
@@ -27,85 +31,82 @@ pub struct Ending<'l> {
     pub left: &'l [Value],
 }
 
-/// A source, and which of its reads fail.
+/// What a command reads from, writes to and keeps its journals on.
 #[derive(Drop)]
-pub struct Given {
-    pub document: Bytes,
-    pub piece: u64,
-    pub reads: Sequence<u64>,
+pub struct Ports {
+    pub source: MemSource,
+    pub sink: MemSink,
+    pub disks: MemMaker,
 }
 
-/// A sink, and which of its writes fail.
-#[derive(Drop)]
-pub struct Taken {
-    pub takes: u64,
-    pub writes: Sequence<u64>,
-}
-
-/// Which calls of whose disk fail.
-#[derive(Drop)]
-pub struct Failing {
-    pub disk: u32,
-    pub calls: Sequence<u64>,
-}
-
-/// A command line with its source, its sink, its disks and its gate, and how it has to end.
+/// A command line with its ports and its gate, and how it has to end.
 #[derive(Drop)]
 pub struct Case<'l> {
     pub words: Sequence<Text>,
-    pub given: Given,
-    pub taken: Taken,
-    pub failing: Failing,
-    pub meets: bool,
+    pub ports: Ports,
+    pub gate: Meeting,
     pub ending: Ending<'l>,
 }
 
 impl<'l> Case<'l> {
     /// The case that a line has.
     pub fn read(alloc: Global, line: &'l Value) -> Result<Case<'l>> {
-        let ending = ending(line).context("a line that wants no ending")?;
+        let Some(ending) = ending_of(line) else {
+            bail!("a line that wants no ending");
+        };
+        let ports = ports_of(alloc, line)?;
         Ok(Case {
             words: words(alloc, line, "words")?,
-            given: given(alloc, line)?,
-            taken: taken(alloc, line)?,
-            failing: failing(alloc, line)?,
-            meets: is_so(line, "meets"),
+            ports,
+            gate: Meeting::new(is_so(line, "meets")),
             ending,
         })
     }
 }
 
-fn given(alloc: Global, line: &Value) -> Result<Given> {
-    Ok(Given {
-        document: document(alloc, line, "document")?,
-        piece: number(line, "piece", PIECE),
-        reads: numbers(alloc, line, "reads")?,
+fn ports_of(alloc: Global, line: &Value) -> Result<Ports, OutOfMemory> {
+    let disks = disks_of(alloc, line)?;
+    let sink = sink_of(alloc, line)?;
+    Ok(Ports {
+        source: source_of(alloc, line)?,
+        sink,
+        disks,
     })
 }
 
-fn taken(alloc: Global, line: &Value) -> Result<Taken> {
-    Ok(Taken {
-        takes: number(line, "takes", PIECE),
-        writes: numbers(alloc, line, "writes")?,
-    })
+fn source_of(alloc: Global, line: &Value) -> Result<MemSource, OutOfMemory> {
+    let document = document(alloc, line, "document")?;
+    let fails = numbers(alloc, line, "reads")?;
+    Ok(MemSource::new(alloc, document, piece(line, "piece"), fails))
 }
 
-fn failing(alloc: Global, line: &Value) -> Result<Failing> {
-    Ok(Failing {
-        disk: u32::try_from(number(line, "disk", 0)).unwrap_or(0),
-        calls: numbers(alloc, line, "calls")?,
-    })
+fn sink_of(alloc: Global, line: &Value) -> Result<MemSink, OutOfMemory> {
+    let fails = numbers(alloc, line, "writes")?;
+    Ok(MemSink::new(alloc, piece(line, "takes"), fails))
 }
 
-fn ending(line: &Value) -> Option<Ending<'_>> {
+fn disks_of(alloc: Global, line: &Value) -> Result<MemMaker, OutOfMemory> {
+    let actor = u32::try_from(number(line, "disk", 0)).unwrap_or(0);
+    Ok(MemMaker::listed(alloc, actor, numbers(alloc, line, "calls")?))
+}
+
+/// How many bytes a read gives or a write takes.
+fn piece(line: &Value, name: &str) -> usize
+    ensures { 0 < result }
+{
+    let number = number(line, name, PIECE);
+    if number == 0 { 1 } else { number as usize }
+}
+
+fn ending_of(line: &Value) -> Option<Ending<'_>> {
     Some(Ending {
         status: line.get("status")?.as_u64()?,
-        wanted: wanted(line)?,
+        wanted: wanted_of(line)?,
         left: items(line, "left"),
     })
 }
 
-fn wanted(line: &Value) -> Option<Wanted<'_>> {
+fn wanted_of(line: &Value) -> Option<Wanted<'_>> {
     match (line.get("ends"), line.get("last")) {
         (Some(end), _) => Some(Wanted::End(end.as_str()?)),
         (_, Some(last)) => Some(Wanted::Last(last.as_str()?)),

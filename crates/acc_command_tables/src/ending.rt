@@ -1,10 +1,8 @@
 //! How a command ends.
-ghost use Rattle.std.specs.Prelude.{◌<◌};
-
-use crate::case::{Case, Wanted};
-use crate::meeting::Meeting;
-use acc_command::{Remains, accord};
-use acc_ports::{MemMaker, MemSink, MemSource};
+use crate::case::{Case, Ending, Wanted};
+use acc_command::accord;
+use acc_command_alone::Remains;
+use acc_ports::MemMaker;
 use anyhow::{Context, Result};
 use serde_json::Value;
 use std::alloc::Global;
@@ -15,28 +13,33 @@ use std::thread::Threads;
 pub fn is_wanted<R: AllocGlobal + Threads + Wait + Sync>(
     rt: &R,
     alloc: Global,
-    case: Case<'_>,
+    case: &mut Case<'_>,
 ) -> Result<bool> {
-    let ending = case.ending;
-    let piece = at_least_one(case.given.piece);
-    let takes = at_least_one(case.taken.takes);
-    let mut source = MemSource::new(alloc, case.given.document, piece, case.given.reads);
-    let mut sink = MemSink::new(alloc, takes, case.taken.writes);
-    let mut disks = MemMaker::listed(alloc, case.failing.disk, case.failing.calls);
-    let gate = Meeting::new(case.meets);
+    let mut remains = Remains::new(alloc);
     let status = accord(
         rt,
         case.words.as_slice(),
-        &mut source,
-        &mut sink,
-        &mut disks,
-        &gate,
-        &mut Remains::new(alloc),
+        &mut case.ports.source,
+        &mut case.ports.sink,
+        &mut case.ports.disks,
+        &case.gate,
+        &mut remains,
     );
-    if u64::from(status.code()) != ending.status || !is_text(sink.written(), ending.wanted) {
+    drop(remains);
+    are_wanted(alloc, u64::from(status.code()), case)
+}
+
+/// Whether the status, the text and the disks are the wanted ones.
+fn are_wanted(alloc: Global, status: u64, case: &Case<'_>) -> Result<bool> {
+    let Ending {
+        status: due,
+        wanted,
+        left,
+    } = case.ending;
+    if status != due || !is_text(case.ports.sink.written(), wanted) || !case.gate.is_over() {
         return Ok(false);
     }
-    Ok(gate.is_over() && are_left(alloc, &disks, ending.left)?)
+    are_left(alloc, &case.ports.disks, left)
 }
 
 /// Whether the text is the wanted one, or ends so.
@@ -74,10 +77,4 @@ fn disk_of(disk: &Value) -> Option<(u32, &str)> {
         [actor, digits] => Some((u32::try_from(actor.as_u64()?).ok()?, digits.as_str()?)),
         _ => None,
     }
-}
-
-fn at_least_one(number: u64) -> usize
-    ensures { 0 < result }
-{
-    if number == 0 { 1 } else { number as usize }
 }

@@ -40,8 +40,10 @@ fn agrees<R: AllocGlobal + Threads + Wait + Sync>(
     if line.as_str().is_some() {
         return Ok(None);
     }
-    let case = Case::read(alloc, line)?;
-    Ok(Some(ending::is_wanted(rt, alloc, case)?))
+    let mut case = Case::read(alloc, line)?;
+    let agrees = ending::is_wanted(rt, alloc, &mut case);
+    drop(case);
+    Ok(Some(agrees?))
 }
 
 /// Counts whether the next line's command ends so.

@@ -2,7 +2,7 @@
 ghost use Rattle.std.specs.Prelude.{◌≡◌, [], IsTrue, IfOk, IfErr, OnErr, true, false};
 ghost use Rattle.acc_stamp.specs.declared.stamps.TxnId.{TxnId};
 ghost use Rattle.acc_stamp.specs.Actor.{home_of};
-ghost use Rattle.acc_stamp.specs.Stamp.{zero_ballot, ballot_eq};
+ghost use Rattle.acc_stamp.specs.Stamp.{zero_ballot};
 ghost use Rattle.acc_topology.specs.Layout.{Layout};
 ghost use Rattle.acc_message.specs.Attempts.{Attempt, majority_everywhere};
 ghost use Rattle.acc_message.specs.Coordinator.{begun, ask_for_votes, go, reaction};
@@ -16,7 +16,7 @@ use acc_base::{OutOfMemory, Sequence};
 use acc_deps::Choice;
 use acc_message::{Emitted, Message, Messages};
 use acc_stamp::{Actor, Ballot, TxnId};
-use acc_stores::stores;
+use acc_tally::stores;
 use acc_topology::{ShardSet, Topology};
 use acc_txn::Body;
 
@@ -142,13 +142,6 @@ impl Coord {
         let (emitted, _) = self.make(step);
         let Emitted { notes: _, out } = emitted;
         Ok(out)
-    }
-
-    /// Whether this is the first attempt at its transaction: that of ballot zero.
-    pub fn is_first(&self) -> bool
-        ensures { (layout : Layout) (x : TxnId) (a : Attempt) → StandsFor layout x self.now a → result ≡ ballot_eq a.ballot zero_ballot }
-    {
-        self.ballot == Ballot::ZERO
     }
 
     /// Whether the attempt waits for votes.

@@ -14,7 +14,7 @@ use crate::kept::KeptTally;
 use acc_base::OutOfMemory;
 use acc_deps::Deps;
 use acc_stamp::{Actor, Stamp};
-use acc_stores::is_store;
+use acc_tally::is_store;
 use acc_topology::Topology;
 
 impl Coord {

@@ -19,7 +19,7 @@ use acc_base::OutOfMemory;
 use acc_deps::Settled;
 use acc_message::{Emitted, Message, Messages, Note, ReadAnswer, SharedOutcome};
 use acc_stamp::{Actor, Ballot, home};
-use acc_stores::is_store;
+use acc_tally::is_store;
 use acc_topology::Topology;
 use acc_topology::sets::contains;
 

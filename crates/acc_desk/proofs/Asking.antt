@@ -18,17 +18,17 @@ use Rattle.acc_message.specs.Fields.{to_of}
 use Rattle.acc_message.specs.Items.{sent_in, message_at, id_of_txn}
 use Rattle.acc_message.specs.NodeRules.{Begins, Recovers, Takes}
 use Rattle.acc_message.specs.Run.{is_down}
-use Rattle.acc_posts.specs.declared.posting.Post.{Post}
+use Rattle.acc_message_index.specs.declared.posting.Post.{Post}
 use Rattle.acc_safety.proofs.Bridge.{same}
-use Rattle.acc_safe_runs.specs.Asks.{home_of_txn}
+use Rattle.acc_run_laws.specs.Asks.{home_of_txn}
 use Rattle.acc_schedule.specs.Content.{Content}
 use Rattle.acc_schedule.specs.declared.plan.Step.{Step}
 use Rattle.acc_schedule.specs.declared.plan.Step.TheVariants.{Begin, Recover}
-use Rattle.acc_entering.specs.Entries.{MayTake}
-use Rattle.acc_entering.proofs.Standing.{begin_may, recover_may}
-use Rattle.acc_follow.specs.Schedules.{cluster_of}
-use Rattle.acc_cluster.specs.declared.slot.Slot.{Slot}
-use Rattle.acc_served.specs.Commands.{commands_of}
+use Rattle.acc_pasts.specs.Entries.{MayTake}
+use Rattle.acc_pasts.proofs.Standing.{begin_may, recover_may}
+use Rattle.acc_schedule_runs.specs.Schedules.{cluster_of}
+use Rattle.acc_actors.specs.declared.slot.Slot.{Slot}
+use Rattle.acc_free_laws.specs.Commands.{commands_of}
 use Rattle.acc_tape.specs.ItemViews.{addressee, taken_by_item, is_lost_item}
 use Rattle.acc_tape.specs.Messages.{IsOldest, AreOldest, IsSentBy, posts_in}
 use Rattle.acc_desk.specs.Desks.{IsAt, MayStep, begins_it}

@@ -14,9 +14,9 @@ use Rattle.acc_message_code.specs.Weight.{weight_of}
 use Rattle.acc_payloads.specs.Items.{is_item_of, is_down_of, downs_in}
 use Rattle.acc_safety.proofs.Bridge.{same_itself}
 use Rattle.acc_schedule.specs.Actors.{actors}
-use Rattle.acc_follow.specs.Laws.{NobodyIsDown}
-use Rattle.acc_limits.specs.Limits.{most_bytes, IsWithin}
-use Rattle.acc_served.specs.FreeRun.{AreKnown, AreOthers}
+use Rattle.acc_schedule_runs.specs.Laws.{NobodyIsDown}
+use Rattle.acc_schedule_runs.specs.Limits.{most_bytes, IsWithin}
+use Rattle.acc_free_laws.specs.FreeRun.{AreKnown, AreOthers}
 use Rattle.acc_tape.specs.Lists.{items_of}
 use Rattle.acc_tape.specs.ItemViews.{actor_of_item}
 use Rattle.acc_tape.specs.Seats.{TapeName, SeatView}

@@ -21,37 +21,37 @@ use Rattle.acc_message_code.specs.Short.{IsShortMessage}
 use Rattle.acc_message_code.specs.Weight.{weight_of}
 use Rattle.acc_payloads.specs.Items.{payload_by, payloads_in}
 use Rattle.acc_safety.specs.Calm.{event_takes, item_takes}
-use Rattle.acc_safe_runs.specs.Asks.{emits_if}
-use Rattle.acc_bounds.specs.Sends.{AreFew, AreSendable}
-use Rattle.acc_bounds.proofs.Sendable.{next_sendable}
-use Rattle.acc_actors.specs.declared.stops.Unsent.{Unsent}
+use Rattle.acc_run_laws.specs.Asks.{emits_if}
+use Rattle.acc_run_laws.specs.Sends.{AreFew, AreSendable}
+use Rattle.acc_run_laws.proofs.Sendable.{next_sendable}
+use Rattle.acc_payloads.specs.declared.stops.Unsent.{Unsent}
 use Rattle.acc_schedule.specs.Actors.{actors}
 use Rattle.acc_schedule.specs.Content.{Content}
 use Rattle.acc_schedule.specs.declared.plan.Step.{Step}
-use Rattle.acc_entering.specs.Entries.{emitted_for, entering, MayTake}
-use Rattle.acc_entering.specs.Pasts.{IsUntouched, DidMore}
-use Rattle.acc_entering.specs.Stopped.{IsSameStep}
-use Rattle.acc_entering.proofs.Pasts.{untouched_on, did_more}
-use Rattle.acc_entering.proofs.Sound.{sound_standing}
-use Rattle.acc_entering.proofs.Stops.{act_still, same_by_deeds}
-use Rattle.acc_follow.specs.Situations.{Situation, whole}
-use Rattle.acc_follow.specs.Moves.{event_in, entry_of, entered, entered_all}
-use Rattle.acc_follow.specs.Schedules.{cluster_of}
-use Rattle.acc_strict.specs.Disks.{fresh_disks}
-use Rattle.acc_cluster.specs.declared.slot.Slot.{Slot}
-use Rattle.acc_cluster.specs.Pasts.{stops_in}
-use Rattle.acc_cluster.specs.Slots.{SlotStands, IsStrictSlot}
-use Rattle.acc_cluster.specs.Asked.{AreSteps}
-use Rattle.acc_cluster.proofs.Apart.{IsApart}
-use Rattle.acc_cluster.proofs.Slots.{slot_apart, strict_apart}
-use Rattle.acc_served.specs.Commands.{is_message}
-use Rattle.acc_served.specs.FreeRun.{AreOthers, IsFreeRun, IsUntaken, is_plain_event, alone}
-use Rattle.acc_served.specs.Serving.{IsServing, HasGone}
-use Rattle.acc_served.proofs.Alone.{alone_whole, alone_event, alone_entered, entry_is}
-use Rattle.acc_served.proofs.Over.{turn_fits, gone_over, serving_over}
-use Rattle.acc_served.proofs.Others.{untouched_by, may_over}
-use Rattle.acc_served.proofs.Serving.{each_both, serving_entered}
-use Rattle.acc_served.proofs.Going.{message_went}
+use Rattle.acc_pasts.specs.Entries.{emitted_for, entering, MayTake}
+use Rattle.acc_pasts.specs.Pasts.{IsUntouched, DidMore}
+use Rattle.acc_pasts.specs.Stopped.{IsSameStep}
+use Rattle.acc_pasts.proofs.Pasts.{untouched_on, did_more}
+use Rattle.acc_pasts.proofs.Sound.{sound_standing}
+use Rattle.acc_pasts.proofs.Stops.{act_still, same_by_deeds}
+use Rattle.acc_schedule_runs.specs.Situations.{Situation, whole}
+use Rattle.acc_schedule_runs.specs.Moves.{event_in, entry_of, entered, entered_all}
+use Rattle.acc_schedule_runs.specs.Schedules.{cluster_of}
+use Rattle.acc_schedule_runs.specs.Disks.{fresh_disks}
+use Rattle.acc_actors.specs.declared.slot.Slot.{Slot}
+use Rattle.acc_actors.specs.Pasts.{stops_in}
+use Rattle.acc_actors.specs.Slots.{SlotStands, IsStrictSlot}
+use Rattle.acc_actors.specs.Asked.{AreSteps}
+use Rattle.acc_actors.proofs.Apart.{IsApart}
+use Rattle.acc_actors.proofs.Slots.{slot_apart, strict_apart}
+use Rattle.acc_free_laws.specs.Commands.{is_message}
+use Rattle.acc_free_laws.specs.FreeRun.{AreOthers, IsFreeRun, IsUntaken, is_plain_event, alone}
+use Rattle.acc_free_laws.specs.Serving.{IsServing, HasGone}
+use Rattle.acc_free_laws.proofs.Alone.{alone_whole, alone_event, alone_entered, entry_is}
+use Rattle.acc_free_laws.proofs.Over.{turn_fits, gone_over, serving_over}
+use Rattle.acc_free_laws.proofs.Others.{untouched_by, may_over}
+use Rattle.acc_free_laws.proofs.Serving.{each_both, serving_entered}
+use Rattle.acc_free_laws.proofs.Going.{message_went}
 use Rattle.acc_tape.specs.ItemViews.{actor_of_item}
 use Rattle.acc_desk.specs.Desks.{IsAt, item_of}
 use Rattle.acc_desk.specs.Groups.{AreWeighed, MayJoin, AreJoined, IsEntering, item_of_unsent}

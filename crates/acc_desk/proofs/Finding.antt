@@ -5,7 +5,7 @@ use Rattle.std.specs.List.{AllByRecursion}
 use Rattle.std.proofs.lemmas.List.{append_assoc}
 use Rattle.std.proofs.lemmas.List.Elements.{All-head, All-tail}
 use Rattle.acc_stamp.specs.declared.actors.Actor.{Actor}
-use Rattle.acc_posts.specs.declared.posting.Post.{Post}
+use Rattle.acc_message_index.specs.declared.posting.Post.{Post}
 use Rattle.acc_message.specs.declared.message.Message.{Message}
 use Rattle.acc_message.specs.declared.entry.Event.{Event}
 use Rattle.acc_message.specs.declared.entry.Event.TheVariants.{Message as TakesMessage}
@@ -15,7 +15,7 @@ use Rattle.acc_message.specs.Run.{is_node, is_down}
 use Rattle.acc_message_code.specs.Weight.{weight_of}
 use Rattle.acc_schedule.specs.Content.{Content}
 use Rattle.acc_schedule.specs.declared.plan.Step.{Step}
-use Rattle.acc_entering.specs.Stopped.{AreDifferent}
+use Rattle.acc_pasts.specs.Stopped.{AreDifferent}
 use Rattle.acc_tape.specs.ItemViews.{actor_of_item, addressee, taken_by_item, is_lost_item}
 use Rattle.acc_tape.specs.Messages.{AreOldest, IsSentBy, posts_in}
 use Rattle.acc_tape.specs.Seats.{SeatView, Turns}

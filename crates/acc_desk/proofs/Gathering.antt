@@ -12,27 +12,27 @@ use Rattle.acc_message.specs.declared.entry.Event.{Event}
 use Rattle.acc_message.specs.NodeRules.{Act}
 use Rattle.acc_message.specs.Run.{Cluster, is_down}
 use Rattle.acc_message_code.specs.Weight.{weight_of}
-use Rattle.acc_actors.specs.declared.stops.Unsent.{Unsent}
+use Rattle.acc_payloads.specs.declared.stops.Unsent.{Unsent}
 use Rattle.acc_schedule.specs.Actors.{actors}
 use Rattle.acc_schedule.specs.Content.{Content}
 use Rattle.acc_schedule.specs.declared.plan.Step.{Step}
-use Rattle.acc_entering.specs.Entries.{MayTake}
-use Rattle.acc_entering.specs.Stopped.{AreDifferent}
-use Rattle.acc_entering.proofs.Pasts.{nothing_new}
-use Rattle.acc_follow.specs.Situations.{Situation, whole, without, stops_of}
-use Rattle.acc_follow.specs.Moves.{event_in, entry_of, entered, entered_all, is_journalled}
-use Rattle.acc_follow.specs.Schedules.{cluster_of}
-use Rattle.acc_limits.specs.Limits.{most_items}
-use Rattle.acc_strict.specs.Disks.{Disks, fresh_disks}
-use Rattle.acc_cluster.specs.declared.slot.Slot.{Slot}
-use Rattle.acc_cluster.specs.Slots.{SlotStages, IsStrictSlot}
-use Rattle.acc_cluster.specs.Asked.{MayTakeEach, AreSteps, IsStaged, IsAskedBehind}
-use Rattle.acc_cluster.proofs.Pasts.{none_stopped}
-use Rattle.acc_served.specs.Commands.{is_message}
-use Rattle.acc_served.specs.FreeRun.{AreOthers, IsFreeRun, IsUntaken, alone}
-use Rattle.acc_served.proofs.Alone.{alone_whole, alone_event}
-use Rattle.acc_served.proofs.Serving.{serving_stopped}
-use Rattle.acc_served.proofs.Going.{messages_stopped}
+use Rattle.acc_pasts.specs.Entries.{MayTake}
+use Rattle.acc_pasts.specs.Stopped.{AreDifferent}
+use Rattle.acc_pasts.proofs.Pasts.{nothing_new}
+use Rattle.acc_schedule_runs.specs.Situations.{Situation, whole, without, stops_of}
+use Rattle.acc_schedule_runs.specs.Moves.{event_in, entry_of, entered, entered_all, is_journalled}
+use Rattle.acc_schedule_runs.specs.Schedules.{cluster_of}
+use Rattle.acc_schedule_runs.specs.Limits.{most_items}
+use Rattle.acc_schedule_runs.specs.Disks.{Disks, fresh_disks}
+use Rattle.acc_actors.specs.declared.slot.Slot.{Slot}
+use Rattle.acc_actors.specs.Slots.{SlotStages, IsStrictSlot}
+use Rattle.acc_actors.specs.Asked.{MayTakeEach, AreSteps, IsStaged, IsAskedBehind}
+use Rattle.acc_actors.proofs.Pasts.{none_stopped}
+use Rattle.acc_free_laws.specs.Commands.{is_message}
+use Rattle.acc_free_laws.specs.FreeRun.{AreOthers, IsFreeRun, IsUntaken, alone}
+use Rattle.acc_free_laws.proofs.Alone.{alone_whole, alone_event}
+use Rattle.acc_free_laws.proofs.Serving.{serving_stopped}
+use Rattle.acc_free_laws.proofs.Going.{messages_stopped}
 use Rattle.acc_desk.specs.Desks.{IsAt}
 use Rattle.acc_desk.specs.Groups.{Joining, events_of, IsReady, AreWeighed, HasStaged, Settles, SettlesStrictly, CanJoin, CanAllJoin, MayJoin, IsEntering}
 use Rattle.acc_desk.proofs.Stepping.{few_alone, step_on, stops_put}

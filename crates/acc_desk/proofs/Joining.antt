@@ -11,20 +11,20 @@ use Rattle.acc_message.specs.declared.error.Which.{Which}
 use Rattle.acc_message.specs.declared.item.Item.{Item}
 use Rattle.acc_message.specs.Run.{is_node, is_down}
 use Rattle.acc_message_code.specs.Weight.{weight_of}
-use Rattle.acc_actors.specs.declared.stops.Unsent.{Unsent}
+use Rattle.acc_payloads.specs.declared.stops.Unsent.{Unsent}
 use Rattle.acc_schedule.specs.Content.{Content}
 use Rattle.acc_schedule.specs.declared.plan.Step.{Step}
-use Rattle.acc_entering.specs.Stopped.{AreDifferent}
-use Rattle.acc_follow.specs.Situations.{Situation}
-use Rattle.acc_follow.specs.Moves.{entry_of, entered_all}
-use Rattle.acc_follow.specs.Schedules.{cluster_of}
-use Rattle.acc_limits.specs.Limits.{most_items}
-use Rattle.acc_strict.specs.Disks.{Disks, fresh_disks}
-use Rattle.acc_cluster.specs.declared.slot.Slot.{Slot}
-use Rattle.acc_cluster.specs.Slots.{SlotStages, IsStrictSlot}
-use Rattle.acc_cluster.specs.Asked.{IsStaged, IsAskedBehind, MayAskBehind, HasSettled, HasSettledStrictly}
-use Rattle.acc_served.specs.FreeRun.{IsFreeRun}
-use Rattle.acc_served.proofs.Alone.{entry_is}
+use Rattle.acc_pasts.specs.Stopped.{AreDifferent}
+use Rattle.acc_schedule_runs.specs.Situations.{Situation}
+use Rattle.acc_schedule_runs.specs.Moves.{entry_of, entered_all}
+use Rattle.acc_schedule_runs.specs.Schedules.{cluster_of}
+use Rattle.acc_schedule_runs.specs.Limits.{most_items}
+use Rattle.acc_schedule_runs.specs.Disks.{Disks, fresh_disks}
+use Rattle.acc_actors.specs.declared.slot.Slot.{Slot}
+use Rattle.acc_actors.specs.Slots.{SlotStages, IsStrictSlot}
+use Rattle.acc_actors.specs.Asked.{IsStaged, IsAskedBehind, MayAskBehind, HasSettled, HasSettledStrictly}
+use Rattle.acc_free_laws.specs.FreeRun.{IsFreeRun}
+use Rattle.acc_free_laws.proofs.Alone.{entry_is}
 use Rattle.acc_tape.specs.declared.error.TapeError.TheVariants.{Full}
 use Rattle.acc_tape.specs.Refusals.{Refuses}
 use Rattle.acc_tape.specs.ItemViews.{actor_of_item}

@@ -11,15 +11,15 @@ use Rattle.acc_message.specs.Run.{Cluster, EachStands}
 use Rattle.acc_payloads.specs.Items.{is_item_of}
 use Rattle.acc_schedule.specs.Content.{Content}
 use Rattle.acc_schedule.specs.declared.plan.Step.{Step}
-use Rattle.acc_follow.specs.Situations.{Stopped, whole}
-use Rattle.acc_follow.specs.Schedules.{cluster_of}
-use Rattle.acc_strict.specs.Disks.{fresh_disks}
-use Rattle.acc_cluster.specs.declared.slot.Slot.{Slot}
-use Rattle.acc_cluster.proofs.Apart.{IsApart, GoesOn, apart_itself, apart_on, apart_item, goes_item}
-use Rattle.acc_cluster.proofs.Slots.{slot_apart, strict_apart}
-use Rattle.acc_served.specs.FreeRun.{AreOthers, IsFreeRun, alone}
-use Rattle.acc_served.proofs.Alone.{alone_whole}
-use Rattle.acc_served.proofs.Over.{gone_over, serving_over}
+use Rattle.acc_schedule_runs.specs.Situations.{Stopped, whole}
+use Rattle.acc_schedule_runs.specs.Schedules.{cluster_of}
+use Rattle.acc_schedule_runs.specs.Disks.{fresh_disks}
+use Rattle.acc_actors.specs.declared.slot.Slot.{Slot}
+use Rattle.acc_actors.proofs.Apart.{IsApart, GoesOn, apart_itself, apart_on, apart_item, goes_item}
+use Rattle.acc_actors.proofs.Slots.{slot_apart, strict_apart}
+use Rattle.acc_free_laws.specs.FreeRun.{AreOthers, IsFreeRun, alone}
+use Rattle.acc_free_laws.proofs.Alone.{alone_whole}
+use Rattle.acc_free_laws.proofs.Over.{gone_over, serving_over}
 use Rattle.acc_tape.specs.Lists.{items_of}
 use Rattle.acc_tape.specs.ItemViews.{actor_of_item}
 use Rattle.acc_desk.specs.Desks.{IsAt}

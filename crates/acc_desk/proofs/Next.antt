@@ -10,13 +10,13 @@ use Rattle.acc_message.specs.declared.item.Item.{Item}
 use Rattle.acc_message.specs.Run.{is_down}
 use Rattle.acc_schedule.specs.Content.{Content}
 use Rattle.acc_schedule.specs.declared.plan.Step.{Step}
-use Rattle.acc_follow.specs.Situations.{Situation, whole}
-use Rattle.acc_follow.specs.Schedules.{cluster_of}
-use Rattle.acc_cluster.specs.declared.slot.Slot.{Slot}
-use Rattle.acc_cluster.specs.Slots.{SlotStands}
-use Rattle.acc_served.specs.Commands.{commands_of, is_command_of}
-use Rattle.acc_served.specs.FreeRun.{alone}
-use Rattle.acc_served.proofs.Alone.{alone_whole}
+use Rattle.acc_schedule_runs.specs.Situations.{Situation, whole}
+use Rattle.acc_schedule_runs.specs.Schedules.{cluster_of}
+use Rattle.acc_actors.specs.declared.slot.Slot.{Slot}
+use Rattle.acc_actors.specs.Slots.{SlotStands}
+use Rattle.acc_free_laws.specs.Commands.{commands_of, is_command_of}
+use Rattle.acc_free_laws.specs.FreeRun.{alone}
+use Rattle.acc_free_laws.proofs.Alone.{alone_whole}
 use Rattle.acc_desk.specs.Desks.{IsAt}
 
 -- ---- the command at a place

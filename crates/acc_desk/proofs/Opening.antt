@@ -8,14 +8,14 @@ use Rattle.acc_message_code.specs.Weight.{weight_of}
 use Rattle.acc_schedule.specs.Actors.{actors}
 use Rattle.acc_schedule.specs.Content.{Content}
 use Rattle.acc_schedule.specs.declared.plan.Step.{Step}
-use Rattle.acc_strict.specs.Disks.{fresh_disks}
-use Rattle.acc_limits.specs.Limits.{most_items}
-use Rattle.acc_cluster.specs.declared.slot.Slot.{Slot}
-use Rattle.acc_cluster.specs.Slots.{SlotStands, IsStrictSlot}
-use Rattle.acc_served.specs.Commands.{commands_of}
-use Rattle.acc_served.specs.FreeRun.{IsFreeRun, alone}
-use Rattle.acc_served.specs.Serving.{IsServing}
-use Rattle.acc_served.proofs.Going.{gone_begins}
+use Rattle.acc_schedule_runs.specs.Disks.{fresh_disks}
+use Rattle.acc_schedule_runs.specs.Limits.{most_items}
+use Rattle.acc_actors.specs.declared.slot.Slot.{Slot}
+use Rattle.acc_actors.specs.Slots.{SlotStands, IsStrictSlot}
+use Rattle.acc_free_laws.specs.Commands.{commands_of}
+use Rattle.acc_free_laws.specs.FreeRun.{IsFreeRun, alone}
+use Rattle.acc_free_laws.specs.Serving.{IsServing}
+use Rattle.acc_free_laws.proofs.Going.{gone_begins}
 use Rattle.acc_tape.specs.Lists.{items_of}
 use Rattle.acc_tape.specs.ItemViews.{actor_of_item}
 use Rattle.acc_tape.specs.Seats.{TapeName, SeatView, Turns}

@@ -11,15 +11,15 @@ use Rattle.acc_message.specs.Items.{sent_in}
 use Rattle.acc_message.specs.Run.{is_down}
 use Rattle.acc_message_code.specs.Short.{IsShortMessage}
 use Rattle.acc_message_code.specs.Weight.{weight_of}
-use Rattle.acc_actors.specs.declared.stops.Unsent.{Unsent}
+use Rattle.acc_payloads.specs.declared.stops.Unsent.{Unsent}
 use Rattle.acc_schedule.specs.Content.{Content}
 use Rattle.acc_schedule.specs.declared.plan.Step.{Step}
-use Rattle.acc_limits.specs.Limits.{most_items}
-use Rattle.acc_cluster.specs.declared.slot.Slot.{Slot}
-use Rattle.acc_served.specs.FreeRun.{IsFreeRun}
-use Rattle.acc_served.proofs.Fitting.{down_fits}
-use Rattle.acc_served.proofs.Others.{untouched_by}
-use Rattle.acc_follow.specs.Schedules.{cluster_of}
+use Rattle.acc_schedule_runs.specs.Limits.{most_items}
+use Rattle.acc_actors.specs.declared.slot.Slot.{Slot}
+use Rattle.acc_free_laws.specs.FreeRun.{IsFreeRun}
+use Rattle.acc_free_laws.proofs.Fitting.{down_fits}
+use Rattle.acc_free_laws.proofs.Others.{untouched_by}
+use Rattle.acc_schedule_runs.specs.Schedules.{cluster_of}
 use Rattle.acc_tape.specs.ItemViews.{actor_of_item}
 use Rattle.acc_tape.specs.Seats.{TapeName, SeatView, Turns, FitsBehind, FitAllBehind, ComesLast, ComeLast}
 use Rattle.acc_desk.specs.declared.hold.Hold.{Hold}

@@ -17,24 +17,24 @@ use Rattle.acc_message_code.specs.Weight.{weight_of}
 use Rattle.acc_schedule.specs.Actors.{actors}
 use Rattle.acc_schedule.specs.Content.{Content}
 use Rattle.acc_schedule.specs.declared.plan.Step.{Step}
-use Rattle.acc_safe_runs.proofs.LostFacts.{restart_is_run}
-use Rattle.acc_entering.specs.Entries.{emitted_for, entering}
-use Rattle.acc_entering.specs.Stopped.{IsSound}
-use Rattle.acc_follow.specs.Situations.{Situation, without}
-use Rattle.acc_follow.specs.Moves.{reopened}
-use Rattle.acc_follow.specs.Schedules.{cluster_of}
-use Rattle.acc_strict.specs.Disks.{Disks, fresh_disks}
-use Rattle.acc_limits.specs.Limits.{most_items}
-use Rattle.acc_cluster.specs.declared.slot.Slot.{Slot}
-use Rattle.acc_cluster.specs.Asked.{IsFew}
-use Rattle.acc_cluster.specs.Slots.{SlotStands, IsStrictSlot}
-use Rattle.acc_served.specs.Commands.{is_restart}
-use Rattle.acc_served.specs.FreeRun.{IsFreeRun, alone}
-use Rattle.acc_served.specs.Serving.{IsServing, HasGone}
-use Rattle.acc_served.proofs.Alone.{alone_reopened}
-use Rattle.acc_served.proofs.Fitting.{down_fits, free_part, free_whole, restart_fits}
-use Rattle.acc_served.proofs.Serving.{serving_restarted, serving_down}
-use Rattle.acc_served.proofs.Going.{reopened_went, stayed_down}
+use Rattle.acc_run_laws.proofs.LostFacts.{restart_is_run}
+use Rattle.acc_pasts.specs.Entries.{emitted_for, entering}
+use Rattle.acc_pasts.specs.Stopped.{IsSound}
+use Rattle.acc_schedule_runs.specs.Situations.{Situation, without}
+use Rattle.acc_schedule_runs.specs.Moves.{reopened}
+use Rattle.acc_schedule_runs.specs.Schedules.{cluster_of}
+use Rattle.acc_schedule_runs.specs.Disks.{Disks, fresh_disks}
+use Rattle.acc_schedule_runs.specs.Limits.{most_items}
+use Rattle.acc_actors.specs.declared.slot.Slot.{Slot}
+use Rattle.acc_actors.specs.Asked.{IsFew}
+use Rattle.acc_actors.specs.Slots.{SlotStands, IsStrictSlot}
+use Rattle.acc_free_laws.specs.Commands.{is_restart}
+use Rattle.acc_free_laws.specs.FreeRun.{IsFreeRun, alone}
+use Rattle.acc_free_laws.specs.Serving.{IsServing, HasGone}
+use Rattle.acc_free_laws.proofs.Alone.{alone_reopened}
+use Rattle.acc_free_laws.proofs.Fitting.{down_fits, free_part, free_whole, restart_fits}
+use Rattle.acc_free_laws.proofs.Serving.{serving_restarted, serving_down}
+use Rattle.acc_free_laws.proofs.Going.{reopened_went, stayed_down}
 use Rattle.acc_tape.specs.ItemViews.{actor_of_item}
 use Rattle.acc_tape.specs.Seats.{TapeName, SeatView, Turns, FitsBehind, ComesLast}
 use Rattle.acc_desk.specs.declared.hold.Hold.{Hold}

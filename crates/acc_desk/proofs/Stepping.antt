@@ -14,32 +14,32 @@ use Rattle.acc_message.specs.NodeRules.{Act}
 use Rattle.acc_message.specs.Run.{is_down}
 use Rattle.acc_message_code.specs.Short.{IsShortMessage}
 use Rattle.acc_message_code.specs.Weight.{weight_of}
-use Rattle.acc_bounds.specs.Sends.{AreSendable}
-use Rattle.acc_bounds.proofs.Sendable.{next_sendable}
-use Rattle.acc_safe_runs.specs.Asks.{emits_if}
+use Rattle.acc_run_laws.specs.Sends.{AreSendable}
+use Rattle.acc_run_laws.proofs.Sendable.{next_sendable}
+use Rattle.acc_run_laws.specs.Asks.{emits_if}
 use Rattle.acc_schedule.specs.Actors.{actors}
 use Rattle.acc_schedule.specs.Content.{Content}
 use Rattle.acc_schedule.specs.declared.plan.Step.{Step}
-use Rattle.acc_entering.specs.Entries.{entering, MayTake}
-use Rattle.acc_entering.proofs.Sound.{sound_standing}
-use Rattle.acc_follow.specs.Situations.{Stopped, Situation, whole, without, stops_of}
-use Rattle.acc_follow.specs.Moves.{event_in, entry_of, tried_if, is_journalled}
-use Rattle.acc_follow.specs.Schedules.{cluster_of}
-use Rattle.acc_follow.proofs.StopLists.{without_other, stopped_other}
-use Rattle.acc_strict.specs.Disks.{Disks, fresh_disks, after_step}
-use Rattle.acc_limits.specs.Limits.{most_items}
-use Rattle.acc_cluster.specs.declared.slot.Slot.{Slot}
-use Rattle.acc_cluster.specs.Slots.{SlotStands, IsStrictSlot}
-use Rattle.acc_cluster.specs.Asked.{IsFew, IsAsked, IsEmitted, HasTried, HasTriedStrictly}
-use Rattle.acc_cluster.proofs.Few.{few_whole}
-use Rattle.acc_served.specs.FreeRun.{AreOthers, IsFreeRun, alone}
-use Rattle.acc_served.specs.Serving.{IsServing, HasGone, AreStopsOf}
-use Rattle.acc_served.proofs.Alone.{alone_whole, alone_event, entry_is}
-use Rattle.acc_served.proofs.Fitting.{down_fits}
-use Rattle.acc_served.proofs.Over.{turn_fits}
-use Rattle.acc_served.proofs.Others.{untouched_by, may_over, untaken_over}
-use Rattle.acc_served.proofs.Serving.{serving_tried}
-use Rattle.acc_served.proofs.Going.{command_went, message_went}
+use Rattle.acc_pasts.specs.Entries.{entering, MayTake}
+use Rattle.acc_pasts.proofs.Sound.{sound_standing}
+use Rattle.acc_schedule_runs.specs.Situations.{Stopped, Situation, whole, without, stops_of}
+use Rattle.acc_schedule_runs.specs.Moves.{event_in, entry_of, tried_if, is_journalled}
+use Rattle.acc_schedule_runs.specs.Schedules.{cluster_of}
+use Rattle.acc_schedule_runs.proofs.StopLists.{without_other, stopped_other}
+use Rattle.acc_schedule_runs.specs.Disks.{Disks, fresh_disks, after_step}
+use Rattle.acc_schedule_runs.specs.Limits.{most_items}
+use Rattle.acc_actors.specs.declared.slot.Slot.{Slot}
+use Rattle.acc_actors.specs.Slots.{SlotStands, IsStrictSlot}
+use Rattle.acc_actors.specs.Asked.{IsFew, IsAsked, IsEmitted, HasTried, HasTriedStrictly}
+use Rattle.acc_actors.proofs.Few.{few_whole}
+use Rattle.acc_free_laws.specs.FreeRun.{AreOthers, IsFreeRun, alone}
+use Rattle.acc_free_laws.specs.Serving.{IsServing, HasGone, AreStopsOf}
+use Rattle.acc_free_laws.proofs.Alone.{alone_whole, alone_event, entry_is}
+use Rattle.acc_free_laws.proofs.Fitting.{down_fits}
+use Rattle.acc_free_laws.proofs.Over.{turn_fits}
+use Rattle.acc_free_laws.proofs.Others.{untouched_by, may_over, untaken_over}
+use Rattle.acc_free_laws.proofs.Serving.{serving_tried}
+use Rattle.acc_free_laws.proofs.Going.{command_went, message_went}
 use Rattle.acc_desk.specs.Desks.{HasStayed, IsAt, IsTurn, MayStep, item_of}
 use Rattle.acc_desk.proofs.Unarmed.{stepped_fresh}
 

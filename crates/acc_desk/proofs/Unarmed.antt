@@ -4,13 +4,13 @@ use Rattle.acc_stamp.specs.declared.actors.Actor.{Actor}
 use Rattle.acc_ports.specs.Strict.{Ranges}
 use Rattle.acc_message.specs.Items.{same_actor}
 use Rattle.acc_schedule.specs.Content.{Content}
-use Rattle.acc_follow.specs.Situations.{Situation}
-use Rattle.acc_follow.specs.Schedules.{cluster_of}
-use Rattle.acc_strict.specs.Disks.{Disks, fresh_disks, after_step, after_restart}
-use Rattle.acc_cluster.specs.declared.slot.Slot.{Slot}
-use Rattle.acc_cluster.specs.Slots.{IsStrictSlot}
-use Rattle.acc_cluster.proofs.Apart.{apart_itself}
-use Rattle.acc_cluster.proofs.Slots.{strict_apart}
+use Rattle.acc_schedule_runs.specs.Situations.{Situation}
+use Rattle.acc_schedule_runs.specs.Schedules.{cluster_of}
+use Rattle.acc_schedule_runs.specs.Disks.{Disks, fresh_disks, after_step, after_restart}
+use Rattle.acc_actors.specs.declared.slot.Slot.{Slot}
+use Rattle.acc_actors.specs.Slots.{IsStrictSlot}
+use Rattle.acc_actors.proofs.Apart.{apart_itself}
+use Rattle.acc_actors.proofs.Slots.{strict_apart}
 
 either_way : (test : Bool) (calls : Option ℕ) → calls ≡ cond test calls calls
 either_way true calls = refl

@@ -5,11 +5,11 @@ use Rattle.acc_message.specs.declared.entry.Event.{Event}
 use Rattle.acc_message.specs.NodeRules.{Act}
 use Rattle.acc_message_code.specs.Weight.{weight_of}
 use Rattle.acc_schedule.specs.Content.{Content}
-use Rattle.acc_follow.specs.Situations.{Situation}
-use Rattle.acc_follow.specs.Moves.{entry_of, entered_all}
-use Rattle.acc_follow.specs.Schedules.{cluster_of}
-use Rattle.acc_cluster.specs.declared.slot.Slot.{Slot}
-use Rattle.acc_cluster.specs.Asked.{IsAsked, MayAsk, IsAskedBehind, MayAskBehind}
+use Rattle.acc_schedule_runs.specs.Situations.{Situation}
+use Rattle.acc_schedule_runs.specs.Moves.{entry_of, entered_all}
+use Rattle.acc_schedule_runs.specs.Schedules.{cluster_of}
+use Rattle.acc_actors.specs.declared.slot.Slot.{Slot}
+use Rattle.acc_actors.specs.Asked.{IsAsked, MayAsk, IsAskedBehind, MayAskBehind}
 
 module _ {D : Type 0} (images : D → List ℕ → Type 0) (faults : D → ℕ) (plan : Content) (a : Actor) (event : Event) (act : Act) (slot : Slot D) where
   asked_behind : (s : Situation) → IsAsked images faults plan s a event act slot → IsAskedBehind images faults plan s a [] event act slot

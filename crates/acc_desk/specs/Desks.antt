@@ -17,17 +17,17 @@ use Rattle.acc_schedule.specs.Actors.{actors}
 use Rattle.acc_schedule.specs.Content.{Content}
 use Rattle.acc_schedule.specs.declared.plan.Step.{Step}
 use Rattle.acc_schedule.specs.declared.plan.Step.TheVariants.{Begin}
-use Rattle.acc_entering.specs.Entries.{MayTake}
-use Rattle.acc_follow.specs.Situations.{Stopped, Situation}
-use Rattle.acc_follow.specs.Moves.{with_item, reopened}
-use Rattle.acc_follow.specs.Schedules.{cluster_of}
-use Rattle.acc_strict.specs.Disks.{Disks, fresh_disks, after_restart}
-use Rattle.acc_limits.specs.Limits.{most_items}
-use Rattle.acc_cluster.specs.declared.slot.Slot.{Slot}
-use Rattle.acc_cluster.specs.Slots.{SlotStands, IsStrictSlot}
-use Rattle.acc_served.specs.Commands.{commands_of, is_restart, is_event_of, is_message}
-use Rattle.acc_served.specs.FreeRun.{is_plain_event, IsUntaken, alone}
-use Rattle.acc_served.specs.Serving.{IsServing, HasGone, AreStopsOf}
+use Rattle.acc_pasts.specs.Entries.{MayTake}
+use Rattle.acc_schedule_runs.specs.Situations.{Stopped, Situation}
+use Rattle.acc_schedule_runs.specs.Moves.{with_item, reopened}
+use Rattle.acc_schedule_runs.specs.Schedules.{cluster_of}
+use Rattle.acc_schedule_runs.specs.Disks.{Disks, fresh_disks, after_restart}
+use Rattle.acc_schedule_runs.specs.Limits.{most_items}
+use Rattle.acc_actors.specs.declared.slot.Slot.{Slot}
+use Rattle.acc_actors.specs.Slots.{SlotStands, IsStrictSlot}
+use Rattle.acc_free_laws.specs.Commands.{commands_of, is_restart, is_event_of, is_message}
+use Rattle.acc_free_laws.specs.FreeRun.{is_plain_event, IsUntaken, alone}
+use Rattle.acc_free_laws.specs.Serving.{IsServing, HasGone, AreStopsOf}
 use Rattle.acc_desk.specs.declared.desk.Desk.{Desk}
 use Rattle.acc_desk.specs.declared.hold.Hold.{Hold}
 use Rattle.acc_tape.specs.Seats.{TapeName, SeatView}

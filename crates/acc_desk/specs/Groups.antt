@@ -11,24 +11,24 @@ use Rattle.acc_message.specs.NodeRules.{Act, Takes}
 use Rattle.acc_message.specs.Run.{Cluster, is_node, is_down}
 use Rattle.acc_message_code.specs.Weight.{weight_of}
 use Rattle.acc_payloads.specs.Items.{downs_in}
-use Rattle.acc_actors.specs.declared.stops.Unsent.{Unsent}
+use Rattle.acc_payloads.specs.declared.stops.Unsent.{Unsent}
 use Rattle.acc_schedule.specs.Actors.{actors}
 use Rattle.acc_schedule.specs.Content.{Content}
 use Rattle.acc_schedule.specs.declared.plan.Step.{Step}
-use Rattle.acc_entering.specs.Entries.{MayTake}
-use Rattle.acc_entering.specs.Pasts.{IsUntouched}
-use Rattle.acc_entering.specs.Stopped.{AreDifferent, IsSound as IsSoundPast}
-use Rattle.acc_follow.specs.Situations.{Stopped, Situation, whole, stopped_at}
-use Rattle.acc_follow.specs.Moves.{event_in, entry_of, entered, entered_all, is_journalled}
-use Rattle.acc_follow.specs.Schedules.{cluster_of}
-use Rattle.acc_strict.specs.Disks.{Disks, fresh_disks}
-use Rattle.acc_cluster.specs.declared.slot.Slot.{Slot}
-use Rattle.acc_cluster.specs.Slots.{SlotStages, SlotStands, IsStrictSlot}
-use Rattle.acc_cluster.specs.Asked.{IsFewBehind, AreSteps, HasSettled, HasSettledStrictly}
-use Rattle.acc_served.specs.Commands.{commands_of, is_message}
-use Rattle.acc_served.specs.FreeRun.{alone}
-use Rattle.acc_served.specs.Serving.{IsServing, HasGone, AreStopsOf}
-use Rattle.acc_posts.specs.declared.posting.Post.{Post}
+use Rattle.acc_pasts.specs.Entries.{MayTake}
+use Rattle.acc_pasts.specs.Pasts.{IsUntouched}
+use Rattle.acc_pasts.specs.Stopped.{AreDifferent, IsSound as IsSoundPast}
+use Rattle.acc_schedule_runs.specs.Situations.{Stopped, Situation, whole, stopped_at}
+use Rattle.acc_schedule_runs.specs.Moves.{event_in, entry_of, entered, entered_all, is_journalled}
+use Rattle.acc_schedule_runs.specs.Schedules.{cluster_of}
+use Rattle.acc_schedule_runs.specs.Disks.{Disks, fresh_disks}
+use Rattle.acc_actors.specs.declared.slot.Slot.{Slot}
+use Rattle.acc_actors.specs.Slots.{SlotStages, SlotStands, IsStrictSlot}
+use Rattle.acc_actors.specs.Asked.{IsFewBehind, AreSteps, HasSettled, HasSettledStrictly}
+use Rattle.acc_free_laws.specs.Commands.{commands_of, is_message}
+use Rattle.acc_free_laws.specs.FreeRun.{alone}
+use Rattle.acc_free_laws.specs.Serving.{IsServing, HasGone, AreStopsOf}
+use Rattle.acc_message_index.specs.declared.posting.Post.{Post}
 use Rattle.acc_tape.specs.Seats.{TapeName, SeatView}
 use Rattle.acc_desk.specs.declared.hold.Hold.{Hold}
 use Rattle.acc_desk.specs.Desks.{newest, item_of, IsSeated, IsDesk, MayStep}

@@ -10,8 +10,8 @@ use Rattle.acc_schedule.specs.Content.{Content}
 use Rattle.acc_schedule.specs.declared.plan.Step.{Step}
 use Rattle.acc_schedule.specs.declared.plan.Step.TheVariants.{Begin, Restart}
 use Rattle.acc_txn.specs.declared.parts.BodyParts.{BodyParts}
-use Rattle.acc_entering.specs.Entries.{entering}
-use Rattle.acc_follow.specs.Schedules.{cluster_of}
+use Rattle.acc_pasts.specs.Entries.{entering}
+use Rattle.acc_schedule_runs.specs.Schedules.{cluster_of}
 use Rattle.acc_tape.specs.Seats.{TapeName, SeatView}
 use Rattle.acc_desk.specs.Desks.{newest, MayStep, begins_it}
 use Rattle.acc_desk.specs.declared.desk.Desk.{Desk}

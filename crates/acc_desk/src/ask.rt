@@ -2,16 +2,16 @@
 ghost use Rattle.std.specs.Prelude.{◌≡◌, IfOk, false, is_none};
 ghost use Rattle.acc_stamp.specs.declared.actors.Actor.{Actor as AnActor};
 ghost use Rattle.acc_message_code.specs.Weight.{weight_of};
-ghost use Rattle.acc_follow.specs.Situations.{Situation};
-ghost use Rattle.acc_follow.specs.Moves.{entry_of};
-ghost use Rattle.acc_follow.specs.Schedules.{cluster_of};
-ghost use Rattle.acc_strict.specs.Disks.{Disks};
-ghost use Rattle.acc_cluster.specs.Slots.{IsStrictSlot};
-ghost use Rattle.acc_cluster.specs.Asked.{IsAsked, MayAsk, HasTried, HasTriedStrictly};
+ghost use Rattle.acc_schedule_runs.specs.Situations.{Situation};
+ghost use Rattle.acc_schedule_runs.specs.Moves.{entry_of};
+ghost use Rattle.acc_schedule_runs.specs.Schedules.{cluster_of};
+ghost use Rattle.acc_schedule_runs.specs.Disks.{Disks};
+ghost use Rattle.acc_actors.specs.Slots.{IsStrictSlot};
+ghost use Rattle.acc_actors.specs.Asked.{IsAsked, MayAsk, HasTried, HasTriedStrictly};
 ghost use Rattle.acc_desk.specs.Asks.{event_of, act_of_ask};
 
+use acc_actors::Slot;
 use acc_base::OutOfMemory;
-use acc_cluster::Slot;
 use acc_message::{Emitted, Event, Message};
 use acc_ports::Rig;
 use acc_schedule::Plan;

@@ -1,17 +1,17 @@
 //! Desks.
 ghost use Rattle.std.specs.Prelude.{◌≡◌, ◌≢◌, ◌≤◌, true, [], Contains};
 ghost use Rattle.acc_schedule.specs.Actors.{actors};
-ghost use Rattle.acc_limits.specs.Limits.{most_items};
-ghost use Rattle.acc_strict.specs.Disks.{fresh_disks};
-ghost use Rattle.acc_cluster.specs.Slots.{SlotStands, IsStrictSlot};
-ghost use Rattle.acc_served.specs.Commands.{commands_of};
-ghost use Rattle.acc_served.specs.FreeRun.{alone};
-ghost use Rattle.acc_served.specs.Serving.{IsServing};
+ghost use Rattle.acc_schedule_runs.specs.Limits.{most_items};
+ghost use Rattle.acc_schedule_runs.specs.Disks.{fresh_disks};
+ghost use Rattle.acc_actors.specs.Slots.{SlotStands, IsStrictSlot};
+ghost use Rattle.acc_free_laws.specs.Commands.{commands_of};
+ghost use Rattle.acc_free_laws.specs.FreeRun.{alone};
+ghost use Rattle.acc_free_laws.specs.Serving.{IsServing};
 ghost use Rattle.acc_desk.specs.Desks.{IsSound};
 
 use crate::rules::{PlanRules, PlanTape, Planned};
+use acc_actors::Slot;
 use acc_base::Sequence;
-use acc_cluster::Slot;
 use acc_message::Item;
 use acc_ports::Rig;
 use acc_schedule::{Plan, Steps};

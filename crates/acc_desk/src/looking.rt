@@ -2,7 +2,7 @@
 ghost use Rattle.std.specs.Prelude.{◌≡◌, ◌≤◌, Some, IfSome, IfOk, OnOk, OnErr};
 ghost use Rattle.acc_message.specs.Items.{id_of_txn, id_begun as begun_by};
 ghost use Rattle.acc_message.specs.declared.item.Item.{Item as AnItem};
-ghost use Rattle.acc_limits.specs.Limits.{most_items};
+ghost use Rattle.acc_schedule_runs.specs.Limits.{most_items};
 ghost use Rattle.acc_tape.specs.ItemViews.{sign_of_item};
 ghost use Rattle.acc_desk.specs.Desks.{newest, no_hold, IsSeated, IsSound, BeginsAs};
 

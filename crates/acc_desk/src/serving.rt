@@ -1,6 +1,6 @@
 //! Serving desks.
 ghost use Rattle.std.specs.Prelude.{◌≡◌, ◌≤◌, false, map, IfOk, OnOk, OnErr};
-ghost use Rattle.acc_limits.specs.Limits.{most_items};
+ghost use Rattle.acc_schedule_runs.specs.Limits.{most_items};
 ghost use Rattle.acc_desk.specs.Desks.{AreSound, AreSeated, name_of};
 ghost use Rattle.acc_desk.specs.Outcomes.{HaveComeTo};
 

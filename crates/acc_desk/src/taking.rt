@@ -1,6 +1,6 @@
 //! Steps of the actor of a desk.
 ghost use Rattle.std.specs.Prelude.{◌≡◌, ◌≢◌, ◌≤◌, drop, Ok, IfOk, OnOk, OnErr};
-ghost use Rattle.acc_limits.specs.Limits.{most_items};
+ghost use Rattle.acc_schedule_runs.specs.Limits.{most_items};
 ghost use Rattle.acc_desk.specs.Asks.{event_of, act_of_ask};
 ghost use Rattle.acc_desk.specs.Desks.{newest, item_of, no_hold, IsSeated, IsSound, MayStep};
 ghost use Rattle.acc_desk.specs.Outcomes.{CameTo};

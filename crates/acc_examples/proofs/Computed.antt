@@ -5,7 +5,7 @@ use Rattle.acc_topology.specs.Sets.{numbers}
 use Rattle.acc_message.specs.Items.{notes_of}
 use Rattle.acc_txn.specs.Serial.{serial}
 use Rattle.acc_safety.specs.Decisions.{Answered, first_outcomes, body_of}
-use Rattle.acc_safe_runs.specs.Schedules.{skipped_of}
+use Rattle.acc_run_laws.specs.Schedules.{skipped_of}
 use Rattle.acc_examples.specs.OneUpdate as one_update
 use Rattle.acc_examples.specs.LostVote as lost_vote
 use Rattle.acc_examples.specs.NoLostVote as no_lost_vote

@@ -1,7 +1,7 @@
 -- No message waits at the end of an example that ends with a drain.
 use Rattle.std.proofs.Common.{◌≡◌, refl, ap, ◌∙◌, [], ◌∷◌}
 use Rattle.acc_topology.specs.Sets.{numbers}
-use Rattle.acc_safe_runs.specs.Schedules.{waiting}
+use Rattle.acc_run_laws.specs.Schedules.{waiting}
 use Rattle.acc_examples.specs.OneUpdate as one_update
 use Rattle.acc_examples.specs.LostVote as lost_vote
 use Rattle.acc_examples.specs.NoLostVote as no_lost_vote

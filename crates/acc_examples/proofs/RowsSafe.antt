@@ -6,11 +6,11 @@ use Rattle.std.proofs.lemmas.Bool.{true≢false, and_parts}
 use Rattle.acc_topology.specs.Sets.{numbers, is_among}
 use Rattle.acc_message.specs.declared.item.Item.{Item}
 use Rattle.acc_message.specs.Run.{Cluster}
-use Rattle.acc_safe_runs.specs.declared.ask.Ask.{Ask}
-use Rattle.acc_safe_runs.specs.declared.ask.Ask.TheVariants.{Begin, Recover, Slow, Deliver, Restart}
-use Rattle.acc_safe_runs.specs.Asks.{after_asks}
-use Rattle.acc_safe_runs.specs.Schedules.{drained}
-use Rattle.acc_safe_runs.specs.AskLaws.{IsAskOf, AreAsksOf, IsRunWithoutDowns}
+use Rattle.acc_run_laws.specs.declared.ask.Ask.{Ask}
+use Rattle.acc_run_laws.specs.declared.ask.Ask.TheVariants.{Begin, Recover, Slow, Deliver, Restart}
+use Rattle.acc_run_laws.specs.Asks.{after_asks}
+use Rattle.acc_run_laws.specs.Schedules.{drained}
+use Rattle.acc_run_laws.specs.AskLaws.{IsAskOf, AreAsksOf, IsRunWithoutDowns}
 use Rattle.acc_safety.specs.Safe.{IsSafeRun}
 use Rattle.acc_examples.specs.OneUpdate as one_update
 use Rattle.acc_examples.specs.LostVote as lost_vote
@@ -27,7 +27,7 @@ use Rattle.acc_examples.specs.SupersededByAccept as superseded_by_accept
 use Rattle.acc_examples.specs.BlockedRecovery as blocked_recovery
 use Rattle.acc_examples.specs.NackWithOwnBallot as nack_with_own_ballot
 use Rattle.acc_examples.specs.TransferBetweenShards as transfer_between_shards
-use Rattle.acc_safe_runs.proofs.AskFacts.{asks_are_run, drains_are_run, nothing_is_run}
+use Rattle.acc_run_laws.proofs.AskFacts.{asks_are_run, drains_are_run, nothing_is_run}
 use Rattle.acc_examples.proofs.AgreementTested.{agreement_test, agreement-sound}
 use Rattle.acc_examples.proofs.CoverageTested.{coverage_test, coverage-sound}
 use Rattle.acc_examples.proofs.SerialTested.{serial_test, serial-sound}

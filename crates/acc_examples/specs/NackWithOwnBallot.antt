@@ -7,10 +7,10 @@ use Rattle.acc_message.specs.declared.note.Note.{Note}
 use Rattle.acc_message.specs.declared.note.Note.TheVariants.{Begin as BeginNote, Recover as RecoverNote, Ended, Decide, Outcome, Reply as ReplyNote}
 use Rattle.acc_message.specs.declared.item.Item.{Item}
 use Rattle.acc_message.specs.Run.{Cluster}
-use Rattle.acc_safe_runs.specs.declared.ask.Ask.{Ask}
-use Rattle.acc_safe_runs.specs.declared.ask.Ask.TheVariants.{Begin, Recover, Slow, Deliver}
-use Rattle.acc_safe_runs.specs.Asks.{after_asks}
-use Rattle.acc_safe_runs.specs.Schedules.{drained}
+use Rattle.acc_run_laws.specs.declared.ask.Ask.{Ask}
+use Rattle.acc_run_laws.specs.declared.ask.Ask.TheVariants.{Begin, Recover, Slow, Deliver}
+use Rattle.acc_run_laws.specs.Asks.{after_asks}
+use Rattle.acc_run_laws.specs.Schedules.{drained}
 use Rattle.acc_examples.specs.Clusters.{stamp, id, ballot, node, last_shard, layout, writing, x, ok}
 
 abbrev pub cluster : Cluster

@@ -7,9 +7,9 @@ use Rattle.acc_message.specs.declared.note.Note.{Note}
 use Rattle.acc_message.specs.declared.note.Note.TheVariants.{Begin as BeginNote, Decide, Outcome, Reply as ReplyNote}
 use Rattle.acc_message.specs.declared.item.Item.{Item}
 use Rattle.acc_message.specs.Run.{Cluster}
-use Rattle.acc_safe_runs.specs.declared.ask.Ask.TheVariants.{Begin}
-use Rattle.acc_safe_runs.specs.Asks.{after_asks}
-use Rattle.acc_safe_runs.specs.Schedules.{drained}
+use Rattle.acc_run_laws.specs.declared.ask.Ask.TheVariants.{Begin}
+use Rattle.acc_run_laws.specs.Asks.{after_asks}
+use Rattle.acc_run_laws.specs.Schedules.{drained}
 use Rattle.acc_examples.specs.Clusters.{stamp, id, deps_in, node, last_shard, shard_to, layout, writing, reading_both, transfer, m, alice, zoe, ok, number_cell}
 
 abbrev pub cluster : Cluster

@@ -4,7 +4,7 @@ ghost use Rattle.std.specs.Prelude.{◌≡◌, Some, map, [], ◌∷◌};
 ghost use Rattle.acc_message.specs.Items.{notes_of};
 ghost use Rattle.acc_txn.specs.Serial.{serial};
 ghost use Rattle.acc_safety.specs.Decisions.{Answered, first_outcomes, body_of};
-ghost use Rattle.acc_safe_runs.specs.Schedules.{skipped_of, waiting};
+ghost use Rattle.acc_run_laws.specs.Schedules.{skipped_of, waiting};
 ghost use Rattle.acc_safety.specs.Safe.{IsSafeRun};
 ghost use Rattle.acc_examples.specs.OneUpdate as one_update_row;
 ghost use Rattle.acc_examples.specs.LostVote as lost_vote_row;

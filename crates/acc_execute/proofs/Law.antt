@@ -23,19 +23,19 @@ use Rattle.acc_record.specs.Steps.{record_from, record_after, stamps_in, stamps_
 use Rattle.acc_record.specs.Learning.{body_of, known_or_fresh, share_at, IsLearnt}
 use Rattle.acc_actor_laws.proofs.OpeningFacts.{some_is}
 use Rattle.acc_actor_laws.proofs.TakenAlone.{taken_alone}
-use Rattle.acc_shelf_laws.specs.LearntAs.{IsLearntAs}
-use Rattle.acc_shelf_laws.proofs.After.{after_unanswered}
-use Rattle.acc_shelf_laws.proofs.Learnt.{Tells, learnt_as, quiet_from_learnt}
-use Rattle.acc_answers.proofs.Telling.{tells_time}
-use Rattle.acc_opening_laws.specs.Plan.{IsTaking}
-use Rattle.acc_opening_laws.proofs.PlanLaw.{plan_is}
+use Rattle.acc_record.specs.LearntAs.{IsLearntAs}
+use Rattle.acc_record.proofs.After.{after_unanswered}
+use Rattle.acc_record.proofs.Learnt.{Tells, learnt_as, quiet_from_learnt}
+use Rattle.acc_record.proofs.Telling.{tells_time}
+use Rattle.acc_opening.specs.Plan.{IsTaking}
+use Rattle.acc_opening.proofs.PlanLaw.{plan_is}
 use Rattle.acc_opening.specs.Lookup.{lookup}
-use Rattle.acc_execute_laws.specs.Own.{with_message, IsOwn}
-use Rattle.acc_execute_laws.proofs.Joined.{sends, writes}
-use Rattle.acc_opened_laws.specs.Opened.{executed, OpeningStep}
-use Rattle.acc_opened_laws.proofs.Answered.{opening_grants}
-use Rattle.acc_opened_laws.proofs.Taking.{begun_here, taking as taking_is}
-use Rattle.acc_opened_laws.proofs.OpeningSteps.{opening_stands}
+use Rattle.acc_execute.specs.Own.{with_message, IsOwn}
+use Rattle.acc_execute.proofs.Joined.{sends, writes}
+use Rattle.acc_execute.specs.Opened.{executed, OpeningStep}
+use Rattle.acc_execute.proofs.Answered.{opening_grants}
+use Rattle.acc_execute.proofs.OpenedTaking.{begun_here, taking as taking_is}
+use Rattle.acc_execute.proofs.OpeningSteps.{opening_stands}
 use Rattle.acc_execute.specs.Executed.{IsExecuted}
 use Rattle.acc_execute.proofs.Waiting.{waits_now}
 

@@ -19,9 +19,9 @@ use Rattle.acc_record.specs.Shelf.{record_at}
 use Rattle.acc_record.specs.Stands.{StandsFor, record_with}
 use Rattle.acc_record.specs.Waits.{is_past_record}
 use Rattle.acc_actor_laws.proofs.AppliedFacts.{applied_is}
-use Rattle.acc_shelf_laws.proofs.Apart.{concerns, or_else-none, settled_apart, known_apart}
-use Rattle.acc_shelf_laws.proofs.Resting.{unknown_apart_from}
-use Rattle.acc_opening_laws.specs.Plan.{settled_in}
+use Rattle.acc_record.proofs.Apart.{concerns, or_else-none, settled_apart, known_apart}
+use Rattle.acc_record.proofs.Resting.{unknown_apart_from}
+use Rattle.acc_opening.specs.Plan.{settled_in}
 use Rattle.acc_execute.specs.Now.{is_ready_with, is_ready_at, may_execute_with, may_execute}
 
 -- what isn't known isn't stable

@@ -16,7 +16,7 @@ use Rattle.acc_record.specs.declared.shelf.Shelf.{Shelf}
 use Rattle.acc_record.specs.Shelf.{cell_at}
 use Rattle.acc_record.specs.Stands.{StandsFor, record_with}
 use Rattle.std.specs.Option.{option_map}
-use Rattle.acc_shelf_laws.proofs.Resting.{unstable_closed, untouched}
+use Rattle.acc_record.proofs.Resting.{unstable_closed, untouched}
 use Rattle.acc_execute.specs.Now.{at_once_by, at_once_of}
 
 module _ (layout : Layout) (shelf : Shelf) (messages : List Message) (stands : StandsFor layout shelf (replay layout shelf.actor messages)) (x : TxnId) (b : Ballot) where

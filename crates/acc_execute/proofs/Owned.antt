@@ -14,8 +14,8 @@ use Rattle.acc_txn.specs.declared.parts.BodyParts.{BodyParts}
 use Rattle.acc_txn.specs.declared.outcome.Outcome.{Outcome}
 use Rattle.acc_message.specs.declared.message.Message.TheVariants.{Stable, Apply}
 use Rattle.acc_record.specs.declared.record.Record.{Record}
-use Rattle.acc_shelf_laws.proofs.Apart.{or_else-none}
-use Rattle.acc_execute_laws.specs.Own.{with_message}
+use Rattle.acc_record.proofs.Apart.{or_else-none}
+use Rattle.acc_execute.specs.Own.{with_message}
 use Rattle.acc_execute.specs.Owned.{with_settled, with_waiter, with_outcome}
 
 either_way : {T : Type 0} (b : Bool) (v : T) → v ≡ cond b v v

@@ -26,7 +26,7 @@ use Rattle.std.specs.BTreeMap as tree
 use Rattle.acc_stamp.specs.Stamp.{id_cmp}
 use Rattle.acc_opening.specs.Turns.{changes_in}
 use Rattle.acc_opening.specs.Planned.{after_changes, AreWatches}
-use Rattle.acc_opened_laws.specs.Opened.{executed}
+use Rattle.acc_execute.specs.Opened.{executed}
 use Rattle.acc_execute.specs.declared.step.StepParts.{StepParts}
 use Rattle.acc_execute.specs.Executed.{AllFit, IsReadyBehind, IsLearntWithRoom, IsCommitted, IsExecuted}
 

@@ -12,7 +12,7 @@ use Rattle.acc_actor_laws.specs.OpeningOrder.{opens_in, applies_in}
 use Rattle.acc_record.specs.declared.record.Record.{Record}
 use Rattle.acc_opening.specs.declared.turns.Turn.{Turn}
 use Rattle.acc_opening.specs.Turns.{change_of, changes_in}
-use Rattle.acc_opened_laws.specs.Opened.{executed}
+use Rattle.acc_execute.specs.Opened.{executed}
 use Rattle.acc_execute.specs.Executed.{after_turn}
 
 -- ---- tests

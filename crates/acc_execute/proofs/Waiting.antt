@@ -11,9 +11,9 @@ use Rattle.acc_record.specs.Shelf.{Waits, watchers}
 use Rattle.acc_record.specs.Waits.{is_past_record, IsWatch, AreWaits}
 use Rattle.acc_actor_laws.proofs.Standing.{not_none}
 use Rattle.acc_actor_laws.proofs.OpeningFacts.{some_is}
-use Rattle.acc_opening_laws.specs.Plan.{Lookup}
+use Rattle.acc_opening.specs.Plan.{Lookup}
 use Rattle.acc_opening.specs.Planned.{changed, after_changes, AreWatches}
-use Rattle.acc_opened_laws.specs.Opened.{executed}
+use Rattle.acc_execute.specs.Opened.{executed}
 
 -- a record that is opened, applied and stable as this one is
 record IsLike (o : Option Record) (r : Record) : Type 0 where

@@ -28,11 +28,11 @@ use Rattle.acc_opening.specs.Known.{IsKnown}
 use Rattle.acc_opening.specs.Turns.{changes_in}
 use Rattle.acc_opening.specs.Lookup.{lookup}
 use Rattle.acc_opening.specs.Planned.{IsPlanned}
-use Rattle.acc_reads.specs.Release.{IsReleased}
+use Rattle.acc_opening.specs.Release.{IsReleased}
 use Rattle.acc_actor_laws.proofs.OpeningFacts.{some_is}
-use Rattle.acc_opened_laws.proofs.Taking.{begun_here}
-use Rattle.acc_execute_laws.proofs.Joined.{sends}
-use Rattle.acc_execute_laws.proofs.Knowing.{is_known}
+use Rattle.acc_execute.proofs.OpenedTaking.{begun_here}
+use Rattle.acc_execute.proofs.Joined.{sends}
+use Rattle.acc_execute.proofs.Knowing.{is_known}
 use Rattle.acc_execute.specs.declared.step.StepParts.{StepParts}
 use Rattle.acc_execute.specs.declared.step.PreparedStep.{PreparedStep}
 use Rattle.acc_execute.specs.Owned.{with_settled, with_waiter, with_outcome}

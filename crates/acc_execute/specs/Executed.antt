@@ -22,7 +22,7 @@ use Rattle.acc_record.specs.declared.shelf.Shelf.{Shelf}
 use Rattle.acc_record.specs.declared.shelf.Watch.{Watch}
 use Rattle.acc_record.specs.Shelf.{Waits, record_at, cell_at, watchers}
 use Rattle.acc_record.specs.Learning.{known_or_fresh, is_below_settled, IsLearnt}
-use Rattle.acc_opening_laws.specs.Plan.{IsPlan}
+use Rattle.acc_opening.specs.Plan.{IsPlan}
 use Rattle.acc_opening.specs.declared.touched.Touched.{Touched}
 use Rattle.acc_opening.specs.declared.turns.Turn.{Turn}
 use Rattle.acc_opening.specs.Lookup.{lookup}
@@ -30,9 +30,9 @@ use Rattle.acc_opening.specs.declared.plan.Plan.{Plan}
 use Rattle.acc_opening.specs.Turns.{changes_in}
 use Rattle.acc_opening.specs.Touched.{TouchedWaits, watches_now}
 use Rattle.acc_opening.specs.Planned.{IsPlanned, after_changes, AreWatches}
-use Rattle.acc_reads.specs.declared.turns.Released.{Released}
-use Rattle.acc_reads.specs.Release.{IsReleased}
-use Rattle.acc_opened_laws.specs.Opened.{executed}
+use Rattle.acc_opening.specs.declared.releasing.Released.{Released}
+use Rattle.acc_opening.specs.Release.{IsReleased}
+use Rattle.acc_execute.specs.Opened.{executed}
 use Rattle.acc_execute.specs.declared.step.StepParts.{StepParts}
 use Rattle.acc_execute.specs.Owned.{with_settled, with_waiter, with_outcome}
 use Rattle.acc_execute.specs.Now.{at_once_of}

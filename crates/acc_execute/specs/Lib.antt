@@ -1,3 +1,5 @@
-pub mod Owned
-pub mod Now
 pub mod Executed
+pub mod Now
+pub mod Opened
+pub mod Own
+pub mod Owned

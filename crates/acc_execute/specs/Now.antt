@@ -18,7 +18,7 @@ use Rattle.acc_record.specs.declared.record.Record.{Record}
 use Rattle.acc_record.specs.declared.shelf.Shelf.{Shelf}
 use Rattle.acc_record.specs.Shelf.{record_at, cell_at}
 use Rattle.acc_record.specs.Waits.{is_past_record}
-use Rattle.acc_opening_laws.specs.Plan.{Lookup, settled_in}
+use Rattle.acc_opening.specs.Plan.{Lookup, settled_in}
 
 -- ---- the answer to a Stable of an opened transaction: the outcome, or else the present cells
 

@@ -5,7 +5,7 @@ ghost use Rattle.acc_stamp.specs.declared.stamps.TxnId.{TxnId};
 ghost use Rattle.acc_stamp.specs.Stamp.{id_eq};
 ghost use Rattle.acc_record.specs.Shelf.{record_at};
 ghost use Rattle.acc_opening.specs.Turns.{changes_in};
-ghost use Rattle.acc_opened_laws.specs.Opened.{executed};
+ghost use Rattle.acc_execute.specs.Opened.{executed};
 ghost use Rattle.acc_execute.specs.Executed.{after_turn};
 
 use acc_opening::Turn;

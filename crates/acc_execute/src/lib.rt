@@ -2,6 +2,8 @@
 #![tactic(auto)]
 
 mod commit;
+pub mod laws;
+pub mod opened_laws;
 mod own;
 mod present;
 mod readiness;

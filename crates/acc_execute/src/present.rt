@@ -6,11 +6,10 @@ ghost use Rattle.acc_message.specs.StoreRules.{read_here};
 ghost use Rattle.acc_record.specs.Shelf.{record_at, cell_at};
 ghost use Rattle.acc_execute.specs.Now.{answer_now, at_once_of};
 
-use acc_answers::answering;
 use acc_base::OutOfMemory;
 use acc_message::{Messages, ReadAnswer};
-use acc_reads::{Place, read_here};
-use acc_record::{Record, Shelf};
+use acc_opening::{Place, read_here};
+use acc_record::{Record, Shelf, answering};
 use acc_stamp::{Ballot, TxnId};
 use acc_topology::Topology;
 use acc_txn::BodyParts;

@@ -1,7 +1,7 @@
 //! What the record of a transaction tells before the step.
 ghost use Rattle.std.specs.Prelude.{◌≡◌, is_some};
 ghost use Rattle.std.specs.Option.{option_copied};
-ghost use Rattle.acc_opening_laws.specs.Plan.{settled_in};
+ghost use Rattle.acc_opening.specs.Plan.{settled_in};
 ghost use Rattle.acc_record.specs.Learning.{is_below_settled};
 ghost use Rattle.acc_execute.specs.Executed.{is_vote, shows};
 

@@ -16,22 +16,22 @@ use Rattle.acc_schedule.specs.Actors.{actors}
 use Rattle.acc_schedule.specs.Content.{Content}
 use Rattle.acc_schedule.specs.Plan.{IsPlan}
 use Rattle.acc_schedule.specs.declared.plan.Step.{Step}
-use Rattle.acc_follow.specs.Laws.{NobodyIsDown}
-use Rattle.acc_follow.specs.Situations.{Stopped, stopped_at}
-use Rattle.acc_follow.specs.Schedules.{cluster_of}
-use Rattle.acc_strict.specs.Disks.{fresh_disks}
-use Rattle.acc_limits.specs.Limits.{IsWithin}
+use Rattle.acc_schedule_runs.specs.Laws.{NobodyIsDown}
+use Rattle.acc_schedule_runs.specs.Situations.{Stopped, stopped_at}
+use Rattle.acc_schedule_runs.specs.Schedules.{cluster_of}
+use Rattle.acc_schedule_runs.specs.Disks.{fresh_disks}
+use Rattle.acc_schedule_runs.specs.Limits.{IsWithin}
 use Rattle.acc_cluster.specs.Over.{AreStrictSlots}
-use Rattle.acc_cluster.specs.Slots.{SlotStands, IsStrictSlot}
-use Rattle.acc_cluster.proofs.Apart.{IsApart, apart_stopped}
-use Rattle.acc_cluster.proofs.Slots.{slot_apart, strict_apart}
-use Rattle.acc_served.specs.FreeRun.{IsFreeRun, alone}
-use Rattle.acc_served.specs.Serving.{IsServing, HasGone}
+use Rattle.acc_actors.specs.Slots.{SlotStands, IsStrictSlot}
+use Rattle.acc_actors.proofs.Apart.{IsApart, apart_stopped}
+use Rattle.acc_actors.proofs.Slots.{slot_apart, strict_apart}
+use Rattle.acc_free_laws.specs.FreeRun.{IsFreeRun, alone}
+use Rattle.acc_free_laws.specs.Serving.{IsServing, HasGone}
 use Rattle.acc_desk.specs.Desks.{IsAt}
-use Rattle.acc_free.specs.declared.rest.Rest.{Rest}
-use Rattle.acc_free.specs.Finish.{HaveRested}
-use Rattle.acc_free.specs.Queues.{placed_in, queue_in, left_in, rest_actor, AreAllActors}
-use Rattle.acc_free.proofs.Lists.{apart_sym}
+use Rattle.acc_free_ending.specs.declared.rest.Rest.{Rest}
+use Rattle.acc_free_ending.specs.Finish.{HaveRested}
+use Rattle.acc_free_ending.specs.Queues.{placed_in, queue_in, left_in, rest_actor, AreAllActors}
+use Rattle.acc_free_ending.proofs.Lists.{apart_sym}
 
 -- ---- stopped steps of two lists
 

@@ -5,7 +5,7 @@ use Rattle.acc_stamp.specs.declared.actors.Actor.{Actor}
 use Rattle.acc_stamp.specs.Actor.{actor_of}
 use Rattle.acc_topology.specs.Layout.{Layout, HasShard, shard_at}
 use Rattle.acc_topology.specs.Sets.{is_among, in_set, members}
-use Rattle.acc_receivers.proofs.Layouts.{is_in_among, node_is, store_is}
+use Rattle.acc_run_laws.proofs.Layouts.{is_in_among, node_is, store_is}
 use Rattle.acc_safety.proofs.PlaceOrder.{IsIn-Contains}
 use Rattle.acc_schedule.specs.Actors.{actors}
 use Rattle.acc_run.proofs.Numbers.{stores_to, shard_more, members_below, one_more_store, no_more_store, all_named}

@@ -17,8 +17,8 @@ use Rattle.acc_schedule.specs.Actors.{actors}
 use Rattle.acc_schedule.specs.Content.{Content}
 use Rattle.acc_schedule.specs.declared.plan.Step.{Step}
 use Rattle.acc_schedule.specs.Plan.{IsPlan}
-use Rattle.acc_limits.specs.Limits.{most_items, most_bytes, IsWithin}
-use Rattle.acc_cluster.specs.declared.slot.Slot.{Slot}
+use Rattle.acc_schedule_runs.specs.Limits.{most_items, most_bytes, IsWithin}
+use Rattle.acc_actors.specs.declared.slot.Slot.{Slot}
 use Rattle.acc_tape.specs.ItemViews.{actor_of_item}
 use Rattle.acc_tape.specs.Lists.{items_of}
 use Rattle.acc_tape.specs.Seats.{TapeName, SeatView}
@@ -26,13 +26,13 @@ use Rattle.acc_desk.specs.declared.desk.Desk.{Desk}
 use Rattle.acc_desk.specs.declared.hold.Hold.{Hold}
 use Rattle.acc_desk.specs.Desks.{IsAt, IsSeated, IsSound, AreSound, name_of, no_hold}
 use Rattle.acc_desk.specs.Fits.{fits_plan}
-use Rattle.acc_free.specs.declared.rest.Rest.{Rest}
-use Rattle.acc_free.specs.Finish.{HaveRested}
+use Rattle.acc_free_ending.specs.declared.rest.Rest.{Rest}
+use Rattle.acc_free_ending.specs.Finish.{HaveRested}
 use Rattle.acc_free.specs.Opened.{desk_actor, number_of, AreOpened}
 use Rattle.acc_free.specs.Parts.{seat_in, rest_in}
-use Rattle.acc_free.specs.Queues.{rest_actor, AreAllActors}
+use Rattle.acc_free_ending.specs.Queues.{rest_actor, AreAllActors}
 use Rattle.acc_free.proofs.Joined.{IsEnd, TogetherLaw, EachLaw, UpLaw, rested}
-use Rattle.acc_free.proofs.Lists.{apart_sym}
+use Rattle.acc_free_ending.proofs.Lists.{apart_sym}
 
 -- ---- the seats and the actors
 

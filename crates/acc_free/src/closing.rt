@@ -1,22 +1,22 @@
 //! From desks to what their actors left undone, and what they entered.
 ghost use Rattle.std.specs.Prelude.{◌≡◌, ◌≤◌, length, map, IfOk};
 ghost use Rattle.acc_schedule.specs.Plan.{IsPlan};
-ghost use Rattle.acc_limits.specs.Limits.{most_items, most_bytes};
+ghost use Rattle.acc_schedule_runs.specs.Limits.{most_items, most_bytes};
 ghost use Rattle.acc_desk.specs.Desks.{AreSound};
-ghost use Rattle.acc_free.specs.Finish.{HaveRested};
+ghost use Rattle.acc_free_ending.specs.Finish.{HaveRested};
 ghost use Rattle.acc_free.specs.Opened.{desk_actor};
 ghost use Rattle.acc_free.specs.Parts.{seat_in, rest_in};
-ghost use Rattle.acc_free.specs.Queues.{rest_actor, AreAllActors};
+ghost use Rattle.acc_free_ending.specs.Queues.{rest_actor, AreAllActors};
 
 use crate::opening::First;
-use crate::rest::{Rest, Rests};
 use acc_base::OutOfMemory;
 use acc_desk::laws::{closed_items_are_within, desks_stand_at_the_end, nobody_goes_down};
 use acc_desk::{Desks, Parts, PlanRules, PlanTape, Planned};
+use acc_free_ending::{Rest, Rests};
+use acc_free_laws::laws::turns_go_by;
 use acc_message::{GrowingItems, Item};
 use acc_ports::Rig;
 use acc_schedule::Plan;
-use acc_served::laws::turns_go_by;
 use acc_tape::Seats;
 use std::alloc::Global;
 

@@ -2,16 +2,10 @@
 #![tactic(auto)]
 
 mod closing;
-mod command;
 mod dealing;
-mod ending;
 mod opening;
 mod owned;
-mod rest;
-mod round;
 mod running;
 mod workers;
 
-pub use ending::finish;
-pub use rest::{Rest, Rests};
 pub use running::run_free;

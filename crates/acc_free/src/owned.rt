@@ -3,8 +3,8 @@ ghost use Rattle.std.specs.Prelude.{◌≡◌, unwrap_or, IfOk};
 ghost use Rattle.std.specs.List.{slice_get};
 ghost use Rattle.acc_stamp.specs.Actor.{actor_of};
 ghost use Rattle.acc_message.specs.Items.{same_actor};
-ghost use Rattle.acc_follow.specs.Schedules.{cluster_of};
-ghost use Rattle.acc_served.specs.Commands.{is_command_of as is_its_command, commands_of as its_commands};
+ghost use Rattle.acc_schedule_runs.specs.Schedules.{cluster_of};
+ghost use Rattle.acc_free_laws.specs.Commands.{is_command_of as is_its_command, commands_of as its_commands};
 
 use acc_base::OutOfMemory;
 use acc_schedule::{Plan, Step, Steps};

@@ -1,6 +1,6 @@
 //! Workers: threads that serve desks side by side.
 ghost use Rattle.std.specs.Prelude.{◌≡◌, ◌≤◌, ◌++◌, false, map, IfOk, IsOk};
-ghost use Rattle.acc_limits.specs.Limits.{most_items};
+ghost use Rattle.acc_schedule_runs.specs.Limits.{most_items};
 ghost use Rattle.acc_desk.specs.Desks.{AreSound, name_of};
 ghost use Rattle.acc_free.specs.Dealing.{all_in};
 ghost use Rattle.acc_free.specs.Workers.{KeepsSound};

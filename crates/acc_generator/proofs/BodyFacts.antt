@@ -17,8 +17,8 @@ use Rattle.acc_lang.specs.Reading.{reading}
 use Rattle.acc_lang.specs.Texts.{has_text_value}
 use Rattle.acc_lang.proofs.Obeys.{fits_from_rules}
 use Rattle.acc_lang.proofs.OnlyBody.{reading_only}
-use Rattle.acc_roundtrip.specs.Numbers.{IsSaid}
-use Rattle.acc_roundtrip.proofs.BodyFacts.{canonical_spelled}
+use Rattle.acc_print.specs.Numbers.{IsSaid}
+use Rattle.acc_print.proofs.BodyFacts.{canonical_spelled}
 use Rattle.acc_generator.specs.Draws.{draw_after}
 use Rattle.acc_generator.specs.Texts.{first_text, later_text, text_from, two_digits}
 use Rattle.acc_generator.specs.Bodies.{body_from, first_body, key_of, later_body}

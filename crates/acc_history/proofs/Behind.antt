@@ -3,8 +3,8 @@ use Rattle.std.proofs.Common.{◌≡◌, false, List, [], refl, sym, subst, arit
 use Rattle.acc_stamp.specs.declared.actors.Actor.{Actor}
 use Rattle.acc_message.specs.declared.item.Item.{Item}
 use Rattle.acc_message.specs.Run.{is_down}
-use Rattle.acc_waiting.specs.Standing.{Standing}
-use Rattle.acc_follow.specs.Situations.{opened}
+use Rattle.acc_message_index.specs.Standing.{Standing}
+use Rattle.acc_schedule_runs.specs.Situations.{opened}
 use Rattle.acc_history.specs.Stands.{Holds}
 
 -- nothing was sent yet, and nobody is down

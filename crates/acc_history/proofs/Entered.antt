@@ -8,9 +8,9 @@ use mathlib.Core.Logic.{dite}
 use native.Mathlib.Decide.{dec_lt}
 use Rattle.acc_stamp.specs.declared.actors.Actor.{Actor}
 use Rattle.acc_topology.specs.Sets.{is_among}
-use Rattle.acc_posts.specs.declared.posting.Posting.{Posting}
-use Rattle.acc_posts.specs.Mail.{nothing, posting_at}
-use Rattle.acc_waiting.specs.Standing.{Standing, is_down_at}
+use Rattle.acc_message_index.specs.declared.posting.Posting.{Posting}
+use Rattle.acc_message_index.specs.Mail.{nothing, posting_at}
+use Rattle.acc_message_index.specs.Standing.{Standing, is_down_at}
 use Rattle.acc_message.specs.declared.message.Message.{Message}
 use Rattle.acc_message.specs.declared.entry.Event.{Event}
 use Rattle.acc_message.specs.declared.entry.Event.TheVariants.{Begin, Recover, Slow, Message as TakesMessage, Restart}
@@ -19,9 +19,9 @@ use Rattle.acc_message.specs.declared.item.Item.TheVariants.{Step, Skipped, Down
 use Rattle.acc_message.specs.Items.{sent_in, sent_of, message_at}
 use Rattle.acc_message.specs.Run.{down_after, is_down}
 use Rattle.acc_safety.specs.Calm.{event_takes, item_takes}
-use Rattle.acc_safe_runs.specs.Asks.{receiver}
-use Rattle.acc_follow.specs.Situations.{Situation, whole, is_lost, is_sent_lost}
-use Rattle.acc_follow.specs.Moves.{with_item}
+use Rattle.acc_run_laws.specs.Asks.{receiver}
+use Rattle.acc_schedule_runs.specs.Situations.{Situation, whole, is_lost, is_sent_lost}
+use Rattle.acc_schedule_runs.specs.Moves.{with_item}
 use Rattle.acc_history.specs.Entering.{IsAsBefore, without_event, without_item, posting_of, postings_in}
 use Rattle.acc_message.specs.Growing.{message_in}
 use Rattle.acc_history.specs.Stands.{EventTakesSent, TakesSent, IsPosting, Holds}

@@ -5,7 +5,7 @@ use Rattle.std.proofs.lemmas.List.{reverse-append}
 use Rattle.std.proofs.lemmas.List.Sums.{sum_by-cons}
 use Rattle.acc_stamp.specs.declared.actors.Actor.{Actor}
 use Rattle.acc_stamp.specs.declared.stamps.TxnId.{TxnId}
-use Rattle.acc_waiting.specs.Standing.{Standing, is_down_at}
+use Rattle.acc_message_index.specs.Standing.{Standing, is_down_at}
 use Rattle.acc_message.specs.declared.message.Message.{Message}
 use Rattle.acc_message.specs.declared.item.Item.{Item}
 use Rattle.acc_message.specs.declared.shown.Shown.{Shown}
@@ -14,8 +14,8 @@ use Rattle.acc_message.specs.Items.{sent_in, begins_txn, id_begun, is_begun, id_
 use Rattle.acc_message.specs.Run.{down_after}
 use Rattle.acc_message.specs.Shown.{with_sent}
 use Rattle.acc_message_code.specs.Weight.{weight_of, weight_of_items}
-use Rattle.acc_follow.specs.Situations.{Situation, whole}
-use Rattle.acc_follow.specs.Moves.{with_item}
+use Rattle.acc_schedule_runs.specs.Situations.{Situation, whole}
+use Rattle.acc_schedule_runs.specs.Moves.{with_item}
 use Rattle.acc_history.specs.Begun.{begun_in, begun_as, begun_with}
 use Rattle.acc_history.specs.Entering.{IsAsBefore, without_item, postings_in}
 use Rattle.acc_history.specs.Stands.{TakesSent, Holds, IsNoted, situation_of}

@@ -9,8 +9,8 @@ use Rattle.acc_message.specs.declared.item.Item.{Item}
 use Rattle.acc_message.specs.declared.item.Item.TheVariants.{Step, Skipped, Down}
 use Rattle.acc_message.specs.Items.{sent_of, id_drawn, event_begins, begins_txn, id_begun, is_begun, id_of_txn}
 use Rattle.acc_message.specs.Run.{down_after}
-use Rattle.acc_follow.specs.Situations.{Situation, raised_event, raised, whole}
-use Rattle.acc_follow.specs.Moves.{with_item}
+use Rattle.acc_schedule_runs.specs.Situations.{Situation, raised_event, raised, whole}
+use Rattle.acc_schedule_runs.specs.Moves.{with_item}
 use Rattle.acc_history.specs.Begun.{begun_as, begun_with}
 
 pub down_raised : (by : ℕ) (a : Actor) (item : Item) (before : Bool) → down_after a (raised by item) before ≡ down_after a item before

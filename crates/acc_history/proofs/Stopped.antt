@@ -1,6 +1,6 @@
 -- A history says nothing of steps that were stopped.
-use Rattle.acc_follow.specs.Situations.{Stopped, Situation}
-use Rattle.acc_follow.specs.Moves.{with_stopped}
+use Rattle.acc_schedule_runs.specs.Situations.{Stopped, Situation}
+use Rattle.acc_schedule_runs.specs.Moves.{with_stopped}
 use Rattle.std.proofs.Common.{List}
 use Rattle.acc_history.specs.declared.history.History.{History}
 use Rattle.acc_history.specs.Stands.{StandsFor}

@@ -1,9 +1,9 @@
 -- What an item changes in what waits.
 use Rattle.std.specs.Prelude.{◌≡◌, ◌⊎◌, ℕ, ◌+◌, ◌<◌, ◌≤◌, Bool, not, List, [], ◌∷◌, length, Some}
 use Rattle.std.specs.List.{slice_get}
-use Rattle.acc_posts.specs.declared.posting.Posting.{Posting}
-use Rattle.acc_posts.specs.Mail.{taken}
-use Rattle.acc_waiting.specs.Standing.{Standing, is_down_at}
+use Rattle.acc_message_index.specs.declared.posting.Posting.{Posting}
+use Rattle.acc_message_index.specs.Mail.{taken}
+use Rattle.acc_message_index.specs.Standing.{Standing, is_down_at}
 use Rattle.acc_message.specs.declared.message.Message.{Message}
 use Rattle.acc_message.specs.declared.entry.Event.{Event}
 use Rattle.acc_message.specs.declared.entry.Event.TheVariants.{Message as TakesMessage}
@@ -11,7 +11,7 @@ use Rattle.acc_message.specs.declared.item.Item.{Item}
 use Rattle.acc_message.specs.declared.item.Item.TheVariants.{Step, Skipped, Down}
 use Rattle.acc_message.specs.Fields.{to_of}
 use Rattle.acc_message.specs.Items.{sent_in}
-use Rattle.acc_follow.specs.Situations.{is_lost}
+use Rattle.acc_schedule_runs.specs.Situations.{is_lost}
 
 -- room for more actors and messages alone
 pub record IsAsBefore (before after : Standing) : Type 0 where

@@ -6,9 +6,9 @@ use Rattle.std.specs.List.{list_any, slice_get}
 use Rattle.acc_stamp.specs.declared.actors.Actor.{Actor}
 use Rattle.acc_stamp.specs.declared.stamps.TxnId.{TxnId}
 use Rattle.acc_topology.specs.Sets.{is_among}
-use Rattle.acc_posts.specs.declared.posting.Posting.{Posting}
-use Rattle.acc_posts.specs.Mail.{posting_at}
-use Rattle.acc_waiting.specs.Standing.{Standing, is_down_at}
+use Rattle.acc_message_index.specs.declared.posting.Posting.{Posting}
+use Rattle.acc_message_index.specs.Mail.{posting_at}
+use Rattle.acc_message_index.specs.Standing.{Standing, is_down_at}
 use Rattle.acc_message.specs.declared.entry.Event.{Event}
 use Rattle.acc_message.specs.declared.entry.Event.TheVariants.{Message as TakesMessage}
 use Rattle.acc_message.specs.declared.item.Item.{Item}
@@ -19,7 +19,7 @@ use Rattle.acc_message.specs.Run.{is_down}
 use Rattle.acc_message_code.specs.Short.{IsShortMessage}
 use Rattle.acc_message_code.specs.Weight.{weight_of, weight_of_items}
 use Rattle.acc_safety.specs.Calm.{item_takes}
-use Rattle.acc_follow.specs.Situations.{Situation, whole, receiver_in, is_through}
+use Rattle.acc_schedule_runs.specs.Situations.{Situation, whole, receiver_in, is_through}
 use Rattle.acc_history.specs.Begun.{begun_in, begun_as}
 use Rattle.acc_history.specs.declared.history.History.{History}
 

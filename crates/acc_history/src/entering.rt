@@ -4,13 +4,13 @@ ghost use Rattle.acc_stamp.specs.declared.actors.Actor.{Actor as AnActor};
 ghost use Rattle.acc_message.specs.Items.{same_actor};
 ghost use Rattle.acc_message.specs.Run.{down_after};
 ghost use Rattle.acc_message.specs.Shown.{with_sent};
-ghost use Rattle.acc_waiting.specs.Standing.{is_down_at};
+ghost use Rattle.acc_message_index.specs.Standing.{is_down_at};
 ghost use Rattle.acc_history.specs.Entering.{IsAsBefore, IsNamed, AreCovered, IsCovered, without_event, without_item, postings_of, postings_in};
 
 use acc_base::OutOfMemory;
 use acc_message::{Event, Message, Shown};
+use acc_message_index::Waiting;
 use acc_stamp::Actor;
-use acc_waiting::Waiting;
 
 // The greatest number of an actor and of those to which messages go.
 fn greatest_of(actor: u32, messages: &[Message]) -> u32

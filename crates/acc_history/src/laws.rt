@@ -1,7 +1,7 @@
 //! Laws of histories. Each is the contract of a function that does nothing.
 ghost use Rattle.std.specs.Prelude.{List};
-ghost use Rattle.acc_follow.specs.Situations.{Stopped, Situation};
-ghost use Rattle.acc_follow.specs.Moves.{with_stopped};
+ghost use Rattle.acc_schedule_runs.specs.Situations.{Stopped, Situation};
+ghost use Rattle.acc_schedule_runs.specs.Moves.{with_stopped};
 ghost use Rattle.acc_history.specs.declared.history.History.{History};
 ghost use Rattle.acc_history.specs.Stands.{StandsFor};
 

@@ -11,7 +11,7 @@ use Rattle.acc_deps.specs.Deps.{of_shard}
 use Rattle.acc_deps.specs.declared.records.Settled.{Settled}
 use Rattle.acc_message.specs.Opening.{Change, is_past}
 use Rattle.acc_actor_laws.specs.OpeningOrder.{applies_in}
-use Rattle.acc_opening_laws.specs.Plan.{Lookup, settled_in, is_applied_in, is_past_behind, is_ready_behind, is_applied_behind, IsRight, EachRight}
+use Rattle.acc_opening.specs.Plan.{Lookup, settled_in, is_applied_in, is_past_behind, is_ready_behind, is_applied_behind, IsRight, EachRight}
 use Rattle.acc_opening.specs.State.{IsClosed}
 
 past_more : (t : Stamp) (a b : Bool) (o : Option Settled) → (a ≡ true → b ≡ true) → is_past t a o ≡ true → is_past t b o ≡ true

@@ -18,7 +18,7 @@ use Rattle.acc_actor_laws.specs.OpeningOrder.{opens_in, applies_in}
 use Rattle.acc_record.specs.declared.record.Record.{Record}
 use Rattle.acc_record.specs.declared.shelf.Watch.{Watch}
 use Rattle.acc_record.specs.Waits.{is_past_record, IsWatch}
-use Rattle.acc_opening_laws.specs.Plan.{Lookup, settled_in, is_applied_in, is_past_behind, is_ready_behind, EachRight, t_of, change_lt, IsPlan}
+use Rattle.acc_opening.specs.Plan.{Lookup, settled_in, is_applied_in, is_past_behind, is_ready_behind, EachRight, t_of, change_lt, IsPlan}
 use Rattle.acc_opening.specs.declared.turns.Turn.{Turn}
 use Rattle.acc_opening.specs.Planned.{changed, after_changes, AreWatches}
 use Rattle.acc_opening.specs.Turns.{turn_lt, change_of, changes_in, HasItsTime, HaveTheirTimes}

@@ -10,7 +10,7 @@ use Rattle.acc_stamp.proofs.Order.{id_order}
 use Rattle.acc_record.specs.declared.record.Record.{Record}
 use Rattle.acc_record.specs.declared.shelf.Watch.{Watch}
 use Rattle.acc_record.specs.Shelf.{Records, record_at}
-use Rattle.acc_opening_laws.specs.Plan.{Lookup, settled_in}
+use Rattle.acc_opening.specs.Plan.{Lookup, settled_in}
 use Rattle.acc_opening.specs.declared.turns.Turn.{Turn}
 use Rattle.acc_opening.specs.Lookup.{lookup}
 use Rattle.acc_opening.specs.Turns.{key_of, key_lt, HasItsTime}

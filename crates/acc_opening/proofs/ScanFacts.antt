@@ -9,7 +9,7 @@ use Rattle.acc_deps.specs.declared.records.Settled.{Settled}
 use Rattle.acc_actor_laws.specs.OpeningOrder.{applies_in}
 use Rattle.acc_message.specs.Opening.{is_past}
 use Rattle.acc_record.specs.declared.record.Record.{Record}
-use Rattle.acc_opening_laws.specs.Plan.{Lookup, settled_in, is_applied_in, is_past_behind}
+use Rattle.acc_opening.specs.Plan.{Lookup, settled_in, is_applied_in, is_past_behind}
 use Rattle.acc_opening.specs.declared.turns.Turn.{Turn}
 use Rattle.acc_opening.specs.Lookup.{is_over_in}
 use Rattle.acc_opening.specs.Turns.{changes_in, has_key, is_applied_at, HasItsTime, HaveTheirTimes}

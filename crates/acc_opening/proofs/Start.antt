@@ -15,7 +15,7 @@ use Rattle.acc_record.specs.declared.record.Record.{Record}
 use Rattle.acc_record.specs.declared.shelf.Watch.{Watch}
 use Rattle.acc_record.specs.Shelf.{Records, Waits as AllWaits, record_at, watchers}
 use Rattle.acc_record.specs.Waits.{is_past_record, IsWatch}
-use Rattle.acc_opening_laws.specs.Plan.{Lookup, settled_in, is_applied_in, is_past_behind}
+use Rattle.acc_opening.specs.Plan.{Lookup, settled_in, is_applied_in, is_past_behind}
 use Rattle.acc_opening.specs.Known.{IsKnown}
 use Rattle.acc_opening.specs.Lookup.{lookup}
 use Rattle.acc_opening.specs.Touched.{TouchedWaits, watches_with, watches_now, is_same}

@@ -16,7 +16,7 @@ use Rattle.acc_stamp.proofs.Rising.{each_append}
 use Rattle.acc_deps.specs.declared.records.Settled.{Settled}
 use Rattle.acc_message.specs.Opening.{Change, is_past}
 use Rattle.acc_record.specs.declared.shelf.Watch.{Watch}
-use Rattle.acc_opening_laws.specs.Plan.{Lookup, settled_in, is_past_behind, is_applied_behind, IsRight, EachRight}
+use Rattle.acc_opening.specs.Plan.{Lookup, settled_in, is_past_behind, is_applied_behind, IsRight, EachRight}
 use Rattle.acc_opening.specs.declared.turns.Turn.{Turn}
 use Rattle.acc_opening.specs.Turns.{key_of, key_lt, turn_lt, change_of, changes_in, HasItsTime, HasTurn}
 use Rattle.acc_opening.specs.Touched.{is_same}

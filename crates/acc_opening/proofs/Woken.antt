@@ -8,7 +8,7 @@ use Rattle.acc_deps.specs.Deps.{of_shard}
 use Rattle.acc_deps.specs.declared.records.Settled.{Settled}
 use Rattle.acc_record.specs.declared.record.Record.{Record}
 use Rattle.acc_record.specs.declared.shelf.Watch.{Watch}
-use Rattle.acc_opening_laws.specs.Plan.{Lookup, settled_in, is_past_behind, is_ready_behind, IsRight}
+use Rattle.acc_opening.specs.Plan.{Lookup, settled_in, is_past_behind, is_ready_behind, IsRight}
 use Rattle.acc_opening.specs.declared.turns.Turn.{Turn}
 use Rattle.acc_opening.specs.Scan.{AllPastUpTo, IsLastHeld}
 use Rattle.acc_opening.specs.Touched.{is_same}

@@ -4,7 +4,7 @@ use Rattle.acc_stamp.specs.Stamp.{id_eq}
 use Rattle.acc_record.specs.declared.record.Record.{Record}
 use Rattle.acc_record.specs.Shelf.{Records, record_at}
 use Rattle.acc_record.specs.Over.{is_over}
-use Rattle.acc_opening_laws.specs.Plan.{Lookup}
+use Rattle.acc_opening.specs.Plan.{Lookup}
 
 -- the own record takes the place of the one that is kept
 abbrev pub lookup : Records → Record → Lookup

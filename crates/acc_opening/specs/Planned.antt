@@ -8,7 +8,7 @@ use Rattle.acc_record.specs.declared.record.Record.{Record}
 use Rattle.acc_record.specs.declared.shelf.Watch.{Watch}
 use Rattle.acc_record.specs.Shelf.{Records, Waits}
 use Rattle.acc_record.specs.Waits.{IsWatch}
-use Rattle.acc_opening_laws.specs.Plan.{Lookup, IsPlan}
+use Rattle.acc_opening.specs.Plan.{Lookup, IsPlan}
 use Rattle.acc_opening.specs.declared.plan.Plan.{Plan}
 use Rattle.acc_opening.specs.Lookup.{lookup}
 use Rattle.acc_opening.specs.Touched.{watches_now}

@@ -4,7 +4,7 @@ use Rattle.std.specs.List.{slice_get}
 use Rattle.acc_stamp.specs.declared.stamps.Stamp.{Stamp}
 use Rattle.acc_stamp.specs.declared.stamps.TxnId.{TxnId}
 use Rattle.acc_message.specs.Opening.{Change}
-use Rattle.acc_opening_laws.specs.Plan.{Lookup, is_past_behind}
+use Rattle.acc_opening.specs.Plan.{Lookup, is_past_behind}
 
 -- each dependency at these places holds back no transaction with this timestamp
 abbrev pub ArePast : Lookup → List Change → Stamp → List TxnId → ℕ → ℕ → Type 0

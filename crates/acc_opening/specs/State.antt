@@ -9,7 +9,7 @@ use Rattle.acc_deps.specs.declared.records.Settled.{Settled}
 use Rattle.acc_message.specs.Opening.{Change}
 use Rattle.acc_record.specs.declared.record.Record.{Record}
 use Rattle.acc_record.specs.declared.shelf.Watch.{Watch}
-use Rattle.acc_opening_laws.specs.Plan.{Lookup, settled_in, is_past_behind, IsRight, EachRight}
+use Rattle.acc_opening.specs.Plan.{Lookup, settled_in, is_past_behind, IsRight, EachRight}
 use Rattle.acc_opening.specs.declared.turns.Turn.{Turn}
 use Rattle.acc_opening.specs.Scan.{AllPastBehind}
 use Rattle.acc_opening.specs.Turns.{key_of, key_lt, turn_lt, change_of, changes_in, HasItsTime, HaveTheirTimes}

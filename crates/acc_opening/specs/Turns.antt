@@ -10,7 +10,7 @@ use Rattle.acc_stamp.specs.Rising.{IsRisingBy}
 use Rattle.acc_deps.specs.declared.records.Settled.{Settled}
 use Rattle.acc_message.specs.Opening.{Change}
 use Rattle.acc_record.specs.declared.record.Record.{Record}
-use Rattle.acc_opening_laws.specs.Plan.{Lookup, settled_in}
+use Rattle.acc_opening.specs.Plan.{Lookup, settled_in}
 use Rattle.acc_opening.specs.declared.turns.Turn.{Turn}
 
 abbrev pub Key : Type 0

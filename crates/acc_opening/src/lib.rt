@@ -2,9 +2,14 @@
 //! records, and who waits for whom then.
 #![tactic(auto)]
 
+pub mod laws;
+mod layer;
 mod lookup;
 mod plan;
 mod queue;
+mod read;
+pub mod read_laws;
+mod releasing;
 mod scan;
 mod touched;
 mod turn_list;
@@ -12,6 +17,8 @@ mod turns;
 
 pub use lookup::record_of;
 pub use plan::{Known, Plan, planned};
+pub use read::{Place, read_here};
+pub use releasing::{Released, release};
 pub use touched::{Touched, TouchedWaits};
 pub use turn_list::TurnList;
 pub use turns::Turn;

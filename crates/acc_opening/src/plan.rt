@@ -5,7 +5,7 @@ ghost use Rattle.acc_opening.specs.Touched.{watches_now};
 ghost use Rattle.acc_opening.specs.State.{IsUnderWay};
 ghost use Rattle.acc_opening.specs.Planned.{IsPlanned};
 ghost use Rattle.acc_opening.specs.Known.{IsKnown, IsEmptyPlan};
-ghost use Rattle.acc_opening_laws.specs.Plan.{settled_in};
+ghost use Rattle.acc_opening.specs.Plan.{settled_in};
 ghost use Rattle.acc_record.specs.Shelf.{record_at};
 
 use crate::lookup::record_of;

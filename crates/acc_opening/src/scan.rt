@@ -3,7 +3,7 @@ ghost use Rattle.std.specs.Prelude.{◌≡◌, ℕ, ◌+◌, ◌≤◌, ◌<◌,
 ghost use Rattle.std.specs.List.{slice_get};
 ghost use Rattle.acc_stamp.specs.declared.stamps.TxnId.{TxnId};
 ghost use Rattle.acc_stamp.specs.Rising.{IsRisingBy};
-ghost use Rattle.acc_opening_laws.specs.Plan.{is_past_behind};
+ghost use Rattle.acc_opening.specs.Plan.{is_past_behind};
 ghost use Rattle.acc_opening.specs.Lookup.{lookup};
 ghost use Rattle.acc_opening.specs.Turns.{turn_lt, changes_in, HaveTheirTimes};
 ghost use Rattle.acc_opening.specs.Scan.{IsLastHeld, AllPastUpTo};

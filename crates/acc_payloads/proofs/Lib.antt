@@ -5,3 +5,7 @@ pub mod NodeJournals
 pub mod StoreJournals
 pub mod NodeReading
 pub mod Acts
+pub mod Groups
+pub mod Left
+pub mod Marked
+pub mod Marks

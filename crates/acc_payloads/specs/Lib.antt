@@ -6,3 +6,5 @@ pub mod Texts
 pub mod Store
 pub mod Items
 pub mod Acts
+pub mod Appends
+pub mod Stops

@@ -14,13 +14,13 @@ use Rattle.acc_schedule.specs.Content.{Content}
 use Rattle.acc_schedule.specs.Plan.{IsPlan}
 use Rattle.acc_schedule.specs.declared.plan.Step.{Step}
 use Rattle.acc_schedule.specs.declared.plan.Step.TheVariants.{Begin, Deliver, Drop, Recover, Slow, Restart, Fail, Drain}
-use Rattle.acc_follow.specs.Laws.{IsCalmStep, EndsWithDrain}
-use Rattle.acc_follow.specs.Schedules.{cluster_of, Obeys}
-use Rattle.acc_follow.proofs.GivesRuns.{obeys_a_run}
-use Rattle.acc_strict.specs.Laws.{ArmsNothing, no_faults}
-use Rattle.acc_strict.specs.Schedules.{ObeysStrictly}
-use Rattle.acc_strict.proofs.Answering.{obeys_with_some}
-use Rattle.acc_strict.proofs.Unarmed.{obeys_without_faults}
+use Rattle.acc_schedule_runs.specs.Laws.{IsCalmStep, EndsWithDrain}
+use Rattle.acc_schedule_runs.specs.Schedules.{cluster_of, Obeys}
+use Rattle.acc_schedule_runs.proofs.GivesRuns.{obeys_a_run}
+use Rattle.acc_schedule_runs.specs.StrictLaws.{ArmsNothing, no_faults}
+use Rattle.acc_schedule_runs.specs.StrictSchedules.{ObeysStrictly}
+use Rattle.acc_schedule_runs.proofs.Answering.{obeys_with_some}
+use Rattle.acc_schedule_runs.proofs.Unarmed.{obeys_without_faults}
 use Rattle.acc_plan_laws.proofs.Safely.{CalmIsAnswered, plans_agree, plans_cover, plans_are_serial, plans_are_answered, none_stays_open}
 
 calm_arms_nothing : (step : Step) → IsCalmStep step → ArmsNothing step

@@ -8,7 +8,7 @@ use Rattle.acc_topology.specs.Sets.{is_among, in_order}
 use Rattle.acc_safety.specs.Valid.{AreStarts, IsValidCluster}
 use Rattle.acc_schedule.specs.Content.{Content}
 use Rattle.acc_schedule.specs.Plan.{IsPlan}
-use Rattle.acc_follow.specs.Schedules.{cluster_of}
+use Rattle.acc_schedule_runs.specs.Schedules.{cluster_of}
 use Rattle.acc_plan_laws.proofs.StartsOnce.{starts_once, among_ids, starts_only}
 
 module _ (plan : Content) (h : IsPlan plan) where

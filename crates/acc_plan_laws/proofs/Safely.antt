@@ -12,12 +12,12 @@ use Rattle.acc_report.specs.Report.{is_begin, is_reply, last_line}
 use Rattle.acc_report_line.specs.declared.line.Line.TheVariants.{End}
 use Rattle.acc_schedule.specs.Content.{Content}
 use Rattle.acc_schedule.specs.Plan.{IsPlan}
-use Rattle.acc_every_run.proofs.EveryRun.{agreement_holds, coverage_holds, serial_holds}
-use Rattle.acc_follow.specs.Moves.{Answers}
-use Rattle.acc_follow.specs.Schedules.{cluster_of, Obeys}
-use Rattle.acc_follow.specs.Laws.{NeverFails, EndsWithDrain}
-use Rattle.acc_follow.proofs.GivesRuns.{obeys_a_run}
-use Rattle.acc_follow.proofs.Drained.{drains_leave_nothing}
+use Rattle.acc_safety_laws.proofs.EveryRun.{agreement_holds, coverage_holds, serial_holds}
+use Rattle.acc_schedule_runs.specs.Moves.{Answers}
+use Rattle.acc_schedule_runs.specs.Schedules.{cluster_of, Obeys}
+use Rattle.acc_schedule_runs.specs.Laws.{NeverFails, EndsWithDrain}
+use Rattle.acc_schedule_runs.proofs.GivesRuns.{obeys_a_run}
+use Rattle.acc_schedule_runs.proofs.Drained.{drains_leave_nothing}
 use Rattle.acc_plan_laws.proofs.PlansValid.{plan_is_valid}
 use Rattle.acc_plan_laws.proofs.AllReplied.{none_is_open}
 

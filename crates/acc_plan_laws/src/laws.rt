@@ -12,10 +12,10 @@ ghost use Rattle.acc_report.specs.Report.{is_begin, is_reply, last_line};
 ghost use Rattle.acc_report_line.specs.declared.line.Line.{Line};
 ghost use Rattle.acc_schedule.specs.Content.{Content};
 ghost use Rattle.acc_schedule.specs.Plan.{IsPlan};
-ghost use Rattle.acc_follow.specs.Laws.{NeverFails, EndsWithDrain};
-ghost use Rattle.acc_follow.specs.Moves.{Answers};
-ghost use Rattle.acc_follow.specs.Schedules.{cluster_of, Obeys};
-ghost use Rattle.acc_strict.specs.Schedules.{ObeysStrictly};
+ghost use Rattle.acc_schedule_runs.specs.Laws.{NeverFails, EndsWithDrain};
+ghost use Rattle.acc_schedule_runs.specs.Moves.{Answers};
+ghost use Rattle.acc_schedule_runs.specs.Schedules.{cluster_of, Obeys};
+ghost use Rattle.acc_schedule_runs.specs.StrictSchedules.{ObeysStrictly};
 
 use acc_calm::laws::calm;
 

@@ -24,13 +24,13 @@ use Rattle.acc_record.specs.Shelf.{record_at}
 use Rattle.acc_record.specs.Stands.{StandsFor}
 use Rattle.acc_record.specs.Steps.{record_after, stamps_told, QuietStep}
 use Rattle.acc_record.specs.Learning.{vote_at, new_vote_at, body_of, known_or_fresh}
-use Rattle.acc_shelf_laws.specs.LearntAs.{IsLearntAs}
-use Rattle.acc_shelf_laws.proofs.After.{after_preaccept, after_nack, after_decided}
-use Rattle.acc_shelf_laws.proofs.Learnt.{Tells, quiet_from_learnt}
-use Rattle.acc_answers.specs.Refusal.{refusal_or}
-use Rattle.acc_answers.proofs.Rivals.{share_in}
-use Rattle.acc_answers.proofs.VoteLaw.{given_as, counts, refused, votes}
-use Rattle.acc_answers.proofs.Telling.{refusal_cases, tells_nothing, tells_vote}
+use Rattle.acc_record.specs.LearntAs.{IsLearntAs}
+use Rattle.acc_record.proofs.After.{after_preaccept, after_nack, after_decided}
+use Rattle.acc_record.proofs.Learnt.{Tells, quiet_from_learnt}
+use Rattle.acc_record.specs.Refusal.{refusal_or}
+use Rattle.acc_record.proofs.Rivals.{share_in}
+use Rattle.acc_record.proofs.VoteLaw.{given_as, counts, refused, votes}
+use Rattle.acc_record.proofs.Telling.{refusal_cases, tells_nothing, tells_vote}
 use Rattle.acc_preaccept.specs.PreAccepting.{refusal_at, voted_as, answer_at, with_vote, IsPreAcceptingBy, IsPreAccepting}
 
 raised_by_vote : (g t d : ℕ) → max g (max t d) ≡ max (max t (max d 0)) g

@@ -12,7 +12,7 @@ use Rattle.acc_message.specs.Fields.{top_of}
 use Rattle.acc_message.specs.StoreRules.{replay, store_answer}
 use Rattle.acc_record.specs.declared.shelf.Shelf.{Shelf}
 use Rattle.acc_record.specs.Stands.{StandsFor, AnswersByRules}
-use Rattle.acc_shelf_laws.proofs.QuietSteps.{quiet_answers}
+use Rattle.acc_record.proofs.QuietSteps.{quiet_answers}
 use Rattle.acc_preaccept.specs.PreAccepting.{answer_at, IsPreAccepting}
 use Rattle.acc_preaccept.proofs.Quiet.{here, answers, quiet}
 

@@ -18,8 +18,8 @@ use Rattle.acc_record.specs.declared.vote.Vote.{Vote}
 use Rattle.acc_record.specs.Shelf.{record_at}
 use Rattle.acc_record.specs.Steps.{deps_kept}
 use Rattle.acc_record.specs.Learning.{vote_at, known_or_fresh}
-use Rattle.acc_shelf_laws.specs.LearntAs.{IsLearntAs}
-use Rattle.acc_answers.specs.Refusal.{refusal_of, refusal_or}
+use Rattle.acc_record.specs.LearntAs.{IsLearntAs}
+use Rattle.acc_record.specs.Refusal.{refusal_of, refusal_or}
 
 abbrev pub is_preaccept : Message → Bool
 is_preaccept (PreAccept from to id ballot body) = true

@@ -7,15 +7,14 @@ ghost use Rattle.acc_message.specs.StoreRules.{store_answer, replay};
 ghost use Rattle.acc_record.specs.Shelf.{IsSame, record_at};
 ghost use Rattle.acc_record.specs.Stands.{IsFor, StandsFor, AnswersByRules};
 ghost use Rattle.acc_record.specs.Learning.{known_or_fresh, stamp_to_note};
-ghost use Rattle.acc_shelf_laws.specs.LearntAs.{IsLearntAs};
+ghost use Rattle.acc_record.specs.LearntAs.{IsLearntAs};
 ghost use Rattle.acc_preaccept.specs.PreAccepting.{is_preaccept, answer_at, with_vote, IsPreAccepting};
 
 use crate::keep::keep_vote;
-use acc_answers::{answering, refusal, refusal_by};
 use acc_base::OutOfMemory;
 use acc_index::Share;
 use acc_message::{Message, top};
-use acc_record::{Noting, Shelf, Vote};
+use acc_record::{Noting, Shelf, Vote, answering, refusal, refusal_by};
 use acc_stamp::{Actor, Ballot, Stamp, TxnId};
 use acc_topology::Topology;
 use acc_txn::Body;

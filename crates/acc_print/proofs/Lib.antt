@@ -1,4 +1,13 @@
-pub mod Joined
-pub mod QuotedUtf8
-pub mod WordUtf8
+pub mod BodyFacts
 pub mod CanonicalUtf8
+pub mod ConditionFacts
+pub mod Joined
+pub mod KeyFacts
+pub mod NumberFacts
+pub mod QuotedFacts
+pub mod QuotedUtf8
+pub mod SaidFacts
+pub mod SumFacts
+pub mod TokenFacts
+pub mod UpdateFacts
+pub mod WordUtf8

@@ -1,7 +1,9 @@
+pub mod Learning
+pub mod LearntAs
 pub mod Over
-pub mod Waiters
+pub mod Refusal
 pub mod Shelf
-pub mod Waits
 pub mod Stands
 pub mod Steps
-pub mod Learning
+pub mod Waiters
+pub mod Waits

@@ -2,8 +2,10 @@
 #![tactic(auto)]
 
 mod cells;
+pub mod laws;
 mod learn;
 mod record;
+mod refusals;
 mod share;
 mod shared_accepted;
 mod shelf;
@@ -13,6 +15,7 @@ mod waiters;
 pub use cells::Cells;
 pub use learn::Noting;
 pub use record::{KeptRecord, Record, Records};
+pub use refusals::{answering, refusal, refusal_by};
 pub use shared_accepted::SharedAccepted;
 pub use shelf::{Shelf, Waits, Watch};
 pub use vote::Vote;

@@ -17,8 +17,7 @@ use acc_base::{OutOfMemory, Sequence};
 use acc_deps::View;
 use acc_message::{Envelope, Message, Messages};
 use acc_stamp::{Actor, Ballot, TxnId, home};
-use acc_stores::{is_store, stores};
-use acc_tally::Tally;
+use acc_tally::{Tally, is_store, stores};
 use acc_topology::{ShardSet, Topology};
 use acc_txn::Body;
 

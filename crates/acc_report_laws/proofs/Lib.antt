@@ -1,3 +1,15 @@
+mod Actors
 pub mod Alone
+mod Bodies
 pub mod Called
+mod Data
+mod FewNotes
 pub mod Forms
+mod Known
+mod Noted
+mod Placed
+mod Reacting
+mod Replies
+mod Sent
+mod Steps
+mod Told

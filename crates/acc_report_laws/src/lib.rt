@@ -2,4 +2,6 @@
 //! the lines of one item alone are those that it has in the report of all.
 #![tactic(auto)]
 
+pub mod documents;
 pub mod laws;
+pub mod runs;

@@ -21,9 +21,9 @@ use Rattle.acc_record.specs.declared.shelf.Shelf.{Shelf}
 use Rattle.acc_record.specs.Shelf.{record_at}
 use Rattle.acc_record.specs.Stands.{StandsFor}
 use Rattle.acc_record.specs.Learning.{body_of}
-use Rattle.acc_shelf_laws.proofs.KeptFields.{kept_field}
-use Rattle.acc_answers.proofs.Rivals.{names_by}
-use Rattle.acc_answers.proofs.VoteLaw.{counts, votes}
+use Rattle.acc_record.proofs.KeptFields.{kept_field}
+use Rattle.acc_record.proofs.Rivals.{names_by}
+use Rattle.acc_record.proofs.VoteLaw.{counts, votes}
 use Rattle.acc_reveal.specs.Revealed.{promised_in, accepted_in, committed_in, stable_in, rules_out, keeps_waiting, superseded_at, awaited_at, view_at, is_allowed, revealed, refused, answer_at, share_at}
 use Rattle.acc_reveal.proofs.Names.{any_names, filter_names, any_named, filter_named, filter_all}
 

@@ -19,11 +19,11 @@ use Rattle.acc_record.specs.Shelf.{record_at}
 use Rattle.acc_record.specs.Stands.{StandsFor, AnswersByRules}
 use Rattle.acc_record.specs.Steps.{stamps_told, QuietStep}
 use Rattle.acc_record.specs.Learning.{known_or_fresh, new_vote_at}
-use Rattle.acc_shelf_laws.specs.LearntAs.{IsLearntAs}
-use Rattle.acc_shelf_laws.proofs.QuietSteps.{quiet_answers}
-use Rattle.acc_shelf_laws.proofs.Learnt.{Tells, quiet_from_learnt}
-use Rattle.acc_shelf_laws.proofs.After.{after_nack, after_recover}
-use Rattle.acc_answers.proofs.Telling.{tells_nothing, tells_vote}
+use Rattle.acc_record.specs.LearntAs.{IsLearntAs}
+use Rattle.acc_record.proofs.QuietSteps.{quiet_answers}
+use Rattle.acc_record.proofs.Learnt.{Tells, quiet_from_learnt}
+use Rattle.acc_record.proofs.After.{after_nack, after_recover}
+use Rattle.acc_record.proofs.Telling.{tells_nothing, tells_vote}
 use Rattle.acc_reveal.specs.Revealed.{promised_in, view_at, is_allowed, revealed, refused, answer_at, granted_at, top_with, share_at, IsRecovering}
 use Rattle.acc_reveal.proofs.Revealing.{answer_is}
 

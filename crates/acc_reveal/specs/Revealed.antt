@@ -28,7 +28,7 @@ use Rattle.acc_record.specs.declared.vote.Vote.{Vote}
 use Rattle.acc_record.specs.Shelf.{record_at}
 use Rattle.acc_record.specs.Steps.{deps_kept}
 use Rattle.acc_record.specs.Learning.{vote_at, body_of, known_or_fresh}
-use Rattle.acc_shelf_laws.specs.LearntAs.{IsLearntAs}
+use Rattle.acc_record.specs.LearntAs.{IsLearntAs}
 
 -- ---- the fields of a record, where there is one
 

@@ -20,17 +20,18 @@ use Rattle.acc_safety.specs.Places.{IsIn}
 use Rattle.acc_safety.proofs.PlaceOrder.{each_from, map-IsIn, IsIn-append_right, IsIn-Contains}
 use Rattle.acc_schedule.specs.Actors.{actors, stores_from}
 use Rattle.acc_schedule.specs.Content.{Content}
-use Rattle.acc_durable.specs.declared.node.DurableNode.{DurableNode}
-use Rattle.acc_durable.specs.declared.store.DurableStore.{DurableStore}
-use Rattle.acc_durable.specs.Node as node
-use Rattle.acc_durable.specs.Store as store
-use Rattle.acc_durable.proofs.Stores.{fresh_reads}
-use Rattle.acc_entering.proofs.Sound.{sound_opened}
-use Rattle.acc_follow.specs.Situations.{opened}
-use Rattle.acc_follow.specs.Schedules.{cluster_of}
-use Rattle.acc_strict.specs.Moves.{opened_strictly}
+use Rattle.acc_durable_node.specs.declared.node.DurableNode.{DurableNode}
+use Rattle.acc_durable_store.specs.declared.store.DurableStore.{DurableStore}
+use Rattle.acc_durable_node.specs.Node as node
+use Rattle.acc_durable_store.specs.Store as store
+use Rattle.acc_durable_store.proofs.Stores.{fresh_reads}
+use Rattle.acc_pasts.proofs.Sound.{sound_opened}
+use Rattle.acc_schedule_runs.specs.Situations.{opened}
+use Rattle.acc_schedule_runs.specs.Schedules.{cluster_of}
+use Rattle.acc_schedule_runs.specs.StrictMoves.{opened_strictly}
 use Rattle.acc_cluster.specs.declared.cluster.Cluster.{Cluster}
-use Rattle.acc_cluster.specs.Opened.{HasDone, HasTaken, IsStoreNumber, IsUnarmed, AreActorsOf, IsEarlier, AreUnarmed}
+use Rattle.acc_actors.specs.Opened.{HasDone, HasTaken, IsUnarmed}
+use Rattle.acc_cluster.specs.Opened.{IsStoreNumber, AreActorsOf, IsEarlier, AreUnarmed}
 use Rattle.acc_cluster.specs.Stands.{StandsFor, StandsStrictly}
 use Rattle.acc_run.specs.Fresh.{IsFreshNode, IsFreshStore, AreFreshNodes, AreFreshStores}
 

@@ -6,13 +6,13 @@ use Rattle.acc_message.specs.declared.entry.Event.{Event}
 use Rattle.acc_message.specs.declared.entry.Event.TheVariants.{Begin as BeginEvent, Recover as RecoverEvent, Slow as SlowEvent, Message as MessageEvent}
 use Rattle.acc_message.specs.declared.item.Skip.{Skip}
 use Rattle.acc_message.specs.Run.{Cluster}
-use Rattle.acc_safe_runs.specs.Asks.{home_of_txn}
+use Rattle.acc_run_laws.specs.Asks.{home_of_txn}
 use Rattle.acc_schedule.specs.declared.plan.Step.{Step}
 use Rattle.acc_schedule.specs.declared.plan.Step.TheVariants.{Begin, Deliver, Drop, Recover, Slow, Restart, Fail, Drain}
-use Rattle.acc_follow.specs.Situations.{Situation, receiver_in}
-use Rattle.acc_follow.specs.Moves.{Answers, fails_in, is_journalled, tried_if, tried, stepped_unless, dropped_unless, begin_skip, recover_skip, slowing_skip, message_skip, deliver_skip, kept_if, reopened, restarted_if, Drains, stops, delivers, IsNext}
-use Rattle.acc_follow.specs.Schedules.{Follows}
-use Rattle.acc_follow.proofs.StopLists.{all_earlier}
+use Rattle.acc_schedule_runs.specs.Situations.{Situation, receiver_in}
+use Rattle.acc_schedule_runs.specs.Moves.{Answers, fails_in, is_journalled, tried_if, tried, stepped_unless, dropped_unless, begin_skip, recover_skip, slowing_skip, message_skip, deliver_skip, kept_if, reopened, restarted_if, Drains, stops, delivers, IsNext}
+use Rattle.acc_schedule_runs.specs.Schedules.{Follows}
+use Rattle.acc_schedule_runs.proofs.StopLists.{all_earlier}
 
 module _ (cluster : Cluster) (answers : Answers) where
   tried_same : (fails : Bool) (s : Situation) (a : Actor) (event : Event) → (tried_if fails cluster s a event).earlier ≡ s.earlier

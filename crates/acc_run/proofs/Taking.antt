@@ -11,15 +11,15 @@ use Rattle.acc_message.specs.declared.item.Item.{Item}
 use Rattle.acc_message.specs.Run.{Cluster as Of}
 use Rattle.acc_schedule.specs.Content.{Content}
 use Rattle.acc_schedule.specs.declared.plan.Step.{Step}
-use Rattle.acc_follow.specs.Situations.{Situation, opened}
-use Rattle.acc_follow.specs.Moves.{Answers, IsNext}
-use Rattle.acc_follow.specs.Schedules.{cluster_of, Follows}
-use Rattle.acc_follow.specs.Laws.{AgreeBelow}
-use Rattle.acc_strict.specs.Moves.{StrictSituation, opened_strictly, IsStrictNext}
-use Rattle.acc_strict.specs.Schedules.{FollowsStrictly}
-use Rattle.acc_strict.specs.Laws.{no_faults}
-use Rattle.acc_limits.specs.Fronts.{ComesTo, Reaches, LimitEnds}
-use Rattle.acc_limits.specs.StrictFronts.{StrictlyComesTo, StrictlyReaches, StrictLimitEnds}
+use Rattle.acc_schedule_runs.specs.Situations.{Situation, opened}
+use Rattle.acc_schedule_runs.specs.Moves.{Answers, IsNext}
+use Rattle.acc_schedule_runs.specs.Schedules.{cluster_of, Follows}
+use Rattle.acc_schedule_runs.specs.Laws.{AgreeBelow}
+use Rattle.acc_schedule_runs.specs.StrictMoves.{StrictSituation, opened_strictly, IsStrictNext}
+use Rattle.acc_schedule_runs.specs.StrictSchedules.{FollowsStrictly}
+use Rattle.acc_schedule_runs.specs.StrictLaws.{no_faults}
+use Rattle.acc_schedule_runs.specs.Fronts.{ComesTo, Reaches, LimitEnds}
+use Rattle.acc_schedule_runs.specs.StrictFronts.{StrictlyComesTo, StrictlyReaches, StrictLimitEnds}
 use Rattle.acc_cluster.specs.declared.cluster.Cluster.{Cluster}
 use Rattle.acc_cluster.specs.Stands.{StandsFor, StandsStrictly}
 use Rattle.acc_cluster.specs.Steps.{StepsTo, StepsStrictly, IfLimit, EndsIn, EndsStrictlyIn}

@@ -12,10 +12,10 @@ use Rattle.acc_cluster.specs.Steps.{IfLimit}
 use Rattle.acc_message.specs.declared.item.Item.{Item}
 use Rattle.acc_payloads.specs.Items.{Keeps}
 use Rattle.acc_schedule.specs.Content.{Content}
-use Rattle.acc_follow.specs.Situations.{Situation, opened}
-use Rattle.acc_follow.specs.Moves.{Answers}
-use Rattle.acc_follow.specs.Schedules.{cluster_of, Obeys}
-use Rattle.acc_strict.specs.Schedules.{ObeysStrictly}
+use Rattle.acc_schedule_runs.specs.Situations.{Situation, opened}
+use Rattle.acc_schedule_runs.specs.Moves.{Answers}
+use Rattle.acc_schedule_runs.specs.Schedules.{cluster_of, Obeys}
+use Rattle.acc_schedule_runs.specs.StrictSchedules.{ObeysStrictly}
 use Rattle.acc_cluster.specs.declared.cluster.Cluster.{Cluster}
 use Rattle.acc_cluster.specs.declared.ending.Ended.{Ended}
 use Rattle.acc_cluster.specs.Stands.{StandsFor}

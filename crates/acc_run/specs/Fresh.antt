@@ -4,10 +4,11 @@ use Rattle.std.specs.List.{AllByRecursion}
 use Rattle.acc_message.specs.Run.{is_node}
 use Rattle.acc_schedule.specs.Actors.{stores_from}
 use Rattle.acc_schedule.specs.Content.{Content}
-use Rattle.acc_durable.specs.declared.node.DurableNode.{DurableNode}
-use Rattle.acc_durable.specs.declared.store.DurableStore.{DurableStore}
-use Rattle.acc_durable.specs.Store as store
-use Rattle.acc_cluster.specs.Opened.{IsNodeOf, IsStoreOf, HasDone, HasTaken}
+use Rattle.acc_durable_node.specs.declared.node.DurableNode.{DurableNode}
+use Rattle.acc_durable_store.specs.declared.store.DurableStore.{DurableStore}
+use Rattle.acc_durable_store.specs.Store as store
+use Rattle.acc_actors.specs.Opened.{HasDone, HasTaken}
+use Rattle.acc_cluster.specs.Opened.{IsNodeOf, IsStoreOf}
 
 pub record IsFreshNode {D : Type 0} (images : D → List ℕ → Type 0) (plan : Content) (n : DurableNode D) : Type 0 where
   pub of_plan : IsNodeOf images plan n

@@ -3,11 +3,11 @@ use Rattle.std.specs.Prelude.{ℕ, Bool, List, [], Option}
 use Rattle.acc_ports.specs.Strict.{Ranges}
 use Rattle.acc_schedule.specs.Content.{Content}
 use Rattle.acc_schedule.specs.declared.plan.Step.{Step}
-use Rattle.acc_follow.specs.Situations.{Situation, opened}
-use Rattle.acc_follow.specs.Moves.{Answers}
-use Rattle.acc_follow.specs.Schedules.{cluster_of, Follows}
-use Rattle.acc_strict.specs.Moves.{StrictSituation, opened_strictly}
-use Rattle.acc_strict.specs.Schedules.{FollowsStrictly}
+use Rattle.acc_schedule_runs.specs.Situations.{Situation, opened}
+use Rattle.acc_schedule_runs.specs.Moves.{Answers}
+use Rattle.acc_schedule_runs.specs.Schedules.{cluster_of, Follows}
+use Rattle.acc_schedule_runs.specs.StrictMoves.{StrictSituation, opened_strictly}
+use Rattle.acc_schedule_runs.specs.StrictSchedules.{FollowsStrictly}
 use Rattle.acc_cluster.specs.declared.cluster.Cluster.{Cluster}
 use Rattle.acc_cluster.specs.Stands.{StandsFor, StandsStrictly}
 

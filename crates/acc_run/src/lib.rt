@@ -7,4 +7,6 @@ mod run;
 mod steps;
 
 pub use ending::give_back;
+pub use opening::opened;
 pub use run::run_plan;
+pub use steps::take_all;

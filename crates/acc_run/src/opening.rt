@@ -6,16 +6,17 @@ ghost use Rattle.acc_topology.specs.Layout.{HasShard, shard_at};
 ghost use Rattle.acc_topology.specs.Sets.{is_among};
 ghost use Rattle.acc_message.specs.Run.{clock_start};
 ghost use Rattle.acc_schedule.specs.Plan.{IsPlan};
-ghost use Rattle.acc_follow.specs.Situations.{opened as opened_behind};
-ghost use Rattle.acc_strict.specs.Moves.{opened_strictly};
-ghost use Rattle.acc_durable.specs.Store.{actor_in};
+ghost use Rattle.acc_schedule_runs.specs.Situations.{opened as opened_behind};
+ghost use Rattle.acc_schedule_runs.specs.StrictMoves.{opened_strictly};
+ghost use Rattle.acc_durable_store.specs.Store.{actor_in};
 ghost use Rattle.acc_cluster.specs.Stands.{StandsFor, StandsStrictly};
-ghost use Rattle.acc_cluster.specs.Opened.{IsUnarmed};
+ghost use Rattle.acc_actors.specs.Opened.{IsUnarmed};
 ghost use Rattle.acc_run.specs.Fresh.{AreFreshNodes, AreFreshStores, IsFreshNode, IsFreshStore};
 
 use acc_base::OutOfMemory;
 use acc_cluster::Cluster;
-use acc_durable::{DurableNode, DurableStore};
+use acc_durable_node::DurableNode;
+use acc_durable_store::DurableStore;
 use acc_plan_laws::laws::plans_are_valid;
 use acc_ports::DiskMaker;
 use acc_schedule::Plan;
@@ -25,7 +26,7 @@ use acc_topology::sets::contains;
 use std::alloc::Global;
 
 /// The cluster of a plan whose actors have done nothing, each over a disk of its own.
-pub(crate) fn opened<M: DiskMaker>(
+pub fn opened<M: DiskMaker>(
     alloc: Global,
     plan: &Plan,
     disks: &mut M,

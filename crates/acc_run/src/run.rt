@@ -4,12 +4,12 @@ ghost use Rattle.acc_message.specs.declared.error.Which.{Which};
 ghost use Rattle.acc_message.specs.declared.error.RunError.{RunError as Why};
 ghost use Rattle.acc_message.specs.declared.item.Item.{Item};
 ghost use Rattle.acc_schedule.specs.Plan.{IsPlan};
-ghost use Rattle.acc_follow.specs.Moves.{Answers};
-ghost use Rattle.acc_follow.specs.Schedules.{Obeys};
-ghost use Rattle.acc_strict.specs.Schedules.{ObeysStrictly};
-ghost use Rattle.acc_limits.specs.Limits.{IsWithin};
-ghost use Rattle.acc_limits.specs.Fronts.{LimitEnds};
-ghost use Rattle.acc_limits.specs.StrictFronts.{StrictLimitEnds};
+ghost use Rattle.acc_schedule_runs.specs.Moves.{Answers};
+ghost use Rattle.acc_schedule_runs.specs.Schedules.{Obeys};
+ghost use Rattle.acc_schedule_runs.specs.StrictSchedules.{ObeysStrictly};
+ghost use Rattle.acc_schedule_runs.specs.Limits.{IsWithin};
+ghost use Rattle.acc_schedule_runs.specs.Fronts.{LimitEnds};
+ghost use Rattle.acc_schedule_runs.specs.StrictFronts.{StrictLimitEnds};
 ghost use Rattle.acc_run.specs.Given.{GivesBack};
 
 use crate::ending::give_back;

@@ -2,25 +2,27 @@
 ghost use Rattle.std.specs.Prelude.{ℕ, List, [], IfErr, OnOk};
 ghost use Rattle.acc_message.specs.declared.item.Item.{Item};
 ghost use Rattle.acc_schedule.specs.Plan.{IsPlan};
-ghost use Rattle.acc_follow.specs.Situations.{opened as opened_behind};
-ghost use Rattle.acc_follow.specs.Moves.{Answers};
-ghost use Rattle.acc_strict.specs.Moves.{opened_strictly};
-ghost use Rattle.acc_limits.specs.Fronts.{LimitEnds};
-ghost use Rattle.acc_limits.specs.StrictFronts.{StrictLimitEnds};
+ghost use Rattle.acc_schedule_runs.specs.Situations.{opened as opened_behind};
+ghost use Rattle.acc_schedule_runs.specs.Moves.{Answers};
+ghost use Rattle.acc_schedule_runs.specs.StrictMoves.{opened_strictly};
+ghost use Rattle.acc_schedule_runs.specs.Fronts.{LimitEnds};
+ghost use Rattle.acc_schedule_runs.specs.StrictFronts.{StrictLimitEnds};
 ghost use Rattle.acc_cluster.specs.Stands.{StandsFor, StandsStrictly};
 ghost use Rattle.acc_cluster.specs.Steps.{IfLimit};
 ghost use Rattle.acc_run.specs.Taken.{HasTaken, HasTakenStrictly};
 
 use acc_cluster::Cluster;
-use acc_follow::laws::runs_are_made_step_by_step;
-use acc_limits::laws::{a_limit_or_the_whole_over_strict_disks, fronts_are_made_step_by_step};
 use acc_message::RunError;
 use acc_ports::Rig;
 use acc_schedule::Plan;
-use acc_strict::laws::strict_runs_are_made_step_by_step;
+use acc_schedule_runs::follow::runs_are_made_step_by_step;
+use acc_schedule_runs::limits::{
+    a_limit_or_the_whole_over_strict_disks, fronts_are_made_step_by_step,
+};
+use acc_schedule_runs::strict::strict_runs_are_made_step_by_step;
 
 /// Takes all steps of a plan, numbered from 0.
-pub(crate) fn take_all<D: Rig + Drop>(cluster: &mut Cluster<D>, plan: &Plan) -> Result<(), RunError>
+pub fn take_all<D: Rig + Drop>(cluster: &mut Cluster<D>, plan: &Plan) -> Result<(), RunError>
     requires is_plan { IsPlan plan.now }
     requires stands { StandsFor D.is_image D.faults plan.now cluster.old (opened_behind []) }
 

@@ -15,7 +15,7 @@ use Rattle.acc_message.specs.StoreRules.{replay}
 use Rattle.acc_record.specs.declared.shelf.Shelf.{Shelf}
 use Rattle.acc_record.specs.Shelf.{record_at, cell_at}
 use Rattle.acc_record.specs.Stands.{StandsFor, record_with}
-use Rattle.acc_shelf_laws.proofs.Resting.{IsUntouched, untouched, unstable_closed}
+use Rattle.acc_record.proofs.Resting.{IsUntouched, untouched, unstable_closed}
 use Rattle.acc_store.specs.Queries.{applied_in, all_applied_at, cell_if_applied}
 
 module _ (layout : Layout) (shelf : Shelf) (messages : List Message) (stands : StandsFor layout shelf (replay layout shelf.actor messages)) where

@@ -18,7 +18,7 @@ use Rattle.acc_message.specs.VoteRule.{Vote, vote_in, first_vote, vote_of, drawn
 use Rattle.acc_message.specs.BallotRules.{promise_of, stable_of}
 use Rattle.acc_message.specs.Opening.{may_open}
 use Rattle.acc_message.specs.StoreRules.{store_answer, replay, unless_stable, body_counting}
-use Rattle.acc_opened_laws.proofs.Answered.{reads_answered, reads_drawn}
+use Rattle.acc_execute.proofs.Answered.{reads_answered, reads_drawn}
 use Rattle.acc_record.specs.declared.shelf.Shelf.{Shelf}
 use Rattle.acc_record.specs.Stands.{StandsFor, AnswersByRules}
 

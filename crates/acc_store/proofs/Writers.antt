@@ -16,7 +16,7 @@ use Rattle.acc_message.specs.Taken.{Taken, Heard, known}
 use Rattle.acc_message.specs.StoreRules.{replay}
 use Rattle.acc_record.specs.declared.shelf.Shelf.{Shelf}
 use Rattle.acc_record.specs.Stands.{IsStampOf, noted_as, IsCovered, AreStamps, StandsFor}
-use Rattle.acc_answers.proofs.KnownOnes.{heard_there, known_told}
+use Rattle.acc_record.proofs.KnownOnes.{heard_there, known_told}
 use Rattle.acc_store.specs.Queries.{writes_here, known_writers}
 
 module _ (layout : Layout) (shard : ℕ) (history : List Taken) (noted : List Noted) (stamps : AreStamps layout shard history noted) (key : Key) where

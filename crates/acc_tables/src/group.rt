@@ -2,7 +2,7 @@
 ghost use Rattle.std.specs.Prelude.{◌≡◌, ◌+◌, ◌*◌, length, sum_by, IfSome};
 ghost use Rattle.acc_journal.specs.Layout.{AreShort};
 
-use crate::journal::opened;
+use crate::journal::told;
 use acc_base::{Bytes, Sequence};
 use acc_journal::{Journal, JournalError, Payloads};
 use acc_ports::{MemDisk, Rig};
@@ -57,7 +57,7 @@ fn append(journal: &mut Journal<MemDisk>, payloads: &Payloads) -> &'static str {
 fn left(alloc: Global, ended: &str, journal: Journal<MemDisk>, choice: u8) -> Result<String> {
     let mut disk = journal.into_disk();
     disk.crash(choice)?;
-    let found = opened(alloc, disk)?;
+    let found = told(alloc, Journal::reopen(alloc, disk))?;
     Ok(format!(in alloc; "{ended} {found}")?)
 }
 

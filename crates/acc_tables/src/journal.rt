@@ -1,27 +1,22 @@
 //! Bytes of journals.
-ghost use Rattle.std.specs.Prelude.{is_none};
-ghost use Rattle.acc_ports.specs.MemoryDisk.{IsImageOf};
-ghost use Rattle.acc_journal.specs.Journal.{IsAtRest};
-
 use acc_base::{Bytes, OutOfMemory, Sequence};
-use acc_journal::{Journal, JournalError};
+use acc_journal::{Journal, JournalError, Payloads};
 use acc_ports::MemDisk;
 use anyhow::Result;
 use std::alloc::Global;
 
 /// The payloads of the journal on a disk that has these bytes, or why there is none.
 pub fn answer(alloc: Global, bytes: &[u8]) -> Result<String> {
-    opened(
-        alloc,
-        MemDisk::of(alloc, Sequence::from_slice(alloc, bytes)?)?,
-    )
+    let disk = MemDisk::of(alloc, Sequence::from_slice(alloc, bytes)?)?;
+    told(alloc, Journal::reopen(alloc, disk))
 }
 
-/// The payloads of the journal on a disk, or why there is none.
-pub fn opened(alloc: Global, disk: MemDisk) -> Result<String>
-    requires rest { IsAtRest disk.now.content (IsImageOf disk.now) (is_none disk.fails) disk.now.synced disk.now.written }
-{
-    match Journal::reopen(alloc, disk) {
+/// The payloads of a journal that was opened, or why there is none.
+pub fn told(
+    alloc: Global,
+    opened: Result<(Journal<MemDisk>, Payloads), (JournalError, MemDisk)>,
+) -> Result<String> {
+    match opened {
         Ok((journal, payloads)) => {
             drop(journal);
             read(alloc, payloads.as_slice())

@@ -1,3 +1,4 @@
-pub mod Everywhere
 mod Counted
+pub mod Everywhere
 pub mod Exist
+mod Listed

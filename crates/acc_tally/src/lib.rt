@@ -2,7 +2,9 @@
 //! Elliott Smith, Zhang, Eggleston and Andreas.
 #![tactic(auto)]
 
+mod listing;
 mod marks;
 mod tally;
 
+pub use listing::{is_store, stores};
 pub use tally::Tally;

@@ -10,9 +10,9 @@ use Rattle.std.proofs.lemmas.Option.{slice_get_within, slice_get-get_or}
 use Rattle.std.proofs.lemmas.Bool.{cond_below, cond_above}
 use mathlib.Core.Logic.{dite}
 use native.Mathlib.Decide.{dec_lt}
-use Rattle.acc_posts.specs.declared.posting.Posting.{Posting}
-use Rattle.acc_posts.specs.declared.posting.Post.{Post}
-use Rattle.acc_posts.specs.Mail.{Mail, posting_at, nothing, taken, IsOpenTo, IsNext as IsNextOf, HasNone as HasNoneOf}
+use Rattle.acc_message_index.specs.declared.posting.Posting.{Posting}
+use Rattle.acc_message_index.specs.declared.posting.Post.{Post}
+use Rattle.acc_message_index.specs.Mail.{Mail, posting_at, nothing, taken, IsOpenTo, IsNext as IsNextOf, HasNone as HasNoneOf}
 use Rattle.acc_tape.specs.Messages.{is_number, messages_from, messages_of, is_taken, IsWaiting, HasNone, IsOldest, AreOldest, IsSentBy, behind_all, posts_in}
 use Rattle.std.proofs.lemmas.List.Sums.{sum_by-cons, sum_by_push}
 use Rattle.acc_tape.specs.declared.content.Limits.{Limits}

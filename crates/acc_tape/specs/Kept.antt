@@ -1,8 +1,8 @@
 -- What the parts of a board keep beside its items.
 use Rattle.std.specs.Prelude.{◌≡◌, ℕ, ◌+◌, ◌-◌, ◌≤◌, ◌==◌, ◌&&◌, not, Bool, List, [], ◌∷◌, ◌++◌, length, Option, None, Some, sum_by}
 use Rattle.std.specs.List.{list_any}
-use Rattle.acc_posts.specs.declared.posting.Posting.{Posting}
-use Rattle.acc_posts.specs.Mail.{Mail, taken, early_after}
+use Rattle.acc_message_index.specs.declared.posting.Posting.{Posting}
+use Rattle.acc_message_index.specs.Mail.{Mail, taken, early_after}
 use Rattle.acc_tape.specs.declared.content.Limits.{Limits}
 use Rattle.acc_tape.specs.Messages.{messages_of, is_taken}
 

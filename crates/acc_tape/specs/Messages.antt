@@ -1,8 +1,8 @@
 -- The messages that the items of a list sent, in the order of their numbers, and which of them are still to be taken.
 use Rattle.std.specs.Prelude.{◌≡◌, ℕ, ◌+◌, ◌<◌, ◌≤◌, ◌==◌, not, Bool, true, false, List, [], ◌∷◌, ◌++◌, length, map, Option, None, Some, slice_get, sum_by, take}
 use Rattle.std.specs.List.{list_any}
-use Rattle.acc_posts.specs.declared.posting.Posting.{Posting}
-use Rattle.acc_posts.specs.declared.posting.Post.{Post}
+use Rattle.acc_message_index.specs.declared.posting.Posting.{Posting}
+use Rattle.acc_message_index.specs.declared.posting.Post.{Post}
 
 -- a message with this number was taken
 abbrev pub is_number : ℕ → Option ℕ → Bool

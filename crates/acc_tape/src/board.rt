@@ -13,7 +13,7 @@ use crate::posted::Posted;
 use crate::rules::Rules;
 use acc_base::OutOfMemory;
 use acc_message::Which;
-use acc_posts::{Post, Posts};
+use acc_message_index::{Post, Posts};
 use std::alloc::Global;
 use std::marker::{Model, PhantomData};
 

@@ -11,7 +11,7 @@ use crate::rules::Rules;
 use crate::seat::Seat;
 use crate::tape::Tape;
 use acc_base::OutOfMemory;
-use acc_posts::Post;
+use acc_message_index::Post;
 use std::sync::Wait;
 
 impl<E: Posted, R: Rules<E>> Tape<E, R> {

@@ -2,7 +2,7 @@
 ghost use Rattle.std.specs.Prelude.{◌≡◌, [], IfOk};
 
 use acc_base::OutOfMemory;
-use acc_posts::Posts;
+use acc_message_index::Posts;
 use std::alloc::Global;
 
 /// For so many items, notes and messages a new tape asks for memory at once. That is some 50 MB of addresses: the C library mostly maps

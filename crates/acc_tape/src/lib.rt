@@ -15,7 +15,7 @@ mod seating;
 mod tape;
 mod view;
 
-pub use acc_posts::Post;
+pub use acc_message_index::Post;
 pub use error::{PlaceError, TapeError};
 pub use posted::Posted;
 pub use rules::Rules;

@@ -33,14 +33,6 @@ impl<'a> Cursor<'a> {
         Cursor { rest: text }
     }
 
-    /// The next token. The cursor stays in front of it.
-    #[tactic(auto, unfolding(crate::specs::Tokens::token_at))]
-    pub fn peek(&self) -> Lexeme<'a>
-        ensures { token_shown result ≡ token_at self.now.rest.now }
-    {
-        first(begun(self.rest)).0
-    }
-
     /// Goes behind the next token. At the end, and in front of a byte that begins no token, it stays.
     #[tactic(auto, unfolding(crate::specs::Tokens::token_at, crate::specs::Tokens::left_at, crate::specs::Tokens::behind))]
     #[inline(never)]

@@ -25,12 +25,12 @@ use Rattle.acc_actor_laws.proofs.Standing.{not_none}
 use Rattle.acc_actor_laws.proofs.OpeningFacts.{some_is}
 use Rattle.acc_safety.specs.RunLaws.{acts_done}
 use Rattle.acc_safety.proofs.Bridge.{same}
-use Rattle.acc_bounds.specs.Calls.{IsDeliverable, replayed_steps}
-use Rattle.acc_bounds.proofs.Sendable.{node_meets, store_meets, is_deliverable}
-use Rattle.acc_entering.specs.Entries.{MayTake}
-use Rattle.acc_entering.proofs.Replayed.{node_emits_next, store_emits_next, restart_emits}
-use Rattle.acc_entering.proofs.Situations.{joined_alone}
-use Rattle.acc_follow.specs.Situations.{whole}
+use Rattle.acc_run_laws.specs.Calls.{IsDeliverable, replayed_steps}
+use Rattle.acc_run_laws.proofs.Sendable.{node_meets, store_meets, is_deliverable}
+use Rattle.acc_pasts.specs.Entries.{MayTake}
+use Rattle.acc_pasts.proofs.Replayed.{node_emits_next, store_emits_next, restart_emits}
+use Rattle.acc_pasts.proofs.Situations.{joined_alone}
+use Rattle.acc_schedule_runs.specs.Situations.{whole}
 use Rattle.acc_history.specs.declared.history.History.{History}
 use Rattle.acc_record.specs.Stands.{IsFor}
 use Rattle.acc_node.specs.declared.node.Node.{Node}

@@ -29,13 +29,13 @@ use Rattle.acc_actor_laws.proofs.OpeningFacts.{some_is}
 use Rattle.acc_safety.specs.Valid.{IsStanding}
 use Rattle.acc_safety.proofs.BegunFacts.{WasBegun, begun_has, id_was_begun}
 use Rattle.acc_node.specs.declared.error.NodeError.{NodeError}
-use Rattle.acc_safe_runs.specs.declared.ask.Ask.{Ask}
-use Rattle.acc_safe_runs.specs.declared.ask.Ask.TheVariants.{Begin, Recover, Slow, Deliver, Restart}
-use Rattle.acc_safe_runs.specs.Asks.{home_of_txn, receiver, stepper, event_for, skip_if, slow_skip_in, slow_skip_at, slow_skip, skip_of, emits_if, entered}
-use Rattle.acc_entering.specs.Entries.{entering, MayTake}
-use Rattle.acc_entering.proofs.Standing.{begin_may, recover_may, deliver_may, message_there}
-use Rattle.acc_follow.specs.Situations.{whole}
-use Rattle.acc_entering.proofs.Situations.{joined_alone}
+use Rattle.acc_run_laws.specs.declared.ask.Ask.{Ask}
+use Rattle.acc_run_laws.specs.declared.ask.Ask.TheVariants.{Begin, Recover, Slow, Deliver, Restart}
+use Rattle.acc_run_laws.specs.Asks.{home_of_txn, receiver, stepper, event_for, skip_if, slow_skip_in, slow_skip_at, slow_skip, skip_of, emits_if, entered}
+use Rattle.acc_pasts.specs.Entries.{entering, MayTake}
+use Rattle.acc_pasts.proofs.Standing.{begin_may, recover_may, deliver_may, message_there}
+use Rattle.acc_schedule_runs.specs.Situations.{whole}
+use Rattle.acc_pasts.proofs.Situations.{joined_alone}
 use Rattle.acc_world.specs.declared.world.World.{World}
 use Rattle.acc_world.specs.Held.{cluster_of, past_of, IsActorOf, MayTry, IsSlowRefused}
 use Rattle.acc_world.specs.Stands.{StandsFor}

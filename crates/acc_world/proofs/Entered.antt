@@ -19,11 +19,11 @@ use Rattle.acc_message.specs.Coordinator.{silence}
 use Rattle.acc_message.specs.Run.{Cluster, act_of, emits, kept_of, is_down, IsRun}
 use Rattle.acc_actor_laws.proofs.Standing.{not_none}
 use Rattle.acc_safety.specs.Valid.{IsValidCluster}
-use Rattle.acc_safe_runs.specs.Asks.{emits_if}
-use Rattle.acc_safe_runs.specs.AskLaws.{is_no_down, IsRunWithoutDowns}
-use Rattle.acc_entering.specs.Entries.{entering, MayTake}
-use Rattle.acc_entering.proofs.Standing.{entry_run, restart_may}
-use Rattle.acc_entering.proofs.Replayed.{restart_emits}
+use Rattle.acc_run_laws.specs.Asks.{emits_if}
+use Rattle.acc_run_laws.specs.AskLaws.{is_no_down, IsRunWithoutDowns}
+use Rattle.acc_pasts.specs.Entries.{entering, MayTake}
+use Rattle.acc_pasts.proofs.Standing.{entry_run, restart_may}
+use Rattle.acc_pasts.proofs.Replayed.{restart_emits}
 use Rattle.acc_history.specs.declared.history.History.{History}
 use Rattle.acc_history.specs.Stands.{StandsFor as IsHistoryOf, EventTakesSent}
 use Rattle.acc_world.specs.declared.setup.Setup.{Setup}

@@ -9,7 +9,7 @@ use Rattle.acc_topology.specs.Sets.{is_among}
 use Rattle.acc_actor_laws.proofs.Standing.{not_none}
 use Rattle.acc_actor_laws.proofs.OpeningFacts.{some_is}
 use Rattle.acc_safety.specs.Valid.{IsValidCluster}
-use Rattle.acc_bounds.proofs.Addresses.{node_low}
+use Rattle.acc_run_laws.proofs.Addresses.{node_low}
 use Rattle.acc_world.specs.declared.setup.Setup.{Setup}
 use Rattle.acc_world.specs.Held.{cluster_of}
 use Rattle.acc_world.proofs.Acting.{read_is}

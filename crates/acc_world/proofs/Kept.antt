@@ -14,8 +14,8 @@ use Rattle.acc_message.specs.Items.{same_actor}
 use Rattle.acc_message.specs.NodeRules.{Act, Restarts, Deed}
 use Rattle.acc_message.specs.Run.{Cluster, act_of, deeds_of}
 use Rattle.acc_safety.proofs.Bridge.{same, same_itself}
-use Rattle.acc_entering.proofs.Deeds.{deeds_same, deeds_more}
-use Rattle.acc_entering.proofs.Standing.{restart_may}
+use Rattle.acc_pasts.proofs.Deeds.{deeds_same, deeds_more}
+use Rattle.acc_pasts.proofs.Standing.{restart_may}
 use Rattle.acc_history.specs.declared.history.History.{History}
 use Rattle.acc_world.specs.declared.held.Held.{Held}
 use Rattle.acc_world.specs.declared.setup.Setup.{Setup}

@@ -18,9 +18,9 @@ use Rattle.acc_safety.specs.Valid.{IsValidCluster, IsStanding}
 use Rattle.acc_safety.proofs.PlaceOrder.{Contains-IsIn, IsIn-append_cases, IsIn-map, any_from, none_is_in}
 use Rattle.acc_safety.proofs.DrawFacts.{node_is}
 use Rattle.acc_schedule.specs.Actors.{stores_from, actors}
-use Rattle.acc_receivers.proofs.Receivers.{goes_to_actor}
-use Rattle.acc_bounds.proofs.Addresses.{node_low}
-use Rattle.acc_bounds.proofs.Sendable.{node_meets}
+use Rattle.acc_run_laws.proofs.ReceiverFacts.{goes_to_actor}
+use Rattle.acc_run_laws.proofs.Addresses.{node_low}
+use Rattle.acc_run_laws.proofs.Sendable.{node_meets}
 use Rattle.acc_node.specs.declared.node.Node.{Node}
 use Rattle.acc_node.specs.Stands.{StandsFor as IsNodeStanding}
 use Rattle.acc_world.specs.declared.setup.Setup.{Setup}

@@ -1,12 +1,18 @@
-pub mod Kept
-pub mod Acting
-pub mod SlowSteps
 pub mod Acted
-pub mod Homes
-pub mod Noted
-pub mod Rebuilt
-pub mod Known
+pub mod Acting
+mod Asked
+pub mod Asks
+mod Cells
 pub mod Entered
 pub mod Fast
-pub mod Asks
+mod Goings
+pub mod Homes
+pub mod Kept
+pub mod Known
+pub mod Noted
+pub mod Rebuilt
+mod Records
+mod Seats
+pub mod SlowSteps
+mod TellsAttempts
 pub mod Told

@@ -15,9 +15,9 @@ use Rattle.acc_message.specs.Items.{same_actor}
 use Rattle.acc_message.specs.NodeRules.{Act, Deed}
 use Rattle.acc_message.specs.Run.{Cluster, act_of, deeds_of, emits, MayStand, StandsOn, EachStands}
 use Rattle.acc_safety.proofs.Bridge.{same, same_itself}
-use Rattle.acc_bounds.specs.Sends.{AreFew}
-use Rattle.acc_entering.proofs.Deeds.{deeds_more, deeds_same}
-use Rattle.acc_entering.proofs.Stops.{act_still}
+use Rattle.acc_run_laws.specs.Sends.{AreFew}
+use Rattle.acc_pasts.proofs.Deeds.{deeds_more, deeds_same}
+use Rattle.acc_pasts.proofs.Stops.{act_still}
 use Rattle.acc_history.specs.declared.history.History.{History}
 use Rattle.acc_world.specs.declared.setup.Setup.{Setup}
 use Rattle.acc_world.specs.declared.held.Held.{Held}

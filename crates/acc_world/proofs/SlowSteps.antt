@@ -15,14 +15,14 @@ use Rattle.acc_actor_laws.proofs.OpeningFacts.{some_is}
 use Rattle.acc_safety.specs.RunLaws.{acts_done}
 use Rattle.acc_safety.specs.Valid.{IsStanding}
 use Rattle.acc_safety.proofs.DrawFacts.{node_is, is_node-node}
-use Rattle.acc_safe_runs.specs.Asks.{home_of_txn, slow_skip}
-use Rattle.acc_bounds.specs.Calls.{replayed_deeds}
-use Rattle.acc_entering.specs.Entries.{MayTake}
-use Rattle.acc_entering.proofs.Replayed.{node_replayed, node_emits_next}
-use Rattle.acc_entering.proofs.Slowing.{begun_at_home}
-use Rattle.acc_entering.proofs.Standing.{slow_may}
-use Rattle.acc_slowing.specs.Slowing.{slow_cause}
-use Rattle.acc_slowing.proofs.Slowed.{slow_is_told}
+use Rattle.acc_run_laws.specs.Asks.{home_of_txn, slow_skip}
+use Rattle.acc_run_laws.specs.Calls.{replayed_deeds}
+use Rattle.acc_pasts.specs.Entries.{MayTake}
+use Rattle.acc_pasts.proofs.Replayed.{node_replayed, node_emits_next}
+use Rattle.acc_pasts.proofs.SlowingFacts.{begun_at_home}
+use Rattle.acc_pasts.proofs.Standing.{slow_may}
+use Rattle.acc_pasts.specs.Slowing.{slow_cause}
+use Rattle.acc_pasts.proofs.Slowed.{slow_is_told}
 use Rattle.acc_history.specs.declared.history.History.{History}
 use Rattle.acc_node.specs.declared.error.NodeError.{NodeError}
 use Rattle.acc_node.specs.declared.error.NodeError.TheVariants.{Begun, Unknown, NoQuorum, OutOfMemory}

@@ -4,9 +4,9 @@ use Rattle.acc_message.specs.declared.entry.Entry.{Entry}
 use Rattle.acc_message.specs.declared.item.Item.{Item}
 use Rattle.acc_message.specs.declared.item.Skip.{Skip}
 use Rattle.acc_message.specs.Run.{Cluster}
-use Rattle.acc_safe_runs.specs.declared.ask.Ask.{Ask}
-use Rattle.acc_safe_runs.specs.Asks.{skip_of}
-use Rattle.acc_safe_runs.specs.AskLaws.{IsAskOf}
+use Rattle.acc_run_laws.specs.declared.ask.Ask.{Ask}
+use Rattle.acc_run_laws.specs.Asks.{skip_of}
+use Rattle.acc_run_laws.specs.AskLaws.{IsAskOf}
 use Rattle.acc_world.specs.declared.error.WorldError.{WorldError}
 use Rattle.acc_world.specs.declared.error.WorldError.TheVariants.{Skip as SkipError, OutOfMemory}
 use Rattle.acc_world.specs.declared.world.World.{World}

@@ -16,10 +16,10 @@ use Rattle.acc_message.specs.Run.{Cluster, act_of, clock_start, deeds_of, taken_
 use Rattle.acc_actor_laws.specs.TakenAlone.{messages_taken}
 use Rattle.acc_safety.specs.RunLaws.{acts_done}
 use Rattle.acc_safety.specs.Valid.{IsValidCluster, IsStanding}
-use Rattle.acc_safe_runs.specs.Asks.{slow_skip}
-use Rattle.acc_bounds.specs.Sends.{AreFew}
-use Rattle.acc_entering.specs.Entries.{MayTake}
-use Rattle.acc_follow.specs.Situations.{Situation}
+use Rattle.acc_run_laws.specs.Asks.{slow_skip}
+use Rattle.acc_run_laws.specs.Sends.{AreFew}
+use Rattle.acc_pasts.specs.Entries.{MayTake}
+use Rattle.acc_schedule_runs.specs.Situations.{Situation}
 use Rattle.acc_history.specs.declared.history.History.{History}
 use Rattle.acc_history.specs.Stands.{StandsFor as IsHistoryOf}
 use Rattle.acc_node.specs.declared.error.NodeError.{NodeError}

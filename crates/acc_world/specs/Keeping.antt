@@ -11,7 +11,7 @@ use Rattle.acc_message.specs.declared.item.Item.TheVariants.{Step}
 use Rattle.acc_message.specs.Coordinator.{silence}
 use Rattle.acc_message.specs.NodeRules.{Act}
 use Rattle.acc_message.specs.Run.{Cluster, emits}
-use Rattle.acc_entering.specs.Entries.{MayTake}
+use Rattle.acc_pasts.specs.Entries.{MayTake}
 use Rattle.acc_history.specs.declared.history.History.{History}
 use Rattle.acc_world.specs.declared.held.Held.{Held}
 use Rattle.acc_world.specs.declared.setup.Setup.{Setup}

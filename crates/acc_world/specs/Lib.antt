@@ -1,6 +1,8 @@
-pub mod Values
 pub mod Held
+pub mod Keeping
 pub mod Shared
 pub mod Stands
-pub mod Keeping
+pub mod StepLaws
 pub mod Steps
+pub mod Told
+pub mod Values

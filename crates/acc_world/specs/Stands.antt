@@ -7,7 +7,7 @@ use Rattle.acc_stamp.specs.declared.actors.Actor.{Actor}
 use Rattle.acc_message.specs.declared.item.Item.{Item}
 use Rattle.acc_message.specs.Run.{Cluster, deeds_of}
 use Rattle.acc_safety.specs.Valid.{IsValidCluster}
-use Rattle.acc_safe_runs.specs.AskLaws.{IsRunWithoutDowns}
+use Rattle.acc_run_laws.specs.AskLaws.{IsRunWithoutDowns}
 use Rattle.acc_history.specs.Stands.{StandsFor as IsHistoryOf}
 use Rattle.acc_world.specs.declared.held.Held.{Held}
 use Rattle.acc_world.specs.declared.world.World.{World}

@@ -13,11 +13,11 @@ use Rattle.acc_message.specs.Attempts.{Attempt}
 use Rattle.acc_message.specs.NodeRules.{Act}
 use Rattle.acc_message.specs.Run.{Cluster, emits, kept_of, is_node, attempt_at}
 use Rattle.acc_coord.specs.Stands.{MakesFastQuorum, DecidesFast}
-use Rattle.acc_safe_runs.specs.declared.ask.Ask.{Ask}
-use Rattle.acc_safe_runs.specs.declared.ask.Ask.TheVariants.{Begin, Recover, Slow as SlowAsk, Deliver, Restart}
-use Rattle.acc_safe_runs.specs.Asks.{stepper, event_for, skip_of, item_for}
-use Rattle.acc_safe_runs.specs.AskLaws.{IsAskOf}
-use Rattle.acc_entering.specs.Entries.{entering, MayTake}
+use Rattle.acc_run_laws.specs.declared.ask.Ask.{Ask}
+use Rattle.acc_run_laws.specs.declared.ask.Ask.TheVariants.{Begin, Recover, Slow as SlowAsk, Deliver, Restart}
+use Rattle.acc_run_laws.specs.Asks.{stepper, event_for, skip_of, item_for}
+use Rattle.acc_run_laws.specs.AskLaws.{IsAskOf}
+use Rattle.acc_pasts.specs.Entries.{entering, MayTake}
 use Rattle.acc_world.specs.declared.error.WorldError.{WorldError}
 use Rattle.acc_world.specs.declared.error.WorldError.TheVariants.{Skip as SkipError, OutOfMemory}
 use Rattle.acc_world.specs.declared.world.World.{World}

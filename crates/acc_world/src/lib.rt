@@ -2,6 +2,7 @@
 //! one; the laws hold of every run.
 #![tactic(auto)]
 
+pub mod attempt_laws;
 mod error;
 mod held;
 mod keeping;
@@ -9,6 +10,7 @@ pub mod laws;
 mod rebuilding;
 mod setup;
 mod shared;
+pub mod step_laws;
 mod world;
 
 pub use error::WorldError;

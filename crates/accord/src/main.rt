@@ -3,10 +3,11 @@
 
 ghost use Rattle.std.specs.Prelude.{◌≡◌, IfOk, drop, map, string_bytes};
 ghost use Rattle.std.specs.Process.{exit_status};
-ghost use Rattle.acc_command.specs.Command.{code_of};
+ghost use Rattle.acc_command_alone.specs.Command.{code_of};
 
 use acc_base::{OutOfMemory, Sequence, Text};
-use acc_command::{Remains, Status, accord};
+use acc_command::accord;
+use acc_command_alone::{Remains, Status};
 use acc_ports::{MemMaker, OpenGate, StdSink, StdSource};
 use std::alloc::Global;
 use std::env::Env;

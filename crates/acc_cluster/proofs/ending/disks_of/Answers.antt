@@ -1,8 +1,8 @@
 -- The disks of the slots so far, and of one more.
 use Rattle.std.proofs.Common.{rules, ◌≡◌, ◌+◌, List, [], ◌∷◌, ◌++◌, length, length-append, sym, ◌∙◌, ap, subst, arith}
 use Rattle.std.specs.List.{AllByRecursion}
+use Rattle.acc_actors.specs.declared.slot.Slot.{Slot}
 use Rattle.acc_cluster.specs.Ends.{disks_from, entry_of, LeavesHeld}
-use Rattle.acc_cluster.specs.declared.slot.Slot.{Slot}
 use Rattle.std.specs.Vec.Iter.{into_iter_items}
 use Rattle.acc_cluster.proofs.LeftDisks.{disks_more, all_more}
 use Rattle.acc_cluster.proofs.Turns.{one_more, all_out}

@@ -1,6 +1,6 @@
 use Rattle.std.proofs.Common.{◌≡◌, ℕ, ◌+◌, ◌-◌, length}
 use Rattle.std.specs.List.{slice_index_or}
-use Rattle.acc_cluster.specs.declared.slot.Slot.TheVariants.{Empty}
+use Rattle.acc_actors.specs.declared.slot.Slot.TheVariants.{Empty}
 use Rattle.acc_cluster.proofs.opening.make_room.Given as goal
 
 abbrev pub invariant-room : goal.invariant-room

@@ -4,7 +4,7 @@ use Rattle.std.specs.List.{AllByRecursion, slice_index_or}
 use Rattle.std.specs.Vec.Iter.{into_iter_items}
 use Rattle.acc_topology.specs.Sets.{is_among}
 use Rattle.acc_schedule.specs.Content.{Content}
-use Rattle.acc_durable.specs.declared.node.DurableNode.{DurableNode}
+use Rattle.acc_durable_node.specs.declared.node.DurableNode.{DurableNode}
 use Rattle.acc_cluster.specs.Opened.{IsNodeOf, AreFilled, AreFilledStrictly}
 use Rattle.acc_cluster.proofs.Filled.{all_seam, number_at, is_member}
 use Rattle.acc_cluster.proofs.Turns.{one_more, all_out}

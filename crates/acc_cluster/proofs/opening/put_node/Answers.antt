@@ -4,14 +4,15 @@ use Rattle.std.specs.List.{slice_index_or}
 use Rattle.acc_stamp.specs.declared.actors.Actor.{Actor}
 use Rattle.acc_stamp.specs.Actor.{actor_of}
 use Rattle.acc_safety.proofs.PlaceOrder.{IsIn-Contains}
-use Rattle.acc_receivers.proofs.Layouts.{node_is}
+use Rattle.acc_run_laws.proofs.Layouts.{node_is}
 use Rattle.acc_schedule.specs.Actors.{actors}
 use Rattle.acc_schedule.specs.Content.{Content}
 use Rattle.acc_schedule.specs.View.{content}
-use Rattle.acc_cluster.specs.declared.slot.Slot.TheVariants.{Empty, Node}
-use Rattle.acc_cluster.proofs.Filled.{node_opens, filled_node, filled_node_strictly}
-use Rattle.acc_cluster.proofs.NodeRange.{node_range, started, start_range}
-use Rattle.acc_cluster.proofs.Unarmed.{on_ok, node_unarmed}
+use Rattle.acc_actors.specs.declared.slot.Slot.TheVariants.{Empty, Node}
+use Rattle.acc_actors.proofs.Opens.{node_opens}
+use Rattle.acc_actors.proofs.NodeRange.{node_range, started, start_range}
+use Rattle.acc_actors.proofs.Unarmed.{node_unarmed}
+use Rattle.acc_cluster.proofs.Filled.{filled_node, filled_node_strictly, on_ok}
 use Rattle.acc_cluster.proofs.opening.put_node.Goals as goal
 
 pub actor-place-requires-clause-node_in_range : goal.actor-place-requires-clause-node_in_range

@@ -4,13 +4,14 @@ use Rattle.std.specs.List.{slice_index_or}
 use Rattle.acc_stamp.specs.declared.actors.Actor.{Actor}
 use Rattle.acc_message.specs.Run.{is_node}
 use Rattle.acc_store.specs.Stands.{actor_of}
-use Rattle.acc_durable.specs.Store.{actor_in}
+use Rattle.acc_durable_store.specs.Store.{actor_in}
 use Rattle.acc_schedule.specs.Content.{Content}
-use Rattle.acc_follow.specs.Situations.{opened}
-use Rattle.acc_cluster.specs.declared.slot.Slot.TheVariants.{Empty, Store}
-use Rattle.acc_cluster.specs.Slots.{SlotStands}
-use Rattle.acc_cluster.proofs.Filled.{store_opens, filled_store, filled_store_strictly}
-use Rattle.acc_cluster.proofs.Unarmed.{on_ok, store_unarmed}
+use Rattle.acc_schedule_runs.specs.Situations.{opened}
+use Rattle.acc_actors.specs.declared.slot.Slot.TheVariants.{Empty, Store}
+use Rattle.acc_actors.specs.Slots.{SlotStands}
+use Rattle.acc_actors.proofs.Opens.{store_opens}
+use Rattle.acc_actors.proofs.Unarmed.{store_unarmed}
+use Rattle.acc_cluster.proofs.Filled.{filled_store, filled_store_strictly, on_ok}
 use Rattle.acc_cluster.proofs.opening.put_store.Goals as goal
 
 pub returns-clause-filled : goal.returns-clause-filled

@@ -2,7 +2,7 @@
 use Rattle.std.proofs.Common.{List, ◌++◌, sym, ◌∙◌, ap, subst}
 use Rattle.std.specs.List.{AllByRecursion}
 use Rattle.std.specs.Vec.Iter.{into_iter_items}
-use Rattle.acc_durable.specs.declared.store.DurableStore.{DurableStore}
+use Rattle.acc_durable_store.specs.declared.store.DurableStore.{DurableStore}
 use Rattle.acc_cluster.specs.Opened.{IsStoreOf, IsStoreNumber, AreFilled, AreFilledStrictly}
 use Rattle.acc_cluster.proofs.Filled.{all_seam}
 use Rattle.acc_cluster.proofs.Turns.{one_more, all_out}

@@ -1,6 +1,6 @@
 use Rattle.std.proofs.Common.{◌≡◌, List, [], ◌++◌}
 use Rattle.std.specs.Vec.Iter.{into_iter_items}
-use Rattle.acc_durable.specs.declared.node.DurableNode.{DurableNode}
+use Rattle.acc_durable_node.specs.declared.node.DurableNode.{DurableNode}
 use Rattle.acc_cluster.specs.Opened.{AreFilled, AreFilledStrictly}
 use Rattle.acc_cluster.proofs.opening.with_stores.Given as goal
 

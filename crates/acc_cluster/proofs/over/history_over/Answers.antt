@@ -1,9 +1,9 @@
 -- Each item stands behind those before it.
 use Rattle.std.proofs.Common.{List, reverse, [], subst}
 use Rattle.acc_message.specs.declared.item.Item.{Item}
-use Rattle.acc_bounds.specs.Sends.{AreFew}
+use Rattle.acc_run_laws.specs.Sends.{AreFew}
 use Rattle.acc_safety.specs.Valid.{IsStanding}
-use Rattle.acc_follow.specs.Schedules.{cluster_of}
+use Rattle.acc_schedule_runs.specs.Schedules.{cluster_of}
 use Rattle.acc_cluster.specs.Over.{behind_items}
 use Rattle.acc_cluster.proofs.OverSlots.{seam_follows}
 use Rattle.acc_cluster.proofs.over.history_over.Goals as goal

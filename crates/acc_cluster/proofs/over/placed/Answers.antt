@@ -2,7 +2,7 @@
 use Rattle.std.proofs.Common.{rules, List, [], sym, subst}
 use Rattle.std.specs.Vec.Iter.{into_iter_items}
 use Rattle.acc_stamp.specs.declared.actors.Actor.{Actor}
-use Rattle.acc_cluster.specs.declared.slot.Slot.{Slot}
+use Rattle.acc_actors.specs.declared.slot.Slot.{Slot}
 use Rattle.acc_cluster.specs.Over.{ArePlaced}
 use Rattle.acc_cluster.proofs.OverSlots.{none_placed, one_placed}
 use Rattle.acc_cluster.proofs.Turns.{one_more, all_out}

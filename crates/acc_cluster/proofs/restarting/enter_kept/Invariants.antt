@@ -1,7 +1,7 @@
 -- The history has the entries so far.
 use Rattle.std.proofs.Common.{◌≡◌, ◌++◌}
 use Rattle.std.specs.Vec.Iter.{into_iter_items}
-use Rattle.acc_follow.specs.Situations.{Situation}
+use Rattle.acc_schedule_runs.specs.Situations.{Situation}
 use Rattle.acc_cluster.specs.Entering.{HasPlace, IsPastOf}
 use Rattle.acc_cluster.specs.Restarting.{with_lost, CanComeBack}
 use Rattle.acc_cluster.proofs.restarting.enter_kept.Given as goal

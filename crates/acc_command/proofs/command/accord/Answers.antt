@@ -2,10 +2,10 @@
 use Rattle.std.proofs.Common.{◌≤◌, length, subst}
 use Rattle.acc_schedule.specs.Content.{Content}
 use Rattle.acc_schedule.specs.Document.{Means}
-use Rattle.acc_command.specs.declared.words.Command.TheVariants.{Run, Check}
-use Rattle.acc_command.specs.Words.{IsWorkersOf}
-use Rattle.acc_command.specs.Command.{document_limit, no_run, IsAccepted, IsDone}
-use Rattle.acc_command.proofs.CommandFacts.{mapped, unanswered}
+use Rattle.acc_command_alone.specs.declared.words.Command.TheVariants.{Run, Check}
+use Rattle.acc_command_alone.specs.Words.{IsWorkersOf}
+use Rattle.acc_command_alone.specs.Command.{document_limit, no_run, IsAccepted, IsDone}
+use Rattle.acc_command_alone.proofs.CommandFacts.{mapped, unanswered}
 use Rattle.acc_command.proofs.LineFacts.{runs_alone}
 use Rattle.acc_command.proofs.command.accord.Goals as goal
 

@@ -1,10 +1,10 @@
 -- Each way to end is one of a text that was due.
 use Rattle.std.proofs.Common.{◌≤◌, List, ℕ, length, Err, refl, ap}
 use Rattle.acc_ports.specs.declared.error.ReadError.{ReadError}
-use Rattle.acc_command.specs.declared.words.Command.TheVariants.{Run}
-use Rattle.acc_command.specs.Command.{document_limit, IsAccepted, IsDone}
-use Rattle.acc_command.proofs.CommandFacts.{completes, known_bytes, too_long, unanswered, unread}
-use Rattle.acc_command.proofs.LeavesFacts.{leaves_none}
+use Rattle.acc_command_alone.specs.declared.words.Command.TheVariants.{Run}
+use Rattle.acc_command_alone.specs.Command.{document_limit, IsAccepted, IsDone}
+use Rattle.acc_command_alone.proofs.CommandFacts.{completes, known_bytes, too_long, unanswered, unread}
+use Rattle.acc_command_alone.proofs.LeavesFacts.{leaves_none}
 use Rattle.acc_command.proofs.free.free.Goals as goal
 
 pub returns-in-Ok-clause-ends : goal.returns-in-Ok-clause-ends

@@ -1,6 +1,6 @@
 -- The line of the refusal is due, or how the turns of the plan's actors end.
-use Rattle.acc_command.proofs.CommandFacts.{refusal}
-use Rattle.acc_command.proofs.DueFacts.{run_due}
+use Rattle.acc_command_alone.proofs.CommandFacts.{refusal}
+use Rattle.acc_command_alone.proofs.DueFacts.{run_due}
 use Rattle.acc_command.proofs.free.reply.Goals as goal
 
 pub returns-in-Ok : goal.returns-in-Ok

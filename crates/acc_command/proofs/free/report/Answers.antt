@@ -3,8 +3,8 @@ use Rattle.std.proofs.Common.{◌∙◌, [], ap}
 use Rattle.std.specs.Prelude.{reverse}
 use Rattle.acc_schedule.specs.Content.{Content}
 use Rattle.acc_report.specs.Report.{report_text}
-use Rattle.acc_command.specs.Command.{OverThreads}
-use Rattle.acc_command.proofs.DueFacts.{reported, same_limit, told}
+use Rattle.acc_command_alone.proofs.DueFacts.{reported, same_limit, told}
+use Rattle.acc_command.specs.Free.{OverThreads}
 use Rattle.acc_command.proofs.free.report.Goals as goal
 
 pub returns-in_ok-text-in-Ok : goal.returns-in_ok-text-in-Ok

@@ -1,10 +1,10 @@
 -- The laws of generated documents and of served items, in the report's words.
 use Rattle.std.proofs.Common.{◌≤◌, List, ℕ, sym, subst}
 use Rattle.acc_schedule.specs.Document.{Means}
-use Rattle.acc_follow.specs.Schedules.{cluster_of}
+use Rattle.acc_schedule_runs.specs.Schedules.{cluster_of}
 use Rattle.acc_generator.specs.Plan.{plan, steps}
-use Rattle.acc_generated_runs.specs.Counts.{AreAnswered, answered_text}
-use Rattle.acc_generated_runs.proofs.Generated.{steps_end, steps_begin_once, steps_begin_all, text_ends}
+use Rattle.acc_command_alone.specs.Counts.{AreAnswered, answered_text}
+use Rattle.acc_command_alone.proofs.GeneratedFacts.{steps_end, steps_begin_once, steps_begin_all, text_ends}
 use Rattle.acc_command.proofs.FreeReports.{quiet_served, free_ends_alike}
 use Rattle.acc_command.proofs.FreeCounts.{free_answered, goes_forward}
 use Rattle.acc_command.proofs.laws.generated_reports_of_free_leave_none_open.Goals as goal

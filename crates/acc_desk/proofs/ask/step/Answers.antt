@@ -1,8 +1,8 @@
 use Rattle.std.proofs.Common.{IfOk, sym, subst}
-use Rattle.acc_follow.specs.Situations.{Situation}
-use Rattle.acc_strict.specs.Disks.{Disks}
-use Rattle.acc_cluster.specs.Slots.{IsStrictSlot}
-use Rattle.acc_cluster.specs.Asked.{IsAsked, HasTriedStrictly}
+use Rattle.acc_schedule_runs.specs.Situations.{Situation}
+use Rattle.acc_schedule_runs.specs.Disks.{Disks}
+use Rattle.acc_actors.specs.Slots.{IsStrictSlot}
+use Rattle.acc_actors.specs.Asked.{IsAsked, HasTriedStrictly}
 use Rattle.acc_desk.specs.Asks.{event_of, act_of_ask}
 use Rattle.acc_desk.specs.declared.ask.Ask.{Ask}
 use Rattle.acc_desk.proofs.ask.step.Goals as goal

@@ -2,10 +2,10 @@ use Rattle.std.proofs.Common.{◌≡◌, false, IfOk, sym, subst}
 use Rattle.acc_message.specs.declared.entry.Event.TheVariants.{Message as MessageEvent}
 use Rattle.acc_message.specs.NodeRules.{Takes}
 use Rattle.acc_message_code.specs.Weight.{weight_of}
-use Rattle.acc_follow.specs.Situations.{Situation}
-use Rattle.acc_follow.specs.Moves.{entry_of}
-use Rattle.acc_follow.specs.Schedules.{cluster_of}
-use Rattle.acc_cluster.specs.Asked.{IsAsked, MayAsk}
+use Rattle.acc_schedule_runs.specs.Situations.{Situation}
+use Rattle.acc_schedule_runs.specs.Moves.{entry_of}
+use Rattle.acc_schedule_runs.specs.Schedules.{cluster_of}
+use Rattle.acc_actors.specs.Asked.{IsAsked, MayAsk}
 use Rattle.acc_desk.specs.Asks.{event_of, act_of_ask}
 use Rattle.acc_desk.specs.declared.ask.Ask.{Ask}
 use Rattle.acc_desk.proofs.Weighing.{may_ask_behind, weighs_alone}

@@ -1,6 +1,6 @@
 use Rattle.std.proofs.Common.{subst}
-use Rattle.acc_cluster.specs.Slots.{SlotStands}
-use Rattle.acc_cluster.specs.declared.slot.Slot.{Slot}
+use Rattle.acc_actors.specs.Slots.{SlotStands}
+use Rattle.acc_actors.specs.declared.slot.Slot.{Slot}
 use Rattle.acc_desk.proofs.turning.is_store.Goals as goal
 
 pub returns-in-Store-clause-store : goal.returns-in-Store-clause-store

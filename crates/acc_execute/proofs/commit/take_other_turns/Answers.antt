@@ -6,7 +6,7 @@ use Rattle.acc_record.specs.Shelf.{record_at}
 use Rattle.acc_opening.specs.declared.turns.Turn.{Turn}
 use Rattle.acc_opening.specs.State.{no_turn}
 use Rattle.acc_opening.specs.Turns.{changes_in}
-use Rattle.acc_opened_laws.specs.Opened.{executed}
+use Rattle.acc_execute.specs.Opened.{executed}
 use Rattle.acc_execute.proofs.Turns.{no_other_turns, one_other}
 use Rattle.acc_execute.proofs.commit.take_other_turns.Goals as goal
 

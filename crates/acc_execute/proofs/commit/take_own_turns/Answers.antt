@@ -5,7 +5,7 @@ use Rattle.acc_record.specs.declared.record.Record.{Record}
 use Rattle.acc_opening.specs.declared.turns.Turn.{Turn}
 use Rattle.acc_opening.specs.State.{no_turn}
 use Rattle.acc_opening.specs.Turns.{changes_in}
-use Rattle.acc_opened_laws.specs.Opened.{executed}
+use Rattle.acc_execute.specs.Opened.{executed}
 use Rattle.acc_execute.specs.Executed.{after_turn}
 use Rattle.acc_execute.proofs.Turns.{no_own_turns, one_own}
 use Rattle.acc_execute.proofs.commit.take_own_turns.Goals as goal

@@ -1,7 +1,7 @@
 use Rattle.std.proofs.Common.{ap, ◌∙◌}
 use Rattle.acc_stamp.specs.Actor.{shard_of}
 use Rattle.acc_message.specs.StoreRules.{read_here}
-use Rattle.acc_reads.specs.Layer.{layered}
+use Rattle.acc_opening.specs.Layer.{layered}
 use Rattle.acc_execute.proofs.present.present_cells.Goals as goal
 
 pub returns : goal.returns

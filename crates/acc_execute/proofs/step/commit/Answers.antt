@@ -5,7 +5,7 @@ use Rattle.acc_stamp.specs.Stamp.{id_eq}
 use Rattle.acc_record.specs.declared.record.Record.{Record}
 use Rattle.acc_record.specs.Shelf.{record_at}
 use Rattle.acc_opening.specs.Turns.{changes_in}
-use Rattle.acc_opened_laws.specs.Opened.{executed}
+use Rattle.acc_execute.specs.Opened.{executed}
 use Rattle.acc_execute.proofs.Stepping.{records_then}
 use Rattle.acc_execute.proofs.step.commit.Goals as goal
 

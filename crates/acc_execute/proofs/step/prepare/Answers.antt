@@ -3,11 +3,11 @@ use Rattle.std.specs.List.{AllByRecursion}
 use Rattle.acc_stamp.specs.Actor.{shard_of}
 use Rattle.acc_record.specs.declared.record.Record.{Record}
 use Rattle.acc_record.specs.Shelf.{record_at, cell_at}
-use Rattle.acc_opening_laws.specs.Plan.{settled_in}
+use Rattle.acc_opening.specs.Plan.{settled_in}
 use Rattle.acc_opening.specs.Lookup.{lookup}
 use Rattle.acc_opening.specs.Turns.{changes_in}
 use Rattle.acc_opening.specs.Planned.{IsPlanned}
-use Rattle.acc_reads.specs.Release.{IsKept, IsReleased}
+use Rattle.acc_opening.specs.Release.{IsKept, IsReleased}
 use Rattle.acc_execute.specs.Executed.{IsReadyBehind}
 use Rattle.acc_execute.proofs.Kept.{all_kept}
 use Rattle.acc_execute.proofs.step.prepare.Goals as goal

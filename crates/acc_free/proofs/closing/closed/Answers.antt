@@ -3,9 +3,9 @@ use Rattle.std.proofs.Common.{List, length, map, refl, sym, ◌∙◌, ap, subst
 use Rattle.std.proofs.lemmas.List.{length-map}
 use Rattle.acc_schedule.specs.Content.{Content}
 use Rattle.acc_desk.specs.Fits.{fits_plan}
-use Rattle.acc_free.specs.declared.rest.Rest.{Rest}
+use Rattle.acc_free_ending.specs.declared.rest.Rest.{Rest}
 use Rattle.acc_free.specs.Parts.{seat_in}
-use Rattle.acc_free.specs.Queues.{rest_actor, AreAllActors}
+use Rattle.acc_free_ending.specs.Queues.{rest_actor, AreAllActors}
 use Rattle.acc_free.proofs.Parting.{seats_ready, actors_of_rests, closes}
 use Rattle.acc_free.proofs.closing.closed.Goals as goal
 

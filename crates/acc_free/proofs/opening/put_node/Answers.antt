@@ -3,15 +3,15 @@ use Rattle.std.proofs.Common.{◌≡◌, ◌≢◌, ℕ, ◌+◌, ◌*◌, ◌�
 use Rattle.acc_stamp.specs.declared.actors.Actor.{Actor}
 use Rattle.acc_stamp.specs.Actor.{actor_of}
 use Rattle.acc_schedule.specs.Actors.{actors}
-use Rattle.acc_served.specs.FreeRun.{alone}
-use Rattle.acc_strict.specs.Disks.{fresh_disks}
-use Rattle.acc_cluster.specs.Slots.{SlotStands, IsStrictSlot}
+use Rattle.acc_free_laws.specs.FreeRun.{alone}
+use Rattle.acc_schedule_runs.specs.Disks.{fresh_disks}
+use Rattle.acc_actors.specs.Slots.{SlotStands, IsStrictSlot}
 use Rattle.acc_run.proofs.Numbers.{node_range}
 use Rattle.acc_run.proofs.Beginning.{at_rest}
 use Rattle.acc_free.specs.Opened.{desk_actor, rank_of}
 use Rattle.acc_free.proofs.Known.{node_known, at_most}
 use Rattle.acc_free.proofs.Openings.{node_rank, opened_as}
-use Rattle.acc_free.proofs.Steps.{on_ok}
+use Rattle.acc_free_ending.proofs.Steps.{on_ok}
 use Rattle.acc_free.proofs.opening.put_node.Goals as goal
 
 not_zero : (n : ℕ) → 1 ≤ n → n * 64 + 0 ≢ 0

@@ -1,7 +1,7 @@
 -- The commands among the steps so far.
 use Rattle.std.proofs.Common.{◌≡◌, filter, take}
-use Rattle.acc_follow.specs.Schedules.{cluster_of}
-use Rattle.acc_served.specs.Commands.{is_command_of}
+use Rattle.acc_schedule_runs.specs.Schedules.{cluster_of}
+use Rattle.acc_free_laws.specs.Commands.{is_command_of}
 use Rattle.acc_free.proofs.owned.commands_of.Given as goal
 
 abbrev pub invariant-loop-step : goal.invariant-loop-step

@@ -1,7 +1,7 @@
 -- Desks are made, dealt, served and closed.
 use Rattle.std.proofs.Common.{◌≡◌, ℕ, ◌≤◌, ap, arith}
 use Rattle.acc_tape.specs.declared.content.Limits.{Limits}
-use Rattle.acc_limits.specs.Limits.{most_items, most_bytes}
+use Rattle.acc_schedule_runs.specs.Limits.{most_items, most_bytes}
 use Rattle.acc_free.specs.Dealing.{all_in}
 use Rattle.acc_free.proofs.Parting.{are_all, all_dealt, sound_dealt, as_many}
 use Rattle.acc_free.proofs.running.entered_by.Goals as goal

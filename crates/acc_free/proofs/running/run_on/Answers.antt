@@ -4,13 +4,13 @@ use Rattle.acc_message.specs.declared.error.RunError.{RunError}
 use Rattle.acc_message.specs.declared.error.RunError.TheVariants.{OutOfMemory}
 use Rattle.acc_message.specs.declared.item.Item.{Item}
 use Rattle.acc_schedule.specs.Content.{Content}
-use Rattle.acc_strict.specs.Disks.{fresh_disks}
-use Rattle.acc_limits.specs.Fronts.{Begins}
+use Rattle.acc_schedule_runs.specs.Disks.{fresh_disks}
+use Rattle.acc_schedule_runs.specs.Fronts.{Begins}
 use Rattle.acc_cluster.specs.Steps.{IfLimit}
 use Rattle.acc_run.specs.Given.{numbered}
 use Rattle.acc_run.proofs.Whole.{limit_told}
-use Rattle.acc_free.specs.Moves.{EndsFreely}
-use Rattle.acc_free.proofs.Steps.{ends_later, map_limit}
+use Rattle.acc_free_ending.specs.Moves.{EndsFreely}
+use Rattle.acc_free_ending.proofs.Steps.{ends_later, map_limit}
 use Rattle.acc_free.proofs.running.run_on.Goals as goal
 
 none_begins : (items : List Item) → Begins [] items

@@ -4,7 +4,7 @@ use Rattle.std.specs.Prelude.{All, Vec}
 use Rattle.std.proofs.lemmas.List.{nil_from_length}
 use Rattle.std.proofs.lemmas.Bool.Decides.{nat_tests}
 use Rattle.std.proofs.lemmas.List.Elements.{All-from_recursion}
-use Rattle.acc_limits.specs.Limits.{most_items}
+use Rattle.acc_schedule_runs.specs.Limits.{most_items}
 use Rattle.acc_desk.specs.declared.desk.Desk.{Desk}
 use Rattle.acc_desk.specs.Desks.{AreSound, name_of}
 use Rattle.acc_free.specs.Dealing.{all_in}

@@ -1,6 +1,6 @@
 use Rattle.std.proofs.Common.{length, refl, ap, ◌∙◌, arith}
 use Rattle.std.proofs.lemmas.Option.{slice_get_read}
-use Rattle.acc_waiting.specs.Standing.{Standing}
+use Rattle.acc_message_index.specs.Standing.{Standing}
 use Rattle.acc_history.proofs.Lists.{sent_more}
 use Rattle.acc_history.proofs.entering.send.Goals as goal
 

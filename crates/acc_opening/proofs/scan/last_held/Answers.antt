@@ -5,7 +5,7 @@ use Rattle.std.specs.List.{slice_get}
 use Rattle.acc_stamp.specs.declared.stamps.TxnId.{TxnId}
 use Rattle.acc_opening.specs.Lookup.{lookup}
 use Rattle.acc_opening.specs.Turns.{changes_in}
-use Rattle.acc_opening_laws.specs.Plan.{is_past_behind}
+use Rattle.acc_opening.specs.Plan.{is_past_behind}
 use Rattle.acc_opening.proofs.scan.last_held.Goals as goal
 
 pub loop-left-preserved : goal.loop-left-preserved

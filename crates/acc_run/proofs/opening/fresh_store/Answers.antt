@@ -2,7 +2,7 @@ use Rattle.std.proofs.Common.{rules, ◌∙◌, ap}
 use Rattle.acc_schedule.specs.Content.{Content}
 use Rattle.std.specs.Prelude.{◌≡◌}
 use Rattle.acc_stamp.specs.Actor.{actor_of}
-use Rattle.acc_durable.specs.Store.{actor_in}
+use Rattle.acc_durable_store.specs.Store.{actor_in}
 use Rattle.acc_run.proofs.Beginning.{store_fresh, store_kind}
 use Rattle.acc_run.proofs.opening.fresh_store.Goals as goal
 

@@ -1,7 +1,7 @@
 -- The stores of the shards before this place are made.
 use Rattle.std.proofs.Common.{◌≡◌, IsTrue}
 use Rattle.std.specs.List.{AllByRecursion}
-use Rattle.acc_durable.specs.Store.{actor_in}
+use Rattle.acc_durable_store.specs.Store.{actor_in}
 use Rattle.acc_run.specs.Fresh.{IsFreshStore}
 use Rattle.acc_run.proofs.Numbers.{stores_to}
 use Rattle.acc_run.proofs.Beginning.{AreFresh, IsStoreUnarmed}

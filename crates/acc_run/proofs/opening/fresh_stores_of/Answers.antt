@@ -3,7 +3,7 @@ use Rattle.std.specs.List.{AllByRecursion}
 use Rattle.acc_stamp.specs.Actor.{actor_of}
 use Rattle.acc_topology.specs.Layout.{shard_at}
 use Rattle.acc_schedule.specs.Content.{Content}
-use Rattle.acc_durable.specs.Store.{actor_in}
+use Rattle.acc_durable_store.specs.Store.{actor_in}
 use Rattle.acc_run.specs.Fresh.{IsFreshStore}
 use Rattle.acc_run.proofs.Numbers.{one_more_store, no_more_store, all_named}
 use Rattle.acc_run.proofs.Beginning.{items_of, IsStoreUnarmed, pushed, renamed, each_pushed, kept_twice, kept_still}

@@ -2,7 +2,7 @@
 use Rattle.std.proofs.Common.{◌≡◌, ◌++◌, IsTrue, map}
 use Rattle.std.specs.List.{AllByRecursion}
 use Rattle.acc_stamp.specs.Actor.{actor_of}
-use Rattle.acc_durable.specs.Store.{actor_in}
+use Rattle.acc_durable_store.specs.Store.{actor_in}
 use Rattle.acc_run.specs.Fresh.{IsFreshStore}
 use Rattle.acc_run.proofs.Numbers.{members_below}
 use Rattle.acc_run.proofs.Beginning.{AreFresh, IsStoreUnarmed}

@@ -1,6 +1,6 @@
 -- The cluster has taken the steps so far.
 use Rattle.std.proofs.Common.{◌≡◌, ◌≤◌, [], length, take}
-use Rattle.acc_strict.specs.Moves.{opened_strictly}
+use Rattle.acc_schedule_runs.specs.StrictMoves.{opened_strictly}
 use Rattle.acc_cluster.specs.Stands.{StandsStrictly}
 use Rattle.acc_run.specs.Taken.{HasTaken, HasTakenStrictly}
 use Rattle.acc_run.proofs.steps.take_all.Given as goal

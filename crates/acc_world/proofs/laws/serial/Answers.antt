@@ -1,4 +1,4 @@
-use Rattle.acc_every_run.proofs.EveryRun.{serial_holds}
+use Rattle.acc_safety_laws.proofs.EveryRun.{serial_holds}
 use Rattle.acc_world.proofs.laws.serial.Goals as goal
 
 pub returns : goal.returns

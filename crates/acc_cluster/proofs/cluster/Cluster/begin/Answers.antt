@@ -3,11 +3,11 @@ use Rattle.acc_stamp.specs.declared.actors.Actor.{Actor}
 use Rattle.acc_message.specs.declared.entry.Event.TheVariants.{Begin as BeginEvent}
 use Rattle.acc_message.specs.declared.item.Skip.{Skip}
 use Rattle.acc_message.specs.Run.{is_down}
-use Rattle.acc_safe_runs.specs.Asks.{home_of_txn}
-use Rattle.acc_entering.proofs.Skips.{begin_skip_is}
-use Rattle.acc_follow.specs.Situations.{whole}
-use Rattle.acc_follow.specs.Moves.{begin_skip}
-use Rattle.acc_follow.specs.Schedules.{cluster_of}
+use Rattle.acc_run_laws.specs.Asks.{home_of_txn}
+use Rattle.acc_pasts.proofs.Skips.{begin_skip_is}
+use Rattle.acc_schedule_runs.specs.Situations.{whole}
+use Rattle.acc_schedule_runs.specs.Moves.{begin_skip}
+use Rattle.acc_schedule_runs.specs.Schedules.{cluster_of}
 use Rattle.acc_cluster.specs.Tried.{HitsLimit}
 use Rattle.acc_cluster.proofs.Hits.{full_refused}
 use Rattle.acc_cluster.proofs.Taken.{if_limit}

@@ -3,9 +3,9 @@ use Rattle.acc_message.specs.declared.entry.Event.TheVariants.{Begin as BeginEve
 use Rattle.acc_message.specs.NodeRules.{Begins}
 use Rattle.acc_schedule.specs.Plan.{IsPlan}
 use Rattle.acc_schedule.specs.View.{content}
-use Rattle.acc_follow.specs.Situations.{Situation}
-use Rattle.acc_follow.specs.Moves.{begin_skip}
-use Rattle.acc_follow.specs.Schedules.{cluster_of}
+use Rattle.acc_schedule_runs.specs.Situations.{Situation}
+use Rattle.acc_schedule_runs.specs.Moves.{begin_skip}
+use Rattle.acc_schedule_runs.specs.Schedules.{cluster_of}
 use Rattle.acc_cluster.proofs.Going.{body_read, goes_begin}
 use Rattle.acc_cluster.proofs.Taken.{asked_at, sendable_at, taken_ok, taken_limit}
 use Rattle.acc_cluster.proofs.cluster.Cluster.begin_at.Goals as goal

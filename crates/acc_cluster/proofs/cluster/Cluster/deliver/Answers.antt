@@ -7,11 +7,11 @@ use Rattle.acc_message.specs.declared.item.Skip.{Skip}
 use Rattle.acc_message.specs.declared.item.Skip.TheVariants.{Down}
 use Rattle.acc_message.specs.Items.{sent_of}
 use Rattle.acc_message.specs.Run.{is_down}
-use Rattle.acc_safe_runs.specs.Asks.{receiver}
-use Rattle.acc_entering.proofs.Skips.{deliver_skip_is}
-use Rattle.acc_follow.specs.Situations.{whole, receiver_in}
-use Rattle.acc_follow.specs.Moves.{deliver_skip}
-use Rattle.acc_follow.specs.Schedules.{cluster_of}
+use Rattle.acc_run_laws.specs.Asks.{receiver}
+use Rattle.acc_pasts.proofs.Skips.{deliver_skip_is}
+use Rattle.acc_schedule_runs.specs.Situations.{whole, receiver_in}
+use Rattle.acc_schedule_runs.specs.Moves.{deliver_skip}
+use Rattle.acc_schedule_runs.specs.Schedules.{cluster_of}
 use Rattle.acc_cluster.specs.Tried.{HasStepped, HitsLimit}
 use Rattle.acc_cluster.proofs.Dropped.{less_is, nothing_sent}
 use Rattle.acc_cluster.proofs.Hits.{full_refused}

@@ -1,4 +1,4 @@
-use Rattle.acc_follow.specs.Schedules.{cluster_of}
+use Rattle.acc_schedule_runs.specs.Schedules.{cluster_of}
 use Rattle.acc_cluster.proofs.Coming.{start, come_on, has_drained}
 use Rattle.acc_cluster.proofs.Rounds.{waiting_is_taken, smaller, ends_full, ends_taken}
 use Rattle.acc_cluster.proofs.cluster.Cluster.drain.Goals as goal

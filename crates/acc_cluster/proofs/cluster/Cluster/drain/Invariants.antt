@@ -1,7 +1,7 @@
 -- The messages so far were delivered, each as the oldest that waited.
 use Rattle.std.proofs.Common.{◌-◌, length}
-use Rattle.acc_follow.specs.Situations.{Situation}
-use Rattle.acc_limits.specs.Limits.{most_items}
+use Rattle.acc_schedule_runs.specs.Situations.{Situation}
+use Rattle.acc_schedule_runs.specs.Limits.{most_items}
 use Rattle.acc_cluster.specs.Stands.{StandsFor}
 use Rattle.acc_cluster.proofs.Coming.{HasCome}
 use Rattle.acc_cluster.proofs.cluster.Cluster.drain.Given as goal

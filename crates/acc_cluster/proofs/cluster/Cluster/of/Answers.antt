@@ -2,9 +2,9 @@
 use Rattle.std.proofs.Common.{List, Option, sym, ◌∙◌, ap, subst, arith}
 use Rattle.std.specs.List.{AllByRecursion, slice_get}
 use Rattle.acc_stamp.specs.declared.stamps.TxnId.{TxnId}
-use Rattle.acc_durable.specs.declared.node.DurableNode.{DurableNode}
+use Rattle.acc_durable_node.specs.declared.node.DurableNode.{DurableNode}
 use Rattle.acc_history.specs.Begun.{known_as}
-use Rattle.acc_cluster.specs.Opened.{HasDone}
+use Rattle.acc_actors.specs.Opened.{HasDone}
 use Rattle.acc_cluster.proofs.Filled.{filled_actors, taken_everywhere}
 use Rattle.acc_cluster.proofs.cluster.Cluster.of.Goals as goal
 

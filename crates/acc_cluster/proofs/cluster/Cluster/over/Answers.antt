@@ -1,7 +1,7 @@
 -- The cluster stands for the items in which its actors took part.
 use Rattle.std.proofs.Common.{reverse, refl}
-use Rattle.acc_entering.proofs.Sound.{sound_standing}
-use Rattle.acc_follow.specs.Schedules.{cluster_of}
+use Rattle.acc_pasts.proofs.Sound.{sound_standing}
+use Rattle.acc_schedule_runs.specs.Schedules.{cluster_of}
 use Rattle.acc_cluster.specs.Over.{behind_items}
 use Rattle.acc_cluster.proofs.OverSlots.{items_standing, few_items, cluster_stands, actors_strictly}
 use Rattle.acc_cluster.proofs.cluster.Cluster.over.Goals as goal

@@ -5,12 +5,12 @@ use Rattle.acc_message.specs.declared.entry.Event.TheVariants.{Recover as Recove
 use Rattle.acc_message.specs.declared.item.Skip.{Skip}
 use Rattle.acc_message.specs.declared.item.Skip.TheVariants.{Unknown}
 use Rattle.acc_message.specs.Run.{is_down}
-use Rattle.acc_bounds.proofs.Addresses.{node_low}
+use Rattle.acc_run_laws.proofs.Addresses.{node_low}
 use Rattle.acc_safety.proofs.BegunFacts.{id_was_begun}
-use Rattle.acc_entering.proofs.Skips.{recover_skip_is}
-use Rattle.acc_follow.specs.Situations.{whole}
-use Rattle.acc_follow.specs.Moves.{recover_skip}
-use Rattle.acc_follow.specs.Schedules.{cluster_of}
+use Rattle.acc_pasts.proofs.Skips.{recover_skip_is}
+use Rattle.acc_schedule_runs.specs.Situations.{whole}
+use Rattle.acc_schedule_runs.specs.Moves.{recover_skip}
+use Rattle.acc_schedule_runs.specs.Schedules.{cluster_of}
 use Rattle.acc_cluster.specs.Tried.{HasStepped, HitsLimit}
 use Rattle.acc_cluster.proofs.Going.{unknown_not_begun}
 use Rattle.acc_cluster.proofs.Hits.{full_refused}

@@ -2,7 +2,7 @@ use Rattle.std.proofs.Common.{◌≡◌, false, Some, Ok, refl, ap, arith}
 use Rattle.acc_message.specs.declared.entry.Event.TheVariants.{Recover as RecoverEvent}
 use Rattle.acc_message.specs.NodeRules.{Recovers}
 use Rattle.acc_schedule.specs.View.{content}
-use Rattle.acc_follow.specs.Situations.{Situation, whole}
+use Rattle.acc_schedule_runs.specs.Situations.{Situation, whole}
 use Rattle.acc_message.specs.Run.{is_down}
 use Rattle.acc_message.specs.Items.{id_of_txn}
 use Rattle.acc_cluster.proofs.Going.{body_read, goes_recover}

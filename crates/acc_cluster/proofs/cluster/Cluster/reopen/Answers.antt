@@ -1,6 +1,6 @@
 use Rattle.std.proofs.Common.{◌<◌, ◌∙◌, length, arith}
 use Rattle.std.proofs.lemmas.List.{get_or_read}
-use Rattle.acc_cluster.specs.declared.slot.Slot.TheVariants.{Empty}
+use Rattle.acc_actors.specs.declared.slot.Slot.TheVariants.{Empty}
 use Rattle.acc_cluster.proofs.RestartClusters.{slot_reopened}
 use Rattle.acc_cluster.proofs.cluster.Cluster.reopen.Goals as goal
 

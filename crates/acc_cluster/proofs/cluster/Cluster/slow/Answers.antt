@@ -3,12 +3,12 @@ use Rattle.acc_stamp.specs.declared.actors.Actor.{Actor}
 use Rattle.acc_message.specs.declared.entry.Event.TheVariants.{Slow as SlowEvent}
 use Rattle.acc_message.specs.declared.item.Skip.{Skip}
 use Rattle.acc_message.specs.Run.{is_down}
-use Rattle.acc_safe_runs.specs.Asks.{home_of_txn}
-use Rattle.acc_entering.proofs.Skips.{slowing_skip_is}
-use Rattle.acc_follow.specs.Situations.{whole}
-use Rattle.acc_follow.specs.Moves.{slowing_skip}
-use Rattle.acc_follow.specs.Schedules.{cluster_of}
-use Rattle.acc_cluster.specs.Asked.{skips_slow}
+use Rattle.acc_run_laws.specs.Asks.{home_of_txn}
+use Rattle.acc_pasts.proofs.Skips.{slowing_skip_is}
+use Rattle.acc_schedule_runs.specs.Situations.{whole}
+use Rattle.acc_schedule_runs.specs.Moves.{slowing_skip}
+use Rattle.acc_schedule_runs.specs.Schedules.{cluster_of}
+use Rattle.acc_actors.specs.Asked.{skips_slow}
 use Rattle.acc_cluster.specs.Tried.{HasStepped, HitsLimit}
 use Rattle.acc_cluster.proofs.Hits.{full_refused}
 use Rattle.acc_cluster.proofs.Taken.{on_ok, if_limit}

@@ -3,7 +3,7 @@ use Rattle.std.specs.Vec.{with_item}
 use Rattle.acc_message.specs.declared.item.Skip.TheVariants.{Unknown, NoQuorum}
 use Rattle.acc_node.specs.declared.error.NodeError.{NodeError}
 use Rattle.acc_schedule.specs.Plan.{IsPlan}
-use Rattle.acc_cluster.specs.Asked.{IsSlowRefused}
+use Rattle.acc_actors.specs.Asked.{IsSlowRefused}
 use Rattle.acc_cluster.proofs.SlowSteps.{home_of_plan, home_up, slowed_sendable, slowed_ok, slowed_limit, refused_ok, refused_limit}
 use Rattle.acc_cluster.proofs.cluster.Cluster.slow_at.Goals as goal
 

@@ -1,12 +1,12 @@
 use Rattle.std.proofs.Common.{sym, subst}
 use Rattle.acc_stamp.specs.Actor.{actor_of}
 use Rattle.acc_message.specs.declared.entry.Event.TheVariants.{Begin as BeginEvent, Recover as RecoverEvent, Slow as SlowEvent, Message as MessageEvent}
-use Rattle.acc_safe_runs.specs.Asks.{home_of_txn}
+use Rattle.acc_run_laws.specs.Asks.{home_of_txn}
 use Rattle.acc_schedule.specs.declared.plan.Step.{Step}
 use Rattle.acc_schedule.specs.declared.plan.Step.TheVariants.{Begin, Deliver, Recover, Slow}
-use Rattle.acc_follow.specs.Situations.{receiver_in}
-use Rattle.acc_follow.specs.Moves.{begin_skip, recover_skip, slowing_skip, deliver_skip}
-use Rattle.acc_follow.specs.Schedules.{cluster_of}
+use Rattle.acc_schedule_runs.specs.Situations.{receiver_in}
+use Rattle.acc_schedule_runs.specs.Moves.{begin_skip, recover_skip, slowing_skip, deliver_skip}
+use Rattle.acc_schedule_runs.specs.Schedules.{cluster_of}
 use Rattle.acc_cluster.specs.Steps.{StepsTo, StepsStrictly, EndsIn, EndsStrictlyIn}
 use Rattle.acc_cluster.proofs.Next.{steps_to, steps_strictly, ends_in, ends_strictly, restarts_to, restarts_strictly, restart_ends, restart_ends_strictly, drops_to, drops_strictly, drop_ends, drop_ends_strictly, fails_to, fails_strictly_to, drains_to, drains_strictly, drain_ends, drain_ends_strictly}
 use Rattle.acc_cluster.proofs.Taken.{on_ok, if_limit, both_ok, never_limit}

@@ -5,9 +5,9 @@ use Rattle.acc_cluster.specs.declared.cluster.Cluster.{Cluster}
 use Rattle.acc_stamp.specs.declared.actors.Actor.{Actor}
 use Rattle.acc_message.specs.declared.entry.Event.TheVariants.{Message as MessageEvent}
 use Rattle.acc_message.specs.NodeRules.{Takes}
-use Rattle.acc_safe_runs.specs.Asks.{receiver}
-use Rattle.acc_follow.specs.Situations.{Situation}
-use Rattle.acc_follow.specs.Moves.{deliver_skip}
+use Rattle.acc_run_laws.specs.Asks.{receiver}
+use Rattle.acc_schedule_runs.specs.Situations.{Situation}
+use Rattle.acc_schedule_runs.specs.Moves.{deliver_skip}
 use Rattle.acc_cluster.specs.Tried.{HasStepped, HitsLimit}
 use Rattle.acc_cluster.proofs.Going.{goes_take}
 use Rattle.acc_cluster.proofs.Taken.{on_ok, if_limit, asked_at, sendable_at, taken_counted, taken_ok, taken_limit}

@@ -1,7 +1,7 @@
 use Rattle.std.proofs.Common.{◌≡◌, List, [], ◌∷◌, ◌++◌, length, map, refl, sym, ◌∙◌, ap, arith}
 use Rattle.std.specs.Vec.Iter.{into_iter_items}
 use Rattle.std.proofs.lemmas.List.{append-nil, append_assoc}
-use Rattle.acc_actors.specs.declared.stops.Unsent.{Unsent}
+use Rattle.acc_payloads.specs.declared.stops.Unsent.{Unsent}
 use Rattle.acc_message.specs.declared.item.Item.{Item}
 use Rattle.acc_desk.specs.Groups.{item_of_unsent}
 use Rattle.acc_desk.proofs.desk.Desk.items_for.Goals as goal

@@ -7,10 +7,10 @@ use Rattle.acc_ports.specs.Strict.{Ranges}
 use Rattle.acc_message.specs.declared.entry.Event.{Event}
 use Rattle.acc_message.specs.declared.message.Message.{Message}
 use Rattle.acc_message.specs.declared.item.Item.{Item}
-use Rattle.acc_posts.specs.declared.posting.Post.{Post}
+use Rattle.acc_message_index.specs.declared.posting.Post.{Post}
 use Rattle.acc_schedule.specs.Content.{Content}
 use Rattle.acc_schedule.specs.declared.plan.Step.{Step}
-use Rattle.acc_cluster.specs.declared.slot.Slot.{Slot}
+use Rattle.acc_actors.specs.declared.slot.Slot.{Slot}
 use Rattle.acc_tape.specs.Seats.{TapeName, SeatView}
 use Rattle.acc_desk.specs.declared.hold.Hold.{Hold}
 use Rattle.acc_desk.specs.Desks.{newest}

@@ -1,5 +1,5 @@
 use Rattle.std.proofs.Common.{◌≡◌, ◌≤◌, length, map, take, drop}
-use Rattle.acc_cluster.specs.declared.slot.Slot.{Slot}
+use Rattle.acc_actors.specs.declared.slot.Slot.{Slot}
 use Rattle.acc_desk.specs.Desks.{newest}
 use Rattle.acc_desk.specs.Groups.{joining_of, CanAllJoin, IsGathering}
 use Rattle.acc_desk.proofs.desk.Desk.join_others.Given as goal

@@ -1,6 +1,6 @@
 use Rattle.std.proofs.Common.{sym, ◌∙◌, subst}
 use Rattle.acc_message_code.specs.Weight.{weight_of}
-use Rattle.acc_follow.specs.Schedules.{cluster_of}
+use Rattle.acc_schedule_runs.specs.Schedules.{cluster_of}
 use Rattle.acc_tape.specs.ItemViews.{actor_of_item}
 use Rattle.acc_tape.specs.Seats.{Turns}
 use Rattle.acc_desk.specs.Desks.{no_hold}

@@ -1,5 +1,5 @@
 use Rattle.std.proofs.Common.{sym, ◌∙◌}
-use Rattle.acc_served.specs.FreeRun.{alone}
+use Rattle.acc_free_laws.specs.FreeRun.{alone}
 use Rattle.acc_desk.specs.Desks.{newest}
 use Rattle.acc_desk.proofs.desk.Desk.message.Goals as goal
 

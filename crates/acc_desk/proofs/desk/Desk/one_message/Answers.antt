@@ -3,7 +3,7 @@ use Rattle.std.specs.List.{slice_get}
 use Rattle.std.specs.Option.{option_copied}
 use Rattle.acc_message.specs.declared.message.Message.{Message}
 use Rattle.acc_message_code.specs.Weight.{weight_of}
-use Rattle.acc_posts.specs.declared.posting.Post.{Post}
+use Rattle.acc_message_index.specs.declared.posting.Post.{Post}
 use Rattle.acc_tape.specs.ItemViews.{actor_of_item}
 use Rattle.acc_tape.specs.Seats.{Turns}
 use Rattle.acc_desk.specs.Desks.{no_hold}

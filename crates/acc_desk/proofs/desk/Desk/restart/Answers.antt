@@ -1,6 +1,6 @@
 use Rattle.std.proofs.Common.{sym, subst, arith}
 use Rattle.acc_message_code.specs.Weight.{weight_of}
-use Rattle.acc_served.specs.FreeRun.{alone}
+use Rattle.acc_free_laws.specs.FreeRun.{alone}
 use Rattle.acc_tape.specs.ItemViews.{actor_of_item}
 use Rattle.acc_tape.specs.Seats.{Turns, FitsBehind, ComesLast}
 use Rattle.acc_desk.specs.declared.hold.Hold.{Hold}

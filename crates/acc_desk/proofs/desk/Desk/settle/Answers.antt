@@ -2,11 +2,11 @@ use Rattle.std.proofs.Common.{◌≢◌, Bool, List, [], ◌∷◌, Option, Resu
 use Rattle.std.specs.Prelude.{OnOk}
 use Rattle.acc_stamp.specs.declared.actors.Actor.{Actor}
 use Rattle.acc_message.specs.declared.entry.Event.{Event}
-use Rattle.acc_actors.specs.declared.stops.Unsent.{Unsent}
-use Rattle.acc_follow.specs.Situations.{Situation}
-use Rattle.acc_strict.specs.Disks.{Disks}
-use Rattle.acc_cluster.specs.Slots.{IsStrictSlot}
-use Rattle.acc_cluster.specs.Asked.{AreSteps, IsStaged, HasSettled, HasSettledStrictly}
+use Rattle.acc_payloads.specs.declared.stops.Unsent.{Unsent}
+use Rattle.acc_schedule_runs.specs.Situations.{Situation}
+use Rattle.acc_schedule_runs.specs.Disks.{Disks}
+use Rattle.acc_actors.specs.Slots.{IsStrictSlot}
+use Rattle.acc_actors.specs.Asked.{AreSteps, IsStaged, HasSettled, HasSettledStrictly}
 use Rattle.acc_message.specs.Run.{Cluster}
 use Rattle.acc_desk.specs.Groups.{Joining, events_of}
 use Rattle.acc_desk.proofs.Joining.{settle_asks, settled_none, settled_some}

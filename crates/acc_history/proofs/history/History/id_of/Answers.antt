@@ -1,6 +1,6 @@
 use Rattle.std.proofs.Common.{sym, ◌∙◌}
 use Rattle.acc_message.specs.Items.{is_begun, id_of_txn}
-use Rattle.acc_follow.specs.Situations.{whole}
+use Rattle.acc_schedule_runs.specs.Situations.{whole}
 use Rattle.acc_history.proofs.Raised.{no_id, isnt_known}
 use Rattle.acc_history.proofs.history.History.id_of.Goals as goal
 

@@ -1,5 +1,5 @@
 use Rattle.std.proofs.Common.{[], List, sym, subst}
-use Rattle.acc_opening_laws.specs.Plan.{Lookup}
+use Rattle.acc_opening.specs.Plan.{Lookup}
 use Rattle.acc_opening.specs.declared.turns.Turn.{Turn}
 use Rattle.acc_opening.specs.Lookup.{lookup}
 use Rattle.acc_opening.specs.Touched.{watches_now}

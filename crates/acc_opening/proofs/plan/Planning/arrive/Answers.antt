@@ -1,7 +1,7 @@
 use Rattle.std.proofs.Common.{◌≡◌, ◌++◌, ◌∷◌, ◌==◌, true, List, [], length, cond, refl, sym, ap, ◌∙◌, subst, arith, eqb-true, is_some}
 use Rattle.std.proofs.lemmas.Bool.{true≢false}
 use Rattle.acc_stamp.specs.declared.stamps.TxnId.{TxnId}
-use Rattle.acc_opening_laws.specs.Plan.{Lookup}
+use Rattle.acc_opening.specs.Plan.{Lookup}
 use Rattle.acc_record.specs.declared.shelf.Watch.{Watch}
 use Rattle.acc_record.specs.Shelf.{watchers}
 use Rattle.acc_opening.specs.Lookup.{lookup}

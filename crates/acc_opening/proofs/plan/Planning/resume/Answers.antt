@@ -2,7 +2,7 @@ use Rattle.std.proofs.Common.{◌∷◌, [], is_some, sym, ap, ◌∙◌, subst}
 use Rattle.std.proofs.lemmas.Bool.{true≢false}
 use Rattle.std.proofs.lemmas.Result.{IfOk-weaker}
 use Rattle.acc_stamp.specs.declared.stamps.TxnId.{TxnId}
-use Rattle.acc_opening_laws.specs.Plan.{Lookup}
+use Rattle.acc_opening.specs.Plan.{Lookup}
 use Rattle.acc_opening.specs.Lookup.{lookup}
 use Rattle.acc_opening.specs.Touched.{watches_now}
 use Rattle.acc_opening.specs.Turns.{turn_lt, HasTurn}

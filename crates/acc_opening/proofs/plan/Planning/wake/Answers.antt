@@ -5,7 +5,7 @@ use Rattle.std.proofs.lemmas.Option.{slice_get-get_or}
 use Rattle.acc_stamp.specs.declared.stamps.TxnId.{TxnId}
 use Rattle.acc_record.specs.declared.shelf.Watch.{Watch}
 use Rattle.acc_deps.specs.Deps.{of_shard}
-use Rattle.acc_opening_laws.specs.Plan.{Lookup}
+use Rattle.acc_opening.specs.Plan.{Lookup}
 use Rattle.acc_opening.specs.Lookup.{lookup}
 use Rattle.acc_opening.specs.Scan.{AllPastUpTo, IsLastHeld}
 use Rattle.acc_opening.specs.Touched.{watches_now}

@@ -1,7 +1,7 @@
 use Rattle.std.proofs.Common.{true, false, refl}
 use Rattle.acc_message.specs.declared.entry.Event.TheVariants.{Begin as BeginEvent}
 use Rattle.acc_message.specs.NodeRules.{Begins}
-use Rattle.acc_safe_runs.specs.declared.ask.Ask.TheVariants.{Begin}
+use Rattle.acc_run_laws.specs.declared.ask.Ask.TheVariants.{Begin}
 use Rattle.acc_world.specs.Held.{past_of}
 use Rattle.acc_world.proofs.Asks.{begun_told, begins, begun_skip, begun_goes, answered}
 use Rattle.acc_world.proofs.world.World.begin.Goals as goal

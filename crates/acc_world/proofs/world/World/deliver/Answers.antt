@@ -1,8 +1,8 @@
 use Rattle.std.proofs.Common.{refl, sym, ap, ◌∙◌}
 use Rattle.acc_message.specs.declared.entry.Event.TheVariants.{Message as MessageEvent}
 use Rattle.acc_message.specs.NodeRules.{Takes}
-use Rattle.acc_safe_runs.specs.declared.ask.Ask.TheVariants.{Deliver}
-use Rattle.acc_safe_runs.specs.Asks.{receiver}
+use Rattle.acc_run_laws.specs.declared.ask.Ask.TheVariants.{Deliver}
+use Rattle.acc_run_laws.specs.Asks.{receiver}
 use Rattle.acc_world.specs.Held.{past_of}
 use Rattle.acc_world.proofs.Asks.{takes, message_skip, message_goes, answered}
 use Rattle.acc_world.proofs.world.World.deliver.Goals as goal

@@ -1,7 +1,7 @@
 use Rattle.std.proofs.Common.{true, false, refl, sym}
 use Rattle.acc_message.specs.declared.entry.Event.TheVariants.{Recover as RecoverEvent}
-use Rattle.acc_safe_runs.specs.declared.ask.Ask.TheVariants.{Recover}
-use Rattle.acc_bounds.proofs.Addresses.{node_low}
+use Rattle.acc_run_laws.specs.declared.ask.Ask.TheVariants.{Recover}
+use Rattle.acc_run_laws.proofs.Addresses.{node_low}
 use Rattle.acc_world.specs.Held.{past_of}
 use Rattle.acc_world.proofs.Asks.{begun_told, recovers, recovers_act, unknown_skip, unknown_goes, answered}
 use Rattle.acc_world.proofs.world.World.recover.Goals as goal

@@ -1,7 +1,7 @@
 use Rattle.std.proofs.Common.{refl}
 use Rattle.acc_message.specs.declared.entry.Event.TheVariants.{Restart as RestartEvent}
 use Rattle.acc_message.specs.NodeRules.{Restarts}
-use Rattle.acc_safe_runs.specs.declared.ask.Ask.TheVariants.{Restart}
+use Rattle.acc_run_laws.specs.declared.ask.Ask.TheVariants.{Restart}
 use Rattle.acc_world.specs.Held.{cluster_of}
 use Rattle.acc_world.proofs.Asks.{answered}
 use Rattle.acc_world.proofs.Entered.{has_restarted}

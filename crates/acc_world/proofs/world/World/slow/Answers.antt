@@ -1,7 +1,7 @@
 use Rattle.std.proofs.Common.{refl}
 use Rattle.acc_message.specs.declared.entry.Event.TheVariants.{Slow as SlowEvent}
 use Rattle.acc_message.specs.NodeRules.{Slows}
-use Rattle.acc_safe_runs.specs.declared.ask.Ask.TheVariants.{Slow}
+use Rattle.acc_run_laws.specs.declared.ask.Ask.TheVariants.{Slow}
 use Rattle.acc_node.specs.declared.error.NodeError.TheVariants.{Unknown, NoQuorum}
 use Rattle.acc_world.specs.Held.{cluster_of, past_of}
 use Rattle.acc_world.proofs.Asks.{none_of, some_of, slows, slow_unknown, answered, slow_id, slow_goes, refused_as}

@@ -1,4 +1,4 @@
-use Rattle.acc_safe_runs.specs.declared.ask.Ask.TheVariants.{Begin, Recover, Slow, Deliver, Restart}
+use Rattle.acc_run_laws.specs.declared.ask.Ask.TheVariants.{Begin, Recover, Slow, Deliver, Restart}
 use Rattle.acc_world.proofs.Told.{told}
 use Rattle.acc_world.proofs.world.World.step.Goals as goal
 

@@ -1,0 +1,105 @@
+-- From what the restarts of actors ensure to what their slots are behind them.
+use Rattle.std.proofs.Common.{◌≡◌, ℕ, ◌≤◌, Bool, not, List, Option, None, Result, Ok, Err, IfOk, ap, subst}
+use Rattle.acc_base.specs.declared.memory.OutOfMemory.{OutOfMemory}
+use Rattle.acc_stamp.specs.declared.actors.Actor.{Actor}
+use Rattle.acc_stamp.specs.Actor.{node_of}
+use Rattle.acc_topology.specs.Layout.{Layout}
+use Rattle.acc_ports.specs.Faults.{Rose}
+use Rattle.acc_ports.specs.Strict.{Ranges}
+use Rattle.acc_message.specs.declared.message.Message.{Message}
+use Rattle.acc_message.specs.NodeRules.{Act}
+use Rattle.acc_message.specs.Run.{clock_start}
+use Rattle.acc_payloads.specs.declared.stops.Restarted.{Restarted}
+use Rattle.acc_payloads.specs.declared.stops.Restarted.TheVariants.{Down}
+use Rattle.acc_durable_node.specs.declared.actor.NodeActor.{NodeActor}
+use Rattle.acc_durable_store.specs.declared.actor.StoreActor.{StoreActor}
+use Rattle.acc_payloads.specs.Stops.{Past, is_up, KeepsByChoice}
+use Rattle.acc_durable_node.specs.Actor as node
+use Rattle.acc_durable_store.specs.Actor as store
+use Rattle.acc_schedule.specs.Content.{Content}
+use Rattle.acc_pasts.specs.Stopped.{IsSound}
+use Rattle.acc_schedule_runs.specs.Situations.{Situation}
+use Rattle.acc_schedule_runs.specs.Schedules.{cluster_of}
+use Rattle.acc_schedule_runs.specs.Disks.{Disks}
+use Rattle.acc_actors.specs.declared.slot.Slot.{Slot}
+use Rattle.acc_actors.specs.declared.slot.Slot.TheVariants.{Node, Store}
+use Rattle.acc_actors.specs.Pasts.{node_past, store_past}
+use Rattle.acc_actors.specs.Slots.{NodeStands, StoreStands, SlotStands, IsStrictSlot}
+use Rattle.acc_actors.specs.Asked.{IsFew, HasRestartedAt, HasRestartedStrictlyAt}
+use Rattle.acc_actors.proofs.RestartSlots.{node_restarted, node_restarted_strictly, store_restarted, store_restarted_strictly}
+
+module _ {D : Type 0} (images : D → List ℕ → Type 0) (faults : D → ℕ) (plan : Content) (a : Actor) (slot : Slot D) where
+  module _ (n : NodeActor D) (is : slot ≡ Node n) (new : NodeActor D) where
+    node_there : (s : Situation) → SlotStands images faults plan s a slot → NodeStands images faults plan s a n
+    node_there s stands = subst (λ (x : Slot D). SlotStands images faults plan s a x) is stands
+
+    pub node_called : (r : Result Restarted OutOfMemory)
+        → IfOk r (λ found. (layout : Layout) (number start version : ℕ) (past : Past Act) → node.StandsFor images layout number start version past n
+        → node.KeptIn layout number start past found × node.StandsFor images layout number start version (node.past_after found past) new)
+        → IfOk r (λ found. node.is_down new ≡ not (is_up found)) → faults (node.disk_of n) ≤ faults (node.disk_of new)
+        → (r ≡ Ok Down → Rose (faults (node.disk_of n)) (faults (node.disk_of new)))
+        → IfOk r (λ found. (s : Situation) → IsSound (cluster_of plan) s → IsFew s → SlotStands images faults plan s a slot → HasRestartedAt images faults plan s a found (Node new))
+    node_called (Err e) ok down counted cause = tt
+    node_called (Ok found) ok down counted cause = λ s sound few stands.
+        let here : NodeStands images faults plan s a n = node_there s stands in
+        let told = ok plan.topology (node_of a) (clock_start plan.starts (node_of a)) plan.version (node_past (cluster_of plan) s a) here.stands in
+        node_restarted images faults plan s a sound n new here few found told.0 told.1 down counted (λ none. cause (ap Ok none))
+
+    pub node_called_strictly : (strict : D → Bool) (armed_of : D → Option ℕ) (content synced : D → List ℕ) (written : D → Ranges) (choice : ℕ) (r : Result Restarted OutOfMemory)
+        → IfOk r (λ found. (layout : Layout) (number start version : ℕ) (past : Past Act) → node.StandsFor images layout number start version past n
+        → node.KeptIn layout number start past found × node.StandsFor images layout number start version (node.past_after found past) new)
+        → ((layout : Layout) (number start version : ℕ) (armed passed : Option ℕ) (past : Past Act) → node.StandsFor images layout number start version past n
+        → node.IsStrictAt strict armed_of content synced written layout number start version armed passed past n
+        → IfOk r (λ found. KeepsByChoice passed choice past.stopped found
+        × node.IsStrictAt strict armed_of content synced written layout number start version None None (node.past_after found past) new))
+        → IfOk r (λ found. (s : Situation) (disks : Disks) → IsSound (cluster_of plan) s → SlotStands images faults plan s a slot
+        → IsStrictSlot strict armed_of content synced written plan s disks a slot → HasRestartedStrictlyAt strict armed_of content synced written plan s disks a choice found (Node new))
+    node_called_strictly strict armed_of content synced written choice (Err e) ok strictly = tt
+    node_called_strictly strict armed_of content synced written choice (Ok found) ok strictly = λ s disks sound stands are.
+        let here : NodeStands images faults plan s a n = node_there s stands in
+        let told = ok plan.topology (node_of a) (clock_start plan.starts (node_of a)) plan.version (node_past (cluster_of plan) s a) here.stands in
+        node_restarted_strictly images faults plan s a sound n new here strict armed_of content synced written disks choice found told.0
+        (strictly plan.topology (node_of a) (clock_start plan.starts (node_of a)) plan.version (disks.armed a) (disks.passed a) (node_past (cluster_of plan) s a) here.stands
+        (subst (λ (x : Slot D). IsStrictSlot strict armed_of content synced written plan s disks a x) is are))
+
+  module _ (t : StoreActor D) (is : slot ≡ Store t) (new : StoreActor D) (layout : Layout) (layout_is : layout ≡ plan.topology) where
+    store_there : (s : Situation) → SlotStands images faults plan s a slot → StoreStands images faults plan s a t
+    store_there s stands = subst (λ (x : Slot D). SlotStands images faults plan s a x) is stands
+
+    abbrev Told : Layout → Restarted → Type 0
+    Told l found =
+        (own : Actor) (version : ℕ) (past : Past Message) → store.StandsFor images l own version past t
+        → store.KeptIn l own past found × store.StandsFor images l own version (store.past_after found past) new
+
+    pub store_called : (r : Result Restarted OutOfMemory)
+        → IfOk r (λ found. (own : Actor) (version : ℕ) (past : Past Message) → store.StandsFor images layout own version past t
+        → store.KeptIn layout own past found × store.StandsFor images layout own version (store.past_after found past) new)
+        → IfOk r (λ found. store.is_down new ≡ not (is_up found)) → faults (store.disk_of t) ≤ faults (store.disk_of new)
+        → (r ≡ Ok Down → Rose (faults (store.disk_of t)) (faults (store.disk_of new)))
+        → IfOk r (λ found. (s : Situation) → IsSound (cluster_of plan) s → IsFew s → SlotStands images faults plan s a slot → HasRestartedAt images faults plan s a found (Store new))
+    store_called (Err e) ok down counted cause = tt
+    store_called (Ok found) ok down counted cause = λ s sound few stands.
+        let here : StoreStands images faults plan s a t = store_there s stands in
+        let told = subst (λ l. Told l found) layout_is ok a plan.version (store_past (cluster_of plan) s a) here.stands in
+        store_restarted images faults plan s a sound t new here few found told.0 told.1 down counted (λ none. cause (ap Ok none))
+
+    pub store_called_strictly : (strict : D → Bool) (armed_of : D → Option ℕ) (content synced : D → List ℕ) (written : D → Ranges) (choice : ℕ) (r : Result Restarted OutOfMemory)
+        → IfOk r (λ found. (own : Actor) (version : ℕ) (past : Past Message) → store.StandsFor images layout own version past t
+        → store.KeptIn layout own past found × store.StandsFor images layout own version (store.past_after found past) new)
+        → ((own : Actor) (version : ℕ) (armed passed : Option ℕ) (past : Past Message) → store.StandsFor images layout own version past t
+        → store.IsStrictAt strict armed_of content synced written layout own version armed passed past t
+        → IfOk r (λ found. KeepsByChoice passed choice past.stopped found
+        × store.IsStrictAt strict armed_of content synced written layout own version None None (store.past_after found past) new))
+        → IfOk r (λ found. (s : Situation) (disks : Disks) → IsSound (cluster_of plan) s → SlotStands images faults plan s a slot
+        → IsStrictSlot strict armed_of content synced written plan s disks a slot → HasRestartedStrictlyAt strict armed_of content synced written plan s disks a choice found (Store new))
+    store_called_strictly strict armed_of content synced written choice (Err e) ok strictly = tt
+    store_called_strictly strict armed_of content synced written choice (Ok found) ok strictly = λ s disks sound stands are.
+        let here : StoreStands images faults plan s a t = store_there s stands in
+        let told = subst (λ l. Told l found) layout_is ok a plan.version (store_past (cluster_of plan) s a) here.stands in
+        store_restarted_strictly images faults plan s a sound t new here strict armed_of content synced written disks choice found told.0
+        (subst (λ (l : Layout). (own : Actor) (version : ℕ) (armed passed : Option ℕ) (past : Past Message) → store.StandsFor images l own version past t
+        → store.IsStrictAt strict armed_of content synced written l own version armed passed past t
+        → KeepsByChoice passed choice past.stopped found
+        × store.IsStrictAt strict armed_of content synced written l own version None None (store.past_after found past) new) layout_is strictly
+        a plan.version (disks.armed a) (disks.passed a) (store_past (cluster_of plan) s a) here.stands
+        (subst (λ (x : Slot D). IsStrictSlot strict armed_of content synced written plan s disks a x) is are))

@@ -1,0 +1,184 @@
+-- From what the calls of actors that take a message ensure to what their slots have tried.
+use Rattle.std.proofs.Common.{◌≡◌, ◌⊎◌, ℕ, ◌+◌, ◌<◌, ◌≤◌, ◌^◌, Bool, true, false, not, List, [], Option, None, Some, Result, Ok, Err, IfOk, is_none, length, sym, ◌∙◌, ap, subst, arith, inl, inr, ⊎_elim}
+use Rattle.std.specs.Option.{option_map}
+use Rattle.std.specs.List.{AllByRecursion}
+use Rattle.std.proofs.lemmas.Bool.{true≢false}
+use mathlib.Core.Logic.{dite}
+use native.Mathlib.Decide.{dec_lt}
+use Rattle.acc_base.specs.declared.memory.OutOfMemory.{OutOfMemory}
+use Rattle.acc_stamp.specs.declared.actors.Actor.{Actor}
+use Rattle.acc_stamp.specs.Actor.{node_of}
+use Rattle.acc_topology.specs.Layout.{Layout}
+use Rattle.acc_ports.specs.Faults.{Rose}
+use Rattle.acc_ports.specs.Strict.{Ranges}
+use Rattle.acc_lang.specs.Texts.{has_text_value}
+use Rattle.acc_message.specs.declared.message.Message.{Message}
+use Rattle.acc_message.specs.declared.entry.Emitted.{Emitted}
+use Rattle.acc_message.specs.declared.entry.Event.TheVariants.{Message as MessageEvent}
+use Rattle.acc_message.specs.Fields.{top_of}
+use Rattle.acc_message.specs.Items.{sent_of, message_at}
+use Rattle.acc_message.specs.NodeRules.{Act, Begins, Recovers, Slows, Takes, Restarts}
+use Rattle.acc_message.specs.declared.item.Item.{Item}
+use Rattle.acc_message.specs.Run.{Cluster, clock_start, emits, is_node}
+use Rattle.acc_safety.specs.Valid.{IsStanding}
+use Rattle.acc_actor_laws.proofs.Standing.{not_none}
+use Rattle.acc_actor_laws.proofs.OpeningFacts.{some_is}
+use Rattle.acc_safety.proofs.Bridge.{same}
+use Rattle.acc_payloads.specs.Texts.{has_text}
+use Rattle.acc_run_laws.specs.Calls.{IsDeliverable, StoreMeets}
+use Rattle.acc_run_laws.proofs.Sendable.{store_meets, is_deliverable}
+use Rattle.acc_payloads.specs.Stops.{Past, after_step}
+use Rattle.acc_durable_node.specs.Actor as node
+use Rattle.acc_durable_store.specs.Actor as store
+use Rattle.acc_durable_node.specs.declared.actor.NodeActor.{NodeActor}
+use Rattle.acc_durable_store.specs.declared.actor.StoreActor.{StoreActor}
+use Rattle.acc_schedule.specs.Content.{Content}
+use Rattle.acc_schedule.specs.Plan.{IsPlan}
+use Rattle.acc_pasts.specs.Entries.{MayTake}
+use Rattle.acc_pasts.specs.Stopped.{IsSound}
+use Rattle.acc_pasts.proofs.Payloads.{node_payload}
+use Rattle.acc_pasts.proofs.Sound.{sound_standing}
+use Rattle.acc_schedule_runs.specs.Situations.{Situation, whole}
+use Rattle.acc_schedule_runs.specs.Moves.{event_in}
+use Rattle.acc_schedule_runs.specs.Schedules.{cluster_of}
+use Rattle.acc_payloads.specs.Appends.{fails_append, after_append, passed_in}
+use Rattle.acc_schedule_runs.specs.Disks.{Disks}
+use Rattle.acc_actors.specs.declared.slot.Slot.{Slot}
+use Rattle.acc_actors.specs.declared.slot.Slot.TheVariants.{Node, Store}
+use Rattle.acc_actors.specs.Pasts.{node_past, store_past}
+use Rattle.acc_actors.specs.Slots.{IsStrictSlot}
+use Rattle.acc_actors.specs.Asked.{IsFew, IsAsked, MayAsk, HasTried, HasTriedStrictly}
+use Rattle.acc_actors.proofs.Few.{few_whole}
+use Rattle.acc_actors.proofs.NodeSlots.{took, took_strictly}
+use Rattle.acc_actors.proofs.StoreSlots.{store_tried, store_tried_strictly}
+
+-- ---- the message
+
+taken_or : Message → Act → Message
+taken_or m (Begins txn body) = m
+taken_or m (Recovers id body) = m
+taken_or m (Slows id) = m
+taken_or m (Takes other) = other
+taken_or m Restarts = m
+
+pub message_found : (m : Message) (o : Option Message) → option_map Takes o ≡ Some (Takes m) → o ≡ Some m
+unfolding taken_or
+message_found m None is = absurd (not_none (Takes m) is)
+message_found m (Some x) is = ap Some (ap (taken_or m) (some_is (Takes x) (Takes m) is))
+
+module _ {D : Type 0} (images : D → List ℕ → Type 0) (faults : D → ℕ) (plan : Content) (a : Actor) (number : ℕ) (m : Message) where
+  found : (s : Situation) (slot : Slot D) → IsAsked images faults plan s a (MessageEvent number) (Takes m) slot → message_at (whole s) (length (sent_of s.earlier) + number) ≡ Some m
+  found s slot asked = message_found m (message_at (whole s) (length (sent_of s.earlier) + number)) asked.may.act_is
+
+  pub deliverable_at : (s : Situation) → IsSound (cluster_of plan) s → IsFew s → MayTake (cluster_of plan) (whole s) a (event_in s (MessageEvent number)) (Takes m) → IsDeliverable (cluster_of plan) (whole s) m
+  deliverable_at s sound few may =
+      is_deliverable (cluster_of plan) (whole s) (length (sent_of s.earlier) + number) m (sound_standing (cluster_of plan) s sound) (few_whole s few)
+      (message_found m (message_at (whole s) (length (sent_of s.earlier) + number)) may.act_is)
+
+  deliverable : (s : Situation) (slot : Slot D) → IsAsked images faults plan s a (MessageEvent number) (Takes m) slot → IsDeliverable (cluster_of plan) (whole s) m
+  deliverable s slot asked = deliverable_at s asked.sound asked.few asked.may
+
+  pub top_low : (slot : Slot D) → MayAsk images faults plan a (MessageEvent number) (Takes m) slot → top_of m < 2 ^ 62
+  top_low slot may = (deliverable may.0 slot may.1).top
+
+  one_or_two : (v : ℕ) → (1 ≤ v) × (v ≤ 2) → (v ≡ 1) ⊎ (v ≡ 2)
+  one_or_two v h = dite (dec_lt v 2) (λ low. inl (omega (arith, h.0, low))) (λ high. inr (omega (arith, h.1, high)))
+
+  -- no message has a text where no body has one
+  abbrev pub NumbersAlone : Type 0
+  NumbersAlone =
+      (cluster : Cluster) (items : List Item) (number : ℕ) (m : Message) → IsStanding cluster items → AllByRecursion (λ body. has_text_value body ≡ false) cluster.bodies
+      → message_at items number ≡ Some m → has_text m ≡ false
+
+  pub text_at : NumbersAlone → (s : Situation) → IsSound (cluster_of plan) s → IsPlan plan → MayTake (cluster_of plan) (whole s) a (event_in s (MessageEvent number)) (Takes m) → has_text m ≡ true
+      → plan.version ≡ 2
+  text_at numbers_alone s sound valid may has =
+      ⊎_elim
+      (λ one. absurd (true≢false (sym has ∙ numbers_alone (cluster_of plan) (whole s) (length (sent_of s.earlier) + number) m (sound_standing (cluster_of plan) s sound) (valid.numbers_alone one)
+      (message_found m (message_at (whole s) (length (sent_of s.earlier) + number)) may.act_is))))
+      (λ two. two) (one_or_two plan.version valid.version)
+
+  module _ (slot : Slot D) (layout : Layout) (layout_is : layout ≡ plan.topology) where
+    -- ---- a node
+
+    pub node_took : (n new : NodeActor D) (emitted : Emitted) → slot ≡ Node n
+        → ((number start version : ℕ) (past : Past Act) → node.StandsFor images layout number start version past n → node.Takes images layout number start version past (Takes m) new emitted)
+        → node.is_down new ≡ false → node.disk_of new ≡ node.disk_of n
+        → (s : Situation) → IsAsked images faults plan s a (MessageEvent number) (Takes m) slot → HasTried images faults plan s a (MessageEvent number) (Node new) (Some emitted)
+    node_took n new emitted is ok down disk s asked =
+        let here : IsAsked images faults plan s a (MessageEvent number) (Takes m) (Node n) = subst (λ (x : Slot D). IsAsked images faults plan s a (MessageEvent number) (Takes m) x) is asked in
+        took images faults plan s a (MessageEvent number) (Takes m) (ap not here.stands.kind)
+        (node_payload (whole s) a (length (sent_of s.earlier) + number) (emits (cluster_of plan) (whole s) a (Takes m)).notes here.stands.kind) here.sound here.up here.may n new emitted here.stands.kind here.stands
+        (subst (λ (l : Layout). (number start version : ℕ) (past : Past Act) → node.StandsFor images l number start version past n → node.Takes images l number start version past (Takes m) new emitted) layout_is ok
+        (node_of a) (clock_start plan.starts (node_of a)) plan.version (node_past (cluster_of plan) s a) here.stands.stands)
+        down disk
+
+    pub node_took_strictly : (strict : D → Bool) (armed_of : D → Option ℕ) (content synced : D → List ℕ) (written : D → Ranges) (n new : NodeActor D) (emitted : Emitted) → slot ≡ Node n
+        → ((number start version : ℕ) (armed passed : Option ℕ) (past other : Past Act) → node.IsStrictAt strict armed_of content synced written layout number start version armed passed past n
+        → node.IsStrictAt strict armed_of content synced written layout number start version armed passed other new)
+        → (s : Situation) (disks : Disks) → IsAsked images faults plan s a (MessageEvent number) (Takes m) slot → IsStrictSlot strict armed_of content synced written plan s disks a slot
+        → HasTriedStrictly strict armed_of content synced written plan s disks a (MessageEvent number) (Node new) (Some emitted)
+    node_took_strictly strict armed_of content synced written n new emitted is ok s disks asked are =
+        let here : IsAsked images faults plan s a (MessageEvent number) (Takes m) (Node n) = subst (λ (x : Slot D). IsAsked images faults plan s a (MessageEvent number) (Takes m) x) is asked in
+        took_strictly images faults plan s a (MessageEvent number) (Takes m) (ap not here.stands.kind)
+        (node_payload (whole s) a (length (sent_of s.earlier) + number) (emits (cluster_of plan) (whole s) a (Takes m)).notes here.stands.kind) here.sound here.up here.may strict armed_of content synced written disks new emitted
+        (λ other. subst (λ (l : Layout). (number start version : ℕ) (armed passed : Option ℕ) (past other : Past Act) → node.IsStrictAt strict armed_of content synced written l number start version armed passed past n
+        → node.IsStrictAt strict armed_of content synced written l number start version armed passed other new) layout_is ok
+        (node_of a) (clock_start plan.starts (node_of a)) plan.version (disks.armed a) (disks.passed a) (node_past (cluster_of plan) s a) other
+        (subst (λ (x : Slot D). IsStrictSlot strict armed_of content synced written plan s disks a x) is are))
+
+    -- ---- a store
+
+    module _ (t : StoreActor D) (is : slot ≡ Store t) where
+      there : (s : Situation) → IsAsked images faults plan s a (MessageEvent number) (Takes m) slot → IsAsked images faults plan s a (MessageEvent number) (Takes m) (Store t)
+      there s asked = subst (λ (x : Slot D). IsAsked images faults plan s a (MessageEvent number) (Takes m) x) is asked
+
+      pub may_take : NumbersAlone → IsPlan plan → MayAsk images faults plan a (MessageEvent number) (Takes m) slot → store.MayTake images layout t [] m
+      may_take numbers_alone valid may =
+          let s : Situation = may.0 in
+          let asked : IsAsked images faults plan s a (MessageEvent number) (Takes m) (Store t) = there s may.1 in
+          let told : IsDeliverable (cluster_of plan) (whole s) m = deliverable s (Store t) asked in
+          let meets : StoreMeets (cluster_of plan) (whole s) a = store_meets (cluster_of plan) (whole s) a (sound_standing (cluster_of plan) s asked.sound) (few_whole s asked.few) asked.stands.kind in
+          let here = same _ a asked.may.place in
+          subst (λ (l : Layout). store.MayTake images l t [] m) (sym layout_is) (record {
+            own = a;
+            version = plan.version;
+            past = store_past (cluster_of plan) s a;
+            stands = asked.stands.stands;
+            short = told.short;
+            goes_here = record { goes_to = here; brings = told.brings (ap is_node here ∙ asked.stands.kind) };
+            top = told.top;
+            greatest = meets.greatest;
+            texts = text_at numbers_alone s asked.sound valid asked.may;
+          })
+
+      pub store_called : (new : StoreActor D) (r : Result (Option Emitted) OutOfMemory)
+          → IfOk r (λ given. (own : Actor) (version : ℕ) (past : Past Message) → store.StandsFor images layout own version past t → store.Steps images layout own version past (store.message_stop number m) new given)
+          → IfOk r (λ given. store.is_down new ≡ is_none given) → faults (store.disk_of t) ≤ faults (store.disk_of new)
+          → (r ≡ Ok None → Rose (faults (store.disk_of t)) (faults (store.disk_of new)))
+          → IfOk r (λ given. (s : Situation) → IsAsked images faults plan s a (MessageEvent number) (Takes m) slot → HasTried images faults plan s a (MessageEvent number) (Store new) given)
+      store_called new (Err e) ok down counted cause = tt
+      store_called new (Ok given) ok down counted cause = λ s asked.
+          let here : IsAsked images faults plan s a (MessageEvent number) (Takes m) (Store t) = there s asked in
+          store_tried images faults plan s a number m here.stands.kind here.sound here.up here.may (found s (Store t) here) t new given here
+          (subst (λ (l : Layout). (own : Actor) (version : ℕ) (past : Past Message) → store.StandsFor images l own version past t → store.Steps images l own version past (store.message_stop number m) new given) layout_is ok
+          a plan.version (store_past (cluster_of plan) s a) here.stands.stands)
+          down counted (λ none. cause (ap Ok none))
+
+      pub store_called_strictly : (strict : D → Bool) (armed_of : D → Option ℕ) (content synced : D → List ℕ) (written : D → Ranges) (new : StoreActor D) (r : Result (Option Emitted) OutOfMemory)
+          → ((own : Actor) (version : ℕ) (armed passed : Option ℕ) (past : Past Message) → store.StandsFor images layout own version past t
+          → store.IsStrictAt strict armed_of content synced written layout own version armed passed past t
+          → IfOk r (λ given. (is_none given ≡ fails_append armed)
+          × store.IsStrictAt strict armed_of content synced written layout own version (after_append armed) (passed_in armed) (after_step given past (store.message_stop number m)) new))
+          → IfOk r (λ given. (s : Situation) (disks : Disks) → IsAsked images faults plan s a (MessageEvent number) (Takes m) slot
+          → IsStrictSlot strict armed_of content synced written plan s disks a slot → HasTriedStrictly strict armed_of content synced written plan s disks a (MessageEvent number) (Store new) given)
+      store_called_strictly strict armed_of content synced written new (Err e) ok = tt
+      store_called_strictly strict armed_of content synced written new (Ok given) ok = λ s disks asked are.
+          let here : IsAsked images faults plan s a (MessageEvent number) (Takes m) (Store t) = there s asked in
+          store_tried_strictly images faults plan s a number m here.stands.kind here.sound here.up here.may (found s (Store t) here) strict armed_of content synced written disks new given
+          (subst (λ (l : Layout). (own : Actor) (version : ℕ) (armed passed : Option ℕ) (past : Past Message) → store.StandsFor images l own version past t
+          → store.IsStrictAt strict armed_of content synced written l own version armed passed past t
+          → (is_none given ≡ fails_append armed)
+          × store.IsStrictAt strict armed_of content synced written l own version (after_append armed) (passed_in armed) (after_step given past (store.message_stop number m)) new) layout_is ok
+          a plan.version (disks.armed a) (disks.passed a) (store_past (cluster_of plan) s a) here.stands.stands
+          (subst (λ (x : Slot D). IsStrictSlot strict armed_of content synced written plan s disks a x) is are))

@@ -1,6 +1,0 @@
-use Rattle.acc_actors.proofs.Nodes.{slow_all}
-use Rattle.acc_actors.proofs.node.NodeActor.slow.Goals as goal
-
-pub returns-clause-ok : goal.returns-clause-ok
-returns-clause-ok g c =
-    slow_all g.D.Disk.is_image c.args.topology.now c.args.self.now c.in-Open.node c.slow.new.self c.in-Open.is c.requires.up c.slow.ensures.same c.slow.ensures.journal.0 c.args.txn c.slow.result c.slow.ensures.ok

@@ -1,0 +1,61 @@
+//! Actors of a plan that have done nothing.
+ghost use Rattle.std.specs.Prelude.{◌≡◌, ◌∷◌, [], IsTrue, false};
+ghost use Rattle.acc_stamp.specs.Actor.{actor_of};
+ghost use Rattle.acc_topology.specs.Sets.{is_among};
+ghost use Rattle.acc_message.specs.Run.{clock_start, is_node};
+ghost use Rattle.acc_schedule_runs.specs.Situations.{opened};
+ghost use Rattle.acc_schedule_runs.specs.Disks.{fresh_disks};
+ghost use Rattle.acc_actors.specs.Opened.{IsUnarmed};
+
+use crate::slot::Slot;
+use acc_durable_node::{DurableNode, NodeActor};
+use acc_durable_store::{DurableStore, StoreActor};
+use acc_ports::Rig;
+use acc_schedule::Plan;
+use acc_stamp::Actor;
+use acc_topology::NodeSpec;
+use std::alloc::Global;
+
+impl<D: Rig + Drop> Slot<D> {
+    ghost use Rattle.acc_journal.specs.Journal.{IsAtRest};
+    ghost use Rattle.acc_actors.specs.Slots.{SlotStands, IsStrictSlot};
+
+    /// A node of the plan over a disk of its own, which holds the bytes 1 and 0, synced.
+    pub fn fresh_node(alloc: Global, plan: &Plan, number: u32, disk: D) -> Slot<D>
+        requires known { IsTrue (is_among plan.now.topology.nodes number) }
+        requires content { D.content disk ≡ 1 ∷ 0 ∷ [] }
+        requires rest { IsAtRest (D.content disk) (D.is_image disk) (D.strict disk) (D.synced disk) (D.written disk) }
+        ensures stands { SlotStands D.is_image D.faults plan.now (opened []) (actor_of number 0) result }
+        ensures strict { IsUnarmed D.strict D.armed disk
+            → IsStrictSlot D.strict D.armed D.content D.synced D.written plan.now (opened []) fresh_disks (actor_of number 0) result }
+    {
+        let start = start_of(plan.starts.as_slice(), number);
+        let node = DurableNode::fresh(alloc, number, start, plan.version, disk);
+        Slot::Node(NodeActor::opened(alloc, number, start, plan.version, node))
+    }
+
+    /// A store over a disk of its own, which holds the bytes 1 and 0, synced.
+    pub fn fresh_store(alloc: Global, plan: &Plan, actor: Actor, disk: D) -> Slot<D>
+        requires kind { is_node actor ≡ false }
+        requires content { D.content disk ≡ 1 ∷ 0 ∷ [] }
+        requires rest { IsAtRest (D.content disk) (D.is_image disk) (D.strict disk) (D.synced disk) (D.written disk) }
+        ensures stands { SlotStands D.is_image D.faults plan.now (opened []) actor result }
+        ensures strict { IsUnarmed D.strict D.armed disk
+            → IsStrictSlot D.strict D.armed D.content D.synced D.written plan.now (opened []) fresh_disks actor result }
+    {
+        let store = DurableStore::fresh(alloc, actor, plan.version, disk);
+        Slot::Store(StoreActor::opened(alloc, actor, plan.version, store))
+    }
+}
+
+/// Where the clock of a node starts.
+pub fn start_of(starts: &[NodeSpec], node: u32) -> u64
+    ensures { result ≡ clock_start starts.now node }
+{
+    for spec in starts {
+        if spec.id == node {
+            return spec.clock;
+        }
+    }
+    0
+}

@@ -1,0 +1,212 @@
+//! Where actors are kept, and what they are asked for there.
+ghost use Rattle.std.specs.Prelude.{◌≡◌, ◌≢◌, ℕ, ◌≤◌, ◌^◌, ◌<◌, Bool, true, false, not, Contains, IfOk, IfErr, OnErr, IfSome, is_none, Option as Maybe, Ok, Err, None, Some};
+ghost use Rattle.acc_stamp.specs.declared.actors.Actor.{Actor as AnActor};
+ghost use Rattle.acc_ports.specs.Faults.{Rose};
+ghost use Rattle.acc_message.specs.declared.message.Message.{Message as AMessage};
+ghost use Rattle.acc_message.specs.declared.entry.Event.{Event as AnEvent};
+ghost use Rattle.acc_message.specs.declared.item.Skip.{Skip as ASkip};
+ghost use Rattle.acc_message.specs.Items.{message_at, id_of_txn};
+ghost use Rattle.acc_message.specs.NodeRules.{Act, Begins, Recovers, Slows, Takes};
+ghost use Rattle.acc_message.specs.Run.{is_node, is_down};
+ghost use Rattle.acc_node.specs.declared.error.NodeError.{NodeError as Refused};
+ghost use Rattle.acc_run_laws.specs.Asks.{slow_skip, home_of_txn};
+ghost use Rattle.acc_schedule.specs.Actors.{actors};
+ghost use Rattle.acc_schedule.specs.Content.{Content};
+ghost use Rattle.acc_pasts.specs.Stopped.{IsSound};
+ghost use Rattle.acc_schedule_runs.specs.Situations.{Situation, whole};
+ghost use Rattle.acc_schedule_runs.specs.Moves.{entered};
+ghost use Rattle.acc_schedule_runs.specs.Schedules.{cluster_of};
+ghost use Rattle.acc_schedule_runs.specs.Disks.{Disks, after_fail};
+
+use acc_base::OutOfMemory;
+use acc_durable_node::NodeActor;
+use acc_durable_store::StoreActor;
+use acc_message::{Emitted, Event, Message};
+use acc_node::NodeError;
+use acc_payloads::Restarted;
+use acc_ports::Rig;
+use acc_run_laws::numbers_alone::messages_have_numbers_alone;
+use acc_schedule::Plan;
+use acc_stamp::{Actor, TxnId};
+use acc_store::Store;
+use acc_txn::Body;
+
+/// An actor of a plan over its disk, in the slot that is kept for it.
+#[derive(Debug, Drop)]
+pub enum Slot<D: Rig> {
+    /// No actor stands here, or it is being restarted.
+    Empty,
+    /// A node.
+    Node(NodeActor<D>),
+    /// A store.
+    Store(StoreActor<D>),
+}
+
+impl<D: Rig> Slot<D> {
+    ghost use Rattle.acc_actors.specs.Slots.{SlotStands, IsStrictSlot, IsTaken, faults_in};
+    ghost use Rattle.acc_actors.specs.Stores.{IsStoreOf};
+    ghost use Rattle.acc_actors.specs.Asked.{IsFew, IsAsked, MayAsk, IsHomeUp, IsSlowRefused, skips_slow, HasTried, HasTriedStrictly, HasRestartedAt, HasRestartedStrictlyAt};
+
+    /// The node begins a transaction. `None` where its disk failed, which takes it down.
+    pub fn begin(
+        &mut self,
+        plan: &Plan,
+        actor: Actor,
+        txn: u32,
+        body: &Body,
+    ) -> Result<Option<Emitted>, OutOfMemory>
+        requires { MayAsk D.is_image D.faults plan.now actor (AnEvent.Begin txn) (Begins txn body.now) self.old }
+        ensures ok { IfOk result (λ given. (s : Situation) → IsAsked D.is_image D.faults plan.now s actor (AnEvent.Begin txn) (Begins txn body.now) self.old
+            → HasTried D.is_image D.faults plan.now s actor (AnEvent.Begin txn) self.new given) }
+        ensures strict { IfOk result (λ given. (s : Situation) (disks : Disks) → IsAsked D.is_image D.faults plan.now s actor (AnEvent.Begin txn) (Begins txn body.now) self.old
+            → IsStrictSlot D.strict D.armed D.content D.synced D.written plan.now s disks actor self.old
+            → HasTriedStrictly D.strict D.armed D.content D.synced D.written plan.now s disks actor (AnEvent.Begin txn) self.new given) }
+        ensures counted { IfOk result (λ given. faults_in D.faults self.old ≤ faults_in D.faults self.new) }
+        ensures cause { result ≡ Ok None → Rose (faults_in D.faults self.old) (faults_in D.faults self.new) }
+    {
+        match self {
+            Slot::Node(node) => node.begin(&plan.topology, txn, body),
+            Slot::Empty | Slot::Store(_) => Err(OutOfMemory),
+        }
+    }
+
+    /// The node recovers a transaction. `None` where its disk failed, which takes it down.
+    pub fn recover(
+        &mut self,
+        plan: &Plan,
+        actor: Actor,
+        txn: u32,
+        id: TxnId,
+        body: &Body,
+    ) -> Result<Option<Emitted>, OutOfMemory>
+        requires { MayAsk D.is_image D.faults plan.now actor (AnEvent.Recover txn) (Recovers id body.now) self.old }
+        ensures ok { IfOk result (λ given. (s : Situation) → IsAsked D.is_image D.faults plan.now s actor (AnEvent.Recover txn) (Recovers id body.now) self.old
+            → HasTried D.is_image D.faults plan.now s actor (AnEvent.Recover txn) self.new given) }
+        ensures strict { IfOk result (λ given. (s : Situation) (disks : Disks) → IsAsked D.is_image D.faults plan.now s actor (AnEvent.Recover txn) (Recovers id body.now) self.old
+            → IsStrictSlot D.strict D.armed D.content D.synced D.written plan.now s disks actor self.old
+            → HasTriedStrictly D.strict D.armed D.content D.synced D.written plan.now s disks actor (AnEvent.Recover txn) self.new given) }
+        ensures counted { IfOk result (λ given. faults_in D.faults self.old ≤ faults_in D.faults self.new) }
+        ensures cause { result ≡ Ok None → Rose (faults_in D.faults self.old) (faults_in D.faults self.new) }
+    {
+        match self {
+            Slot::Node(node) => node.recover(&plan.topology, txn, id, body),
+            Slot::Empty | Slot::Store(_) => Err(OutOfMemory),
+        }
+    }
+
+    /// The home gives the fast path of a transaction up. An error but that of memory is the cause for which a step is passed over.
+    pub fn slow(&mut self, plan: &Plan, actor: Actor, txn: u32) -> Result<Emitted, NodeError>
+        requires { (s : Situation) × IsHomeUp D.is_image D.faults plan.now s actor txn self.old }
+        ensures ok { IfOk result (λ emitted. (s : Situation) → IsHomeUp D.is_image D.faults plan.now s actor txn self.old
+            → (skips_slow plan.now s txn ≡ None) × HasTried D.is_image D.faults plan.now s actor (AnEvent.Slow txn) self.new (Some emitted)) }
+        ensures refused { IfErr result (λ error. (s : Situation) → IsHomeUp D.is_image D.faults plan.now s actor txn self.old → IsSlowRefused plan.now s txn error) }
+        ensures as_before { OnErr result ((s : Situation) → IsHomeUp D.is_image D.faults plan.now s actor txn self.old → SlotStands D.is_image D.faults plan.now s actor self.new) }
+        ensures strict { IfOk result (λ emitted. (s : Situation) (disks : Disks) → IsHomeUp D.is_image D.faults plan.now s actor txn self.old
+            → IsStrictSlot D.strict D.armed D.content D.synced D.written plan.now s disks actor self.old
+            → HasTriedStrictly D.strict D.armed D.content D.synced D.written plan.now s disks actor (AnEvent.Slow txn) self.new (Some emitted)) }
+        ensures strict_as_before { OnErr result ((s : Situation) (disks : Disks) → IsHomeUp D.is_image D.faults plan.now s actor txn self.old
+            → IsStrictSlot D.strict D.armed D.content D.synced D.written plan.now s disks actor self.old
+            → IsStrictSlot D.strict D.armed D.content D.synced D.written plan.now s disks actor self.new) }
+        ensures faults { faults_in D.faults self.new ≡ faults_in D.faults self.old }
+    {
+        match self {
+            Slot::Node(node) => node.slow(&plan.topology, txn),
+            Slot::Empty | Slot::Store(_) => Err(NodeError::OutOfMemory),
+        }
+    }
+
+    /// The actor takes the message with this number. `None` where its disk failed, which takes it down.
+    #[inline(always)]
+    pub fn take(
+        &mut self,
+        plan: &Plan,
+        actor: Actor,
+        number: u64,
+        m: &Message,
+    ) -> Result<Option<Emitted>, OutOfMemory>
+        requires { MayAsk D.is_image D.faults plan.now actor (AnEvent.Message number) (Takes m.now) self.old }
+        ensures ok { IfOk result (λ given. (s : Situation) → IsAsked D.is_image D.faults plan.now s actor (AnEvent.Message number) (Takes m.now) self.old
+            → HasTried D.is_image D.faults plan.now s actor (AnEvent.Message number) self.new given) }
+        ensures strict { IfOk result (λ given. (s : Situation) (disks : Disks) → IsAsked D.is_image D.faults plan.now s actor (AnEvent.Message number) (Takes m.now) self.old
+            → IsStrictSlot D.strict D.armed D.content D.synced D.written plan.now s disks actor self.old
+            → HasTriedStrictly D.strict D.armed D.content D.synced D.written plan.now s disks actor (AnEvent.Message number) self.new given) }
+        ensures counted { IfOk result (λ given. faults_in D.faults self.old ≤ faults_in D.faults self.new) }
+        ensures cause { result ≡ Ok None → Rose (faults_in D.faults self.old) (faults_in D.faults self.new) }
+    {
+        messages_have_numbers_alone();
+        match self {
+            Slot::Empty => Err(OutOfMemory),
+            Slot::Node(node) => Ok(Some(node.take(&plan.topology, m)?)),
+            Slot::Store(store) => store.take(&plan.topology, number, m),
+        }
+    }
+
+    /// Whether the actor is down.
+    pub fn is_down(&self) -> bool
+        ensures { (plan : Content) (s : Situation) (a : AnActor) → SlotStands D.is_image D.faults plan s a self.now → result ≡ is_down a (whole s) }
+    {
+        match self {
+            Slot::Empty => true,
+            Slot::Node(node) => node.is_down(),
+            Slot::Store(store) => store.is_down(),
+        }
+    }
+
+    /// The store, where one is up.
+    pub fn store(&self) -> Option<&Store>
+        ensures taken { IfSome result (λ store. IsTaken self.now) }
+        ensures some { IfSome result (λ store. (plan : Content) (s : Situation) (a : AnActor) → IsSound (cluster_of plan) s → SlotStands D.is_image D.faults plan s a self.now
+            → (is_node a ≡ false) × (is_down a (whole s) ≡ false) × IsStoreOf plan s a store.now) }
+        ensures none { result ≡ None → (plan : Content) (s : Situation) (a : AnActor) → SlotStands D.is_image D.faults plan s a self.now
+            → is_node a ≡ false → is_down a (whole s) ≡ false → ⊥ }
+    {
+        match self {
+            Slot::Store(store) => store.store(),
+            Slot::Empty | Slot::Node(_) => None,
+        }
+    }
+
+    /// Arms a call of the actor's disk.
+    pub fn arm(&mut self, plan: &Plan, actor: Actor, calls: u64)
+        ensures stands { (s : Situation) → SlotStands D.is_image D.faults plan.now s actor self.old → SlotStands D.is_image D.faults plan.now s actor self.new }
+        ensures strict { (s : Situation) (disks : Disks) → IsStrictSlot D.strict D.armed D.content D.synced D.written plan.now s disks actor self.old
+            → IsStrictSlot D.strict D.armed D.content D.synced D.written plan.now s (after_fail actor calls disks) actor self.new }
+        ensures faults { faults_in D.faults self.new ≡ faults_in D.faults self.old }
+    {
+        let _plan = plan;
+        match self {
+            Slot::Empty => {}
+            Slot::Node(node) => node.arm(calls),
+            Slot::Store(store) => store.arm(calls),
+        }
+    }
+
+    /// Crashes the actor's disk, in the way of the choice, and opens the actor again.
+    pub fn restart(
+        self,
+        plan: &Plan,
+        actor: Actor,
+        choice: u8,
+    ) -> (Slot<D>, Result<Restarted, OutOfMemory>)
+        requires { (s : Situation) × SlotStands D.is_image D.faults plan.now s actor self × Contains (actors plan.now.topology) actor }
+        ensures ok { IfOk result.1 (λ found. (s : Situation) → IsSound (cluster_of plan.now) s → IsFew s → SlotStands D.is_image D.faults plan.now s actor self
+            → HasRestartedAt D.is_image D.faults plan.now s actor found result.0) }
+        ensures strict { IfOk result.1 (λ found. (s : Situation) (disks : Disks) → IsSound (cluster_of plan.now) s → SlotStands D.is_image D.faults plan.now s actor self
+            → IsStrictSlot D.strict D.armed D.content D.synced D.written plan.now s disks actor self
+            → HasRestartedStrictlyAt D.strict D.armed D.content D.synced D.written plan.now s disks actor choice found result.0) }
+        ensures counted { IfOk result.1 (λ found. faults_in D.faults self ≤ faults_in D.faults result.0) }
+        ensures cause { result.1 ≡ Ok Restarted.Down → Rose (faults_in D.faults self) (faults_in D.faults result.0) }
+    {
+        match self {
+            Slot::Empty => (Slot::Empty, Err(OutOfMemory)),
+            Slot::Node(node) => {
+                let (node, found) = node.restart(choice);
+                (Slot::Node(node), found)
+            }
+            Slot::Store(store) => {
+                let (store, found) = store.restart(&plan.topology, choice);
+                (Slot::Store(store), found)
+            }
+        }
+    }
+}

@@ -1,0 +1,100 @@
+//! Groups of messages that a store takes with one append.
+ghost use Rattle.std.specs.Prelude.{◌≡◌, ◌≢◌, ◌≤◌, false, List, [], ◌∷◌, ◌++◌, IfOk, OnOk, OnErr, Ok, None};
+ghost use Rattle.acc_ports.specs.Faults.{Rose};
+ghost use Rattle.acc_message.specs.declared.entry.Event.{Event as AnEvent};
+ghost use Rattle.acc_message.specs.NodeRules.{Takes};
+ghost use Rattle.acc_message_code.specs.Weight.{weight_of};
+ghost use Rattle.acc_schedule_runs.specs.Situations.{Situation};
+ghost use Rattle.acc_schedule_runs.specs.Moves.{entry_of, entered_all};
+ghost use Rattle.acc_schedule_runs.specs.Schedules.{cluster_of};
+ghost use Rattle.acc_schedule_runs.specs.Disks.{Disks};
+
+use crate::slot::Slot;
+use acc_base::OutOfMemory;
+use acc_message::Message;
+use acc_payloads::Unsents;
+use acc_ports::Rig;
+use acc_run_laws::numbers_alone::messages_have_numbers_alone;
+use acc_schedule::Plan;
+use acc_stamp::Actor;
+use acc_store::Prepared;
+
+impl<D: Rig> Slot<D> {
+    ghost use Rattle.acc_actors.specs.Slots.{SlotStages, IsStrictSlot, IsPreparedIn, faults_in};
+    ghost use Rattle.acc_actors.specs.Asked.{IsAskedBehind, MayAskBehind, IsStaged, HasSettled, HasSettledStrictly};
+
+    /// Plans the step of the store that takes the message with this number, behind those that are staged, and tells how many bytes of
+    /// encoded messages it sends. It can be staged as long as the store takes no other. It makes no call of a disk.
+    pub fn prepare(
+        &self,
+        plan: &Plan,
+        actor: Actor,
+        number: u64,
+        m: &Message,
+    ) -> Result<(u64, Prepared), OutOfMemory>
+        requires { MayAskBehind D.is_image D.faults plan.now actor (AnEvent.Message number) (Takes m.now) self.now }
+        ensures weight { IfOk result (λ found. (s : Situation) (staged : List AnEvent) → IsAskedBehind D.is_image D.faults plan.now s actor staged (AnEvent.Message number) (Takes m.now) self.now
+            → found.0 ≡ weight_of (entry_of (cluster_of plan.now) (entered_all (cluster_of plan.now) s actor staged false) actor (AnEvent.Message number) false)) }
+        ensures prepared { IfOk result (λ found. IsPreparedIn plan.now self.now m.now found.1) }
+    {
+        messages_have_numbers_alone();
+        let _actor = actor;
+        let _number = number;
+        match self {
+            Slot::Empty | Slot::Node(_) => Err(OutOfMemory),
+            Slot::Store(store) => {
+                let prepared = store.prepare(&plan.topology, m)?;
+                let weight = store.weigh(&plan.topology, m, &prepared)?;
+                Ok((weight, prepared))
+            }
+        }
+    }
+
+    /// The store takes the message with this number as it was planned, behind those that are staged. It is in no image of the disk before
+    /// `settle`, which gives what the store sends for it. After an error all is as before. It makes no call of the disk.
+    pub fn stage(
+        &mut self,
+        plan: &Plan,
+        actor: Actor,
+        number: u64,
+        m: &Message,
+        prepared: Prepared,
+    ) -> Result<(), OutOfMemory>
+        requires may { MayAskBehind D.is_image D.faults plan.now actor (AnEvent.Message number) (Takes m.now) self.old }
+        requires prepared { IsPreparedIn plan.now self.old m.now prepared }
+        ensures ok { OnOk result ((s : Situation) (staged : List AnEvent) → IsAskedBehind D.is_image D.faults plan.now s actor staged (AnEvent.Message number) (Takes m.now) self.old
+            → SlotStages D.is_image D.faults plan.now s actor (staged ++ AnEvent.Message number ∷ []) self.new) }
+        ensures err { OnErr result ((s : Situation) (staged : List AnEvent) → SlotStages D.is_image D.faults plan.now s actor staged self.old
+            → SlotStages D.is_image D.faults plan.now s actor staged self.new) }
+        ensures strict { (s : Situation) (disks : Disks) → IsStrictSlot D.strict D.armed D.content D.synced D.written plan.now s disks actor self.old
+            → IsStrictSlot D.strict D.armed D.content D.synced D.written plan.now s disks actor self.new }
+        ensures faults { faults_in D.faults self.new ≡ faults_in D.faults self.old }
+    {
+        messages_have_numbers_alone();
+        let _actor = actor;
+        match self {
+            Slot::Empty | Slot::Node(_) => Err(OutOfMemory),
+            Slot::Store(store) => store.stage(&plan.topology, number, m, prepared),
+        }
+    }
+
+    /// Appends all that is staged with one append, and gives it: it may be entered now. `None` where its disk failed, which takes the actor
+    /// down; a restart then finds all of it or nothing.
+    pub fn settle(&mut self, plan: &Plan, actor: Actor) -> Result<Option<Unsents>, OutOfMemory>
+        requires { (s : Situation) × (staged : List AnEvent) × IsStaged D.is_image D.faults plan.now s actor staged self.old }
+        ensures ok { IfOk result (λ given. (s : Situation) (staged : List AnEvent) → IsStaged D.is_image D.faults plan.now s actor staged self.old
+            → HasSettled D.is_image D.faults plan.now s actor staged self.new given) }
+        ensures strict { IfOk result (λ given. (s : Situation) (staged : List AnEvent) (disks : Disks) → IsStaged D.is_image D.faults plan.now s actor staged self.old → staged ≢ []
+            → IsStrictSlot D.strict D.armed D.content D.synced D.written plan.now s disks actor self.old
+            → HasSettledStrictly D.strict D.armed D.content D.synced D.written plan.now s disks actor staged self.new given) }
+        ensures counted { IfOk result (λ given. faults_in D.faults self.old ≤ faults_in D.faults self.new) }
+        ensures cause { result ≡ Ok None → Rose (faults_in D.faults self.old) (faults_in D.faults self.new) }
+    {
+        let _plan = plan;
+        let _actor = actor;
+        match self {
+            Slot::Empty | Slot::Node(_) => Err(OutOfMemory),
+            Slot::Store(store) => store.settle(),
+        }
+    }
+}

@@ -1,4 +1,0 @@
-pub mod FastFound
-pub mod BegunIds
-pub mod Agreed
-pub mod Agreements

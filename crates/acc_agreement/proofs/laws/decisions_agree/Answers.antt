@@ -1,6 +1,0 @@
-use Rattle.acc_agreement.proofs.Agreed.{one_timestamp, one_set_of_deps, timestamps_differ}
-use Rattle.acc_agreement.proofs.Agreements.{agreement}
-use Rattle.acc_agreement.proofs.laws.decisions_agree.Goals as goal
-
-pub returns : goal.returns
-returns c = record { timestamp = one_timestamp; deps = one_set_of_deps; differ = timestamps_differ; agreement = agreement }

@@ -1,4 +1,0 @@
-pub mod KnownOnes
-pub mod Rivals
-pub mod VoteLaw
-pub mod Telling

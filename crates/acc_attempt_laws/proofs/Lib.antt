@@ -1,4 +1,0 @@
-mod Seats
-mod Asked
-mod Goings
-mod TellsAttempts

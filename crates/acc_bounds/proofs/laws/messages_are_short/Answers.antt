@@ -1,8 +1,0 @@
-use Rattle.acc_bounds.proofs.Everywhere.{is_short, next_short}
-use Rattle.acc_bounds.proofs.laws.messages_are_short.Goals as goal
-
-pub returns-clause-run : goal.returns-clause-run
-returns-clause-run c = λ cluster items m standing sending. is_short cluster items standing m sending
-
-pub returns-clause-next : goal.returns-clause-next
-returns-clause-next c = next_short

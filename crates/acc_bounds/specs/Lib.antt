@@ -1,4 +1,0 @@
-pub mod Next
-pub mod Heights
-pub mod Sends
-pub mod Calls

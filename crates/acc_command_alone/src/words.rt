@@ -1,0 +1,102 @@
+//! The words of a command line.
+ghost use Rattle.std.specs.Prelude.{◌≡◌, ◌↔◌, ◌≤◌, [], ◌∷◌, IsTrue, IfOk};
+ghost use Rattle.acc_command_alone.specs.Words.{IsLineOf, IsDocumentLineOf, IsNumbersOf, IsWorkersOf};
+
+use crate::{seed, txns, workers};
+use acc_base::{OutOfMemory, Text};
+use std::alloc::Global;
+
+/// A command that reads a document.
+#[derive(Clone, Copy, Debug, PartialEq, Eq)]
+pub enum Command {
+    /// From a document to the report of its run.
+    Run,
+    /// From a document to how many nodes, shards, transactions and steps it has.
+    Check,
+}
+
+/// The seed of a generated document, and how many transactions it has.
+#[derive(Clone, Copy, Debug, PartialEq, Eq)]
+pub struct Numbers {
+    /// The seed.
+    pub seed: u64,
+    /// How many transactions.
+    pub txns: u32,
+}
+
+/// A line of words that asks for no threads.
+#[derive(Clone, Copy, Debug, PartialEq, Eq)]
+pub enum Line {
+    /// A command that reads a document.
+    Document(Command),
+    /// The command that makes one.
+    Generate(Numbers),
+}
+
+/// How many workers these words ask for, if they are the line that shares a document among threads. `OutOfMemory` says nothing of the
+/// words.
+pub fn workers_of(alloc: Global, words: &[Text]) -> Result<Option<u8>, OutOfMemory>
+    ensures { IfOk result (IsWorkersOf words.now) }
+{
+    let [command, option, word] = words else {
+        return Ok(None);
+    };
+    if !is(command, b"free") || !is(option, b"--workers") {
+        return Ok(None);
+    }
+    workers(alloc, word.as_slice())
+}
+
+/// The line that these words are, if it asks for no threads.
+pub(crate) fn line_of(alloc: Global, words: &[Text]) -> Result<Option<Line>, OutOfMemory>
+    ensures { IfOk result (IsLineOf words.now) }
+{
+    if let Some(command) = document_line(words) {
+        return Ok(Some(Line::Document(command)));
+    }
+    match generate_line(alloc, words)? {
+        Some(numbers) => Ok(Some(Line::Generate(numbers))),
+        None => Ok(None),
+    }
+}
+
+// The command of these words, if it reads a document.
+fn document_line(words: &[Text]) -> Option<Command>
+    ensures { IsDocumentLineOf words.now result }
+{
+    let [word] = words else {
+        return None;
+    };
+    if is(word, b"run") {
+        Some(Command::Run)
+    } else if is(word, b"check") {
+        Some(Command::Check)
+    } else {
+        None
+    }
+}
+
+// The numbers of these words, if they are the line that makes a document.
+fn generate_line(alloc: Global, words: &[Text]) -> Result<Option<Numbers>, OutOfMemory>
+    ensures { IfOk result (IsNumbersOf words.now) }
+{
+    let [command, seed_option, seed_word, txns_option, txns_word] = words else {
+        return Ok(None);
+    };
+    if !is(command, b"gen") || !is(seed_option, b"--seed") || !is(txns_option, b"--txns") {
+        return Ok(None);
+    }
+    let Some(seed) = seed(alloc, seed_word.as_slice())? else {
+        return Ok(None);
+    };
+    match txns(alloc, txns_word.as_slice())? {
+        Some(txns) => Ok(Some(Numbers { seed, txns })),
+        None => Ok(None),
+    }
+}
+
+fn is(word: &Text, expected: &[u8]) -> bool
+    ensures { IsTrue result ↔ (word.now ≡ expected.now) }
+{
+    word.as_slice() == expected
+}

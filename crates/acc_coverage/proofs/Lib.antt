@@ -1,4 +1,0 @@
-pub mod FastCovers
-pub mod OwnIsFound
-pub mod CommitCovers
-pub mod Covers

@@ -1,3 +1,0 @@
-mod Bodies
-mod Data
-mod Steps

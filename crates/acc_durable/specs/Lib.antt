@@ -1,4 +1,0 @@
-pub mod Node
-pub mod Staged
-pub mod Replay
-pub mod Store

@@ -1,0 +1,3 @@
+pub mod Actor
+pub mod Node
+pub mod Weighing

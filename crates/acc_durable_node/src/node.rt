@@ -1,0 +1,403 @@
+//! A node over a journal.
+ghost use Rattle.std.specs.Prelude.{◌≡◌, ◌≢◌, ◌^◌, ◌<◌, ◌≤◌, IsTrue, true, false, List, [], ◌∷◌, ◌++◌, ℕ, length, None, Some, Err, IfOk, IfErr, OnOk, OnErr, IsErr, IsSome, ◌↔◌, if◌then◌else◌};
+ghost use Rattle.acc_topology.specs.Layout.{Layout};
+ghost use Rattle.acc_ports.specs.Disk.{Only, NoFurther, Elapses, LeavesOnly};
+ghost use Rattle.acc_ports.specs.Faults.{Rose};
+ghost use Rattle.acc_ports.specs.Strict.{after_call, LeftByChoice};
+ghost use Rattle.acc_message.specs.Fields.{top_of};
+ghost use Rattle.acc_message.specs.NodeRules.{Act, Begins, Recovers, Takes as TakesMessage, Restarts, begun_id, node_replay};
+ghost use Rattle.acc_node.specs.declared.error.NodeError.{NodeError as Refused};
+ghost use Rattle.acc_node.specs.Stands.{may_slow, is_answered};
+ghost use Rattle.acc_payloads.specs.declared.draw.Purpose.{Purpose as For};
+ghost use Rattle.acc_payloads.specs.declared.node.NodePayload.{NodePayload as Payload};
+ghost use Rattle.acc_payloads.specs.Node.{IsNodeJournal};
+
+use crate::DurableError;
+use acc_base::OutOfMemory;
+use acc_journal::{Journal, JournalError, Payloads};
+use acc_message::{Emitted, Message};
+use acc_node::{Node, NodeError};
+use acc_payloads::{Draw, Purpose, put_payload, read_node_journal};
+use acc_ports::{Disk, Rig};
+use acc_stamp::TxnId;
+use acc_topology::Topology;
+use acc_txn::Body;
+use std::alloc::Global;
+
+/// How much room a mark and a draw take in a journal.
+const ROOM: u64 = 20;
+
+/// A node whose disk keeps its draws. It is broken once a call of its disk failed or found no memory; then it takes nothing any
+/// more, and only its disk is of use.
+#[derive(Debug, Drop)]
+pub struct DurableNode<D: Disk> {
+    alloc: Global,
+    pub(crate) node: Node,
+    number: u32,
+    start: u64,
+    version: u8,
+    journal: Journal<D>,
+    marked: bool,
+    kept: u64,
+}
+
+impl<D: Disk> DurableNode<D> {
+    ghost use Rattle.acc_journal.specs.Layout.{Reads};
+    ghost use Rattle.acc_journal.specs.Journal.{IsAtRest, ReadsAsEither, IsOfTheDisk, FailsWithin, left_by_choice};
+    ghost use Rattle.acc_durable_node.specs.Node.{StandsFor, Takes, HasSlowed, IsSameActor, IsJournalAfter, IsReopened, IsRefusedBy, Refuses, IsDiskFault, draw_group};
+
+    /// A node that has done nothing, on a disk that holds the bytes 1 and 0, synced. It draws above `start`, and journals as this
+    /// version, 1 or 2. It makes no call of the disk and takes no memory.
+    pub fn fresh(alloc: Global, number: u32, start: u64, version: u8, disk: D) -> DurableNode<D>
+        requires number_from { 1 ≤ number }
+        requires number_to { number ≤ 15 }
+        requires start_in_range { start ≤ 10 ^ 12 }
+        requires content { D.content disk ≡ 1 ∷ 0 ∷ [] }
+        requires rest { IsAtRest (D.content disk) (D.is_image disk) (D.strict disk) (D.synced disk) (D.written disk) }
+        ensures stands { (layout : Layout) → StandsFor layout result [] }
+        ensures given { (result.number ≡ number) × (result.start ≡ start) × (result.version ≡ version) }
+        ensures journal { (result.journal.disk ≡ disk) × (result.journal.payloads ≡ []) }
+    {
+        DurableNode {
+            alloc,
+            node: Node::new(alloc, number, start),
+            number,
+            start,
+            version,
+            journal: Journal::fresh(alloc, disk),
+            marked: false,
+            kept: 0,
+        }
+    }
+
+    /// Opens the node from the disk that a crash left. It has the draws and the begun transactions of the journal, and nothing else.
+    /// Every error hands the disk back. Besides the refusals of `Journal::reopen`, `BadRecord` comes exactly where a payload is none
+    /// of a node, is a mark that may not stand there, draws an `h` that isn't above the start and every one before it or is above
+    /// 2^62, or begins a transaction for the second time, with the place of its gate.
+    pub fn reopen(
+        alloc: Global,
+        number: u32,
+        start: u64,
+        version: u8,
+        disk: D,
+    ) -> Result<DurableNode<D>, (JournalError, D)>
+        requires number_from { 1 ≤ number }
+        requires number_to { number ≤ 15 }
+        requires start_in_range { start ≤ 10 ^ 12 }
+        requires rest { IsAtRest (D.content disk) (D.is_image disk) (D.strict disk) (D.synced disk) (D.written disk) }
+
+        ensures ok { IfOk result IsReopened }
+        ensures reads { IfOk result (λ n. Reads (D.content disk) n.journal.payloads) }
+        ensures restarts { (layout : Layout) (acts : List Act) (payloads : List (List ℕ)) → Reads (D.content disk) payloads → IsJournalAfter layout number start version payloads acts → IfOk result (λ n. StandsFor layout n (Restarts ∷ acts)) }
+        ensures given { IfOk result (λ n. (n.number ≡ number) × (n.start ≡ start) × (n.version ≡ version)) }
+        ensures lasts { IfOk result (λ n. (image : List ℕ) → D.is_image n.journal.disk image → Reads image n.journal.payloads) }
+        ensures content { IfOk result (λ n. D.content n.journal.disk ≡ D.content disk) }
+        ensures any_moment { IfOk result (λ n. LeavesOnly D.clock D.was_image disk n.journal.disk (λ image. image ≡ D.content disk)) }
+
+        ensures refused { IfErr result (λ e. IsRefusedBy (D.content disk) version start e.0) }
+        ensures never { (payloads : List (List ℕ)) (items : List Payload) → Reads (D.content disk) payloads → IsNodeJournal version start payloads items → IfErr result (λ e. IsOfTheDisk e.0) }
+        ensures err_content { IfErr result (λ e. D.content e.1 ≡ D.content disk) }
+        ensures err_only { IfErr result (λ e. Only (D.content disk) (D.is_image e.1)) }
+        ensures err_any_moment { IfErr result (λ e. LeavesOnly D.clock D.was_image disk e.1 (λ image. image ≡ D.content disk)) }
+
+        ensures counted { IfOk result (λ n. D.faults disk ≤ D.faults n.journal.disk) }
+        ensures err_counted { IfErr result (λ e. D.faults disk ≤ D.faults e.1) }
+        ensures cause { IfErr result (λ e. e.0 ≡ JournalError.DiskFault → Rose (D.faults disk) (D.faults e.1)) }
+        ensures unfailed { IfErr result (λ e. e.0 ≢ JournalError.DiskFault → D.faults e.1 ≡ D.faults disk) }
+        ensures opened { IfOk result (λ n. D.faults n.journal.disk ≡ D.faults disk) }
+
+        ensures kind { IfOk result (λ n. D.strict n.journal.disk ≡ D.strict disk) }
+        ensures err_kind { IfErr result (λ e. D.strict e.1 ≡ D.strict disk) }
+        ensures passes { IsTrue (D.strict disk) → D.armed disk ≡ None → IfErr result (λ e. e.0 ≢ JournalError.DiskFault) }
+        ensures unarmed { IsTrue (D.strict disk) → D.armed disk ≡ None → IfOk result (λ n. (D.armed n.journal.disk ≡ None) × (D.faults n.journal.disk ≡ D.faults disk)) }
+    {
+        let (journal, payloads) = match Journal::reopen(alloc, disk) {
+            Ok(opened) => opened,
+            Err(refused) => return Err(refused),
+        };
+        match read_node_journal(alloc, number, version, start, payloads.as_slice()) {
+            Ok(told) => Ok(DurableNode {
+                alloc,
+                node: Node::reopened(alloc, number, start, told.drawn, told.begun),
+                number,
+                start,
+                version,
+                journal,
+                marked: told.marked,
+                kept: payloads.len() as u64 - marks(told.marked),
+            }),
+            Err(error) => Err((error, journal.into_disk())),
+        }
+    }
+
+    /// Begins a transaction. Its draw is on the disk, synced, before what is sent is given. `Begun` comes exactly where the journal or
+    /// this node has begun it, and leaves the node as before. `unsent` is what the step would have given.
+    pub fn begin(
+        &mut self,
+        topology: &Topology,
+        txn: u32,
+        body: &Body,
+    ) -> Result<Emitted, DurableError>
+        requires sound { self.old.journal.broken ≡ false }
+        requires drawn_in_range { self.old.node.clock.drawn < 2 ^ 62 }
+        requires seen_in_range { self.old.node.clock.seen < 2 ^ 62 }
+
+        ensures ok { IfOk result (λ emitted. (acts : List Act) → StandsFor topology.now self.old acts → Takes topology.now self.old self.new acts (Begins txn body.now) emitted) }
+        ensures begun { (acts : List Act) → StandsFor topology.now self.old acts →
+            (result ≡ Err DurableError.Begun) ↔ IsSome (begun_id self.old.number self.old.start txn (node_replay topology.now self.old.number self.old.start acts)) }
+        ensures err { IfErr result (Refuses topology.now self.old self.new (Begins txn body.now)) }
+
+        ensures appended { OnOk result (self.new.journal.payloads ≡ self.old.journal.payloads ++ draw_group self.old For.Begin txn) }
+        ensures lasts { OnOk result ((image : List ℕ) → D.is_image self.new.journal.disk image → Reads image self.new.journal.payloads) }
+        ensures any_moment { LeavesOnly D.clock D.was_image self.old.journal.disk self.new.journal.disk (ReadsAsEither self.old.journal.payloads (draw_group self.old For.Begin txn)) }
+        ensures either { (image : List ℕ) → D.is_image self.new.journal.disk image → ReadsAsEither self.old.journal.payloads (draw_group self.old For.Begin txn) image }
+        ensures same { IsSameActor self.old self.new }
+
+        ensures counted { D.faults self.old.journal.disk ≤ D.faults self.new.journal.disk }
+        ensures cause { IfErr result (λ e. IsDiskFault e → Rose (D.faults self.old.journal.disk) (D.faults self.new.journal.disk)) }
+        ensures unfailed { IfErr result (λ e. ¬ IsDiskFault e → D.faults self.new.journal.disk ≡ D.faults self.old.journal.disk) }
+        ensures passed { OnOk result (D.faults self.new.journal.disk ≡ D.faults self.old.journal.disk) }
+
+        // On a strict disk the armed one of the four calls fails, and no other; and what a crash leaves then is known.
+        ensures kind { D.strict self.new.journal.disk ≡ D.strict self.old.journal.disk }
+        ensures counts { IsTrue (D.strict self.old.journal.disk) → OnOk result (D.armed self.new.journal.disk ≡ after_call (after_call (after_call (after_call (D.armed self.old.journal.disk))))) }
+        ensures early { IsTrue (D.strict self.old.journal.disk) → FailsWithin 4 (D.armed self.old.journal.disk) → IsErr result }
+        ensures late { IsTrue (D.strict self.old.journal.disk) → ¬ FailsWithin 4 (D.armed self.old.journal.disk) → IfErr result (λ e. IsDiskFault e → ⊥) }
+        ensures still { IsTrue (D.strict self.old.journal.disk) → ¬ FailsWithin 4 (D.armed self.old.journal.disk) → D.faults self.new.journal.disk ≡ D.faults self.old.journal.disk }
+        ensures failed { IsTrue (D.strict self.old.journal.disk) → IfErr result (λ e. IsDiskFault e → (choice : ℕ) (left : List ℕ) → LeftByChoice choice (D.content self.new.journal.disk) (D.synced self.new.journal.disk) (D.written self.new.journal.disk) left
+            → Reads left (left_by_choice (D.armed self.old.journal.disk) choice self.old.journal.payloads (draw_group self.old For.Begin txn))) }
+    {
+        let _sound = self.journal.is_broken();
+        if self.node.id_of(txn).is_some() {
+            return Err(DurableError::Begun);
+        }
+        let group = self.group(Purpose::Begin, txn)?;
+        match self.node.begin(topology, txn, body) {
+            Ok(emitted) => self.put_down(&group, emitted),
+            Err(NodeError::Begun) => Err(DurableError::Begun),
+            Err(_) => Err(DurableError::OutOfMemory),
+        }
+    }
+
+    /// Takes a transaction over. The draw is on the disk, synced, before what is sent is given. `unsent` is what the step would have
+    /// given. `Begun` never comes.
+    pub fn recover(
+        &mut self,
+        topology: &Topology,
+        txn: u32,
+        id: TxnId,
+        body: &Body,
+    ) -> Result<Emitted, DurableError>
+        requires sound { self.old.journal.broken ≡ false }
+        requires drawn_in_range { self.old.node.clock.drawn < 2 ^ 62 }
+        requires seen_in_range { self.old.node.clock.seen < 2 ^ 62 }
+
+        ensures ok { IfOk result (λ emitted. (acts : List Act) → StandsFor topology.now self.old acts → Takes topology.now self.old self.new acts (Recovers id body.now) emitted) }
+        ensures not_begun { IfErr result (λ e. e ≢ DurableError.Begun) }
+        ensures err { IfErr result (Refuses topology.now self.old self.new (Recovers id body.now)) }
+
+        ensures appended { OnOk result (self.new.journal.payloads ≡ self.old.journal.payloads ++ draw_group self.old For.Recover txn) }
+        ensures lasts { OnOk result ((image : List ℕ) → D.is_image self.new.journal.disk image → Reads image self.new.journal.payloads) }
+        ensures any_moment { LeavesOnly D.clock D.was_image self.old.journal.disk self.new.journal.disk (ReadsAsEither self.old.journal.payloads (draw_group self.old For.Recover txn)) }
+        ensures either { (image : List ℕ) → D.is_image self.new.journal.disk image → ReadsAsEither self.old.journal.payloads (draw_group self.old For.Recover txn) image }
+        ensures same { IsSameActor self.old self.new }
+
+        ensures counted { D.faults self.old.journal.disk ≤ D.faults self.new.journal.disk }
+        ensures cause { IfErr result (λ e. IsDiskFault e → Rose (D.faults self.old.journal.disk) (D.faults self.new.journal.disk)) }
+        ensures unfailed { IfErr result (λ e. ¬ IsDiskFault e → D.faults self.new.journal.disk ≡ D.faults self.old.journal.disk) }
+        ensures passed { OnOk result (D.faults self.new.journal.disk ≡ D.faults self.old.journal.disk) }
+
+        // On a strict disk the armed one of the four calls fails, and no other; and what a crash leaves then is known.
+        ensures kind { D.strict self.new.journal.disk ≡ D.strict self.old.journal.disk }
+        ensures counts { IsTrue (D.strict self.old.journal.disk) → OnOk result (D.armed self.new.journal.disk ≡ after_call (after_call (after_call (after_call (D.armed self.old.journal.disk))))) }
+        ensures early { IsTrue (D.strict self.old.journal.disk) → FailsWithin 4 (D.armed self.old.journal.disk) → IsErr result }
+        ensures late { IsTrue (D.strict self.old.journal.disk) → ¬ FailsWithin 4 (D.armed self.old.journal.disk) → IfErr result (λ e. IsDiskFault e → ⊥) }
+        ensures still { IsTrue (D.strict self.old.journal.disk) → ¬ FailsWithin 4 (D.armed self.old.journal.disk) → D.faults self.new.journal.disk ≡ D.faults self.old.journal.disk }
+        ensures failed { IsTrue (D.strict self.old.journal.disk) → IfErr result (λ e. IsDiskFault e → (choice : ℕ) (left : List ℕ) → LeftByChoice choice (D.content self.new.journal.disk) (D.synced self.new.journal.disk) (D.written self.new.journal.disk) left
+            → Reads left (left_by_choice (D.armed self.old.journal.disk) choice self.old.journal.payloads (draw_group self.old For.Recover txn))) }
+    {
+        let _sound = self.journal.is_broken();
+        let group = self.group(Purpose::Recover, txn)?;
+        let emitted = self.node.recover(topology, id, body)?;
+        self.put_down(&group, emitted)
+    }
+
+    /// Gives the fast path of a transaction's first attempt up, as `Node::slow`. It makes no call of the disk.
+    pub fn slow(&mut self, topology: &Topology, txn: u32) -> Result<Emitted, NodeError>
+        ensures ok { IfOk result (λ emitted. (acts : List Act) → StandsFor topology.now self.old acts → HasSlowed topology.now self.old self.new acts txn emitted) }
+        ensures unknown { (acts : List Act) → StandsFor topology.now self.old acts →
+            (result ≡ Err Refused.Unknown) ↔ (may_slow topology.now self.old.number self.old.start txn (node_replay topology.now self.old.number self.old.start acts) ≡ false) }
+        ensures no_quorum { IfErr result (λ error. error ≡ Refused.NoQuorum → (acts : List Act) → StandsFor topology.now self.old acts →
+            (may_slow topology.now self.old.number self.old.start txn (node_replay topology.now self.old.number self.old.start acts) ≡ true)
+            × (is_answered topology.now self.old.number self.old.start txn (node_replay topology.now self.old.number self.old.start acts) ≡ false)) }
+        ensures not_begun { IfErr result (λ error. (acts : List Act) → StandsFor topology.now self.old acts → error ≢ Refused.Begun) }
+        ensures err { OnErr result ((acts : List Act) → StandsFor topology.now self.old acts → StandsFor topology.now self.new acts) }
+        ensures same { IsSameActor self.old self.new }
+        ensures journal { (self.new.journal ≡ self.old.journal) × (self.new.marked ≡ self.old.marked) × (self.new.kept ≡ self.old.kept) }
+    {
+        self.node.slow(topology, txn)
+    }
+
+    /// Takes a message, as `Node::step`. It makes no call of the disk.
+    pub fn step(&mut self, topology: &Topology, m: &Message) -> Result<Emitted, OutOfMemory>
+        requires top_in_range { top_of m.now < 2 ^ 62 }
+        ensures ok { IfOk result (λ emitted. (acts : List Act) → StandsFor topology.now self.old acts → Takes topology.now self.old self.new acts (TakesMessage m.now) emitted) }
+        ensures err { OnErr result ((acts : List Act) → StandsFor topology.now self.old acts → StandsFor topology.now self.new acts) }
+        ensures same { IsSameActor self.old self.new }
+        ensures journal { (self.new.journal ≡ self.old.journal) × (self.new.marked ≡ self.old.marked) × (self.new.kept ≡ self.old.kept) }
+    {
+        self.node.step(topology, m)
+    }
+
+    /// The id of the transaction with this number, where the journal or this node has begun it. Takes no memory.
+    pub fn id_of(&self, txn: u32) -> Option<TxnId>
+        ensures { (layout : Layout) (acts : List Act) → StandsFor layout self.now acts →
+            result ≡ begun_id self.now.number self.now.start txn (node_replay layout self.now.number self.now.start acts) }
+    {
+        self.node.id_of(txn)
+    }
+
+    /// How many draws the journal has. A mark isn't counted.
+    pub fn kept(&self) -> u64
+        ensures { result ≡ self.now.kept }
+    {
+        self.kept
+    }
+
+    /// Whether a call of the disk failed or found no memory. Otherwise each image of the disk reads as what was journalled.
+    pub fn is_broken(&self) -> bool
+        ensures value { result ≡ self.now.journal.broken }
+        ensures sound { self.now.journal.broken ≡ false → (image : List ℕ) → D.is_image self.now.journal.disk image → Reads image self.now.journal.payloads }
+    {
+        self.journal.is_broken()
+    }
+
+    /// The disk under the journal.
+    pub fn into_disk(self) -> D
+        ensures { result ≡ self.journal.disk }
+    {
+        let (disk, _node) = self.into_parts();
+        disk
+    }
+
+    /// The disk under the journal, and the node over it.
+    pub fn into_parts(self) -> (D, Node)
+        ensures disk { result.0 ≡ self.journal.disk }
+        ensures node { result.1 ≡ self.node }
+    {
+        let DurableNode {
+            alloc: _,
+            node,
+            number: _,
+            start: _,
+            version: _,
+            journal,
+            marked: _,
+            kept: _,
+        } = self;
+        (journal.into_disk(), node)
+    }
+}
+
+impl<D: Disk> DurableNode<D> {
+    ghost use Rattle.acc_journal.specs.Layout.{Reads, AreShort};
+    ghost use Rattle.acc_journal.specs.Journal.{ReadsAsEither, FailsWithin, left_by_choice, group_room};
+    ghost use Rattle.acc_durable_node.specs.Node.{draw_group, with_spare, with_parts, Drew, FailsToAppend, IsDiskFault};
+
+    // What the next draw appends to the journal, which then has room for it.
+    #[tactic(auto, using(acc_payloads::proofs::Groups::group_takes, acc_payloads::proofs::Groups::group_is_short, acc_payloads::proofs::Groups::group_has_some))]
+    fn group(&mut self, purpose: Purpose, txn: u32) -> Result<Payloads, OutOfMemory>
+        requires drawn_in_range { self.old.node.clock.drawn < 2 ^ 62 }
+        requires seen_in_range { self.old.node.clock.seen < 2 ^ 62 }
+        ensures group { IfOk result (λ group. group ≡ draw_group self.old purpose txn) }
+        ensures some { IfOk result (λ group. 0 < length group) }
+        ensures short { IfOk result AreShort }
+        ensures room { IfOk result (λ group. group_room group ≤ self.new.journal.spare) }
+        ensures same { self.new ≡ with_spare self.old self.new.journal.spare }
+    {
+        let draw = Draw {
+            purpose,
+            txn,
+            h: self.node.next_draw().h,
+        };
+        let mut group = Payloads::new(self.alloc);
+        put_payload(
+            &mut group,
+            self.version,
+            self.marked,
+            draw.to_bytes(self.alloc)?,
+        )?;
+        self.journal.reserve(ROOM)?;
+        Ok(group)
+    }
+
+    // Appends the draw of a step that emits this, and gives it once the draw lasts.
+    fn put_down(&mut self, group: &Payloads, emitted: Emitted) -> Result<Emitted, DurableError>
+        requires sound { self.old.journal.broken ≡ false }
+        requires some { 0 < length group.now }
+        requires short { AreShort group.now }
+        requires room { group_room group.now ≤ self.old.journal.spare }
+
+        ensures ok { IfOk result (λ sent. sent ≡ emitted) }
+        ensures drew { OnOk result (Drew self.old self.new.journal self.new.marked self.new.kept group.now) }
+        ensures same { self.new ≡ with_parts self.old self.old.node self.new.journal self.new.marked self.new.kept }
+        ensures err { IfErr result (FailsToAppend emitted self.new.journal.broken) }
+        ensures lasts { OnOk result ((image : List ℕ) → D.is_image self.new.journal.disk image → Reads image self.new.journal.payloads) }
+        ensures any_moment { LeavesOnly D.clock D.was_image self.old.journal.disk self.new.journal.disk (ReadsAsEither self.old.journal.payloads group.now) }
+        ensures either { (image : List ℕ) → D.is_image self.new.journal.disk image → ReadsAsEither self.old.journal.payloads group.now image }
+
+        ensures counted { D.faults self.old.journal.disk ≤ D.faults self.new.journal.disk }
+        ensures cause { IfErr result (λ e. IsDiskFault e → Rose (D.faults self.old.journal.disk) (D.faults self.new.journal.disk)) }
+        ensures unfailed { IfErr result (λ e. ¬ IsDiskFault e → D.faults self.new.journal.disk ≡ D.faults self.old.journal.disk) }
+        ensures passed { OnOk result (D.faults self.new.journal.disk ≡ D.faults self.old.journal.disk) }
+
+        // On a strict disk the armed one of the four calls fails, and no other; and what a crash leaves then is known.
+        ensures kind { D.strict self.new.journal.disk ≡ D.strict self.old.journal.disk }
+        ensures counts { IsTrue (D.strict self.old.journal.disk) → OnOk result (D.armed self.new.journal.disk ≡ after_call (after_call (after_call (after_call (D.armed self.old.journal.disk))))) }
+        ensures early { IsTrue (D.strict self.old.journal.disk) → FailsWithin 4 (D.armed self.old.journal.disk) → IsErr result }
+        ensures late { IsTrue (D.strict self.old.journal.disk) → ¬ FailsWithin 4 (D.armed self.old.journal.disk) → IfErr result (λ e. IsDiskFault e → ⊥) }
+        ensures still { IsTrue (D.strict self.old.journal.disk) → ¬ FailsWithin 4 (D.armed self.old.journal.disk) → D.faults self.new.journal.disk ≡ D.faults self.old.journal.disk }
+        ensures failed { IsTrue (D.strict self.old.journal.disk) → IfErr result (λ e. IsDiskFault e → (choice : ℕ) (left : List ℕ) → LeftByChoice choice (D.content self.new.journal.disk) (D.synced self.new.journal.disk) (D.written self.new.journal.disk) left
+            → Reads left (left_by_choice (D.armed self.old.journal.disk) choice self.old.journal.payloads group.now)) }
+    {
+        match self.journal.append_group(group) {
+            Ok(()) => {
+                self.kept = self.kept.saturating_add(1);
+                self.marked = self.marked || self.version == 2;
+                Ok(emitted)
+            }
+            Err(JournalError::DiskFault) => Err(DurableError::DiskFault { unsent: emitted }),
+            Err(_) => Err(DurableError::OutOfMemory),
+        }
+    }
+}
+
+impl<D: Rig> DurableNode<D> {
+    ghost use Rattle.acc_durable_node.specs.Node.{StandsFor, IsSameActor};
+
+    /// Arms a call of the disk: so many more pass, and the next one fails. It makes no call of the disk and takes no memory.
+    pub fn arm(&mut self, calls: u64)
+        ensures armed { IsTrue (D.strict self.old.journal.disk) → D.armed self.new.journal.disk ≡ Some calls }
+        ensures stands { (layout : Layout) (acts : List Act) → StandsFor layout self.old acts → StandsFor layout self.new acts }
+        ensures same { IsSameActor self.old self.new }
+        ensures node { (self.new.node ≡ self.old.node) × (self.new.marked ≡ self.old.marked) × (self.new.kept ≡ self.old.kept) }
+        ensures journal { (self.new.journal.payloads ≡ self.old.journal.payloads) × (self.new.journal.broken ≡ self.old.journal.broken) }
+        ensures content { D.content self.new.journal.disk ≡ D.content self.old.journal.disk }
+        ensures images { NoFurther (D.is_image self.old.journal.disk) (D.is_image self.new.journal.disk) }
+        ensures no_fewer { NoFurther (D.is_image self.new.journal.disk) (D.is_image self.old.journal.disk) }
+        ensures clock { D.clock self.new.journal.disk ≡ D.clock self.old.journal.disk }
+        ensures time { Elapses (D.clock self.old.journal.disk) (D.clock self.new.journal.disk) (D.was_image self.old.journal.disk) (D.was_image self.new.journal.disk) (D.is_image self.new.journal.disk) }
+        ensures faults { D.faults self.new.journal.disk ≡ D.faults self.old.journal.disk }
+        ensures kind { D.strict self.new.journal.disk ≡ D.strict self.old.journal.disk }
+        ensures strict { IsTrue (D.strict self.old.journal.disk) → (D.synced self.new.journal.disk ≡ D.synced self.old.journal.disk) × (D.written self.new.journal.disk ≡ D.written self.old.journal.disk) }
+    {
+        self.journal.arm(calls);
+    }
+}
+
+// How many marks a journal has.
+fn marks(marked: bool) -> u64
+    ensures { result ≡ (if marked then 1 else 0) }
+{
+    if marked { 1 } else { 0 }
+}

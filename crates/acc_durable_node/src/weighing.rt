@@ -1,0 +1,67 @@
+//! How much a node that is up would send. Nothing here makes a call of a disk.
+ghost use Rattle.std.specs.Prelude.{◌≡◌, false, ℕ, IfOk};
+ghost use Rattle.acc_message.specs.NodeRules.{Act, Begins, Recovers, Takes};
+ghost use Rattle.acc_message_code.specs.Weight.{weight_of_all};
+ghost use Rattle.acc_payloads.specs.Stops.{Past};
+
+use crate::actor::{NodeActor, NodeState};
+use acc_base::OutOfMemory;
+use acc_message::Message;
+use acc_ports::Rig;
+use acc_stamp::TxnId;
+use acc_topology::Topology;
+use acc_txn::Body;
+
+impl<D: Rig> NodeActor<D> {
+    ghost use Rattle.acc_durable_node.specs.Actor.{StandsFor, MayBegin, MayRecover, emits_next, is_down};
+    ghost use Rattle.acc_durable_node.specs.Weighing.{NodeMayWeigh};
+
+    /// How many bytes of encoded messages a begin would send now, of a transaction that the node hasn't begun.
+    pub fn weigh_begin(
+        &self,
+        topology: &Topology,
+        txn: u32,
+        body: &Body,
+    ) -> Result<u64, OutOfMemory>
+        requires up { is_down self.now ≡ false }
+        requires may { MayBegin D.is_image topology.now self.now txn }
+        ensures { IfOk result (λ weight. (number start version : ℕ) (past : Past Act) → StandsFor D.is_image topology.now number start version past self.now
+            → weight ≡ weight_of_all (emits_next topology.now number start past (Begins txn body.now)).out) }
+    {
+        let NodeState::Open(node) = &self.state else {
+            unreachable!()
+        };
+        node.weigh_begin(topology, txn, body)
+    }
+
+    /// The same of a recover.
+    pub fn weigh_recover(
+        &self,
+        topology: &Topology,
+        id: TxnId,
+        body: &Body,
+    ) -> Result<u64, OutOfMemory>
+        requires up { is_down self.now ≡ false }
+        requires may { MayRecover D.is_image topology.now self.now }
+        ensures { IfOk result (λ weight. (number start version : ℕ) (past : Past Act) → StandsFor D.is_image topology.now number start version past self.now
+            → weight ≡ weight_of_all (emits_next topology.now number start past (Recovers id body.now)).out) }
+    {
+        let NodeState::Open(node) = &self.state else {
+            unreachable!()
+        };
+        node.weigh_recover(topology, id, body)
+    }
+
+    /// The same of a message.
+    pub fn weigh_take(&self, topology: &Topology, m: &Message) -> Result<u64, OutOfMemory>
+        requires up { is_down self.now ≡ false }
+        requires may { NodeMayWeigh D.is_image topology.now self.now m.now }
+        ensures { IfOk result (λ weight. (number start version : ℕ) (past : Past Act) → StandsFor D.is_image topology.now number start version past self.now
+            → weight ≡ weight_of_all (emits_next topology.now number start past (Takes m.now)).out) }
+    {
+        let NodeState::Open(node) = &self.state else {
+            unreachable!()
+        };
+        node.weigh_step(topology, m)
+    }
+}

@@ -1,0 +1,173 @@
+-- When a store with its disk stands for its past.
+--     IsStaging images layout own version past staged actor      the actor is this one, has this version and this past, and these steps
+--                                                               are staged
+--     StandsFor images layout own version past actor             the same with nothing staged
+--     IsStrictAt ..      it does over a strict disk, on which this call is armed
+use Rattle.std.specs.Prelude.{◌≡◌, ℕ, ◌^◌, ◌<◌, Bool, true, false, IsTrue, List, [], ◌++◌, Option, None, Some, IfSome}
+use Rattle.acc_stamp.specs.declared.actors.Actor.{Actor}
+use Rattle.acc_topology.specs.Layout.{Layout}
+use Rattle.acc_ports.specs.Strict.{Ranges, LeftByChoice}
+use Rattle.acc_message.specs.declared.message.Message.{Message}
+use Rattle.acc_message.specs.declared.entry.Event.TheVariants.{Message as MessageEvent}
+use Rattle.acc_message.specs.declared.entry.Emitted.{Emitted}
+use Rattle.acc_message.specs.StoreRules.{store_answer, replay}
+use Rattle.acc_message.specs.Fields.{top_of}
+use Rattle.acc_message.specs.VoteRule.{greatest_h}
+use Rattle.acc_message_code.specs.Short.{IsShortMessage}
+use Rattle.acc_message_code.specs.MessageSpelling.{message_bytes}
+use Rattle.acc_record.specs.Stands.{IsFor}
+use Rattle.acc_store.specs.declared.store.Store.{Store}
+use Rattle.acc_payloads.specs.declared.store.StorePayload.{StorePayload}
+use Rattle.acc_payloads.specs.Store.{IsStoreJournal, taken_in}
+use Rattle.acc_payloads.specs.Items.{without_marks}
+use Rattle.acc_payloads.specs.Texts.{has_text}
+use Rattle.acc_journal.specs.Journal.{keeps_group}
+use Rattle.acc_durable_store.specs.declared.store.DurableStore.{DurableStore}
+use Rattle.acc_durable_store.specs.Store as durable
+use Rattle.acc_payloads.specs.declared.stops.Unsent.{Unsent}
+use Rattle.acc_payloads.specs.declared.stops.Restarted.{Restarted}
+use Rattle.acc_payloads.specs.declared.stops.Restarted.TheVariants.{Up, Down}
+use Rattle.acc_durable_store.specs.declared.actor.StoreState.{StoreState}
+use Rattle.acc_durable_store.specs.declared.actor.StoreState.TheVariants.{Open, Shut}
+use Rattle.acc_durable_store.specs.declared.actor.StoreActor.{StoreActor}
+use Rattle.acc_payloads.specs.Stops.{Stop, Past, count_of, group_of, after_step, kept_with, after_group, kept_if, past_with, IsLeft, ReadsIf, IsUnsent, IsKept}
+
+-- ---- the state
+
+abbrev pub disk_in : {D : Type 0} → StoreState D → D
+disk_in (Open s) = s.journal.disk
+disk_in (Shut disk) = disk
+
+abbrev pub disk_of : {D : Type 0} → StoreActor D → D
+disk_of actor = disk_in actor.state
+
+-- the store over the disk, where the state isn't Shut: also one that its disk's fault took down
+abbrev pub store_in : {D : Type 0} → StoreState D → Option Store
+store_in (Open s) = Some s.store
+store_in (Shut disk) = None
+
+abbrev pub is_shut : {D : Type 0} → StoreState D → Bool
+is_shut (Open s) = s.journal.broken
+is_shut (Shut disk) = true
+
+abbrev pub is_down : {D : Type 0} → StoreActor D → Bool
+is_down actor = is_shut actor.state
+
+-- ---- what the rules give
+
+-- a store notes nothing
+abbrev pub sends : List Message → Emitted
+sends out = record { notes = []; out = out }
+
+abbrev pub emits_next : Layout → Actor → Past Message → Message → Emitted
+emits_next layout own past m = sends (store_answer layout own (replay layout own past.acts) m)
+
+-- a message with this number, as a fault stops it
+abbrev pub message_stop : ℕ → Message → Stop Message
+message_stop number m = record { event = MessageEvent number; act = m; payload = message_bytes m }
+
+-- ---- the past
+
+-- payloads are the journal of a store that took these messages, the newest first
+pub record IsJournal (layout : Layout) (own : Actor) (version : ℕ) (payloads : List (List ℕ)) (messages : List Message) : Type 0 where
+  pub items : List StorePayload
+  pub journal : IsStoreJournal layout version own payloads items
+  pub taken : taken_in items ≡ messages
+
+-- The durable store of an actor that is up, which has taken what is staged too. Its journal is still that of the past, and the payloads of
+-- what is staged wait beside it.
+pub record IsUp {D : Type 0} (layout : Layout) (own : Actor) (version : ℕ) (past : Past Message) (staged : List (Stop Message)) (s : DurableStore D) : Type 0 where
+  pub stands : durable.StandsFor layout s (kept_with staged past).acts
+  pub own_is : durable.actor_in s ≡ own
+  pub version_is : s.version ≡ version
+  pub journal : IsJournal layout own version s.journal.payloads past.acts
+  pub held_are : without_marks s.journal.payloads ≡ past.held
+  pub staged_are : without_marks s.journal.group ≡ group_of staged
+  pub none_staged : staged ≡ [] → s.journal.group ≡ []
+  pub none_stopped : past.stopped ≡ []
+
+abbrev pub IsUpIn : {D : Type 0} → Layout → Actor → ℕ → Past Message → List (Stop Message) → StoreState D → Type 0
+IsUpIn layout own version past staged (Open s) = IsUp layout own version past staged s
+IsUpIn layout own version past staged (Shut disk) = ⊥
+
+-- What didn't go out is what is staged, or what was stopped: nothing is staged where the actor is down, and nothing was stopped where it
+-- is up.
+pub record IsStaging {D : Type 0} (images : D → List ℕ → Type 0) (layout : Layout) (own : Actor) (version : ℕ) (past : Past Message) (staged : List (Stop Message)) (actor : StoreActor D) : Type 0 where
+  pub own_is : actor.actor ≡ own
+  pub version_is : actor.version ≡ version
+  pub left : (image : List ℕ) → images (disk_of actor) image → IsLeft (IsJournal layout own version) past image
+  pub unsent : IsUnsent (emits_next layout own) past (staged ++ past.stopped) actor.unsent.items
+  pub up : is_down actor ≡ false → IsUpIn layout own version past staged actor.state
+  pub down : is_down actor ≡ true → staged ≡ []
+  pub kept_is : is_down actor ≡ true → actor.kept ≡ count_of past
+
+-- nothing is staged
+abbrev pub StandsFor : {D : Type 0} → (D → List ℕ → Type 0) → Layout → Actor → ℕ → Past Message → StoreActor D → Type 0
+StandsFor images layout own version past actor = IsStaging images layout own version past [] actor
+
+-- ---- what calls need
+
+-- it may take the message behind what is staged
+pub record MayTake {D : Type 0} (images : D → List ℕ → Type 0) (layout : Layout) (actor : StoreActor D) (staged : List (Stop Message)) (m : Message) : Type 0 where
+  pub own : Actor
+  pub version : ℕ
+  pub past : Past Message
+  pub stands : IsStaging images layout own version past staged actor
+  pub short : IsShortMessage m
+  pub goes_here : IsFor own m
+  pub top : top_of m < 2 ^ 62
+  pub greatest : greatest_h own (replay layout own (kept_with staged past).acts) < 2 ^ 62
+  pub texts : has_text m ≡ true → version ≡ 2
+
+abbrev pub MayStage : {D : Type 0} → (D → List ℕ → Type 0) → Layout → StoreActor D → Message → Type 0
+MayStage images layout actor m = (staged : List (Stop Message)) × MayTake images layout actor staged m
+
+-- it stands for some past, with something staged or not
+pub record MaySettle {D : Type 0} (images : D → List ℕ → Type 0) (actor : StoreActor D) : Type 0 where
+  pub layout : Layout
+  pub own : Actor
+  pub version : ℕ
+  pub past : Past Message
+  pub staged : List (Stop Message)
+  pub stands : IsStaging images layout own version past staged actor
+
+-- ---- what calls leave
+
+-- What is given is what the rules say, and the actor has then taken the message, or a fault has stopped it.
+pub record Steps {D : Type 0} (images : D → List ℕ → Type 0) (layout : Layout) (own : Actor) (version : ℕ) (past : Past Message) (stop : Stop Message) (new : StoreActor D) (given : Option Emitted) : Type 0 where
+  pub emits : IfSome given (λ emitted. emitted ≡ emits_next layout own past stop.act)
+  pub stands : StandsFor images layout own version (after_step given past stop) new
+
+-- What is given is all that was staged, in its order, each with what the rules say behind those before it; the actor has then taken all
+-- of it, or a fault has stopped all of it.
+pub record Settles {D : Type 0} (images : D → List ℕ → Type 0) (layout : Layout) (own : Actor) (version : ℕ) (past : Past Message) (staged : List (Stop Message)) (new : StoreActor D) (given : Option (List Unsent)) : Type 0 where
+  pub emits : IfSome given (IsUnsent (emits_next layout own) past staged)
+  pub stands : StandsFor images layout own version (after_group given past staged) new
+
+-- Restarted: the journal has more payloads than were held, or not; or the disk failed.
+abbrev pub past_found : Option Bool → Past Message → Past Message
+past_found (Some more) past = kept_if more past
+past_found None past = past
+
+pub record IsFound {D : Type 0} (images : D → List ℕ → Type 0) (layout : Layout) (own : Actor) (version : ℕ) (past : Past Message) (found : Option Bool) (state : StoreState D) : Type 0 where
+  pub left : (image : List ℕ) → images (disk_in state) image → IsLeft (IsJournal layout own version) (past_found found past) image
+  pub up : is_shut state ≡ false → IsUpIn layout own version (past_found found past) [] state
+
+-- with what was kept; or down as before
+abbrev pub past_after : Restarted → Past Message → Past Message
+past_after (Up kept) past = past_with kept past
+past_after Down past = past
+
+abbrev pub KeptIn : Layout → Actor → Past Message → Restarted → Type 0
+KeptIn layout own past (Up kept) = IsKept (emits_next layout own) past kept
+KeptIn layout own past Down = Unit {0}
+
+-- ---- strict disks
+
+-- The disk is strict. Where the actor is up, this call is armed; where it is down, so many calls of the append that failed passed, and
+-- what a crash by choice leaves follows from that.
+pub record IsStrictAt {D : Type 0} (strict : D → Bool) (armed_of : D → Option ℕ) (content synced : D → List ℕ) (written : D → Ranges) (layout : Layout) (own : Actor) (version : ℕ) (armed passed : Option ℕ) (past : Past Message) (actor : StoreActor D) : Type 0 where
+  pub is_strict : IsTrue (strict (disk_of actor))
+  pub armed_is : is_down actor ≡ false → armed_of (disk_of actor) ≡ armed
+  pub left : is_down actor ≡ true → (choice : ℕ) (bytes : List ℕ) → LeftByChoice choice (content (disk_of actor)) (synced (disk_of actor)) (written (disk_of actor)) bytes
+      → ReadsIf (IsJournal layout own version) past (keeps_group passed choice) bytes

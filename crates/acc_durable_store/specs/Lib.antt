@@ -1,0 +1,5 @@
+pub mod Actor
+pub mod Replay
+pub mod Staged
+pub mod Store
+pub mod Weighing

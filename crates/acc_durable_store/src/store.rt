@@ -1,0 +1,375 @@
+//! A store over a journal.
+ghost use Rattle.std.specs.Prelude.{◌≡◌, ◌≢◌, ◌^◌, ◌<◌, ◌≤◌, IsTrue, true, false, List, [], ◌∷◌, ◌++◌, ℕ, length, None, Some, Ok, IfOk, IfErr, OnOk, OnErr, IsErr};
+ghost use Rattle.acc_topology.specs.Layout.{Layout};
+ghost use Rattle.acc_ports.specs.Disk.{Only, NoFurther, Elapses, LeavesOnly};
+ghost use Rattle.acc_ports.specs.Faults.{Rose};
+ghost use Rattle.acc_ports.specs.Strict.{after_call, LeftByChoice};
+ghost use Rattle.acc_message.specs.declared.message.Message.{Message as Told};
+ghost use Rattle.acc_message.specs.Fields.{top_of};
+ghost use Rattle.acc_message.specs.StoreRules.{store_answer, replay as replayed};
+ghost use Rattle.acc_message_code.specs.Short.{IsShortMessage};
+ghost use Rattle.acc_message_code.specs.Fitting.{FitsMessage};
+ghost use Rattle.acc_message_code.specs.MessageSpelling.{message_bytes};
+ghost use Rattle.acc_message_code.specs.Weight.{weight_of_all};
+ghost use Rattle.acc_record.specs.Stands.{IsFor};
+ghost use Rattle.acc_store.specs.Stands.{actor_of, greatest_in, IsStanding};
+ghost use Rattle.acc_store.specs.Weighing.{SendsShort};
+ghost use Rattle.acc_store.specs.Prepared.{IsPrepared};
+ghost use Rattle.acc_payloads.specs.declared.store.StorePayload.{StorePayload as Payload};
+ghost use Rattle.acc_payloads.specs.Journals.{appended, marked_after};
+ghost use Rattle.acc_payloads.specs.Store.{IsStoreJournal};
+ghost use Rattle.acc_payloads.specs.Texts.{has_text};
+ghost use Rattle.acc_payloads.specs.Items.{without_marks};
+ghost use Rattle.acc_journal.specs.Layout.{Reads};
+ghost use Rattle.acc_journal.specs.Journal.{IsAtRest, ReadsAsEither, IsOfTheDisk, FailsWithin, left_by_choice};
+ghost use Rattle.acc_durable_store.specs.Store.{actor_in, StandsFor, Takes, IsAsBefore, IsUntouched, IsTheSame, IsReopened, IsRefusedBy, Refuses, FailsToSettle, IsStillStaged, IsDiskFault};
+
+use crate::StepError;
+use crate::replay::replay;
+use crate::staging::StagedJournal;
+use crate::taken::Taken;
+use acc_base::OutOfMemory;
+use acc_journal::{Journal, JournalError};
+use acc_message::{Message, Messages};
+use acc_ports::{Disk, Rig};
+use acc_stamp::Actor;
+use acc_store::{Prepared, Store};
+use acc_topology::Topology;
+use std::alloc::Global;
+
+/// A store whose disk keeps the messages that it took. It is broken once a call of its disk failed or found no memory; then it
+/// takes nothing any more, and only its disk is of use.
+#[derive(Debug, Drop)]
+pub struct DurableStore<D: Disk> {
+    alloc: Global,
+    store: Store,
+    version: u8,
+    /// What is staged goes to the disk as one group: payloads, a mark among them where one is due.
+    journal: StagedJournal<D>,
+    /// Whether the journal or what is staged has a mark.
+    marked: bool,
+    /// How many messages the journal has.
+    kept: u64,
+    /// How many messages are staged.
+    staged: u64,
+}
+
+impl<D: Disk> DurableStore<D> {
+    /// A store that has taken no message, on a disk that holds the bytes 1 and 0, synced. It journals as this version, 1 or 2. It
+    /// makes no call of the disk and takes no memory.
+    pub fn fresh(alloc: Global, actor: Actor, version: u8, disk: D) -> DurableStore<D>
+        requires content { D.content disk ≡ 1 ∷ 0 ∷ [] }
+        requires rest { IsAtRest (D.content disk) (D.is_image disk) (D.strict disk) (D.synced disk) (D.written disk) }
+        ensures stands { (layout : Layout) → StandsFor layout result [] }
+        ensures given { (actor_in result ≡ actor) × (result.version ≡ version) }
+        ensures journal { (result.journal.disk ≡ disk) × (result.journal.payloads ≡ []) × (result.journal.group ≡ []) }
+        ensures lasts { (image : List ℕ) → D.is_image result.journal.disk image → Reads image [] }
+    {
+        DurableStore {
+            alloc,
+            store: Store::new(alloc, actor),
+            version,
+            journal: StagedJournal::new(alloc, Journal::fresh(alloc, disk)),
+            marked: false,
+            kept: 0,
+            staged: 0,
+        }
+    }
+
+    /// Opens the store from the disk that a crash left. Its state is the replay of the journal. Every error hands the disk back.
+    /// Besides the refusals of `Journal::reopen`, `BadRecord` comes exactly where a payload is no message to this store, is a mark that
+    /// may not stand there, names an `h` of 2^62 or more, follows a vote of the replay whose `h` is 2^62 or more, or has a text value
+    /// and no mark before it, with the place of its gate.
+    pub fn reopen(
+        alloc: Global,
+        topology: &Topology,
+        actor: Actor,
+        version: u8,
+        disk: D,
+    ) -> Result<DurableStore<D>, (JournalError, D)>
+        requires rest { IsAtRest (D.content disk) (D.is_image disk) (D.strict disk) (D.synced disk) (D.written disk) }
+
+        ensures ok { IfOk result (λ s. IsReopened topology.now s s.journal.payloads) }
+        ensures reads { IfOk result (λ s. Reads (D.content disk) s.journal.payloads) }
+        ensures given { IfOk result (λ s. (actor_in s ≡ actor) × (s.version ≡ version)) }
+        ensures kept { IfOk result (λ s. s.kept ≡ length (without_marks s.journal.payloads)) }
+        ensures lasts { IfOk result (λ s. (image : List ℕ) → D.is_image s.journal.disk image → Reads image s.journal.payloads) }
+        ensures content { IfOk result (λ s. D.content s.journal.disk ≡ D.content disk) }
+        ensures any_moment { IfOk result (λ s. LeavesOnly D.clock D.was_image disk s.journal.disk (λ image. image ≡ D.content disk)) }
+
+        ensures refused { IfErr result (λ e. IsRefusedBy topology.now (D.content disk) version actor e.0) }
+        ensures never { (payloads : List (List ℕ)) (items : List Payload) → Reads (D.content disk) payloads → IsStoreJournal topology.now version actor payloads items → IfErr result (λ e. IsOfTheDisk e.0) }
+        ensures err_content { IfErr result (λ e. D.content e.1 ≡ D.content disk) }
+        ensures err_only { IfErr result (λ e. Only (D.content disk) (D.is_image e.1)) }
+        ensures err_any_moment { IfErr result (λ e. LeavesOnly D.clock D.was_image disk e.1 (λ image. image ≡ D.content disk)) }
+
+        ensures counted { IfOk result (λ s. D.faults disk ≤ D.faults s.journal.disk) }
+        ensures err_counted { IfErr result (λ e. D.faults disk ≤ D.faults e.1) }
+        ensures cause { IfErr result (λ e. e.0 ≡ JournalError.DiskFault → Rose (D.faults disk) (D.faults e.1)) }
+        ensures unfailed { IfErr result (λ e. e.0 ≢ JournalError.DiskFault → D.faults e.1 ≡ D.faults disk) }
+        ensures opened { IfOk result (λ s. D.faults s.journal.disk ≡ D.faults disk) }
+
+        ensures kind { IfOk result (λ s. D.strict s.journal.disk ≡ D.strict disk) }
+        ensures err_kind { IfErr result (λ e. D.strict e.1 ≡ D.strict disk) }
+        ensures passes { IsTrue (D.strict disk) → D.armed disk ≡ None → IfErr result (λ e. e.0 ≢ JournalError.DiskFault) }
+        ensures unarmed { IsTrue (D.strict disk) → D.armed disk ≡ None → IfOk result (λ s. (D.armed s.journal.disk ≡ None) × (D.faults s.journal.disk ≡ D.faults disk)) }
+    {
+        let (journal, payloads) = match Journal::reopen(alloc, disk) {
+            Ok(opened) => opened,
+            Err(refused) => return Err(refused),
+        };
+        match replay(alloc, topology, actor, version, payloads.as_slice()) {
+            Ok(replayed) => Ok(DurableStore {
+                alloc,
+                store: replayed.store,
+                version,
+                journal: StagedJournal::new(alloc, journal),
+                marked: replayed.marked,
+                kept: replayed.kept,
+                staged: 0,
+            }),
+            Err(error) => Err((error, journal.into_disk())),
+        }
+    }
+
+    /// Takes a message. It is on the disk, synced, before the answers are given. Nothing may be staged.
+    pub fn step(&mut self, topology: &Topology, m: &Message) -> Result<Messages, StepError>
+        requires sound { self.old.journal.broken ≡ false }
+        requires short { IsShortMessage m.now }
+        requires store { IsFor (actor_in self.old) m.now }
+        requires top { top_of m.now < 2 ^ 62 }
+        requires greatest { greatest_in self.old.store < 2 ^ 62 }
+        requires stands { IsStanding topology.now self.old.store }
+        requires texts { has_text m.now ≡ true → self.old.version ≡ 2 }
+        requires none_staged { self.old.journal.group ≡ [] }
+
+        ensures ok { IfOk result (λ sent. (messages : List Told) → StandsFor topology.now self.old messages → Takes topology.now self.old self.new messages m.now sent) }
+        ensures none_staged { OnOk result (self.new.journal.group ≡ []) }
+        ensures fits { OnOk result (FitsMessage m.now) }
+        ensures fault_fits { IfErr result (λ e. IsDiskFault e → FitsMessage m.now) }
+        ensures err { IfErr result (Refuses topology.now self.old self.new m.now) }
+        ensures same { IsTheSame self.old self.new }
+
+        ensures appended { OnOk result (self.new.journal.payloads ≡ self.old.journal.payloads ++ appended self.old.version self.old.marked (message_bytes m.now)) }
+        ensures lasts { OnOk result ((image : List ℕ) → D.is_image self.new.journal.disk image → Reads image self.new.journal.payloads) }
+        ensures either { (image : List ℕ) → D.is_image self.new.journal.disk image → ReadsAsEither self.old.journal.payloads (appended self.old.version self.old.marked (message_bytes m.now)) image }
+        ensures any_moment { LeavesOnly D.clock D.was_image self.old.journal.disk self.new.journal.disk (ReadsAsEither self.old.journal.payloads (appended self.old.version self.old.marked (message_bytes m.now))) }
+
+        ensures counted { D.faults self.old.journal.disk ≤ D.faults self.new.journal.disk }
+        ensures cause { IfErr result (λ e. IsDiskFault e → Rose (D.faults self.old.journal.disk) (D.faults self.new.journal.disk)) }
+        ensures unfailed { IfErr result (λ e. IsDiskFault e → ⊥) → D.faults self.new.journal.disk ≡ D.faults self.old.journal.disk }
+
+        // On a strict disk the armed one of the four calls fails, and no other; and what a crash leaves then is known.
+        ensures kind { D.strict self.new.journal.disk ≡ D.strict self.old.journal.disk }
+        ensures counts { IsTrue (D.strict self.old.journal.disk) → OnOk result (D.armed self.new.journal.disk ≡ after_call (after_call (after_call (after_call (D.armed self.old.journal.disk))))) }
+        ensures early { IsTrue (D.strict self.old.journal.disk) → FailsWithin 4 (D.armed self.old.journal.disk) → IsErr result }
+        ensures late { IsTrue (D.strict self.old.journal.disk) → ¬ FailsWithin 4 (D.armed self.old.journal.disk) → IfErr result (λ e. IsDiskFault e → ⊥) }
+        ensures still { IsTrue (D.strict self.old.journal.disk) → ¬ FailsWithin 4 (D.armed self.old.journal.disk) → D.faults self.new.journal.disk ≡ D.faults self.old.journal.disk }
+        ensures failed { IsTrue (D.strict self.old.journal.disk) → IfErr result (λ e. IsDiskFault e → (choice : ℕ) (left : List ℕ) → LeftByChoice choice (D.content self.new.journal.disk) (D.synced self.new.journal.disk) (D.written self.new.journal.disk) left
+            → Reads left (left_by_choice (D.armed self.old.journal.disk) choice self.old.journal.payloads (appended self.old.version self.old.marked (message_bytes m.now)))) }
+    {
+        let _sound = self.journal.is_broken();
+        let prepared = self.prepare(topology, m)?;
+        let sent = self.stage(topology, m, prepared)?;
+        match self.settle() {
+            Ok(()) => Ok(sent),
+            Err(StepError::DiskFault { .. }) => Err(StepError::DiskFault { unsent: sent }),
+            Err(StepError::OutOfMemory) => Err(StepError::OutOfMemory),
+        }
+    }
+
+    /// Plans the step that takes a message. It can be weighed and staged as long as the store takes no other. It makes no call of the disk.
+    pub fn prepare(&self, topology: &Topology, m: &Message) -> Result<Prepared, OutOfMemory>
+        requires stands { IsStanding topology.now self.now.store }
+        ensures { IfOk result (IsPrepared topology.now self.now.store m.now) }
+    {
+        self.store.prepare(topology, m)
+    }
+
+    /// Takes a message as it was planned, whose payload isn't on the disk yet: it is staged for `settle`. The answers may go out once that
+    /// has succeeded. After an error all is as before. It makes no call of the disk.
+    pub fn stage(
+        &mut self,
+        topology: &Topology,
+        m: &Message,
+        prepared: Prepared,
+    ) -> Result<Messages, OutOfMemory>
+        requires sound { self.old.journal.broken ≡ false }
+        requires short { IsShortMessage m.now }
+        requires store { IsFor (actor_in self.old) m.now }
+        requires top { top_of m.now < 2 ^ 62 }
+        requires greatest { greatest_in self.old.store < 2 ^ 62 }
+        requires stands { IsStanding topology.now self.old.store }
+        requires texts { has_text m.now ≡ true → self.old.version ≡ 2 }
+        requires prepared { IsPrepared topology.now self.old.store m.now prepared }
+        ensures ok { IfOk result (λ sent. (messages : List Told) → StandsFor topology.now self.old messages → Takes topology.now self.old self.new messages m.now sent) }
+        ensures fits { OnOk result (FitsMessage m.now) }
+        ensures journal { OnOk result (self.new.journal ≡ record self.old.journal { group = self.old.journal.group ++ appended self.old.version self.old.marked (message_bytes m.now) }) }
+        ensures err { OnErr result (IsUntouched self.old self.new) }
+        ensures same { IsTheSame self.old self.new }
+    {
+        let before = self.journal.count();
+        self.journal
+            .put(self.version, self.marked, &Taken { message: m })?;
+        match self.store.take(topology, m, prepared) {
+            Ok(sent) => {
+                self.marked = is_marked(self.version, self.marked);
+                self.staged = self.staged.saturating_add(1);
+                Ok(sent)
+            }
+            Err(error) => {
+                self.journal.cancel(before);
+                Err(error)
+            }
+        }
+    }
+
+    /// Appends all that is staged as one group, in four calls of the disk. With nothing staged it makes none. A fault has nothing
+    /// unsent, since `stage` gave the answers. After an error all that was staged still counts as staged.
+    #[inline(always)]
+    pub fn settle(&mut self) -> Result<(), StepError>
+        requires sound { self.old.journal.broken ≡ false }
+
+        ensures ok { OnOk result (IsAsBefore self.old self.new) }
+        ensures none_staged { OnOk result (self.new.journal.group ≡ []) }
+        ensures nothing { self.old.journal.group ≡ [] → (result ≡ Ok tt) × (self.new ≡ self.old) }
+        ensures err { IfErr result (FailsToSettle self.new) }
+        ensures err_staged { OnErr result (IsStillStaged self.old self.new) }
+        ensures store { self.new.store ≡ self.old.store }
+        ensures same { IsTheSame self.old self.new }
+
+        ensures appended { OnOk result (self.new.journal.payloads ≡ self.old.journal.payloads ++ self.old.journal.group) }
+        ensures lasts { OnOk result ((image : List ℕ) → D.is_image self.new.journal.disk image → Reads image self.new.journal.payloads) }
+        ensures either { (image : List ℕ) → D.is_image self.new.journal.disk image → ReadsAsEither self.old.journal.payloads self.old.journal.group image }
+        ensures any_moment { LeavesOnly D.clock D.was_image self.old.journal.disk self.new.journal.disk (ReadsAsEither self.old.journal.payloads self.old.journal.group) }
+
+        ensures counted { D.faults self.old.journal.disk ≤ D.faults self.new.journal.disk }
+        ensures cause { IfErr result (λ e. IsDiskFault e → Rose (D.faults self.old.journal.disk) (D.faults self.new.journal.disk)) }
+        ensures unfailed { IfErr result (λ e. IsDiskFault e → ⊥) → D.faults self.new.journal.disk ≡ D.faults self.old.journal.disk }
+
+        // On a strict disk the armed one of the four calls fails, and no other; and what a crash leaves then is known.
+        ensures kind { D.strict self.new.journal.disk ≡ D.strict self.old.journal.disk }
+        ensures counts { IsTrue (D.strict self.old.journal.disk) → self.old.journal.group ≢ [] → OnOk result (D.armed self.new.journal.disk ≡ after_call (after_call (after_call (after_call (D.armed self.old.journal.disk))))) }
+        ensures early { IsTrue (D.strict self.old.journal.disk) → self.old.journal.group ≢ [] → FailsWithin 4 (D.armed self.old.journal.disk) → IsErr result }
+        ensures late { IsTrue (D.strict self.old.journal.disk) → ¬ FailsWithin 4 (D.armed self.old.journal.disk) → IfErr result (λ e. IsDiskFault e → ⊥) }
+        ensures still { IsTrue (D.strict self.old.journal.disk) → ¬ FailsWithin 4 (D.armed self.old.journal.disk) → D.faults self.new.journal.disk ≡ D.faults self.old.journal.disk }
+        ensures failed { IsTrue (D.strict self.old.journal.disk) → IfErr result (λ e. IsDiskFault e → (choice : ℕ) (left : List ℕ) → LeftByChoice choice (D.content self.new.journal.disk) (D.synced self.new.journal.disk) (D.written self.new.journal.disk) left
+            → Reads left (left_by_choice (D.armed self.old.journal.disk) choice self.old.journal.payloads self.old.journal.group)) }
+    {
+        let _sound = self.journal.is_broken();
+        if self.journal.count() == 0 {
+            return Ok(());
+        }
+        match self.journal.append() {
+            Ok(()) => {
+                self.kept = self.kept.saturating_add(self.staged);
+                self.staged = 0;
+                Ok(())
+            }
+            Err(JournalError::DiskFault) => Err(StepError::DiskFault {
+                unsent: Messages::new(self.alloc),
+            }),
+            Err(_) => Err(StepError::OutOfMemory),
+        }
+    }
+
+    /// How many messages are staged. Takes no memory.
+    pub fn staged(&self) -> u64
+        ensures { result ≡ self.now.staged }
+    {
+        self.staged
+    }
+
+    /// How many bytes of encoded messages the step that was planned would send. It makes no call of the disk.
+    pub fn weigh(
+        &self,
+        topology: &Topology,
+        m: &Message,
+        prepared: &Prepared,
+    ) -> Result<u64, OutOfMemory>
+        requires store { IsFor (actor_in self.now) m.now }
+        requires top { top_of m.now < 2 ^ 62 }
+        requires greatest { greatest_in self.now.store < 2 ^ 62 }
+        requires short { SendsShort topology.now self.now.store m.now }
+        requires prepared { IsPrepared topology.now self.now.store m.now prepared.now }
+        ensures { IfOk result (λ weight. (messages : List Told) → StandsFor topology.now self.now messages → weight ≡ weight_of_all (store_answer topology.now (actor_in self.now) (replayed topology.now (actor_in self.now) messages) m.now)) }
+    {
+        self.store.weigh(topology, m, prepared)
+    }
+
+    /// The store as it stands after what is journalled and staged. Takes no memory.
+    pub fn store(&self) -> &Store
+        ensures { result.now ≡ self.now.store }
+    {
+        &self.store
+    }
+
+    /// How many messages the journal has. Neither a mark nor what is staged is counted.
+    pub fn kept(&self) -> u64
+        ensures { result ≡ self.now.kept }
+    {
+        self.kept
+    }
+
+    /// Whether a call of the disk failed or found no memory.
+    pub fn is_broken(&self) -> bool
+        ensures value { result ≡ self.now.journal.broken }
+        ensures sound { self.now.journal.broken ≡ false → (image : List ℕ) → D.is_image self.now.journal.disk image → Reads image self.now.journal.payloads }
+    {
+        self.journal.is_broken()
+    }
+
+    /// The disk under the journal.
+    pub fn into_disk(self) -> D
+        ensures { result ≡ self.journal.disk }
+    {
+        let (disk, _store) = self.into_parts();
+        disk
+    }
+
+    /// The disk under the journal, and the store over it.
+    pub fn into_parts(self) -> (D, Store)
+        ensures disk { result.0 ≡ self.journal.disk }
+        ensures store { result.1 ≡ self.store }
+    {
+        let DurableStore {
+            alloc: _,
+            store,
+            version: _,
+            journal,
+            marked: _,
+            kept: _,
+            staged: _,
+        } = self;
+        (journal.into_disk(), store)
+    }
+}
+
+impl<D: Rig> DurableStore<D> {
+    /// Arms a call of the disk: so many more pass, and the next one fails. It makes no call of the disk and takes no memory.
+    pub fn arm(&mut self, calls: u64)
+        ensures armed { IsTrue (D.strict self.old.journal.disk) → D.armed self.new.journal.disk ≡ Some calls }
+        ensures as_before { IsAsBefore self.old self.new }
+        ensures same { IsTheSame self.old self.new }
+        ensures store { self.new.store ≡ self.old.store }
+        ensures journal { self.new.journal ≡ record self.old.journal { disk = self.new.journal.disk } }
+
+        ensures content { D.content self.new.journal.disk ≡ D.content self.old.journal.disk }
+        ensures images { NoFurther (D.is_image self.old.journal.disk) (D.is_image self.new.journal.disk) }
+        ensures no_fewer { NoFurther (D.is_image self.new.journal.disk) (D.is_image self.old.journal.disk) }
+        ensures clock { D.clock self.new.journal.disk ≡ D.clock self.old.journal.disk }
+        ensures time { Elapses (D.clock self.old.journal.disk) (D.clock self.new.journal.disk) (D.was_image self.old.journal.disk) (D.was_image self.new.journal.disk) (D.is_image self.new.journal.disk) }
+        ensures faults { D.faults self.new.journal.disk ≡ D.faults self.old.journal.disk }
+        ensures kind { D.strict self.new.journal.disk ≡ D.strict self.old.journal.disk }
+        ensures strict { IsTrue (D.strict self.old.journal.disk) → (D.synced self.new.journal.disk ≡ D.synced self.old.journal.disk) × (D.written self.new.journal.disk ≡ D.written self.old.journal.disk) }
+    {
+        self.journal.arm(calls);
+    }
+}
+
+// Whether there is a mark once a store of this version has appended a message.
+fn is_marked(version: u8, marked: bool) -> bool
+    ensures { result ≡ marked_after version marked }
+{
+    marked || version == 2
+}

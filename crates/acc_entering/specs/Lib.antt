@@ -1,3 +1,0 @@
-pub mod Entries
-pub mod Pasts
-pub mod Stopped

@@ -1,5 +1,0 @@
-use Rattle.acc_every_run.proofs.EveryRun.{agreement_holds}
-use Rattle.acc_every_run.proofs.laws.agreement.Goals as goal
-
-pub returns : goal.returns
-returns c = agreement_holds

@@ -1,5 +1,0 @@
-use Rattle.acc_every_run.proofs.EveryRun.{coverage_holds}
-use Rattle.acc_every_run.proofs.laws.coverage.Goals as goal
-
-pub returns : goal.returns
-returns c = coverage_holds

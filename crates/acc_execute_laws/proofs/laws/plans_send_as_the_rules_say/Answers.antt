@@ -1,8 +1,0 @@
-use Rattle.acc_execute_laws.proofs.Joined.{sends, writes}
-use Rattle.acc_execute_laws.proofs.laws.plans_send_as_the_rules_say.Goals as goal
-
-pub returns-clause-sent : goal.returns-clause-sent
-returns-clause-sent c = sends
-
-pub returns-clause-cells : goal.returns-clause-cells
-returns-clause-cells c = writes

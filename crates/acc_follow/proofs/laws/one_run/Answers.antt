@@ -1,5 +1,0 @@
-use Rattle.acc_follow.proofs.OneRun.{one_next, one_last, one_list}
-use Rattle.acc_follow.proofs.laws.one_run.Goals as goal
-
-pub returns : goal.returns
-returns c = record { next = one_next; last = one_last; items = one_list }

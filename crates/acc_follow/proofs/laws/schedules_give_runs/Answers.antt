@@ -1,5 +1,0 @@
-use Rattle.acc_follow.proofs.GivesRuns.{gives_a_run, obeys_a_run}
-use Rattle.acc_follow.proofs.laws.schedules_give_runs.Goals as goal
-
-pub returns : goal.returns
-returns c = record { behind = gives_a_run; plan = obeys_a_run }

@@ -1,5 +1,0 @@
-use Rattle.acc_follow.proofs.OneStop.{one_step_is_stopped}
-use Rattle.acc_follow.proofs.laws.schedules_stop_one_step.Goals as goal
-
-pub returns : goal.returns
-returns c = one_step_is_stopped

@@ -1,5 +1,0 @@
-use Rattle.acc_follow.proofs.Skips.{passed_over, only_for_causes}
-use Rattle.acc_follow.proofs.laws.skips_have_causes.Goals as goal
-
-pub returns : goal.returns
-returns c = record { passed = passed_over; only = only_for_causes }

@@ -1,5 +1,0 @@
-pub mod Situations
-pub mod Moves
-pub mod Causes
-pub mod Schedules
-pub mod Laws

@@ -1,0 +1,7 @@
+pub mod Ended
+pub mod Lists
+pub mod Moving
+pub mod Rounds
+pub mod Steps
+pub mod Strictly
+pub mod Turning

@@ -1,0 +1,72 @@
+//! The rounds in which a cluster finishes.
+ghost use Rattle.std.specs.Prelude.{◌≡◌, Bool, false, map, IfOk, IfErr, OnOk};
+ghost use Rattle.acc_schedule.specs.Plan.{IsPlan};
+ghost use Rattle.acc_schedule_runs.specs.Situations.{Situation};
+ghost use Rattle.acc_cluster.specs.Steps.{IfLimit};
+ghost use Rattle.acc_free_ending.specs.Queues.{actor_in, AreAllActors, HaveGone};
+ghost use Rattle.acc_free_ending.specs.Moves.{Serves, HasGoneRound, IsEmptied, HasEnded, EachWent, EndsFreely};
+
+use crate::command::take_commands;
+use crate::rest::Queues;
+use acc_cluster::Cluster;
+use acc_free_laws::laws::schedule_steps_serve;
+use acc_message::RunError;
+use acc_ports::Rig;
+use acc_schedule::{Plan, Step};
+
+// Delivers all messages that wait, and those that come meanwhile.
+fn drain<D: Rig + Drop>(cluster: &mut Cluster<D>, plan: &Plan) -> Result<(), RunError>
+    requires is_plan { IsPlan plan.now }
+    requires standing { (s : Situation) × Serves D.is_image D.faults D.strict D.armed D.content D.synced D.written false plan.now cluster.old s }
+    ensures ok { OnOk result ((strict_run : Bool) (s : Situation) → Serves D.is_image D.faults D.strict D.armed D.content D.synced D.written strict_run plan.now cluster.old s → IsEmptied D.is_image D.faults D.strict D.armed D.content D.synced D.written strict_run plan.now cluster.new s) }
+    ensures limit { IfErr result (IfLimit (λ which most. (strict_run : Bool) (s : Situation) → Serves D.is_image D.faults D.strict D.armed D.content D.synced D.written strict_run plan.now cluster.old s → EachWent plan.now s → EndsFreely strict_run plan.now s.own which most)) }
+{
+    schedule_steps_serve();
+    cluster.step(plan, 0, &Step::Drain)
+}
+
+// Each actor takes its next commands. Answers whether any went by.
+fn round<D: Rig + Drop>(
+    cluster: &mut Cluster<D>,
+    plan: &Plan,
+    queues: &mut Queues,
+) -> Result<bool, RunError>
+    requires is_plan { IsPlan plan.now }
+    requires actors { AreAllActors plan.now (map actor_in queues.old.items) }
+    requires standing { (s : Situation) × Serves D.is_image D.faults D.strict D.armed D.content D.synced D.written false plan.now cluster.old s × HaveGone plan.now s queues.old.items }
+    ensures same { OnOk result (map actor_in queues.new.items ≡ map actor_in queues.old.items) }
+    ensures ok { IfOk result (λ went. (strict_run : Bool) (s : Situation) → Serves D.is_image D.faults D.strict D.armed D.content D.synced D.written strict_run plan.now cluster.old s → HaveGone plan.now s queues.old.items
+        → HasGoneRound D.is_image D.faults D.strict D.armed D.content D.synced D.written strict_run plan.now queues.old.items queues.new.items went cluster.new s) }
+    ensures limit { IfErr result (IfLimit (λ which most. (strict_run : Bool) (s : Situation) → Serves D.is_image D.faults D.strict D.armed D.content D.synced D.written strict_run plan.now cluster.old s → HaveGone plan.now s queues.old.items
+        → EndsFreely strict_run plan.now s.own which most)) }
+{
+    let mut went = false;
+    for place in 0..queues.len() {
+        if take_commands(cluster, plan, &mut queues[place])? {
+            went = true;
+        }
+    }
+    Ok(went)
+}
+
+/// Delivers what waits, and goes round until no command goes by any more, with all deliveries behind each round.
+pub(crate) fn rounds<D: Rig + Drop>(
+    cluster: &mut Cluster<D>,
+    plan: &Plan,
+    queues: &mut Queues,
+) -> Result<(), RunError>
+    requires is_plan { IsPlan plan.now }
+    requires actors { AreAllActors plan.now (map actor_in queues.old.items) }
+    requires standing { (s : Situation) × Serves D.is_image D.faults D.strict D.armed D.content D.synced D.written false plan.now cluster.old s × HaveGone plan.now s queues.old.items }
+    ensures same { OnOk result (map actor_in queues.new.items ≡ map actor_in queues.old.items) }
+    ensures ok { OnOk result ((strict_run : Bool) (s : Situation) → Serves D.is_image D.faults D.strict D.armed D.content D.synced D.written strict_run plan.now cluster.old s → HaveGone plan.now s queues.old.items
+        → HasEnded D.is_image D.faults D.strict D.armed D.content D.synced D.written strict_run plan.now queues.new.items cluster.new s) }
+    ensures limit { IfErr result (IfLimit (λ which most. (strict_run : Bool) (s : Situation) → Serves D.is_image D.faults D.strict D.armed D.content D.synced D.written strict_run plan.now cluster.old s → HaveGone plan.now s queues.old.items
+        → EndsFreely strict_run plan.now s.own which most)) }
+{
+    drain(cluster, plan)?;
+    'rounds: while round(cluster, plan, queues)? {
+        drain(cluster, plan)?;
+    }
+    Ok(())
+}

@@ -1,0 +1,14 @@
+pub mod Alone
+pub mod Answered
+pub mod Begun
+pub mod Between
+pub mod Commands
+pub mod Few
+pub mod Fitting
+pub mod Going
+pub mod Others
+pub mod Over
+pub mod Quiet
+pub mod Serving
+pub mod Steps
+pub mod Turns

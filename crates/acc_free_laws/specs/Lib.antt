@@ -1,0 +1,5 @@
+pub mod Commands
+pub mod FreeRun
+pub mod Served
+pub mod Serving
+pub mod Turns

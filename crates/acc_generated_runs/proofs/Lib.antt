@@ -1,4 +1,0 @@
-mod FewReplies
-mod Begun
-mod Counted
-pub mod Generated

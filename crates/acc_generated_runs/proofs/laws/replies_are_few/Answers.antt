@@ -1,5 +1,0 @@
-use Rattle.acc_generated_runs.proofs.FewReplies.{replies_few}
-use Rattle.acc_generated_runs.proofs.laws.replies_are_few.Goals as goal
-
-pub returns : goal.returns
-returns c = λ cluster items run. replies_few cluster items run.stands

@@ -1,5 +1,0 @@
-use Rattle.acc_limits.proofs.InLine.{fronts_in_line, whole_is_front, whole_is_longest}
-use Rattle.acc_limits.proofs.laws.fronts_stand_in_line.Goals as goal
-
-pub returns : goal.returns
-returns c = record { line = fronts_in_line; whole = whole_is_front; longest = whole_is_longest }

@@ -1,5 +1,0 @@
-mod Outcomes
-mod Contents
-mod Stores
-mod Nodes
-mod Everywhere

@@ -1,2 +1,0 @@
-mod NumberFacts
-mod SpellingFacts

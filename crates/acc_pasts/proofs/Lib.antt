@@ -1,0 +1,13 @@
+pub mod Asked
+pub mod Deeds
+pub mod Downs
+pub mod Pasts
+pub mod Payloads
+pub mod Replayed
+pub mod Situations
+pub mod Skips
+pub mod Slowed
+pub mod SlowingFacts
+pub mod Sound
+pub mod Standing
+pub mod Stops

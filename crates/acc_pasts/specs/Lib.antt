@@ -1,0 +1,4 @@
+pub mod Entries
+pub mod Pasts
+pub mod Slowing
+pub mod Stopped

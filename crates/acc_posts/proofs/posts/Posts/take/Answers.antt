@@ -1,6 +1,0 @@
-use Rattle.std.proofs.Common.{arith}
-use Rattle.acc_posts.proofs.Indexing.{closes}
-use Rattle.acc_posts.proofs.posts.Posts.take.Goals as goal
-
-pub invariant_of-self : goal.invariant_of-self
-invariant_of-self c = let i = c.self.invariant in (rw c.note_taken.ensures.postings (closes i.0 c.args.number), omega arith, omega arith, omega arith, omega arith)

@@ -1,3 +1,0 @@
-pub mod LayerFacts
-pub mod ReleaseFacts
-pub mod RulesLaw

@@ -1,3 +1,0 @@
-pub mod Layer
-pub mod Release
-pub mod History

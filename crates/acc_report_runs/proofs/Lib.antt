@@ -1,9 +1,0 @@
-mod Actors
-mod Known
-mod Reacting
-mod Noted
-mod FewNotes
-mod Replies
-mod Placed
-mod Sent
-mod Told

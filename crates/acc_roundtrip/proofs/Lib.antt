@@ -1,9 +1,0 @@
-pub mod TokenFacts
-pub mod QuotedFacts
-pub mod NumberFacts
-pub mod KeyFacts
-pub mod SumFacts
-pub mod ConditionFacts
-pub mod UpdateFacts
-pub mod BodyFacts
-pub mod SaidFacts

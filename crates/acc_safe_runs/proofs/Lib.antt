@@ -1,3 +1,0 @@
-pub mod AskFacts
-pub mod AskedFacts
-pub mod LostFacts

@@ -1,0 +1,2 @@
+pub mod AgreementPremises
+pub mod CoveragePremises

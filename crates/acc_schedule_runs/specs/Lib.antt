@@ -1,0 +1,12 @@
+pub mod Causes
+pub mod Disks
+pub mod Fronts
+pub mod Laws
+pub mod Limits
+pub mod Moves
+pub mod Schedules
+pub mod Situations
+pub mod StrictFronts
+pub mod StrictLaws
+pub mod StrictMoves
+pub mod StrictSchedules

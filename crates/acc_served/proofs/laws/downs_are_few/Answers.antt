@@ -1,5 +1,0 @@
-use Rattle.acc_served.proofs.Few.{downs_left}
-use Rattle.acc_served.proofs.laws.downs_are_few.Goals as goal
-
-pub returns : goal.returns
-returns c = downs_left

@@ -1,4 +1,0 @@
-use Rattle.acc_served.proofs.laws.restarts_keep_sixteen.Goals as goal
-
-pub returns : goal.returns
-returns c = λ plan items free. free.kept

@@ -1,5 +1,0 @@
-use Rattle.acc_served.proofs.Answered.{served_end}
-use Rattle.acc_served.proofs.laws.served_at_the_end.Goals as goal
-
-pub returns : goal.returns
-returns c = served_end

@@ -1,5 +1,0 @@
-use Rattle.acc_slowing.proofs.Slowed.{slow_is_told}
-use Rattle.acc_slowing.proofs.laws.slows_are_told.Goals as goal
-
-pub returns : goal.returns
-returns c = slow_is_told

@@ -1,4 +1,0 @@
-pub mod OneStrictRun
-pub mod Answering
-pub mod Unarmed
-mod Counting

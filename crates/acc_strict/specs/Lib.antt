@@ -1,4 +1,0 @@
-pub mod Disks
-pub mod Moves
-pub mod Schedules
-pub mod Laws
