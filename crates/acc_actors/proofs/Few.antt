@@ -1,11 +1,13 @@
 -- Counts: items, downs and faults, and what is armed on the disk of one actor.
-use Rattle.std.proofs.Common.{◌≡◌, ℕ, suc, ◌+◌, ◌<◌, ◌≤◌, ◌^◌, Bool, true, false, cond, List, [], ◌∷◌, length, sym, ap, subst, arith, ⊎_elim}
+use Rattle.std.proofs.Common.{◌≡◌, ℕ, suc, ◌+◌, ◌<◌, ◌≤◌, ◌^◌, Bool, true, false, cond, List, [], ◌∷◌, length, inl, inr, Option, None, Some, Result, Ok, Err, refl, sym, ap, subst, arith, ⊎_elim}
 use Rattle.acc_stamp.specs.declared.actors.Actor.{Actor}
-use Rattle.acc_ports.specs.Faults.{Rose, greatest_count}
+use Rattle.acc_ports.specs.Faults.{Rose, CountsFaults, greatest_count}
 use Rattle.acc_message.specs.declared.item.Item.{Item}
 use Rattle.acc_message.specs.declared.item.Item.TheVariants.{Down}
 use Rattle.acc_message.specs.Items.{same_actor}
 use Rattle.acc_run_laws.specs.Sends.{AreFew}
+use Rattle.acc_payloads.specs.declared.stops.Restarted.{Restarted}
+use Rattle.acc_payloads.specs.declared.stops.Restarted.TheVariants.{Up as RestartedUp, Down as RestartedDown}
 use Rattle.acc_payloads.specs.Items.{is_down_of, downs_in}
 use Rattle.acc_safety.proofs.Bridge.{same_itself}
 use Rattle.acc_schedule_runs.specs.Situations.{Situation, joined, whole}
@@ -75,3 +77,24 @@ armed_after false a disks is = cc
 pub passed_after : (journalled : Bool) (a : Actor) (disks : Disks) → journalled ≡ true → (after_step journalled a disks).passed a ≡ passed_in (disks.armed a)
 passed_after true a disks is = entry_own a (passed_in (disks.armed a)) disks.passed
 passed_after false a disks is = cc
+
+-- ---- counts of faults never fall
+
+rose_up : (before now : ℕ) → Rose before now → before ≤ now
+rose_up before now (inl more) = omega arith
+rose_up before now (inr still) = omega (arith, still.0, still.1)
+
+same_up : (before now : ℕ) → now ≡ before → before ≤ now
+same_up before now is = omega (arith, is)
+
+-- whether a step went down by its disk
+pub steps_up : {T E : Type 0} (result : Result (Option T) E) (before now : ℕ) → CountsFaults (result ≡ Ok None) before now → before ≤ now
+steps_up (Ok None) before now counts = rose_up before now (counts.cause refl)
+steps_up (Ok (Some given)) before now counts = same_up before now (counts.unfailed (λ none. cc none))
+steps_up (Err e) before now counts = same_up before now (counts.unfailed (λ none. cc none))
+
+-- and a restart
+pub restarts_up : {E : Type 0} (result : Result Restarted E) (before now : ℕ) → CountsFaults (result ≡ Ok RestartedDown) before now → before ≤ now
+restarts_up (Ok RestartedDown) before now counts = rose_up before now (counts.cause refl)
+restarts_up (Ok (RestartedUp kept)) before now counts = same_up before now (counts.unfailed (λ down. cc down))
+restarts_up (Err e) before now counts = same_up before now (counts.unfailed (λ down. cc down))

@@ -4,8 +4,8 @@ use Rattle.std.proofs.lemmas.Result.{on_ok_weaker}
 use Rattle.acc_base.specs.declared.memory.OutOfMemory.{OutOfMemory}
 use Rattle.acc_stamp.specs.declared.actors.Actor.{Actor}
 use Rattle.acc_topology.specs.Layout.{Layout}
+use Rattle.acc_ports.specs.declared.disk.Disk.{Ghosts}
 use Rattle.acc_ports.specs.Faults.{Rose}
-use Rattle.acc_ports.specs.Strict.{Ranges}
 use Rattle.acc_message.specs.declared.message.Message.{Message}
 use Rattle.acc_message.specs.declared.entry.Event.{Event}
 use Rattle.acc_message.specs.declared.entry.Event.TheVariants.{Message as TakesMessage}
@@ -34,27 +34,27 @@ use Rattle.acc_actors.proofs.Takes.{NumbersAlone}
 use Rattle.acc_actors.proofs.Groups.{stages_more, takes_more, weighs_more, weight_is, stops_some, settles, settles_strictly}
 
 -- behind nothing
-pub asked_alone : {D : Type 0} (images : D → List ℕ → Type 0) (faults : D → ℕ) (plan : Content) (s : Situation) (a : Actor) (number : ℕ) (m : Message) (slot : Slot D)
-    → IsAskedBehind images faults plan s a [] (TakesMessage number) (Takes m) slot → IsAsked images faults plan s a (TakesMessage number) (Takes m) slot
-asked_alone images faults plan s a number m slot asked =
+pub asked_alone : {D : Type 0} (port : Ghosts D) (plan : Content) (s : Situation) (a : Actor) (number : ℕ) (m : Message) (slot : Slot D)
+    → IsAskedBehind port plan s a [] (TakesMessage number) (Takes m) slot → IsAsked port plan s a (TakesMessage number) (Takes m) slot
+asked_alone port plan s a number m slot asked =
     record { sound = asked.behind.sound; few = asked.behind.few.0; stands = asked.behind.stands; up = asked.behind.up; may = asked.may }
 
-module _ {D : Type 0} (images : D → List ℕ → Type 0) (faults : D → ℕ) (plan : Content) (a : Actor) (slot : Slot D) (number : ℕ) (m : Message) where
+module _ {D : Type 0} (port : Ghosts D) (plan : Content) (a : Actor) (slot : Slot D) (number : ℕ) (m : Message) where
   abbrev AskedAt : Situation → List Event → Slot D → Type 0
-  AskedAt s staged x = IsAskedBehind images faults plan s a staged (TakesMessage number) (Takes m) x
+  AskedAt s staged x = IsAskedBehind port plan s a staged (TakesMessage number) (Takes m) x
 
   -- ---- a node has nothing staged
 
   pub node_asked : (n : NodeActor D) → slot ≡ Node n → (s : Situation) (staged : List Event) → AskedAt s staged slot
-      → (staged ≡ []) × IsAsked images faults plan s a (TakesMessage number) (Takes m) slot
-  node_asked n is s [] asked = (refl, asked_alone images faults plan s a number m slot asked)
-  node_asked n is s (event ∷ events) asked = absurd (subst (λ (x : Slot D). SlotStages images faults plan s a (event ∷ events) x) is asked.behind.stands)
+      → (staged ≡ []) × IsAsked port plan s a (TakesMessage number) (Takes m) slot
+  node_asked n is s [] asked = (refl, asked_alone port plan s a number m slot asked)
+  node_asked n is s (event ∷ events) asked = absurd (subst (λ (x : Slot D). SlotStages port plan s a (event ∷ events) x) is asked.behind.stands)
 
-  pub node_may_ask : (n : NodeActor D) → slot ≡ Node n → MayAskBehind images faults plan a (TakesMessage number) (Takes m) slot → MayAsk images faults plan a (TakesMessage number) (Takes m) slot
+  pub node_may_ask : (n : NodeActor D) → slot ≡ Node n → MayAskBehind port plan a (TakesMessage number) (Takes m) slot → MayAsk port plan a (TakesMessage number) (Takes m) slot
   node_may_ask n is may = (may.0, (node_asked n is may.0 may.1 may.2).1)
 
   pub node_weighs_behind : (n : NodeActor D) → slot ≡ Node n → {E : Type 0} (r : Result ℕ E)
-      → IfOk r (λ weight. (s : Situation) → IsAsked images faults plan s a (TakesMessage number) (Takes m) slot → weight ≡ weight_of (entry_of (cluster_of plan) s a (TakesMessage number) false))
+      → IfOk r (λ weight. (s : Situation) → IsAsked port plan s a (TakesMessage number) (Takes m) slot → weight ≡ weight_of (entry_of (cluster_of plan) s a (TakesMessage number) false))
       → IfOk r (λ weight. (s : Situation) (staged : List Event) → AskedAt s staged slot
       → weight ≡ weight_of (entry_of (cluster_of plan) (entered_all (cluster_of plan) s a staged false) a (TakesMessage number) false))
   node_weighs_behind n is (Err e) h = tt
@@ -68,95 +68,95 @@ module _ {D : Type 0} (images : D → List ℕ → Type 0) (faults : D → ℕ) 
     there : (s : Situation) (staged : List Event) → AskedAt s staged slot → AskedAt s staged (Store t)
     there s staged asked = subst (λ (x : Slot D). AskedAt s staged x) is asked
 
-    pub store_up : MayAskBehind images faults plan a (TakesMessage number) (Takes m) slot → store.is_down t ≡ false
+    pub store_up : MayAskBehind port plan a (TakesMessage number) (Takes m) slot → store.is_down t ≡ false
     store_up may = let asked = there may.0 may.1 may.2 in asked.behind.stands.down ∙ asked.behind.up
 
-    pub may_stage : NumbersAlone images faults plan a number m → IsPlan plan → MayAskBehind images faults plan a (TakesMessage number) (Takes m) slot → store.MayStage images layout t m
+    pub may_stage : NumbersAlone port plan a number m → IsPlan plan → MayAskBehind port plan a (TakesMessage number) (Takes m) slot → store.MayStage port layout t m
     may_stage numbers_alone valid may =
         let s : Situation = may.0 in
         let asked = there s may.1 may.2 in (
           store_stops (stops_in (cluster_of plan) s a may.1 false),
-          subst (λ (l : Layout). store.MayTake images l t (store_stops (stops_in (cluster_of plan) s a may.1 false)) m) (sym layout_is)
-              (takes_more images faults plan s a may.1 t asked.behind number m asked.may numbers_alone valid),
+          subst (λ (l : Layout). store.MayTake port l t (store_stops (stops_in (cluster_of plan) s a may.1 false)) m) (sym layout_is)
+              (takes_more port plan s a may.1 t asked.behind number m asked.may numbers_alone valid),
         )
 
-    pub may_weigh : NumbersAlone images faults plan a number m → IsPlan plan → MayAskBehind images faults plan a (TakesMessage number) (Takes m) slot → StoreMayWeigh images layout t m
+    pub may_weigh : NumbersAlone port plan a number m → IsPlan plan → MayAskBehind port plan a (TakesMessage number) (Takes m) slot → StoreMayWeigh port layout t m
     may_weigh numbers_alone valid may =
         let asked = there may.0 may.1 may.2 in
-        subst (λ (l : Layout). StoreMayWeigh images l t m) (sym layout_is) (weighs_more images faults plan may.0 a may.1 t asked.behind number m asked.may numbers_alone valid)
+        subst (λ (l : Layout). StoreMayWeigh port l t m) (sym layout_is) (weighs_more port plan may.0 a may.1 t asked.behind number m asked.may numbers_alone valid)
 
     pub store_weighs : {E : Type 0} (r : Result ℕ E)
-        → IfOk r (λ weight. (own : Actor) (version : ℕ) (past : Past Message) (staged : List (Stop Message)) → store.IsStaging images layout own version past staged t
+        → IfOk r (λ weight. (own : Actor) (version : ℕ) (past : Past Message) (staged : List (Stop Message)) → store.IsStaging port layout own version past staged t
         → weight ≡ weight_of_all (store.emits_next layout own (kept_with staged past) m).out)
         → IfOk r (λ weight. (s : Situation) (staged : List Event) → AskedAt s staged slot
         → weight ≡ weight_of (entry_of (cluster_of plan) (entered_all (cluster_of plan) s a staged false) a (TakesMessage number) false))
     store_weighs (Err e) is_weight = tt
     store_weighs (Ok weight) is_weight = λ s staged asked.
         let here = there s staged asked in
-        subst (λ (l : Layout). (own : Actor) (version : ℕ) (past : Past Message) (staged : List (Stop Message)) → store.IsStaging images l own version past staged t
+        subst (λ (l : Layout). (own : Actor) (version : ℕ) (past : Past Message) (staged : List (Stop Message)) → store.IsStaging port l own version past staged t
         → weight ≡ weight_of_all (store.emits_next l own (kept_with staged past) m).out) layout_is is_weight
         a plan.version (store_past (cluster_of plan) s a) (store_stops (stops_in (cluster_of plan) s a staged false)) here.behind.stands.stands
-        ∙ weight_is images faults plan s a staged t here.behind number m here.may
+        ∙ weight_is port plan s a staged t here.behind number m here.may
 
     -- staged
     pub stage_called : {T : Type 0} (r : Result T OutOfMemory) (new : StoreActor D)
-        → OnOk r ((own : Actor) (version : ℕ) (past : Past Message) (staged : List (Stop Message)) → store.IsStaging images layout own version past staged t
-        → store.IsStaging images layout own version past (staged ++ store.message_stop number m ∷ []) new)
+        → OnOk r ((own : Actor) (version : ℕ) (past : Past Message) (staged : List (Stop Message)) → store.IsStaging port layout own version past staged t
+        → store.IsStaging port layout own version past (staged ++ store.message_stop number m ∷ []) new)
         → store.is_down new ≡ false → store.disk_of new ≡ store.disk_of t
-        → OnOk r ((s : Situation) (staged : List Event) → AskedAt s staged slot → SlotStages images faults plan s a (staged ++ TakesMessage number ∷ []) (Store new))
+        → OnOk r ((s : Situation) (staged : List Event) → AskedAt s staged slot → SlotStages port plan s a (staged ++ TakesMessage number ∷ []) (Store new))
     stage_called r new ok up disk =
         on_ok_weaker r
-        (λ (told : (own : Actor) (version : ℕ) (past : Past Message) (staged : List (Stop Message)) → store.IsStaging images layout own version past staged t
-        → store.IsStaging images layout own version past (staged ++ store.message_stop number m ∷ []) new) s staged asked.
+        (λ (told : (own : Actor) (version : ℕ) (past : Past Message) (staged : List (Stop Message)) → store.IsStaging port layout own version past staged t
+        → store.IsStaging port layout own version past (staged ++ store.message_stop number m ∷ []) new) s staged asked.
         let here = there s staged asked in
-        stages_more images faults plan s a staged t here.behind number m here.may new
-        (subst (λ (l : Layout). (own : Actor) (version : ℕ) (past : Past Message) (staged : List (Stop Message)) → store.IsStaging images l own version past staged t
-        → store.IsStaging images l own version past (staged ++ store.message_stop number m ∷ []) new) layout_is told
+        stages_more port plan s a staged t here.behind number m here.may new
+        (subst (λ (l : Layout). (own : Actor) (version : ℕ) (past : Past Message) (staged : List (Stop Message)) → store.IsStaging port l own version past staged t
+        → store.IsStaging port l own version past (staged ++ store.message_stop number m ∷ []) new) layout_is told
         a plan.version (store_past (cluster_of plan) s a) (store_stops (stops_in (cluster_of plan) s a staged false)) here.behind.stands.stands)
         up disk) ok
 
     -- refused
-    pub stage_refused : {T : Type 0} (r : Result T OutOfMemory) (new : StoreActor D) → MayAskBehind images faults plan a (TakesMessage number) (Takes m) slot
-        → OnErr r ((own : Actor) (version : ℕ) (past : Past Message) (staged : List (Stop Message)) → store.IsStaging images layout own version past staged t
-        → store.IsStaging images layout own version past staged new)
+    pub stage_refused : {T : Type 0} (r : Result T OutOfMemory) (new : StoreActor D) → MayAskBehind port plan a (TakesMessage number) (Takes m) slot
+        → OnErr r ((own : Actor) (version : ℕ) (past : Past Message) (staged : List (Stop Message)) → store.IsStaging port layout own version past staged t
+        → store.IsStaging port layout own version past staged new)
         → store.is_down new ≡ false → store.disk_of new ≡ store.disk_of t
-        → OnErr r ((s : Situation) (staged : List Event) → SlotStages images faults plan s a staged slot → SlotStages images faults plan s a staged (Store new))
+        → OnErr r ((s : Situation) (staged : List Event) → SlotStages port plan s a staged slot → SlotStages port plan s a staged (Store new))
     stage_refused (Ok x) new may err up disk = tt
     stage_refused (Err e) new may err up disk = λ s staged stands.
-        let here : StoreStages images faults plan s a staged t = subst (λ (x : Slot D). SlotStages images faults plan s a staged x) is stands in
+        let here : StoreStages port plan s a staged t = subst (λ (x : Slot D). SlotStages port plan s a staged x) is stands in
         record {
           kind = here.kind;
           stands =
-              subst (λ (l : Layout). (own : Actor) (version : ℕ) (past : Past Message) (staged : List (Stop Message)) → store.IsStaging images l own version past staged t
-              → store.IsStaging images l own version past staged new) layout_is err
+              subst (λ (l : Layout). (own : Actor) (version : ℕ) (past : Past Message) (staged : List (Stop Message)) → store.IsStaging port l own version past staged t
+              → store.IsStaging port l own version past staged new) layout_is err
               a plan.version (store_past (cluster_of plan) s a) (store_stops (stops_in (cluster_of plan) s a staged false)) here.stands;
           down = up ∙ sym (store_up may) ∙ here.down;
-          counted = subst (λ d. downs_in a s.own ≤ faults d) (sym disk) here.counted;
+          counted = subst (λ d. downs_in a s.own ≤ (port.state d).faults) (sym disk) here.counted;
         }
 
-    pub stage_strictly : (strict : D → Bool) (armed_of : D → Option ℕ) (content synced : D → List ℕ) (written : D → Ranges) (new : StoreActor D)
-        → ((own : Actor) (version : ℕ) (armed passed : Option ℕ) (past other : Past Message) → store.IsStrictAt strict armed_of content synced written layout own version armed passed past t
-        → store.IsStrictAt strict armed_of content synced written layout own version armed passed other new)
-        → (s : Situation) (disks : Disks) → IsStrictSlot strict armed_of content synced written plan s disks a slot → IsStrictSlot strict armed_of content synced written plan s disks a (Store new)
-    stage_strictly strict armed_of content synced written new told s disks are =
-        subst (λ (l : Layout). (own : Actor) (version : ℕ) (armed passed : Option ℕ) (past other : Past Message) → store.IsStrictAt strict armed_of content synced written l own version armed passed past t
-        → store.IsStrictAt strict armed_of content synced written l own version armed passed other new) layout_is told
+    pub stage_strictly : (new : StoreActor D)
+        → ((own : Actor) (version : ℕ) (armed passed : Option ℕ) (past other : Past Message) → store.IsStrictAt port layout own version armed passed past t
+        → store.IsStrictAt port layout own version armed passed other new)
+        → (s : Situation) (disks : Disks) → IsStrictSlot port plan s disks a slot → IsStrictSlot port plan s disks a (Store new)
+    stage_strictly new told s disks are =
+        subst (λ (l : Layout). (own : Actor) (version : ℕ) (armed passed : Option ℕ) (past other : Past Message) → store.IsStrictAt port l own version armed passed past t
+        → store.IsStrictAt port l own version armed passed other new) layout_is told
         a plan.version (disks.armed a) (disks.passed a) (store_past (cluster_of plan) s a) (store_past (cluster_of plan) s a)
-        (subst (λ (x : Slot D). IsStrictSlot strict armed_of content synced written plan s disks a x) is are)
+        (subst (λ (x : Slot D). IsStrictSlot port plan s disks a x) is are)
 
-    pub stage_faults : (new : StoreActor D) → store.disk_of new ≡ store.disk_of t → faults_in faults (Store new) ≡ faults_in faults slot
-    stage_faults new disk = ap faults disk ∙ sym (ap (faults_in faults) is)
+    pub stage_faults : (new : StoreActor D) → store.disk_of new ≡ store.disk_of t → faults_in port (Store new) ≡ faults_in port slot
+    stage_faults new disk = ap (λ (d : D). (port.state d).faults) disk ∙ sym (ap (faults_in port) is)
 
 -- ---- settled
 
-module _ {D : Type 0} (images : D → List ℕ → Type 0) (faults : D → ℕ) (plan : Content) (a : Actor) (slot : Slot D) (t : StoreActor D) (is : slot ≡ Store t) where
-  there_staged : (s : Situation) (staged : List Event) → IsStaged images faults plan s a staged slot → IsStaged images faults plan s a staged (Store t)
-  there_staged s staged h = subst (λ (x : Slot D). IsStaged images faults plan s a staged x) is h
+module _ {D : Type 0} (port : Ghosts D) (plan : Content) (a : Actor) (slot : Slot D) (t : StoreActor D) (is : slot ≡ Store t) where
+  there_staged : (s : Situation) (staged : List Event) → IsStaged port plan s a staged slot → IsStaged port plan s a staged (Store t)
+  there_staged s staged h = subst (λ (x : Slot D). IsStaged port plan s a staged x) is h
 
-  pub settle_up : (s : Situation) × (staged : List Event) × IsStaged images faults plan s a staged slot → store.is_down t ≡ false
+  pub settle_up : (s : Situation) × (staged : List Event) × IsStaged port plan s a staged slot → store.is_down t ≡ false
   settle_up may = let here = there_staged may.0 may.1 may.2 in here.stands.down ∙ here.up
 
-  pub may_settle : (s : Situation) × (staged : List Event) × IsStaged images faults plan s a staged slot → store.MaySettle images t
+  pub may_settle : (s : Situation) × (staged : List Event) × IsStaged port plan s a staged slot → store.MaySettle port t
   may_settle may =
       record {
         layout = plan.topology;
@@ -168,29 +168,29 @@ module _ {D : Type 0} (images : D → List ℕ → Type 0) (faults : D → ℕ) 
       }
 
   pub settle_called : (r : Result (Option (List Unsent)) OutOfMemory) (new : StoreActor D)
-      → IfOk r (λ given. (layout : Layout) (own : Actor) (version : ℕ) (past : Past Message) (staged : List (Stop Message)) → store.IsStaging images layout own version past staged t
-      → store.Settles images layout own version past staged new given)
-      → IfOk r (λ given. store.is_down new ≡ is_none given) → faults (store.disk_of t) ≤ faults (store.disk_of new)
-      → (r ≡ Ok None → Rose (faults (store.disk_of t)) (faults (store.disk_of new)))
-      → IfOk r (λ given. (s : Situation) (staged : List Event) → IsStaged images faults plan s a staged slot → HasSettled images faults plan s a staged (Store new) given)
+      → IfOk r (λ given. (layout : Layout) (own : Actor) (version : ℕ) (past : Past Message) (staged : List (Stop Message)) → store.IsStaging port layout own version past staged t
+      → store.Settles port layout own version past staged new given)
+      → IfOk r (λ given. store.is_down new ≡ is_none given) → (port.state (store.disk_of t)).faults ≤ (port.state (store.disk_of new)).faults
+      → (r ≡ Ok None → Rose (port.state (store.disk_of t)).faults (port.state (store.disk_of new)).faults)
+      → IfOk r (λ given. (s : Situation) (staged : List Event) → IsStaged port plan s a staged slot → HasSettled port plan s a staged (Store new) given)
   settle_called (Err e) new ok down counted cause = tt
   settle_called (Ok given) new ok down counted cause = λ s staged h.
       let here = there_staged s staged h in
-      settles images faults plan s a staged t here new given
+      settles port plan s a staged t here new given
       (ok plan.topology a plan.version (store_past (cluster_of plan) s a) (store_stops (stops_in (cluster_of plan) s a staged false)) here.stands.stands)
       down counted (λ none. cause (ap Ok none))
 
-  pub settle_called_strictly : (strict : D → Bool) (armed_of : D → Option ℕ) (content synced : D → List ℕ) (written : D → Ranges) (r : Result (Option (List Unsent)) OutOfMemory) (new : StoreActor D)
-      → ((layout : Layout) (own : Actor) (version : ℕ) (armed passed : Option ℕ) (past : Past Message) (staged : List (Stop Message)) → store.IsStaging images layout own version past staged t
-      → store.IsStrictAt strict armed_of content synced written layout own version armed passed past t → staged ≢ []
+  pub settle_called_strictly : (r : Result (Option (List Unsent)) OutOfMemory) (new : StoreActor D)
+      → ((layout : Layout) (own : Actor) (version : ℕ) (armed passed : Option ℕ) (past : Past Message) (staged : List (Stop Message)) → store.IsStaging port layout own version past staged t
+      → store.IsStrictAt port layout own version armed passed past t → staged ≢ []
       → IfOk r (λ given. (is_none given ≡ fails_append armed)
-      × store.IsStrictAt strict armed_of content synced written layout own version (after_append armed) (passed_in armed) (after_group given past staged) new))
-      → IfOk r (λ given. (s : Situation) (staged : List Event) (disks : Disks) → IsStaged images faults plan s a staged slot → staged ≢ []
-      → IsStrictSlot strict armed_of content synced written plan s disks a slot → HasSettledStrictly strict armed_of content synced written plan s disks a staged (Store new) given)
-  settle_called_strictly strict armed_of content synced written (Err e) new ok = tt
-  settle_called_strictly strict armed_of content synced written (Ok given) new ok = λ s staged disks h some are.
+      × store.IsStrictAt port layout own version (after_append armed) (passed_in armed) (after_group given past staged) new))
+      → IfOk r (λ given. (s : Situation) (staged : List Event) (disks : Disks) → IsStaged port plan s a staged slot → staged ≢ []
+      → IsStrictSlot port plan s disks a slot → HasSettledStrictly port plan s disks a staged (Store new) given)
+  settle_called_strictly (Err e) new ok = tt
+  settle_called_strictly (Ok given) new ok = λ s staged disks h some are.
       let here = there_staged s staged h in
-      settles_strictly images faults plan s a staged t here strict armed_of content synced written disks new given
+      settles_strictly port plan s a staged t here disks new given
       (ok plan.topology a plan.version (disks.armed a) (disks.passed a) (store_past (cluster_of plan) s a) (store_stops (stops_in (cluster_of plan) s a staged false)) here.stands.stands
-      (subst (λ (x : Slot D). IsStrictSlot strict armed_of content synced written plan s disks a x) is are)
-      (stops_some images faults plan s a staged t here some))
+      (subst (λ (x : Slot D). IsStrictSlot port plan s disks a x) is are)
+      (stops_some port plan s a staged t here some))

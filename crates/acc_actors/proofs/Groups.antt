@@ -4,8 +4,8 @@ use Rattle.std.proofs.lemmas.List.{append_assoc, append-nil}
 use Rattle.std.proofs.lemmas.Bool.{true≢false}
 use Rattle.acc_stamp.specs.declared.actors.Actor.{Actor}
 use Rattle.acc_stamp.proofs.Rising.{each_weaker}
+use Rattle.acc_ports.specs.declared.disk.Disk.{Ghosts}
 use Rattle.acc_ports.specs.Faults.{Rose}
-use Rattle.acc_ports.specs.Strict.{Ranges}
 use Rattle.acc_message.specs.declared.message.Message.{Message}
 use Rattle.acc_message.specs.declared.entry.Emitted.{Emitted}
 use Rattle.acc_message.specs.declared.entry.Event.{Event}
@@ -149,7 +149,7 @@ module _ (cluster : Cluster) (a : Actor) (kind : is_node a ≡ false) (number : 
 
 -- ---- the calls
 
-module _ {D : Type 0} (images : D → List ℕ → Type 0) (faults : D → ℕ) (plan : Content) (s : Situation) (a : Actor) (staged : List Event) (t : StoreActor D) (is : IsStaged images faults plan s a staged (Store t)) where
+module _ {D : Type 0} (port : Ghosts D) (plan : Content) (s : Situation) (a : Actor) (staged : List Event) (t : StoreActor D) (is : IsStaged port plan s a staged (Store t)) where
   abbrev cluster : Cluster
   cluster = cluster_of plan
 
@@ -187,21 +187,21 @@ module _ {D : Type 0} (images : D → List ℕ → Type 0) (faults : D → ℕ) 
         (all_may_take cluster a kind staged s (TakesMessage number) (Takes m) (ap not kind) next)
 
     pub stages_more : (new : StoreActor D)
-        → store.IsStaging images plan.topology a plan.version past (stops ++ store.message_stop number m ∷ []) new → store.is_down new ≡ false → store.disk_of new ≡ store.disk_of t
-        → StoreStages images faults plan s a (staged ++ TakesMessage number ∷ []) new
+        → store.IsStaging port plan.topology a plan.version past (stops ++ store.message_stop number m ∷ []) new → store.is_down new ≡ false → store.disk_of new ≡ store.disk_of t
+        → StoreStages port plan s a (staged ++ TakesMessage number ∷ []) new
     stages_more new stood up disk =
         record {
           kind = kind;
           stands =
-              subst (λ (all : List (Stop Message)). store.IsStaging images plan.topology a plan.version past all new)
+              subst (λ (all : List (Stop Message)). store.IsStaging port plan.topology a plan.version past all new)
               (sym (staged_more cluster a kind number m staged s next (message_found m (message_at (whole s) (length (sent_of s.earlier) + number)) next.act_is))) stood;
           down = up ∙ sym is.up;
-          counted = subst (λ d. downs_in a s.own ≤ faults d) (sym disk) is.stands.counted;
+          counted = subst (λ d. downs_in a s.own ≤ (port.state d).faults) (sym disk) is.stands.counted;
         }
 
-    pub takes_more : NumbersAlone images faults plan a number m → IsPlan plan → store.MayTake images plan.topology t stops m
+    pub takes_more : NumbersAlone port plan a number m → IsPlan plan → store.MayTake port plan.topology t stops m
     takes_more numbers_alone valid =
-        let told : IsDeliverable cluster (whole s) m = deliverable_at images faults plan a number m s is.sound is.few.0 next in
+        let told : IsDeliverable cluster (whole s) m = deliverable_at port plan a number m s is.sound is.few.0 next in
         let meets : StoreMeets cluster (whole behind) a = store_meets cluster (whole behind) a standing few kind in
         let here = same _ a next.place in
         record {
@@ -213,7 +213,7 @@ module _ {D : Type 0} (images : D → List ℕ → Type 0) (faults : D → ℕ) 
           goes_here = record { goes_to = here; brings = told.brings (ap is_node here ∙ kind) };
           top = told.top;
           greatest = subst (λ (p : Past Message). greatest_h a (replay plan.topology a p.acts) < 2 ^ 62) (sym taken_is) meets.greatest;
-          texts = text_at images faults plan a number m numbers_alone s is.sound valid next;
+          texts = text_at port plan a number m numbers_alone s is.sound valid next;
         }
 
     emits_behind : emits cluster (whole behind) a (Takes m) ≡ store.emits_next plan.topology a (kept_with stops past) m
@@ -225,7 +225,7 @@ module _ {D : Type 0} (images : D → List ℕ → Type 0) (faults : D → ℕ) 
         subst (λ (e : Emitted). AreSendable e.out) emits_behind
         (next_sendable cluster (whole behind) a (Takes m) standing (record { event = event_in behind (TakesMessage number); act_is = next_behind.act_is; place = next_behind.place }) few)
 
-    pub weighs_more : NumbersAlone images faults plan a number m → IsPlan plan → StoreMayWeigh images plan.topology t m
+    pub weighs_more : NumbersAlone port plan a number m → IsPlan plan → StoreMayWeigh port plan.topology t m
     weighs_more numbers_alone valid =
         record {
           may = (stops, takes_more numbers_alone valid);
@@ -268,15 +268,15 @@ module _ {D : Type 0} (images : D → List ℕ → Type 0) (faults : D → ℕ) 
   settled_down None = sym (went_down cluster (whole s) a).down
   settled_down (Some given) = sym (all_up cluster a kind staged s may is.up)
 
-  pub settles : (new : StoreActor D) (given : Option (List Unsent)) → store.Settles images plan.topology a plan.version past stops new given → store.is_down new ≡ is_none given
-      → faults (store.disk_of t) ≤ faults (store.disk_of new) → (given ≡ None → Rose (faults (store.disk_of t)) (faults (store.disk_of new)))
-      → HasSettled images faults plan s a staged (Store new) given
+  pub settles : (new : StoreActor D) (given : Option (List Unsent)) → store.Settles port plan.topology a plan.version past stops new given → store.is_down new ≡ is_none given
+      → (port.state (store.disk_of t)).faults ≤ (port.state (store.disk_of new)).faults → (given ≡ None → Rose (port.state (store.disk_of t)).faults (port.state (store.disk_of new)).faults)
+      → HasSettled port plan s a staged (Store new) given
   settles new given told down counted cause =
       record {
         given_are = by given told.emits;
         stands = record {
           kind = kind;
-          stands = subst (λ (p : Past Message). store.StandsFor images plan.topology a plan.version p new) (sym (settled_past given)) told.stands;
+          stands = subst (λ (p : Past Message). store.StandsFor port plan.topology a plan.version p new) (sym (settled_past given)) told.stands;
           down = down ∙ settled_down given;
           counted = count given cause;
         };
@@ -286,23 +286,23 @@ module _ {D : Type 0} (images : D → List ℕ → Type 0) (faults : D → ℕ) 
       by None h = tt
       by (Some given) h = store_told cluster a staged s past.stopped false given kind (sound_standing cluster s is.sound) may h
 
-      count : (given : Option (List Unsent)) → (given ≡ None → Rose (faults (store.disk_of t)) (faults (store.disk_of new)))
-          → downs_in a (settled_if (is_none given) cluster s a staged).own ≤ faults (store.disk_of new)
-      count None cause = rose_counted a s.own (faults (store.disk_of t)) (faults (store.disk_of new)) is.few.0.1 is.stands.counted (cause refl)
-      count (Some given) cause = subst (λ d. d ≤ faults (store.disk_of new)) (sym (all_downs cluster a kind staged s)) (le_on is.stands.counted counted)
+      count : (given : Option (List Unsent)) → (given ≡ None → Rose (port.state (store.disk_of t)).faults (port.state (store.disk_of new)).faults)
+          → downs_in a (settled_if (is_none given) cluster s a staged).own ≤ (port.state (store.disk_of new)).faults
+      count None cause = rose_counted a s.own (port.state (store.disk_of t)).faults (port.state (store.disk_of new)).faults is.few.0.1 is.stands.counted (cause refl)
+      count (Some given) cause = subst (λ d. d ≤ (port.state (store.disk_of new)).faults) (sym (all_downs cluster a kind staged s)) (le_on is.stands.counted counted)
 
-  pub settles_strictly : (strict : D → Bool) (armed : D → Option ℕ) (content synced : D → List ℕ) (written : D → Ranges) (disks : Disks) (new : StoreActor D) (given : Option (List Unsent))
+  pub settles_strictly : (disks : Disks) (new : StoreActor D) (given : Option (List Unsent))
       → (is_none given ≡ fails_append (disks.armed a))
-      × store.IsStrictAt strict armed content synced written plan.topology a plan.version (after_append (disks.armed a)) (passed_in (disks.armed a)) (after_group given past stops) new
-      → HasSettledStrictly strict armed content synced written plan s disks a staged (Store new) given
-  settles_strictly strict armed content synced written disks new given h =
+      × store.IsStrictAt port plan.topology a plan.version (after_append (disks.armed a)) (passed_in (disks.armed a)) (after_group given past stops) new
+      → HasSettledStrictly port plan s disks a staged (Store new) given
+  settles_strictly disks new given h =
       record {
         fails = h.0;
         strictly =
-            subst (λ (p : Past Message). store.IsStrictAt strict armed content synced written plan.topology a plan.version (later.armed a) (later.passed a) p new) (sym (settled_past given))
-            (subst (λ calls. store.IsStrictAt strict armed content synced written plan.topology a plan.version calls (later.passed a) (after_group given past stops) new)
+            subst (λ (p : Past Message). store.IsStrictAt port plan.topology a plan.version (later.armed a) (later.passed a) p new) (sym (settled_past given))
+            (subst (λ calls. store.IsStrictAt port plan.topology a plan.version calls (later.passed a) (after_group given past stops) new)
             (sym (armed_after true a disks refl))
-            (subst (λ calls. store.IsStrictAt strict armed content synced written plan.topology a plan.version (after_append (disks.armed a)) calls (after_group given past stops) new)
+            (subst (λ calls. store.IsStrictAt port plan.topology a plan.version (after_append (disks.armed a)) calls (after_group given past stops) new)
             (sym (passed_after true a disks refl)) h.1));
       }
     where

@@ -4,9 +4,9 @@ use Rattle.std.proofs.lemmas.List.{append-nil}
 use Rattle.acc_stamp.specs.declared.actors.Actor.{Actor}
 use Rattle.acc_stamp.specs.Actor.{node_of}
 use Rattle.acc_ports.specs.Faults.{Rose}
-use Rattle.acc_ports.specs.Strict.{Ranges}
 use Rattle.acc_txn.specs.declared.parts.BodyParts.{BodyParts}
 use Rattle.acc_stamp.specs.declared.stamps.TxnId.{TxnId}
+use Rattle.acc_ports.specs.declared.disk.Disk.{Ghosts}
 use Rattle.acc_message.specs.declared.entry.Emitted.{Emitted}
 use Rattle.acc_message.specs.declared.entry.Event.{Event}
 use Rattle.acc_message.specs.declared.entry.Event.TheVariants.{Begin as BeginEvent, Recover as RecoverEvent}
@@ -44,7 +44,7 @@ use Rattle.acc_actors.specs.declared.slot.Slot.TheVariants.{Node}
 use Rattle.acc_actors.proofs.Pasts.{past_of, none_stopped, node_entered, node_stopped, one_payload, payload_is}
 use Rattle.acc_actors.proofs.Few.{few_whole, rose_counted, le_on, armed_after, passed_after}
 
-module _ {D : Type 0} (images : D → List ℕ → Type 0) (faults : D → ℕ) (plan : Content) (s : Situation) (a : Actor) where
+module _ {D : Type 0} (port : Ghosts D) (plan : Content) (s : Situation) (a : Actor) where
   abbrev cluster : Cluster
   cluster = cluster_of plan
 
@@ -63,7 +63,7 @@ module _ {D : Type 0} (images : D → List ℕ → Type 0) (faults : D → ℕ) 
 
   -- ---- what calls ask
 
-  pub may_draw : (event : Event) (act : Act) (n : NodeActor D) → IsAsked images faults plan s a event act (Node n) → MayDraw (node_of a) start (node.done plan.topology (node_of a) start past)
+  pub may_draw : (event : Event) (act : Act) (n : NodeActor D) → IsAsked port plan s a event act (Node n) → MayDraw (node_of a) start (node.done plan.topology (node_of a) start past)
   may_draw event act n asked =
       let meets : NodeMeets cluster (whole s) a = node_meets cluster (whole s) a (sound_standing cluster s asked.sound) (few_whole s asked.few) asked.stands.kind in
       record { drawn = meets.drawn; seen = meets.seen }
@@ -72,7 +72,7 @@ module _ {D : Type 0} (images : D → List ℕ → Type 0) (faults : D → ℕ) 
   not_true true h = sym h
   not_true false h = refl
 
-  pub is_fresh : (txn : ℕ) (body : BodyParts) (n : NodeActor D) → IsAsked images faults plan s a (BeginEvent txn) (Begins txn body) (Node n)
+  pub is_fresh : (txn : ℕ) (body : BodyParts) (n : NodeActor D) → IsAsked port plan s a (BeginEvent txn) (Begins txn body) (Node n)
       → begun_id (node_of a) start txn (node.done plan.topology (node_of a) start past) ≡ None
   is_fresh txn body n asked =
       subst (λ (deeds : List Deed). begun_id (node_of a) start txn deeds ≡ None) (done_is asked.sound asked.stands.kind)
@@ -102,16 +102,16 @@ module _ {D : Type 0} (images : D → List ℕ → Type 0) (faults : D → ℕ) 
     down_tried None = sym (went_down cluster (whole s) a).down
     down_tried (Some emitted) = sym (did_more cluster (whole s) a (event_in s event) act false may).down
 
-    pub tried : (n new : NodeActor D) (given : Option Emitted) → IsAsked images faults plan s a event act (Node n)
-        → node.Steps images plan.topology (node_of a) start plan.version past stop new given → node.is_down new ≡ is_none given
-        → faults (node.disk_of n) ≤ faults (node.disk_of new) → (given ≡ None → Rose (faults (node.disk_of n)) (faults (node.disk_of new)))
-        → HasTried images faults plan s a event (Node new) given
+    pub tried : (n new : NodeActor D) (given : Option Emitted) → IsAsked port plan s a event act (Node n)
+        → node.Steps port plan.topology (node_of a) start plan.version past stop new given → node.is_down new ≡ is_none given
+        → (port.state (node.disk_of n)).faults ≤ (port.state (node.disk_of new)).faults → (given ≡ None → Rose (port.state (node.disk_of n)).faults (port.state (node.disk_of new)).faults)
+        → HasTried port plan s a event (Node new) given
     tried n new given asked steps down counted cause =
         record {
           emitted = by given steps.emits;
           stands = record {
             kind = asked.stands.kind;
-            stands = subst (λ (p : Past Act). node.StandsFor images plan.topology (node_of a) start plan.version p new) (sym (past_tried given)) steps.stands;
+            stands = subst (λ (p : Past Act). node.StandsFor port plan.topology (node_of a) start plan.version p new) (sym (past_tried given)) steps.stands;
             down = down ∙ down_tried given;
             counted = count given cause;
           };
@@ -123,23 +123,23 @@ module _ {D : Type 0} (images : D → List ℕ → Type 0) (faults : D → ℕ) 
         by (Some emitted) is =
             emitted_is event act emitted sound asked.stands.kind may (is ∙ ap (node.emits_next plan.topology (node_of a) start past) (ap (λ (x : Stop Act). x.act) stop_is))
 
-        count : (given : Option Emitted) → (given ≡ None → Rose (faults (node.disk_of n)) (faults (node.disk_of new)))
-            → downs_in a (tried_if (is_none given) cluster s a event).own ≤ faults (node.disk_of new)
-        count None cause = rose_counted a s.own (faults (node.disk_of n)) (faults (node.disk_of new)) asked.few.1 asked.stands.counted (cause refl)
+        count : (given : Option Emitted) → (given ≡ None → Rose (port.state (node.disk_of n)).faults (port.state (node.disk_of new)).faults)
+            → downs_in a (tried_if (is_none given) cluster s a event).own ≤ (port.state (node.disk_of new)).faults
+        count None cause = rose_counted a s.own (port.state (node.disk_of n)).faults (port.state (node.disk_of new)).faults asked.few.1 asked.stands.counted (cause refl)
         count (Some emitted) cause = le_on asked.stands.counted counted
 
-    pub tried_strictly : (strict : D → Bool) (armed : D → Option ℕ) (content synced : D → List ℕ) (written : D → Ranges) (disks : Disks) (new : NodeActor D) (given : Option Emitted)
+    pub tried_strictly : (disks : Disks) (new : NodeActor D) (given : Option Emitted)
         → (is_none given ≡ fails_append (disks.armed a))
-        × node.IsStrictAt strict armed content synced written plan.topology (node_of a) start plan.version (after_append (disks.armed a)) (passed_in (disks.armed a)) (after_step given past stop) new
-        → HasTriedStrictly strict armed content synced written plan s disks a event (Node new) given
-    tried_strictly strict armed content synced written disks new given h =
+        × node.IsStrictAt port plan.topology (node_of a) start plan.version (after_append (disks.armed a)) (passed_in (disks.armed a)) (after_step given past stop) new
+        → HasTriedStrictly port plan s disks a event (Node new) given
+    tried_strictly disks new given h =
         record {
           fails = h.0 ∙ ap (λ b. b && fails_append (disks.armed a)) (sym journalled);
           strictly =
-              subst (λ (p : Past Act). node.IsStrictAt strict armed content synced written plan.topology (node_of a) start plan.version (later.armed a) (later.passed a) p new) (sym (past_tried given))
-              (subst (λ calls. node.IsStrictAt strict armed content synced written plan.topology (node_of a) start plan.version calls (later.passed a) (after_step given past stop) new)
+              subst (λ (p : Past Act). node.IsStrictAt port plan.topology (node_of a) start plan.version (later.armed a) (later.passed a) p new) (sym (past_tried given))
+              (subst (λ calls. node.IsStrictAt port plan.topology (node_of a) start plan.version calls (later.passed a) (after_step given past stop) new)
               (sym (armed_after (is_journalled a event) a disks journalled))
-              (subst (λ calls. node.IsStrictAt strict armed content synced written plan.topology (node_of a) start plan.version (after_append (disks.armed a)) calls (after_step given past stop) new)
+              (subst (λ calls. node.IsStrictAt port plan.topology (node_of a) start plan.version (after_append (disks.armed a)) calls (after_step given past stop) new)
               (sym (passed_after (is_journalled a event) a disks journalled)) h.1));
         }
       where
@@ -173,27 +173,27 @@ module _ {D : Type 0} (images : D → List ℕ → Type 0) (faults : D → ℕ) 
         ∙ ap (λ ps. past_of (act ∷ past.acts) ps []) (append-nil past.held)
         ∙ ap (past_of (act ∷ past.acts) past.held) (sym (ap (λ events. stops_in cluster s a events true) (none_stopped cluster s a sound up)))
 
-    pub took : (n new : NodeActor D) (emitted : Emitted) → is_node a ≡ true → SlotStands images faults plan s a (Node n)
-        → node.Takes images plan.topology (node_of a) start plan.version past act new emitted → node.is_down new ≡ false → node.disk_of new ≡ node.disk_of n
-        → HasTried images faults plan s a event (Node new) (Some emitted)
+    pub took : (n new : NodeActor D) (emitted : Emitted) → is_node a ≡ true → SlotStands port plan s a (Node n)
+        → node.Takes port plan.topology (node_of a) start plan.version past act new emitted → node.is_down new ≡ false → node.disk_of new ≡ node.disk_of n
+        → HasTried port plan s a event (Node new) (Some emitted)
     took n new emitted kind stands takes down disk =
         record {
           emitted = emitted_is event act emitted sound kind may takes.emits;
           stands = record {
             kind = kind;
-            stands = subst (λ (p : Past Act). node.StandsFor images plan.topology (node_of a) start plan.version p new) (sym past_took) takes.stands;
+            stands = subst (λ (p : Past Act). node.StandsFor port plan.topology (node_of a) start plan.version p new) (sym past_took) takes.stands;
             down = down ∙ sym (did_more cluster (whole s) a (event_in s event) act false may).down;
-            counted = subst (λ d. downs_in a s.own ≤ faults d) (sym disk) stands.counted;
+            counted = subst (λ d. downs_in a s.own ≤ (port.state d).faults) (sym disk) stands.counted;
           };
         }
 
-    pub took_strictly : (strict : D → Bool) (armed : D → Option ℕ) (content synced : D → List ℕ) (written : D → Ranges) (disks : Disks) (new : NodeActor D) (emitted : Emitted)
-        → ((other : Past Act) → node.IsStrictAt strict armed content synced written plan.topology (node_of a) start plan.version (disks.armed a) (disks.passed a) other new)
-        → HasTriedStrictly strict armed content synced written plan s disks a event (Node new) (Some emitted)
-    took_strictly strict armed content synced written disks new emitted h =
+    pub took_strictly : (disks : Disks) (new : NodeActor D) (emitted : Emitted)
+        → ((other : Past Act) → node.IsStrictAt port plan.topology (node_of a) start plan.version (disks.armed a) (disks.passed a) other new)
+        → HasTriedStrictly port plan s disks a event (Node new) (Some emitted)
+    took_strictly disks new emitted h =
         record {
           fails = ap (λ b. b && fails_append (disks.armed a)) (sym free);
           strictly =
-              subst (λ b. IsStrictSlot strict armed content synced written plan (entered cluster s a event false) (strict_disks.after_step b a disks) a (Node new)) (sym free)
+              subst (λ b. IsStrictSlot port plan (entered cluster s a event false) (strict_disks.after_step b a disks) a (Node new)) (sym free)
               (h (node_past cluster (entered cluster s a event false) a));
         }

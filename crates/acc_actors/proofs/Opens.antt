@@ -2,6 +2,7 @@
 use Rattle.std.proofs.Common.{◌≡◌, ℕ, false, List, [], sym, ◌∙◌, subst, arith}
 use Rattle.acc_stamp.specs.declared.actors.Actor.{Actor}
 use Rattle.acc_stamp.specs.Actor.{actor_of}
+use Rattle.acc_ports.specs.declared.disk.Disk.{Ghosts}
 use Rattle.acc_message.specs.declared.message.Message.{Message}
 use Rattle.acc_message.specs.declared.item.Item.{Item}
 use Rattle.acc_message.specs.NodeRules.{Act}
@@ -34,20 +35,20 @@ record TookAt {D : Type 0} (plan : Content) (earlier : List Item) (t : DurableSt
   stands : durable_store.StandsFor plan.topology t (messages_taken (taken_of (cluster_of plan) a earlier))
   held : without_marks t.journal.payloads ≡ payloads_in a earlier
 
-module _ {D : Type 0} (images : D → List ℕ → Type 0) (faults : D → ℕ) (plan : Content) where
+module _ {D : Type 0} (port : Ghosts D) (plan : Content) where
   pub node_opens : (number start version : ℕ) (n : DurableNode D) (actor : NodeActor D) → n.number ≡ number → start ≡ clock_start plan.starts number → version ≡ plan.version
       → ((acts : List Act) → durable_node.StandsFor plan.topology n acts
-      → node.StandsFor images plan.topology number start version (record { acts = acts; held = without_marks n.journal.payloads; stopped = [] }) actor)
+      → node.StandsFor port plan.topology number start version (record { acts = acts; held = without_marks n.journal.payloads; stopped = [] }) actor)
       → node.is_down actor ≡ false → (earlier : List Item) → ((b : Actor) → is_down b earlier ≡ false) → HasDone plan earlier n
-      → NodeStands images faults plan (opened earlier) (actor_of number 0) actor
+      → NodeStands port plan (opened earlier) (actor_of number 0) actor
   node_opens number start version n actor numbered started versioned stands up earlier all_up did =
       record {
         kind = is_node-node number;
         stands =
-            subst (λ (m : ℕ). node.StandsFor images plan.topology m (clock_start plan.starts m) plan.version (node_past (cluster_of plan) (opened earlier) (actor_of number 0)) actor) (sym (node_is number))
-            (subst (λ (x : ℕ). node.StandsFor images plan.topology number x plan.version (node_past (cluster_of plan) (opened earlier) (actor_of number 0)) actor) started
-            (subst (λ (x : ℕ). node.StandsFor images plan.topology number start x (node_past (cluster_of plan) (opened earlier) (actor_of number 0)) actor) versioned
-            (subst (λ (held : List (List ℕ)). node.StandsFor images plan.topology number start version (record { acts = acts_done (deeds_of (cluster_of plan) (actor_of number 0) earlier); held = held; stopped = [] }) actor)
+            subst (λ (m : ℕ). node.StandsFor port plan.topology m (clock_start plan.starts m) plan.version (node_past (cluster_of plan) (opened earlier) (actor_of number 0)) actor) (sym (node_is number))
+            (subst (λ (x : ℕ). node.StandsFor port plan.topology number x plan.version (node_past (cluster_of plan) (opened earlier) (actor_of number 0)) actor) started
+            (subst (λ (x : ℕ). node.StandsFor port plan.topology number start x (node_past (cluster_of plan) (opened earlier) (actor_of number 0)) actor) versioned
+            (subst (λ (held : List (List ℕ)). node.StandsFor port plan.topology number start version (record { acts = acts_done (deeds_of (cluster_of plan) (actor_of number 0) earlier); held = held; stopped = [] }) actor)
             here.held
             (stands (acts_done (deeds_of (cluster_of plan) (actor_of number 0) earlier)) here.stands))));
         down = up ∙ sym (all_up (actor_of number 0));
@@ -59,15 +60,15 @@ module _ {D : Type 0} (images : D → List ℕ → Type 0) (faults : D → ℕ) 
 
   pub store_opens : (version : ℕ) (t : DurableStore D) (own : Actor) (actor : StoreActor D) → durable_store.actor_in t ≡ own → is_node own ≡ false → version ≡ plan.version
       → ((messages : List Message) → durable_store.StandsFor plan.topology t messages
-      → store.StandsFor images plan.topology own version (record { acts = messages; held = without_marks t.journal.payloads; stopped = [] }) actor)
+      → store.StandsFor port plan.topology own version (record { acts = messages; held = without_marks t.journal.payloads; stopped = [] }) actor)
       → store.is_down actor ≡ false → (earlier : List Item) → ((b : Actor) → is_down b earlier ≡ false) → HasTaken plan earlier t
-      → StoreStands images faults plan (opened earlier) own actor
+      → StoreStands port plan (opened earlier) own actor
   store_opens version t own actor owned kind versioned stands up earlier all_up did =
       record {
         kind = kind;
         stands =
-            subst (λ (x : ℕ). store.StandsFor images plan.topology own x (store_past (cluster_of plan) (opened earlier) own) actor) versioned
-            (subst (λ (held : List (List ℕ)). store.StandsFor images plan.topology own version (record { acts = messages_taken (taken_of (cluster_of plan) own earlier); held = held; stopped = [] }) actor)
+            subst (λ (x : ℕ). store.StandsFor port plan.topology own x (store_past (cluster_of plan) (opened earlier) own) actor) versioned
+            (subst (λ (held : List (List ℕ)). store.StandsFor port plan.topology own version (record { acts = messages_taken (taken_of (cluster_of plan) own earlier); held = held; stopped = [] }) actor)
             here.held
             (stands (messages_taken (taken_of (cluster_of plan) own earlier)) here.stands));
         down = up ∙ sym (all_up own);

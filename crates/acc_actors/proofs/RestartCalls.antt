@@ -4,8 +4,8 @@ use Rattle.acc_base.specs.declared.memory.OutOfMemory.{OutOfMemory}
 use Rattle.acc_stamp.specs.declared.actors.Actor.{Actor}
 use Rattle.acc_stamp.specs.Actor.{node_of}
 use Rattle.acc_topology.specs.Layout.{Layout}
+use Rattle.acc_ports.specs.declared.disk.Disk.{Ghosts}
 use Rattle.acc_ports.specs.Faults.{Rose}
-use Rattle.acc_ports.specs.Strict.{Ranges}
 use Rattle.acc_message.specs.declared.message.Message.{Message}
 use Rattle.acc_message.specs.NodeRules.{Act}
 use Rattle.acc_message.specs.Run.{clock_start}
@@ -28,78 +28,78 @@ use Rattle.acc_actors.specs.Slots.{NodeStands, StoreStands, SlotStands, IsStrict
 use Rattle.acc_actors.specs.Asked.{IsFew, HasRestartedAt, HasRestartedStrictlyAt}
 use Rattle.acc_actors.proofs.RestartSlots.{node_restarted, node_restarted_strictly, store_restarted, store_restarted_strictly}
 
-module _ {D : Type 0} (images : D → List ℕ → Type 0) (faults : D → ℕ) (plan : Content) (a : Actor) (slot : Slot D) where
+module _ {D : Type 0} (port : Ghosts D) (plan : Content) (a : Actor) (slot : Slot D) where
   module _ (n : NodeActor D) (is : slot ≡ Node n) (new : NodeActor D) where
-    node_there : (s : Situation) → SlotStands images faults plan s a slot → NodeStands images faults plan s a n
-    node_there s stands = subst (λ (x : Slot D). SlotStands images faults plan s a x) is stands
+    node_there : (s : Situation) → SlotStands port plan s a slot → NodeStands port plan s a n
+    node_there s stands = subst (λ (x : Slot D). SlotStands port plan s a x) is stands
 
     pub node_called : (r : Result Restarted OutOfMemory)
-        → IfOk r (λ found. (layout : Layout) (number start version : ℕ) (past : Past Act) → node.StandsFor images layout number start version past n
-        → node.KeptIn layout number start past found × node.StandsFor images layout number start version (node.past_after found past) new)
-        → IfOk r (λ found. node.is_down new ≡ not (is_up found)) → faults (node.disk_of n) ≤ faults (node.disk_of new)
-        → (r ≡ Ok Down → Rose (faults (node.disk_of n)) (faults (node.disk_of new)))
-        → IfOk r (λ found. (s : Situation) → IsSound (cluster_of plan) s → IsFew s → SlotStands images faults plan s a slot → HasRestartedAt images faults plan s a found (Node new))
+        → IfOk r (λ found. (layout : Layout) (number start version : ℕ) (past : Past Act) → node.StandsFor port layout number start version past n
+        → node.KeptIn layout number start past found × node.StandsFor port layout number start version (node.past_after found past) new)
+        → IfOk r (λ found. node.is_down new ≡ not (is_up found)) → (port.state (node.disk_of n)).faults ≤ (port.state (node.disk_of new)).faults
+        → (r ≡ Ok Down → Rose (port.state (node.disk_of n)).faults (port.state (node.disk_of new)).faults)
+        → IfOk r (λ found. (s : Situation) → IsSound (cluster_of plan) s → IsFew s → SlotStands port plan s a slot → HasRestartedAt port plan s a found (Node new))
     node_called (Err e) ok down counted cause = tt
     node_called (Ok found) ok down counted cause = λ s sound few stands.
-        let here : NodeStands images faults plan s a n = node_there s stands in
+        let here : NodeStands port plan s a n = node_there s stands in
         let told = ok plan.topology (node_of a) (clock_start plan.starts (node_of a)) plan.version (node_past (cluster_of plan) s a) here.stands in
-        node_restarted images faults plan s a sound n new here few found told.0 told.1 down counted (λ none. cause (ap Ok none))
+        node_restarted port plan s a sound n new here few found told.0 told.1 down counted (λ none. cause (ap Ok none))
 
-    pub node_called_strictly : (strict : D → Bool) (armed_of : D → Option ℕ) (content synced : D → List ℕ) (written : D → Ranges) (choice : ℕ) (r : Result Restarted OutOfMemory)
-        → IfOk r (λ found. (layout : Layout) (number start version : ℕ) (past : Past Act) → node.StandsFor images layout number start version past n
-        → node.KeptIn layout number start past found × node.StandsFor images layout number start version (node.past_after found past) new)
-        → ((layout : Layout) (number start version : ℕ) (armed passed : Option ℕ) (past : Past Act) → node.StandsFor images layout number start version past n
-        → node.IsStrictAt strict armed_of content synced written layout number start version armed passed past n
+    pub node_called_strictly : (choice : ℕ) (r : Result Restarted OutOfMemory)
+        → IfOk r (λ found. (layout : Layout) (number start version : ℕ) (past : Past Act) → node.StandsFor port layout number start version past n
+        → node.KeptIn layout number start past found × node.StandsFor port layout number start version (node.past_after found past) new)
+        → ((layout : Layout) (number start version : ℕ) (armed passed : Option ℕ) (past : Past Act) → node.StandsFor port layout number start version past n
+        → node.IsStrictAt port layout number start version armed passed past n
         → IfOk r (λ found. KeepsByChoice passed choice past.stopped found
-        × node.IsStrictAt strict armed_of content synced written layout number start version None None (node.past_after found past) new))
-        → IfOk r (λ found. (s : Situation) (disks : Disks) → IsSound (cluster_of plan) s → SlotStands images faults plan s a slot
-        → IsStrictSlot strict armed_of content synced written plan s disks a slot → HasRestartedStrictlyAt strict armed_of content synced written plan s disks a choice found (Node new))
-    node_called_strictly strict armed_of content synced written choice (Err e) ok strictly = tt
-    node_called_strictly strict armed_of content synced written choice (Ok found) ok strictly = λ s disks sound stands are.
-        let here : NodeStands images faults plan s a n = node_there s stands in
+        × node.IsStrictAt port layout number start version None None (node.past_after found past) new))
+        → IfOk r (λ found. (s : Situation) (disks : Disks) → IsSound (cluster_of plan) s → SlotStands port plan s a slot
+        → IsStrictSlot port plan s disks a slot → HasRestartedStrictlyAt port plan s disks a choice found (Node new))
+    node_called_strictly choice (Err e) ok strictly = tt
+    node_called_strictly choice (Ok found) ok strictly = λ s disks sound stands are.
+        let here : NodeStands port plan s a n = node_there s stands in
         let told = ok plan.topology (node_of a) (clock_start plan.starts (node_of a)) plan.version (node_past (cluster_of plan) s a) here.stands in
-        node_restarted_strictly images faults plan s a sound n new here strict armed_of content synced written disks choice found told.0
+        node_restarted_strictly port plan s a sound n new here disks choice found told.0
         (strictly plan.topology (node_of a) (clock_start plan.starts (node_of a)) plan.version (disks.armed a) (disks.passed a) (node_past (cluster_of plan) s a) here.stands
-        (subst (λ (x : Slot D). IsStrictSlot strict armed_of content synced written plan s disks a x) is are))
+        (subst (λ (x : Slot D). IsStrictSlot port plan s disks a x) is are))
 
   module _ (t : StoreActor D) (is : slot ≡ Store t) (new : StoreActor D) (layout : Layout) (layout_is : layout ≡ plan.topology) where
-    store_there : (s : Situation) → SlotStands images faults plan s a slot → StoreStands images faults plan s a t
-    store_there s stands = subst (λ (x : Slot D). SlotStands images faults plan s a x) is stands
+    store_there : (s : Situation) → SlotStands port plan s a slot → StoreStands port plan s a t
+    store_there s stands = subst (λ (x : Slot D). SlotStands port plan s a x) is stands
 
     abbrev Told : Layout → Restarted → Type 0
     Told l found =
-        (own : Actor) (version : ℕ) (past : Past Message) → store.StandsFor images l own version past t
-        → store.KeptIn l own past found × store.StandsFor images l own version (store.past_after found past) new
+        (own : Actor) (version : ℕ) (past : Past Message) → store.StandsFor port l own version past t
+        → store.KeptIn l own past found × store.StandsFor port l own version (store.past_after found past) new
 
     pub store_called : (r : Result Restarted OutOfMemory)
-        → IfOk r (λ found. (own : Actor) (version : ℕ) (past : Past Message) → store.StandsFor images layout own version past t
-        → store.KeptIn layout own past found × store.StandsFor images layout own version (store.past_after found past) new)
-        → IfOk r (λ found. store.is_down new ≡ not (is_up found)) → faults (store.disk_of t) ≤ faults (store.disk_of new)
-        → (r ≡ Ok Down → Rose (faults (store.disk_of t)) (faults (store.disk_of new)))
-        → IfOk r (λ found. (s : Situation) → IsSound (cluster_of plan) s → IsFew s → SlotStands images faults plan s a slot → HasRestartedAt images faults plan s a found (Store new))
+        → IfOk r (λ found. (own : Actor) (version : ℕ) (past : Past Message) → store.StandsFor port layout own version past t
+        → store.KeptIn layout own past found × store.StandsFor port layout own version (store.past_after found past) new)
+        → IfOk r (λ found. store.is_down new ≡ not (is_up found)) → (port.state (store.disk_of t)).faults ≤ (port.state (store.disk_of new)).faults
+        → (r ≡ Ok Down → Rose (port.state (store.disk_of t)).faults (port.state (store.disk_of new)).faults)
+        → IfOk r (λ found. (s : Situation) → IsSound (cluster_of plan) s → IsFew s → SlotStands port plan s a slot → HasRestartedAt port plan s a found (Store new))
     store_called (Err e) ok down counted cause = tt
     store_called (Ok found) ok down counted cause = λ s sound few stands.
-        let here : StoreStands images faults plan s a t = store_there s stands in
+        let here : StoreStands port plan s a t = store_there s stands in
         let told = subst (λ l. Told l found) layout_is ok a plan.version (store_past (cluster_of plan) s a) here.stands in
-        store_restarted images faults plan s a sound t new here few found told.0 told.1 down counted (λ none. cause (ap Ok none))
+        store_restarted port plan s a sound t new here few found told.0 told.1 down counted (λ none. cause (ap Ok none))
 
-    pub store_called_strictly : (strict : D → Bool) (armed_of : D → Option ℕ) (content synced : D → List ℕ) (written : D → Ranges) (choice : ℕ) (r : Result Restarted OutOfMemory)
-        → IfOk r (λ found. (own : Actor) (version : ℕ) (past : Past Message) → store.StandsFor images layout own version past t
-        → store.KeptIn layout own past found × store.StandsFor images layout own version (store.past_after found past) new)
-        → ((own : Actor) (version : ℕ) (armed passed : Option ℕ) (past : Past Message) → store.StandsFor images layout own version past t
-        → store.IsStrictAt strict armed_of content synced written layout own version armed passed past t
+    pub store_called_strictly : (choice : ℕ) (r : Result Restarted OutOfMemory)
+        → IfOk r (λ found. (own : Actor) (version : ℕ) (past : Past Message) → store.StandsFor port layout own version past t
+        → store.KeptIn layout own past found × store.StandsFor port layout own version (store.past_after found past) new)
+        → ((own : Actor) (version : ℕ) (armed passed : Option ℕ) (past : Past Message) → store.StandsFor port layout own version past t
+        → store.IsStrictAt port layout own version armed passed past t
         → IfOk r (λ found. KeepsByChoice passed choice past.stopped found
-        × store.IsStrictAt strict armed_of content synced written layout own version None None (store.past_after found past) new))
-        → IfOk r (λ found. (s : Situation) (disks : Disks) → IsSound (cluster_of plan) s → SlotStands images faults plan s a slot
-        → IsStrictSlot strict armed_of content synced written plan s disks a slot → HasRestartedStrictlyAt strict armed_of content synced written plan s disks a choice found (Store new))
-    store_called_strictly strict armed_of content synced written choice (Err e) ok strictly = tt
-    store_called_strictly strict armed_of content synced written choice (Ok found) ok strictly = λ s disks sound stands are.
-        let here : StoreStands images faults plan s a t = store_there s stands in
+        × store.IsStrictAt port layout own version None None (store.past_after found past) new))
+        → IfOk r (λ found. (s : Situation) (disks : Disks) → IsSound (cluster_of plan) s → SlotStands port plan s a slot
+        → IsStrictSlot port plan s disks a slot → HasRestartedStrictlyAt port plan s disks a choice found (Store new))
+    store_called_strictly choice (Err e) ok strictly = tt
+    store_called_strictly choice (Ok found) ok strictly = λ s disks sound stands are.
+        let here : StoreStands port plan s a t = store_there s stands in
         let told = subst (λ l. Told l found) layout_is ok a plan.version (store_past (cluster_of plan) s a) here.stands in
-        store_restarted_strictly images faults plan s a sound t new here strict armed_of content synced written disks choice found told.0
-        (subst (λ (l : Layout). (own : Actor) (version : ℕ) (armed passed : Option ℕ) (past : Past Message) → store.StandsFor images l own version past t
-        → store.IsStrictAt strict armed_of content synced written l own version armed passed past t
+        store_restarted_strictly port plan s a sound t new here disks choice found told.0
+        (subst (λ (l : Layout). (own : Actor) (version : ℕ) (armed passed : Option ℕ) (past : Past Message) → store.StandsFor port l own version past t
+        → store.IsStrictAt port l own version armed passed past t
         → KeepsByChoice passed choice past.stopped found
-        × store.IsStrictAt strict armed_of content synced written l own version None None (store.past_after found past) new) layout_is strictly
+        × store.IsStrictAt port l own version None None (store.past_after found past) new) layout_is strictly
         a plan.version (disks.armed a) (disks.passed a) (store_past (cluster_of plan) s a) here.stands
-        (subst (λ (x : Slot D). IsStrictSlot strict armed_of content synced written plan s disks a x) is are))
+        (subst (λ (x : Slot D). IsStrictSlot port plan s disks a x) is are))

@@ -2,8 +2,8 @@
 use Rattle.std.proofs.Common.{◌≡◌, ℕ, ◌≤◌, Bool, true, not, List, [], ◌∷◌, Option, None, refl, sym, ◌∙◌, subst}
 use Rattle.acc_stamp.specs.declared.actors.Actor.{Actor}
 use Rattle.acc_stamp.specs.Actor.{node_of}
+use Rattle.acc_ports.specs.declared.disk.Disk.{Ghosts}
 use Rattle.acc_ports.specs.Faults.{Rose}
-use Rattle.acc_ports.specs.Strict.{Ranges}
 use Rattle.acc_message.specs.declared.message.Message.{Message}
 use Rattle.acc_message.specs.declared.entry.Emitted.{Emitted}
 use Rattle.acc_message.specs.NodeRules.{Act}
@@ -33,13 +33,13 @@ use Rattle.acc_actors.proofs.Pasts.{node_down, store_down}
 use Rattle.acc_actors.proofs.Few.{rose_counted, le_on, entry_own}
 use Rattle.acc_actors.proofs.RestartPasts.{all_may, node_told, store_told, same_kept, down_reopened, downs_reopened, node_restarts, store_restarts, node_some, store_some}
 
-module _ {D : Type 0} (images : D → List ℕ → Type 0) (faults : D → ℕ) (plan : Content) (s : Situation) (a : Actor) (sound : IsSound (cluster_of plan) s) where
+module _ {D : Type 0} (port : Ghosts D) (plan : Content) (s : Situation) (a : Actor) (sound : IsSound (cluster_of plan) s) where
   abbrev cluster : Cluster
   cluster = cluster_of plan
 
   -- ---- of a node
 
-  module _ (n new : NodeActor D) (stands : NodeStands images faults plan s a n) where
+  module _ (n new : NodeActor D) (stands : NodeStands port plan s a n) where
     abbrev start : ℕ
     start = clock_start plan.starts (node_of a)
 
@@ -59,47 +59,47 @@ module _ {D : Type 0} (images : D → List ℕ → Type 0) (faults : D → ℕ) 
     node_up kept = node_restarts cluster s a (some kept) sound
 
     pub node_restarted : IsFew s → (found : Restarted) → node.KeptIn plan.topology (node_of a) start past found
-        → node.StandsFor images plan.topology (node_of a) start plan.version (node.past_after found past) new → node.is_down new ≡ not (is_up found)
-        → faults (node.disk_of n) ≤ faults (node.disk_of new) → (found ≡ Down → Rose (faults (node.disk_of n)) (faults (node.disk_of new)))
-        → HasRestartedAt images faults plan s a found (Node new)
+        → node.StandsFor port plan.topology (node_of a) start plan.version (node.past_after found past) new → node.is_down new ≡ not (is_up found)
+        → (port.state (node.disk_of n)).faults ≤ (port.state (node.disk_of new)).faults → (found ≡ Down → Rose (port.state (node.disk_of n)).faults (port.state (node.disk_of new)).faults)
+        → HasRestartedAt port plan s a found (Node new)
     node_restarted few (Up kept) h stood down counted cause = (
       node_keeps kept h,
       record {
         kind = stands.kind;
-        stands = subst (λ (p : Past Act). node.StandsFor images plan.topology (node_of a) start plan.version p new) (sym (node_up kept)) stood;
+        stands = subst (λ (p : Past Act). node.StandsFor port plan.topology (node_of a) start plan.version p new) (sym (node_up kept)) stood;
         down = down ∙ sym (down_reopened cluster s a (kept_if (some kept) a s));
-        counted = subst (λ d. d ≤ faults (node.disk_of new)) (sym (downs_reopened cluster s a (kept_if (some kept) a s))) (le_on stands.counted counted);
+        counted = subst (λ d. d ≤ (port.state (node.disk_of new)).faults) (sym (downs_reopened cluster s a (kept_if (some kept) a s))) (le_on stands.counted counted);
       },
     )
     node_restarted few Down h stood down counted cause =
         record {
           kind = stands.kind;
-          stands = subst (λ (p : Past Act). node.StandsFor images plan.topology (node_of a) start plan.version p new) (sym (node_down cluster s a sound)) stood;
+          stands = subst (λ (p : Past Act). node.StandsFor port plan.topology (node_of a) start plan.version p new) (sym (node_down cluster s a sound)) stood;
           down = down ∙ sym (went_down cluster (whole s) a).down;
-          counted = rose_counted a s.own (faults (node.disk_of n)) (faults (node.disk_of new)) few.1 stands.counted (cause refl);
+          counted = rose_counted a s.own (port.state (node.disk_of n)).faults (port.state (node.disk_of new)).faults few.1 stands.counted (cause refl);
         }
 
-    pub node_restarted_strictly : (strict : D → Bool) (armed : D → Option ℕ) (content synced : D → List ℕ) (written : D → Ranges) (disks : Disks) (choice : ℕ) (found : Restarted)
+    pub node_restarted_strictly : (disks : Disks) (choice : ℕ) (found : Restarted)
         → node.KeptIn plan.topology (node_of a) start past found
         → KeepsByChoice (disks.passed a) choice past.stopped found
-        × node.IsStrictAt strict armed content synced written plan.topology (node_of a) start plan.version None None (node.past_after found past) new
-        → HasRestartedStrictlyAt strict armed content synced written plan s disks a choice found (Node new)
-    node_restarted_strictly strict armed content synced written disks choice (Up kept) h told = (
+        × node.IsStrictAt port plan.topology (node_of a) start plan.version None None (node.past_after found past) new
+        → HasRestartedStrictlyAt port plan s disks a choice found (Node new)
+    node_restarted_strictly disks choice (Up kept) h told = (
       same_kept s a (some kept) (keeps_group (disks.passed a) choice) (some past.stopped) told.0 (node_some cluster s a sound),
-      subst (λ (p : Past Act). node.IsStrictAt strict armed content synced written plan.topology (node_of a) start plan.version (later.armed a) (later.passed a) p new) (sym (node_up kept))
-          (subst (λ calls. node.IsStrictAt strict armed content synced written plan.topology (node_of a) start plan.version calls (later.passed a) (node.past_after (Up kept) past) new)
+      subst (λ (p : Past Act). node.IsStrictAt port plan.topology (node_of a) start plan.version (later.armed a) (later.passed a) p new) (sym (node_up kept))
+          (subst (λ calls. node.IsStrictAt port plan.topology (node_of a) start plan.version calls (later.passed a) (node.past_after (Up kept) past) new)
           (sym (entry_own a None disks.armed))
-          (subst (λ calls. node.IsStrictAt strict armed content synced written plan.topology (node_of a) start plan.version None calls (node.past_after (Up kept) past) new)
+          (subst (λ calls. node.IsStrictAt port plan.topology (node_of a) start plan.version None calls (node.past_after (Up kept) past) new)
           (sym (entry_own a None disks.passed)) told.1)),
     )
       where
         later : Disks
         later = after_restart a disks
-    node_restarted_strictly strict armed content synced written disks choice Down h told = told.0
+    node_restarted_strictly disks choice Down h told = told.0
 
   -- ---- of a store
 
-  module _ (t new : StoreActor D) (stands : StoreStands images faults plan s a t) where
+  module _ (t new : StoreActor D) (stands : StoreStands port plan s a t) where
     abbrev store_was : Past Message
     store_was = store_past cluster s a
 
@@ -116,40 +116,40 @@ module _ {D : Type 0} (images : D → List ℕ → Type 0) (faults : D → ℕ) 
     store_up kept = store_restarts cluster s a (some kept) stands.kind sound
 
     pub store_restarted : IsFew s → (found : Restarted) → store.KeptIn plan.topology a store_was found
-        → store.StandsFor images plan.topology a plan.version (store.past_after found store_was) new → store.is_down new ≡ not (is_up found)
-        → faults (store.disk_of t) ≤ faults (store.disk_of new) → (found ≡ Down → Rose (faults (store.disk_of t)) (faults (store.disk_of new)))
-        → HasRestartedAt images faults plan s a found (Store new)
+        → store.StandsFor port plan.topology a plan.version (store.past_after found store_was) new → store.is_down new ≡ not (is_up found)
+        → (port.state (store.disk_of t)).faults ≤ (port.state (store.disk_of new)).faults → (found ≡ Down → Rose (port.state (store.disk_of t)).faults (port.state (store.disk_of new)).faults)
+        → HasRestartedAt port plan s a found (Store new)
     store_restarted few (Up kept) h stood down counted cause = (
       store_keeps kept h,
       record {
         kind = stands.kind;
-        stands = subst (λ (p : Past Message). store.StandsFor images plan.topology a plan.version p new) (sym (store_up kept)) stood;
+        stands = subst (λ (p : Past Message). store.StandsFor port plan.topology a plan.version p new) (sym (store_up kept)) stood;
         down = down ∙ sym (down_reopened cluster s a (kept_if (some kept) a s));
-        counted = subst (λ d. d ≤ faults (store.disk_of new)) (sym (downs_reopened cluster s a (kept_if (some kept) a s))) (le_on stands.counted counted);
+        counted = subst (λ d. d ≤ (port.state (store.disk_of new)).faults) (sym (downs_reopened cluster s a (kept_if (some kept) a s))) (le_on stands.counted counted);
       },
     )
     store_restarted few Down h stood down counted cause =
         record {
           kind = stands.kind;
-          stands = subst (λ (p : Past Message). store.StandsFor images plan.topology a plan.version p new) (sym (store_down cluster s a sound)) stood;
+          stands = subst (λ (p : Past Message). store.StandsFor port plan.topology a plan.version p new) (sym (store_down cluster s a sound)) stood;
           down = down ∙ sym (went_down cluster (whole s) a).down;
-          counted = rose_counted a s.own (faults (store.disk_of t)) (faults (store.disk_of new)) few.1 stands.counted (cause refl);
+          counted = rose_counted a s.own (port.state (store.disk_of t)).faults (port.state (store.disk_of new)).faults few.1 stands.counted (cause refl);
         }
 
-    pub store_restarted_strictly : (strict : D → Bool) (armed : D → Option ℕ) (content synced : D → List ℕ) (written : D → Ranges) (disks : Disks) (choice : ℕ) (found : Restarted)
+    pub store_restarted_strictly : (disks : Disks) (choice : ℕ) (found : Restarted)
         → store.KeptIn plan.topology a store_was found
         → KeepsByChoice (disks.passed a) choice store_was.stopped found
-        × store.IsStrictAt strict armed content synced written plan.topology a plan.version None None (store.past_after found store_was) new
-        → HasRestartedStrictlyAt strict armed content synced written plan s disks a choice found (Store new)
-    store_restarted_strictly strict armed content synced written disks choice (Up kept) h told = (
+        × store.IsStrictAt port plan.topology a plan.version None None (store.past_after found store_was) new
+        → HasRestartedStrictlyAt port plan s disks a choice found (Store new)
+    store_restarted_strictly disks choice (Up kept) h told = (
       same_kept s a (some kept) (keeps_group (disks.passed a) choice) (some store_was.stopped) told.0 (store_some cluster s a stands.kind sound),
-      subst (λ (p : Past Message). store.IsStrictAt strict armed content synced written plan.topology a plan.version (later.armed a) (later.passed a) p new) (sym (store_up kept))
-          (subst (λ calls. store.IsStrictAt strict armed content synced written plan.topology a plan.version calls (later.passed a) (store.past_after (Up kept) store_was) new)
+      subst (λ (p : Past Message). store.IsStrictAt port plan.topology a plan.version (later.armed a) (later.passed a) p new) (sym (store_up kept))
+          (subst (λ calls. store.IsStrictAt port plan.topology a plan.version calls (later.passed a) (store.past_after (Up kept) store_was) new)
           (sym (entry_own a None disks.armed))
-          (subst (λ calls. store.IsStrictAt strict armed content synced written plan.topology a plan.version None calls (store.past_after (Up kept) store_was) new)
+          (subst (λ calls. store.IsStrictAt port plan.topology a plan.version None calls (store.past_after (Up kept) store_was) new)
           (sym (entry_own a None disks.passed)) told.1)),
     )
       where
         later : Disks
         later = after_restart a disks
-    store_restarted_strictly strict armed content synced written disks choice Down h told = told.0
+    store_restarted_strictly disks choice Down h told = told.0

@@ -2,7 +2,7 @@
 use Rattle.std.proofs.Common.{◌≡◌, ℕ, ◌≤◌, Bool, List, Option, sym, ◌∙◌, subst}
 use Rattle.acc_stamp.specs.declared.actors.Actor.{Actor}
 use Rattle.acc_stamp.specs.Actor.{node_of}
-use Rattle.acc_ports.specs.Strict.{Ranges}
+use Rattle.acc_ports.specs.declared.disk.Disk.{Ghosts}
 use Rattle.acc_message.specs.NodeRules.{Act}
 use Rattle.acc_message.specs.declared.message.Message.{Message}
 use Rattle.acc_message.specs.Run.{clock_start}
@@ -20,36 +20,36 @@ use Rattle.acc_actors.specs.declared.slot.Slot.TheVariants.{Empty, Node, Store}
 use Rattle.acc_actors.proofs.Apart.{IsApart, node_apart, store_apart}
 
 module _ {D : Type 0} (plan : Content) (s next : Situation) (a : Actor) (apart : IsApart (cluster_of plan) s next a) where
-  pub slot_apart : (images : D → List ℕ → Type 0) (faults : D → ℕ) (slot : Slot D) → SlotStands images faults plan s a slot → SlotStands images faults plan next a slot
-  slot_apart images faults Empty h = h
-  slot_apart images faults (Node n) h =
+  pub slot_apart : (port : Ghosts D) (slot : Slot D) → SlotStands port plan s a slot → SlotStands port plan next a slot
+  slot_apart port Empty h = h
+  slot_apart port (Node n) h =
       record {
         kind = h.kind;
         stands =
-            subst (λ (past : Past Act). node.StandsFor images plan.topology (node_of a) (clock_start plan.starts (node_of a)) plan.version past n)
+            subst (λ (past : Past Act). node.StandsFor port plan.topology (node_of a) (clock_start plan.starts (node_of a)) plan.version past n)
             (sym (node_apart (cluster_of plan) s next a apart)) h.stands;
         down = h.down ∙ sym apart.untouched.down;
-        counted = subst (λ count. count ≤ faults (node.disk_of n)) (sym apart.downs) h.counted;
+        counted = subst (λ count. count ≤ (port.state (node.disk_of n)).faults) (sym apart.downs) h.counted;
       }
-  slot_apart images faults (Store t) h =
+  slot_apart port (Store t) h =
       record {
         kind = h.kind;
-        stands = subst (λ (past : Past Message). store.StandsFor images plan.topology a plan.version past t) (sym (store_apart (cluster_of plan) s next a apart)) h.stands;
+        stands = subst (λ (past : Past Message). store.StandsFor port plan.topology a plan.version past t) (sym (store_apart (cluster_of plan) s next a apart)) h.stands;
         down = h.down ∙ sym apart.untouched.down;
-        counted = subst (λ count. count ≤ faults (store.disk_of t)) (sym apart.downs) h.counted;
+        counted = subst (λ count. count ≤ (port.state (store.disk_of t)).faults) (sym apart.downs) h.counted;
       }
 
-  pub strict_apart : (strict : D → Bool) (armed : D → Option ℕ) (content synced : D → List ℕ) (written : D → Ranges) (disks later : Disks) (slot : Slot D)
-      → later.armed a ≡ disks.armed a → later.passed a ≡ disks.passed a → IsStrictSlot strict armed content synced written plan s disks a slot
-      → IsStrictSlot strict armed content synced written plan next later a slot
-  strict_apart strict armed content synced written disks later Empty same_armed same_passed h = h
-  strict_apart strict armed content synced written disks later (Node n) same_armed same_passed h =
-      subst (λ (past : Past Act). node.IsStrictAt strict armed content synced written plan.topology (node_of a) (clock_start plan.starts (node_of a)) plan.version (later.armed a) (later.passed a) past n)
+  pub strict_apart : (port : Ghosts D) (disks later : Disks) (slot : Slot D)
+      → later.armed a ≡ disks.armed a → later.passed a ≡ disks.passed a → IsStrictSlot port plan s disks a slot
+      → IsStrictSlot port plan next later a slot
+  strict_apart port disks later Empty same_armed same_passed h = h
+  strict_apart port disks later (Node n) same_armed same_passed h =
+      subst (λ (past : Past Act). node.IsStrictAt port plan.topology (node_of a) (clock_start plan.starts (node_of a)) plan.version (later.armed a) (later.passed a) past n)
       (sym (node_apart (cluster_of plan) s next a apart))
-      (subst (λ calls. node.IsStrictAt strict armed content synced written plan.topology (node_of a) (clock_start plan.starts (node_of a)) plan.version calls (later.passed a) (node_past (cluster_of plan) s a) n) (sym same_armed)
-      (subst (λ calls. node.IsStrictAt strict armed content synced written plan.topology (node_of a) (clock_start plan.starts (node_of a)) plan.version (disks.armed a) calls (node_past (cluster_of plan) s a) n) (sym same_passed) h))
-  strict_apart strict armed content synced written disks later (Store t) same_armed same_passed h =
-      subst (λ (past : Past Message). store.IsStrictAt strict armed content synced written plan.topology a plan.version (later.armed a) (later.passed a) past t)
+      (subst (λ calls. node.IsStrictAt port plan.topology (node_of a) (clock_start plan.starts (node_of a)) plan.version calls (later.passed a) (node_past (cluster_of plan) s a) n) (sym same_armed)
+      (subst (λ calls. node.IsStrictAt port plan.topology (node_of a) (clock_start plan.starts (node_of a)) plan.version (disks.armed a) calls (node_past (cluster_of plan) s a) n) (sym same_passed) h))
+  strict_apart port disks later (Store t) same_armed same_passed h =
+      subst (λ (past : Past Message). store.IsStrictAt port plan.topology a plan.version (later.armed a) (later.passed a) past t)
       (sym (store_apart (cluster_of plan) s next a apart))
-      (subst (λ calls. store.IsStrictAt strict armed content synced written plan.topology a plan.version calls (later.passed a) (store_past (cluster_of plan) s a) t) (sym same_armed)
-      (subst (λ calls. store.IsStrictAt strict armed content synced written plan.topology a plan.version (disks.armed a) calls (store_past (cluster_of plan) s a) t) (sym same_passed) h))
+      (subst (λ calls. store.IsStrictAt port plan.topology a plan.version calls (later.passed a) (store_past (cluster_of plan) s a) t) (sym same_armed)
+      (subst (λ calls. store.IsStrictAt port plan.topology a plan.version (disks.armed a) calls (store_past (cluster_of plan) s a) t) (sym same_passed) h))

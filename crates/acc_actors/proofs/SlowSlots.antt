@@ -4,7 +4,7 @@ use Rattle.std.specs.List.{slice_get}
 use Rattle.acc_stamp.specs.declared.actors.Actor.{Actor}
 use Rattle.acc_stamp.specs.Actor.{node_of, actor_of}
 use Rattle.acc_topology.specs.Layout.{Layout}
-use Rattle.acc_ports.specs.Strict.{Ranges}
+use Rattle.acc_ports.specs.declared.disk.Disk.{Ghosts}
 use Rattle.acc_message.specs.declared.entry.Emitted.{Emitted}
 use Rattle.acc_message.specs.declared.entry.Event.TheVariants.{Slow as SlowEvent}
 use Rattle.acc_message.specs.Items.{id_of_txn}
@@ -40,8 +40,8 @@ use Rattle.acc_actors.proofs.NodeSlots.{took, took_strictly}
 
 -- ---- the home and its slot
 
-module _ {D : Type 0} (images : D → List ℕ → Type 0) (faults : D → ℕ) (plan : Content) (a : Actor) (txn : ℕ) (n : NodeActor D) (s : Situation)
-    (home : IsHomeUp images faults plan s a txn (Node n)) where
+module _ {D : Type 0} (port : Ghosts D) (plan : Content) (a : Actor) (txn : ℕ) (n : NodeActor D) (s : Situation)
+    (home : IsHomeUp port plan s a txn (Node n)) where
   abbrev cluster : Cluster
   cluster = cluster_of plan
 
@@ -76,7 +76,7 @@ module _ {D : Type 0} (images : D → List ℕ → Type 0) (faults : D → ℕ) 
 
   -- ---- it gives the fast path up
 
-  module _ (new : NodeActor D) (emitted : Emitted) (slowed : node.HasSlowed images plan.topology (node_of a) start plan.version past txn new emitted) where
+  module _ (new : NodeActor D) (emitted : Emitted) (slowed : node.HasSlowed port plan.topology (node_of a) start plan.version past txn new emitted) where
     may_be_slowed : may_slow plan.topology (node_of a) start txn done ≡ true
     may_be_slowed = ap (if_begun plan.topology (node_of a) start done (λ x attempt. is_first_voting attempt)) slowed.begun ∙ slowed.waits
 
@@ -100,121 +100,121 @@ module _ {D : Type 0} (images : D → List ℕ → Type 0) (faults : D → ℕ) 
         (slow_may cluster (whole s) txn slowed.id each id_is (sym (ap (slow_skip cluster (whole s) txn) id_is) ∙ goes))
 
     pub has_slowed : node.is_down new ≡ false → node.disk_of new ≡ node.disk_of n
-        → (skips_slow plan s txn ≡ None) × HasTried images faults plan s a (SlowEvent txn) (Node new) (Some emitted)
+        → (skips_slow plan s txn ≡ None) × HasTried port plan s a (SlowEvent txn) (Node new) (Some emitted)
     has_slowed down disk = (
       goes,
-      took images faults plan s a (SlowEvent txn) (Slows slowed.id) refl refl home.sound home.up may n new emitted home.stands.kind home.stands slowed.takes down disk,
+      took port plan s a (SlowEvent txn) (Slows slowed.id) refl refl home.sound home.up may n new emitted home.stands.kind home.stands slowed.takes down disk,
     )
 
-    pub has_slowed_strictly : (strict : D → Bool) (armed : D → Option ℕ) (content synced : D → List ℕ) (written : D → Ranges) (disks : Disks)
-        → ((other : Past Act) → node.IsStrictAt strict armed content synced written plan.topology (node_of a) start plan.version (disks.armed a) (disks.passed a) other new)
-        → HasTriedStrictly strict armed content synced written plan s disks a (SlowEvent txn) (Node new) (Some emitted)
-    has_slowed_strictly strict armed content synced written disks later =
-        took_strictly images faults plan s a (SlowEvent txn) (Slows slowed.id) refl refl home.sound home.up may strict armed content synced written disks new emitted later
+    pub has_slowed_strictly : (disks : Disks)
+        → ((other : Past Act) → node.IsStrictAt port plan.topology (node_of a) start plan.version (disks.armed a) (disks.passed a) other new)
+        → HasTriedStrictly port plan s disks a (SlowEvent txn) (Node new) (Some emitted)
+    has_slowed_strictly disks later =
+        took_strictly port plan s a (SlowEvent txn) (Slows slowed.id) refl refl home.sound home.up may disks new emitted later
 
 -- ---- what the call ensures
 
-module _ {D : Type 0} (images : D → List ℕ → Type 0) (faults : D → ℕ) (plan : Content) (a : Actor) (txn : ℕ) (slot : Slot D) (n : NodeActor D) (is : slot ≡ Node n)
+module _ {D : Type 0} (port : Ghosts D) (plan : Content) (a : Actor) (txn : ℕ) (slot : Slot D) (n : NodeActor D) (is : slot ≡ Node n)
     (layout : Layout) (layout_is : layout ≡ plan.topology) where
-  there : (s : Situation) → IsHomeUp images faults plan s a txn slot → IsHomeUp images faults plan s a txn (Node n)
-  there s home = subst (λ (x : Slot D). IsHomeUp images faults plan s a txn x) is home
+  there : (s : Situation) → IsHomeUp port plan s a txn slot → IsHomeUp port plan s a txn (Node n)
+  there s home = subst (λ (x : Slot D). IsHomeUp port plan s a txn x) is home
 
-  pub home_is_up : (s : Situation) × IsHomeUp images faults plan s a txn slot → node.is_down n ≡ false
+  pub home_is_up : (s : Situation) × IsHomeUp port plan s a txn slot → node.is_down n ≡ false
   home_is_up home =
-      let here : IsHomeUp images faults plan home.0 a txn (Node n) = there home.0 home.1 in
+      let here : IsHomeUp port plan home.0 a txn (Node n) = there home.0 home.1 in
       here.stands.down ∙ here.up
 
   module _ (new : NodeActor D) (down : node.is_down new ≡ false) (disk : node.disk_of new ≡ node.disk_of n) where
-    slowed_at : (s : Situation) → IsHomeUp images faults plan s a txn slot → (emitted : Emitted)
-        → ((number start version : ℕ) (past : Past Act) → node.StandsFor images layout number start version past n → node.HasSlowed images layout number start version past txn new emitted)
-        → node.HasSlowed images plan.topology (node_of a) (clock_start plan.starts (node_of a)) plan.version (node_past (cluster_of plan) s a) txn new emitted
+    slowed_at : (s : Situation) → IsHomeUp port plan s a txn slot → (emitted : Emitted)
+        → ((number start version : ℕ) (past : Past Act) → node.StandsFor port layout number start version past n → node.HasSlowed port layout number start version past txn new emitted)
+        → node.HasSlowed port plan.topology (node_of a) (clock_start plan.starts (node_of a)) plan.version (node_past (cluster_of plan) s a) txn new emitted
     slowed_at s home emitted ok =
-        let here : IsHomeUp images faults plan s a txn (Node n) = there s home in
-        subst (λ (l : Layout). (number start version : ℕ) (past : Past Act) → node.StandsFor images l number start version past n → node.HasSlowed images l number start version past txn new emitted)
+        let here : IsHomeUp port plan s a txn (Node n) = there s home in
+        subst (λ (l : Layout). (number start version : ℕ) (past : Past Act) → node.StandsFor port l number start version past n → node.HasSlowed port l number start version past txn new emitted)
         layout_is ok (node_of a) (clock_start plan.starts (node_of a)) plan.version (node_past (cluster_of plan) s a) here.stands.stands
 
     pub slow_ok : (r : Result Emitted NodeError)
-        → IfOk r (λ emitted. (number start version : ℕ) (past : Past Act) → node.StandsFor images layout number start version past n → node.HasSlowed images layout number start version past txn new emitted)
-        → IfOk r (λ emitted. (s : Situation) → IsHomeUp images faults plan s a txn slot
-        → (skips_slow plan s txn ≡ None) × HasTried images faults plan s a (SlowEvent txn) (Node new) (Some emitted))
+        → IfOk r (λ emitted. (number start version : ℕ) (past : Past Act) → node.StandsFor port layout number start version past n → node.HasSlowed port layout number start version past txn new emitted)
+        → IfOk r (λ emitted. (s : Situation) → IsHomeUp port plan s a txn slot
+        → (skips_slow plan s txn ≡ None) × HasTried port plan s a (SlowEvent txn) (Node new) (Some emitted))
     slow_ok (Err e) ok = tt
-    slow_ok (Ok emitted) ok = λ s home. has_slowed images faults plan a txn n s (there s home) new emitted (slowed_at s home emitted ok) down disk
+    slow_ok (Ok emitted) ok = λ s home. has_slowed port plan a txn n s (there s home) new emitted (slowed_at s home emitted ok) down disk
 
     pub slow_as_before : (r : Result Emitted NodeError)
-        → OnErr r ((number start version : ℕ) (past : Past Act) → node.StandsFor images layout number start version past n → node.StandsFor images layout number start version past new)
-        → OnErr r ((s : Situation) → IsHomeUp images faults plan s a txn slot → SlotStands images faults plan s a (Node new))
+        → OnErr r ((number start version : ℕ) (past : Past Act) → node.StandsFor port layout number start version past n → node.StandsFor port layout number start version past new)
+        → OnErr r ((s : Situation) → IsHomeUp port plan s a txn slot → SlotStands port plan s a (Node new))
     slow_as_before (Ok emitted) err = tt
     slow_as_before (Err e) err = λ s home.
-        let here : IsHomeUp images faults plan s a txn (Node n) = there s home in
+        let here : IsHomeUp port plan s a txn (Node n) = there s home in
         record {
           kind = here.stands.kind;
           stands =
-              subst (λ (l : Layout). (number start version : ℕ) (past : Past Act) → node.StandsFor images l number start version past n → node.StandsFor images l number start version past new)
+              subst (λ (l : Layout). (number start version : ℕ) (past : Past Act) → node.StandsFor port l number start version past n → node.StandsFor port l number start version past new)
               layout_is err (node_of a) (clock_start plan.starts (node_of a)) plan.version (node_past (cluster_of plan) s a) here.stands.stands;
           down = down ∙ sym here.up;
-          counted = subst (λ d. downs_in a s.own ≤ faults d) (sym disk) here.stands.counted;
+          counted = subst (λ d. downs_in a s.own ≤ (port.state d).faults) (sym disk) here.stands.counted;
         }
 
-    module _ (strict : D → Bool) (armed_of : D → Option ℕ) (content synced : D → List ℕ) (written : D → Ranges)
+    module _
         (strictly : (number start version : ℕ) (armed passed : Option ℕ) (past other : Past Act)
-        → node.IsStrictAt strict armed_of content synced written layout number start version armed passed past n
-        → node.IsStrictAt strict armed_of content synced written layout number start version armed passed other new) where
-      later : (s : Situation) (disks : Disks) → IsStrictSlot strict armed_of content synced written plan s disks a slot → (other : Past Act)
-          → node.IsStrictAt strict armed_of content synced written plan.topology (node_of a) (clock_start plan.starts (node_of a)) plan.version (disks.armed a) (disks.passed a) other new
+        → node.IsStrictAt port layout number start version armed passed past n
+        → node.IsStrictAt port layout number start version armed passed other new) where
+      later : (s : Situation) (disks : Disks) → IsStrictSlot port plan s disks a slot → (other : Past Act)
+          → node.IsStrictAt port plan.topology (node_of a) (clock_start plan.starts (node_of a)) plan.version (disks.armed a) (disks.passed a) other new
       later s disks are other =
           subst (λ (l : Layout). (number start version : ℕ) (armed passed : Option ℕ) (past other : Past Act)
-          → node.IsStrictAt strict armed_of content synced written l number start version armed passed past n
-          → node.IsStrictAt strict armed_of content synced written l number start version armed passed other new)
+          → node.IsStrictAt port l number start version armed passed past n
+          → node.IsStrictAt port l number start version armed passed other new)
           layout_is strictly (node_of a) (clock_start plan.starts (node_of a)) plan.version (disks.armed a) (disks.passed a) (node_past (cluster_of plan) s a) other
-          (subst (λ (x : Slot D). IsStrictSlot strict armed_of content synced written plan s disks a x) is are)
+          (subst (λ (x : Slot D). IsStrictSlot port plan s disks a x) is are)
 
       pub slow_strictly : (r : Result Emitted NodeError)
-          → IfOk r (λ emitted. (number start version : ℕ) (past : Past Act) → node.StandsFor images layout number start version past n → node.HasSlowed images layout number start version past txn new emitted)
-          → IfOk r (λ emitted. (s : Situation) (disks : Disks) → IsHomeUp images faults plan s a txn slot
-          → IsStrictSlot strict armed_of content synced written plan s disks a slot → HasTriedStrictly strict armed_of content synced written plan s disks a (SlowEvent txn) (Node new) (Some emitted))
+          → IfOk r (λ emitted. (number start version : ℕ) (past : Past Act) → node.StandsFor port layout number start version past n → node.HasSlowed port layout number start version past txn new emitted)
+          → IfOk r (λ emitted. (s : Situation) (disks : Disks) → IsHomeUp port plan s a txn slot
+          → IsStrictSlot port plan s disks a slot → HasTriedStrictly port plan s disks a (SlowEvent txn) (Node new) (Some emitted))
       slow_strictly (Err e) ok = tt
       slow_strictly (Ok emitted) ok = λ s disks home are.
-          has_slowed_strictly images faults plan a txn n s (there s home) new emitted (slowed_at s home emitted ok) strict armed_of content synced written disks (later s disks are)
+          has_slowed_strictly port plan a txn n s (there s home) new emitted (slowed_at s home emitted ok) disks (later s disks are)
 
       pub slow_strict_as_before : (r : Result Emitted NodeError)
-          → OnErr r ((s : Situation) (disks : Disks) → IsHomeUp images faults plan s a txn slot
-          → IsStrictSlot strict armed_of content synced written plan s disks a slot → IsStrictSlot strict armed_of content synced written plan s disks a (Node new))
+          → OnErr r ((s : Situation) (disks : Disks) → IsHomeUp port plan s a txn slot
+          → IsStrictSlot port plan s disks a slot → IsStrictSlot port plan s disks a (Node new))
       slow_strict_as_before (Ok emitted) = tt
       slow_strict_as_before (Err e) = λ s disks home are. later s disks are (node_past (cluster_of plan) s a)
 
   pub slow_refused : (r : Result Emitted NodeError)
-      → ((number start version : ℕ) (past : Past Act) → node.StandsFor images layout number start version past n
+      → ((number start version : ℕ) (past : Past Act) → node.StandsFor port layout number start version past n
       → r ≡ Err Unknown → may_slow layout number start txn (node.done layout number start past) ≡ false)
-      → IfErr r (λ error. error ≡ NoQuorum → (number start version : ℕ) (past : Past Act) → node.StandsFor images layout number start version past n
+      → IfErr r (λ error. error ≡ NoQuorum → (number start version : ℕ) (past : Past Act) → node.StandsFor port layout number start version past n
       → (may_slow layout number start txn (node.done layout number start past) ≡ true) × (is_answered layout number start txn (node.done layout number start past) ≡ false))
-      → IfErr r (λ error. (number start version : ℕ) (past : Past Act) → node.StandsFor images layout number start version past n → error ≢ Begun)
-      → IfErr r (λ error. (s : Situation) → IsHomeUp images faults plan s a txn slot → IsSlowRefused plan s txn error)
+      → IfErr r (λ error. (number start version : ℕ) (past : Past Act) → node.StandsFor port layout number start version past n → error ≢ Begun)
+      → IfErr r (λ error. (s : Situation) → IsHomeUp port plan s a txn slot → IsSlowRefused plan s txn error)
   slow_refused (Ok emitted) unknown no_quorum not_begun = tt
   slow_refused (Err OutOfMemory) unknown no_quorum not_begun = λ s home. tt
   slow_refused (Err Begun) unknown no_quorum not_begun = λ s home.
-      let here : IsHomeUp images faults plan s a txn (Node n) = there s home in
+      let here : IsHomeUp port plan s a txn (Node n) = there s home in
       not_begun (node_of a) (clock_start plan.starts (node_of a)) plan.version (node_past (cluster_of plan) s a)
-      (subst (λ (l : Layout). node.StandsFor images l (node_of a) (clock_start plan.starts (node_of a)) plan.version (node_past (cluster_of plan) s a) n) (sym layout_is) here.stands.stands) refl
+      (subst (λ (l : Layout). node.StandsFor port l (node_of a) (clock_start plan.starts (node_of a)) plan.version (node_past (cluster_of plan) s a) n) (sym layout_is) here.stands.stands) refl
   slow_refused (Err Unknown) unknown no_quorum not_begun = λ s home.
-      let here : IsHomeUp images faults plan s a txn (Node n) = there s home in
+      let here : IsHomeUp port plan s a txn (Node n) = there s home in
       let number : ℕ = node_of a in
       let begin : ℕ = clock_start plan.starts number in
       let past : Past Act = node_past (cluster_of plan) s a in
       let found =
-      subst (λ (l : Layout). (number start version : ℕ) (past : Past Act) → node.StandsFor images l number start version past n
+      subst (λ (l : Layout). (number start version : ℕ) (past : Past Act) → node.StandsFor port l number start version past n
       → may_slow l number start txn (node.done l number start past) ≡ false) layout_is (λ number start version past stands. unknown number start version past stands refl)
       number begin plan.version past here.stands.stands in
-      told images faults plan a txn n s here
+      told port plan a txn n s here
       ∙ ap (λ b. slow_cause txn b (is_answered plan.topology number begin txn (node.done plan.topology number begin past))) found
   slow_refused (Err NoQuorum) unknown no_quorum not_begun = λ s home.
-      let here : IsHomeUp images faults plan s a txn (Node n) = there s home in
+      let here : IsHomeUp port plan s a txn (Node n) = there s home in
       let number : ℕ = node_of a in
       let begin : ℕ = clock_start plan.starts number in
       let past : Past Act = node_past (cluster_of plan) s a in
       let found =
-      subst (λ (l : Layout). (number start version : ℕ) (past : Past Act) → node.StandsFor images l number start version past n
+      subst (λ (l : Layout). (number start version : ℕ) (past : Past Act) → node.StandsFor port l number start version past n
       → (may_slow l number start txn (node.done l number start past) ≡ true) × (is_answered l number start txn (node.done l number start past) ≡ false))
       layout_is (no_quorum refl) number begin plan.version past here.stands.stands in
-      told images faults plan a txn n s here
+      told port plan a txn n s here
       ∙ ap (λ b. slow_cause txn b (is_answered plan.topology number begin txn (node.done plan.topology number begin past))) found.0
       ∙ ap (λ b. slow_cause txn true b) found.1

@@ -1,8 +1,8 @@
 -- What a store in its slot is after it took a message.
 use Rattle.std.proofs.Common.{◌≡◌, ℕ, ◌+◌, ◌≤◌, Bool, true, false, not, ◌&&◌, List, [], ◌∷◌, ◌++◌, Option, None, Some, IfSome, is_none, length, refl, sym, ◌∙◌, ap, subst}
 use Rattle.acc_stamp.specs.declared.actors.Actor.{Actor}
+use Rattle.acc_ports.specs.declared.disk.Disk.{Ghosts}
 use Rattle.acc_ports.specs.Faults.{Rose}
-use Rattle.acc_ports.specs.Strict.{Ranges}
 use Rattle.acc_message.specs.declared.message.Message.{Message}
 use Rattle.acc_message.specs.declared.entry.Emitted.{Emitted}
 use Rattle.acc_message.specs.declared.entry.Event.{Event}
@@ -35,7 +35,7 @@ use Rattle.acc_actors.specs.declared.slot.Slot.TheVariants.{Store}
 use Rattle.acc_actors.proofs.Pasts.{past_of, store_entered, store_stopped, one_payload, payload_is}
 use Rattle.acc_actors.proofs.Few.{rose_counted, le_on, armed_after, passed_after}
 
-module _ {D : Type 0} (images : D → List ℕ → Type 0) (faults : D → ℕ) (plan : Content) (s : Situation) (a : Actor) (number : ℕ) (m : Message)
+module _ {D : Type 0} (port : Ghosts D) (plan : Content) (s : Situation) (a : Actor) (number : ℕ) (m : Message)
     (kind : is_node a ≡ false) (sound : IsSound (cluster_of plan) s) (up : is_down a (whole s) ≡ false)
     (may : MayTake (cluster_of plan) (whole s) a (event_in s (MessageEvent number)) (Takes m))
     (found : message_at (whole s) (length (sent_of s.earlier) + number) ≡ Some m) where
@@ -70,16 +70,16 @@ module _ {D : Type 0} (images : D → List ℕ → Type 0) (faults : D → ℕ) 
   down_tried None = sym (went_down cluster (whole s) a).down
   down_tried (Some emitted) = sym (did_more cluster (whole s) a (event_in s event) (Takes m) false may).down
 
-  pub store_tried : (t new : StoreActor D) (given : Option Emitted) → IsAsked images faults plan s a event (Takes m) (Store t)
-      → store.Steps images plan.topology a plan.version past (store.message_stop number m) new given → store.is_down new ≡ is_none given
-      → faults (store.disk_of t) ≤ faults (store.disk_of new) → (given ≡ None → Rose (faults (store.disk_of t)) (faults (store.disk_of new)))
-      → HasTried images faults plan s a event (Store new) given
+  pub store_tried : (t new : StoreActor D) (given : Option Emitted) → IsAsked port plan s a event (Takes m) (Store t)
+      → store.Steps port plan.topology a plan.version past (store.message_stop number m) new given → store.is_down new ≡ is_none given
+      → (port.state (store.disk_of t)).faults ≤ (port.state (store.disk_of new)).faults → (given ≡ None → Rose (port.state (store.disk_of t)).faults (port.state (store.disk_of new)).faults)
+      → HasTried port plan s a event (Store new) given
   store_tried t new given asked steps down counted cause =
       record {
         emitted = by given steps.emits;
         stands = record {
           kind = kind;
-          stands = subst (λ (p : Past Message). store.StandsFor images plan.topology a plan.version p new) (sym (past_tried given)) steps.stands;
+          stands = subst (λ (p : Past Message). store.StandsFor port plan.topology a plan.version p new) (sym (past_tried given)) steps.stands;
           down = down ∙ down_tried given;
           counted = count given cause;
         };
@@ -90,23 +90,23 @@ module _ {D : Type 0} (images : D → List ℕ → Type 0) (faults : D → ℕ) 
       by (Some emitted) is =
           is ∙ sym (store_emits_next cluster (whole s) a m (sound_standing cluster s sound) kind) ∙ ap (emits_if cluster (whole s) a) (sym may.act_is)
 
-      count : (given : Option Emitted) → (given ≡ None → Rose (faults (store.disk_of t)) (faults (store.disk_of new)))
-          → downs_in a (tried_if (is_none given) cluster s a event).own ≤ faults (store.disk_of new)
-      count None cause = rose_counted a s.own (faults (store.disk_of t)) (faults (store.disk_of new)) asked.few.1 asked.stands.counted (cause refl)
+      count : (given : Option Emitted) → (given ≡ None → Rose (port.state (store.disk_of t)).faults (port.state (store.disk_of new)).faults)
+          → downs_in a (tried_if (is_none given) cluster s a event).own ≤ (port.state (store.disk_of new)).faults
+      count None cause = rose_counted a s.own (port.state (store.disk_of t)).faults (port.state (store.disk_of new)).faults asked.few.1 asked.stands.counted (cause refl)
       count (Some emitted) cause = le_on asked.stands.counted counted
 
-  pub store_tried_strictly : (strict : D → Bool) (armed : D → Option ℕ) (content synced : D → List ℕ) (written : D → Ranges) (disks : Disks) (new : StoreActor D) (given : Option Emitted)
+  pub store_tried_strictly : (disks : Disks) (new : StoreActor D) (given : Option Emitted)
       → (is_none given ≡ fails_append (disks.armed a))
-      × store.IsStrictAt strict armed content synced written plan.topology a plan.version (after_append (disks.armed a)) (passed_in (disks.armed a)) (after_step given past (store.message_stop number m)) new
-      → HasTriedStrictly strict armed content synced written plan s disks a event (Store new) given
-  store_tried_strictly strict armed content synced written disks new given h =
+      × store.IsStrictAt port plan.topology a plan.version (after_append (disks.armed a)) (passed_in (disks.armed a)) (after_step given past (store.message_stop number m)) new
+      → HasTriedStrictly port plan s disks a event (Store new) given
+  store_tried_strictly disks new given h =
       record {
         fails = h.0 ∙ ap (λ b. b && fails_append (disks.armed a)) (sym journalled);
         strictly =
-            subst (λ (p : Past Message). store.IsStrictAt strict armed content synced written plan.topology a plan.version (later.armed a) (later.passed a) p new) (sym (past_tried given))
-            (subst (λ calls. store.IsStrictAt strict armed content synced written plan.topology a plan.version calls (later.passed a) (after_step given past (store.message_stop number m)) new)
+            subst (λ (p : Past Message). store.IsStrictAt port plan.topology a plan.version (later.armed a) (later.passed a) p new) (sym (past_tried given))
+            (subst (λ calls. store.IsStrictAt port plan.topology a plan.version calls (later.passed a) (after_step given past (store.message_stop number m)) new)
             (sym (armed_after (is_journalled a event) a disks journalled))
-            (subst (λ calls. store.IsStrictAt strict armed content synced written plan.topology a plan.version (after_append (disks.armed a)) calls (after_step given past (store.message_stop number m)) new)
+            (subst (λ calls. store.IsStrictAt port plan.topology a plan.version (after_append (disks.armed a)) calls (after_step given past (store.message_stop number m)) new)
             (sym (passed_after (is_journalled a event) a disks journalled)) h.1));
       }
     where

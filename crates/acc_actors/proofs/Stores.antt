@@ -3,6 +3,7 @@ use Rattle.std.proofs.Common.{◌≡◌, ℕ, ◌⊎◌, inl, inr, false, List, 
 use Rattle.std.proofs.lemmas.Bool.{true≢false}
 use Rattle.acc_stamp.specs.declared.actors.Actor.{Actor}
 use Rattle.acc_topology.specs.Layout.{Layout}
+use Rattle.acc_ports.specs.declared.disk.Disk.{Ghosts}
 use Rattle.acc_message.specs.declared.message.Message.{Message}
 use Rattle.acc_message.specs.Run.{is_node, is_down}
 use Rattle.acc_message.specs.Taken.{Taken}
@@ -26,30 +27,30 @@ use Rattle.acc_actors.specs.Slots.{NodeStands, StoreStands, SlotStands, IsTaken}
 use Rattle.acc_actors.specs.Stores.{IsStoreOf}
 
 -- what a slot shows
-abbrev pub Shows : {D : Type 0} → (D → List ℕ → Type 0) → (D → ℕ) → Slot D → OpenStore → Type 0
-Shows images faults slot t = (plan : Content) (s : Situation) (a : Actor) → IsSound (cluster_of plan) s → SlotStands images faults plan s a slot
+abbrev pub Shows : {D : Type 0} → Ghosts D → Slot D → OpenStore → Type 0
+Shows port slot t = (plan : Content) (s : Situation) (a : Actor) → IsSound (cluster_of plan) s → SlotStands port plan s a slot
     → (is_node a ≡ false) × (is_down a (whole s) ≡ false) × IsStoreOf plan s a t
 
 -- no store that is up stands there
-abbrev pub HidesNone : {D : Type 0} → (D → List ℕ → Type 0) → (D → ℕ) → Slot D → Type 0
-HidesNone images faults slot = (plan : Content) (s : Situation) (a : Actor) → SlotStands images faults plan s a slot → is_node a ≡ false → is_down a (whole s) ≡ false → ⊥
+abbrev pub HidesNone : {D : Type 0} → Ghosts D → Slot D → Type 0
+HidesNone port slot = (plan : Content) (s : Situation) (a : Actor) → SlotStands port plan s a slot → is_node a ≡ false → is_down a (whole s) ≡ false → ⊥
 
-module _ {D : Type 0} (images : D → List ℕ → Type 0) (faults : D → ℕ) (slot : Slot D) where
-  none_at_empty : slot ≡ Empty → HidesNone images faults slot
-  none_at_empty is plan s a h kind up = subst (λ (x : Slot D). SlotStands images faults plan s a x) is h
+module _ {D : Type 0} (port : Ghosts D) (slot : Slot D) where
+  none_at_empty : slot ≡ Empty → HidesNone port slot
+  none_at_empty is plan s a h kind up = subst (λ (x : Slot D). SlotStands port plan s a x) is h
 
-  none_at_node : (n : NodeActor D) → slot ≡ Node n → HidesNone images faults slot
+  none_at_node : (n : NodeActor D) → slot ≡ Node n → HidesNone port slot
   none_at_node n is plan s a h kind up =
-      let here : NodeStands images faults plan s a n = subst (λ (x : Slot D). SlotStands images faults plan s a x) is h in
+      let here : NodeStands port plan s a n = subst (λ (x : Slot D). SlotStands port plan s a x) is h in
       absurd (true≢false (sym here.kind ∙ kind))
 
-  pub none_without_store : (slot ≡ Empty) ⊎ ((n : NodeActor D) × (slot ≡ Node n)) → HidesNone images faults slot
+  pub none_without_store : (slot ≡ Empty) ⊎ ((n : NodeActor D) × (slot ≡ Node n)) → HidesNone port slot
   none_without_store (inl is) = none_at_empty is
   none_without_store (inr is) = none_at_node is.0 is.1
 
   module _ {R : Type 0} (view : R → OpenStore) (t : StoreActor D) (is : slot ≡ Store t) (o : Option R) (told : is_none o ≡ store.is_down t) where
-    here : (plan : Content) (s : Situation) (a : Actor) → SlotStands images faults plan s a slot → StoreStands images faults plan s a t
-    here plan s a h = subst (λ (x : Slot D). SlotStands images faults plan s a x) is h
+    here : (plan : Content) (s : Situation) (a : Actor) → SlotStands port plan s a slot → StoreStands port plan s a t
+    here plan s a h = subst (λ (x : Slot D). SlotStands port plan s a x) is h
 
     pub taken_there : IfSome o (λ r. IsTaken slot)
     taken_there = by o
@@ -58,23 +59,23 @@ module _ {D : Type 0} (images : D → List ℕ → Type 0) (faults : D → ℕ) 
         by None = tt
         by (Some r) = subst (λ (x : Slot D). IsTaken x) (sym is) tt
 
-    pub none_at_store : o ≡ None → HidesNone images faults slot
+    pub none_at_store : o ≡ None → HidesNone port slot
     none_at_store none plan s a h kind up =
-        let x : StoreStands images faults plan s a t = here plan s a h in
+        let x : StoreStands port plan s a t = here plan s a h in
         absurd (true≢false (sym (ap is_none none) ∙ told ∙ x.down ∙ up))
 
-    pub shown_at_store : IfSome o (λ r. (layout : Layout) (own : Actor) (version : ℕ) (past : Past Message) (staged : List (Stop Message)) → store.IsStaging images layout own version past staged t
+    pub shown_at_store : IfSome o (λ r. (layout : Layout) (own : Actor) (version : ℕ) (past : Past Message) (staged : List (Stop Message)) → store.IsStaging port layout own version past staged t
         → (open_store.actor_of (view r) ≡ own) × open_store.StandsFor layout (view r) (replay layout own (kept_with staged past).acts))
-        → IfSome o (λ r. Shows images faults slot (view r))
+        → IfSome o (λ r. Shows port slot (view r))
     shown_at_store stands = by o told stands
       where
         by : (o : Option R) → is_none o ≡ store.is_down t
-            → IfSome o (λ r. (layout : Layout) (own : Actor) (version : ℕ) (past : Past Message) (staged : List (Stop Message)) → store.IsStaging images layout own version past staged t
+            → IfSome o (λ r. (layout : Layout) (own : Actor) (version : ℕ) (past : Past Message) (staged : List (Stop Message)) → store.IsStaging port layout own version past staged t
             → (open_store.actor_of (view r) ≡ own) × open_store.StandsFor layout (view r) (replay layout own (kept_with staged past).acts))
-            → IfSome o (λ r. Shows images faults slot (view r))
+            → IfSome o (λ r. Shows port slot (view r))
         by None told stands = tt
         by (Some r) told stands = λ plan s a sound h.
-            let x : StoreStands images faults plan s a t = here plan s a h in
+            let x : StoreStands port plan s a t = here plan s a h in
             let found = stands plan.topology a plan.version (store_past (cluster_of plan) s a) [] x.stands in (
               x.kind,
               sym x.down ∙ sym told,

@@ -9,8 +9,8 @@ use Rattle.acc_base.specs.declared.memory.OutOfMemory.{OutOfMemory}
 use Rattle.acc_stamp.specs.declared.actors.Actor.{Actor}
 use Rattle.acc_stamp.specs.Actor.{node_of}
 use Rattle.acc_topology.specs.Layout.{Layout}
+use Rattle.acc_ports.specs.declared.disk.Disk.{Ghosts}
 use Rattle.acc_ports.specs.Faults.{Rose}
-use Rattle.acc_ports.specs.Strict.{Ranges}
 use Rattle.acc_lang.specs.Texts.{has_text_value}
 use Rattle.acc_message.specs.declared.message.Message.{Message}
 use Rattle.acc_message.specs.declared.entry.Emitted.{Emitted}
@@ -66,8 +66,8 @@ unfolding taken_or
 message_found m None is = absurd (not_none (Takes m) is)
 message_found m (Some x) is = ap Some (ap (taken_or m) (some_is (Takes x) (Takes m) is))
 
-module _ {D : Type 0} (images : D → List ℕ → Type 0) (faults : D → ℕ) (plan : Content) (a : Actor) (number : ℕ) (m : Message) where
-  found : (s : Situation) (slot : Slot D) → IsAsked images faults plan s a (MessageEvent number) (Takes m) slot → message_at (whole s) (length (sent_of s.earlier) + number) ≡ Some m
+module _ {D : Type 0} (port : Ghosts D) (plan : Content) (a : Actor) (number : ℕ) (m : Message) where
+  found : (s : Situation) (slot : Slot D) → IsAsked port plan s a (MessageEvent number) (Takes m) slot → message_at (whole s) (length (sent_of s.earlier) + number) ≡ Some m
   found s slot asked = message_found m (message_at (whole s) (length (sent_of s.earlier) + number)) asked.may.act_is
 
   pub deliverable_at : (s : Situation) → IsSound (cluster_of plan) s → IsFew s → MayTake (cluster_of plan) (whole s) a (event_in s (MessageEvent number)) (Takes m) → IsDeliverable (cluster_of plan) (whole s) m
@@ -75,10 +75,10 @@ module _ {D : Type 0} (images : D → List ℕ → Type 0) (faults : D → ℕ) 
       is_deliverable (cluster_of plan) (whole s) (length (sent_of s.earlier) + number) m (sound_standing (cluster_of plan) s sound) (few_whole s few)
       (message_found m (message_at (whole s) (length (sent_of s.earlier) + number)) may.act_is)
 
-  deliverable : (s : Situation) (slot : Slot D) → IsAsked images faults plan s a (MessageEvent number) (Takes m) slot → IsDeliverable (cluster_of plan) (whole s) m
+  deliverable : (s : Situation) (slot : Slot D) → IsAsked port plan s a (MessageEvent number) (Takes m) slot → IsDeliverable (cluster_of plan) (whole s) m
   deliverable s slot asked = deliverable_at s asked.sound asked.few asked.may
 
-  pub top_low : (slot : Slot D) → MayAsk images faults plan a (MessageEvent number) (Takes m) slot → top_of m < 2 ^ 62
+  pub top_low : (slot : Slot D) → MayAsk port plan a (MessageEvent number) (Takes m) slot → top_of m < 2 ^ 62
   top_low slot may = (deliverable may.0 slot may.1).top
 
   one_or_two : (v : ℕ) → (1 ≤ v) × (v ≤ 2) → (v ≡ 1) ⊎ (v ≡ 2)
@@ -102,45 +102,45 @@ module _ {D : Type 0} (images : D → List ℕ → Type 0) (faults : D → ℕ) 
     -- ---- a node
 
     pub node_took : (n new : NodeActor D) (emitted : Emitted) → slot ≡ Node n
-        → ((number start version : ℕ) (past : Past Act) → node.StandsFor images layout number start version past n → node.Takes images layout number start version past (Takes m) new emitted)
+        → ((number start version : ℕ) (past : Past Act) → node.StandsFor port layout number start version past n → node.Takes port layout number start version past (Takes m) new emitted)
         → node.is_down new ≡ false → node.disk_of new ≡ node.disk_of n
-        → (s : Situation) → IsAsked images faults plan s a (MessageEvent number) (Takes m) slot → HasTried images faults plan s a (MessageEvent number) (Node new) (Some emitted)
+        → (s : Situation) → IsAsked port plan s a (MessageEvent number) (Takes m) slot → HasTried port plan s a (MessageEvent number) (Node new) (Some emitted)
     node_took n new emitted is ok down disk s asked =
-        let here : IsAsked images faults plan s a (MessageEvent number) (Takes m) (Node n) = subst (λ (x : Slot D). IsAsked images faults plan s a (MessageEvent number) (Takes m) x) is asked in
-        took images faults plan s a (MessageEvent number) (Takes m) (ap not here.stands.kind)
+        let here : IsAsked port plan s a (MessageEvent number) (Takes m) (Node n) = subst (λ (x : Slot D). IsAsked port plan s a (MessageEvent number) (Takes m) x) is asked in
+        took port plan s a (MessageEvent number) (Takes m) (ap not here.stands.kind)
         (node_payload (whole s) a (length (sent_of s.earlier) + number) (emits (cluster_of plan) (whole s) a (Takes m)).notes here.stands.kind) here.sound here.up here.may n new emitted here.stands.kind here.stands
-        (subst (λ (l : Layout). (number start version : ℕ) (past : Past Act) → node.StandsFor images l number start version past n → node.Takes images l number start version past (Takes m) new emitted) layout_is ok
+        (subst (λ (l : Layout). (number start version : ℕ) (past : Past Act) → node.StandsFor port l number start version past n → node.Takes port l number start version past (Takes m) new emitted) layout_is ok
         (node_of a) (clock_start plan.starts (node_of a)) plan.version (node_past (cluster_of plan) s a) here.stands.stands)
         down disk
 
-    pub node_took_strictly : (strict : D → Bool) (armed_of : D → Option ℕ) (content synced : D → List ℕ) (written : D → Ranges) (n new : NodeActor D) (emitted : Emitted) → slot ≡ Node n
-        → ((number start version : ℕ) (armed passed : Option ℕ) (past other : Past Act) → node.IsStrictAt strict armed_of content synced written layout number start version armed passed past n
-        → node.IsStrictAt strict armed_of content synced written layout number start version armed passed other new)
-        → (s : Situation) (disks : Disks) → IsAsked images faults plan s a (MessageEvent number) (Takes m) slot → IsStrictSlot strict armed_of content synced written plan s disks a slot
-        → HasTriedStrictly strict armed_of content synced written plan s disks a (MessageEvent number) (Node new) (Some emitted)
-    node_took_strictly strict armed_of content synced written n new emitted is ok s disks asked are =
-        let here : IsAsked images faults plan s a (MessageEvent number) (Takes m) (Node n) = subst (λ (x : Slot D). IsAsked images faults plan s a (MessageEvent number) (Takes m) x) is asked in
-        took_strictly images faults plan s a (MessageEvent number) (Takes m) (ap not here.stands.kind)
-        (node_payload (whole s) a (length (sent_of s.earlier) + number) (emits (cluster_of plan) (whole s) a (Takes m)).notes here.stands.kind) here.sound here.up here.may strict armed_of content synced written disks new emitted
-        (λ other. subst (λ (l : Layout). (number start version : ℕ) (armed passed : Option ℕ) (past other : Past Act) → node.IsStrictAt strict armed_of content synced written l number start version armed passed past n
-        → node.IsStrictAt strict armed_of content synced written l number start version armed passed other new) layout_is ok
+    pub node_took_strictly : (n new : NodeActor D) (emitted : Emitted) → slot ≡ Node n
+        → ((number start version : ℕ) (armed passed : Option ℕ) (past other : Past Act) → node.IsStrictAt port layout number start version armed passed past n
+        → node.IsStrictAt port layout number start version armed passed other new)
+        → (s : Situation) (disks : Disks) → IsAsked port plan s a (MessageEvent number) (Takes m) slot → IsStrictSlot port plan s disks a slot
+        → HasTriedStrictly port plan s disks a (MessageEvent number) (Node new) (Some emitted)
+    node_took_strictly n new emitted is ok s disks asked are =
+        let here : IsAsked port plan s a (MessageEvent number) (Takes m) (Node n) = subst (λ (x : Slot D). IsAsked port plan s a (MessageEvent number) (Takes m) x) is asked in
+        took_strictly port plan s a (MessageEvent number) (Takes m) (ap not here.stands.kind)
+        (node_payload (whole s) a (length (sent_of s.earlier) + number) (emits (cluster_of plan) (whole s) a (Takes m)).notes here.stands.kind) here.sound here.up here.may disks new emitted
+        (λ other. subst (λ (l : Layout). (number start version : ℕ) (armed passed : Option ℕ) (past other : Past Act) → node.IsStrictAt port l number start version armed passed past n
+        → node.IsStrictAt port l number start version armed passed other new) layout_is ok
         (node_of a) (clock_start plan.starts (node_of a)) plan.version (disks.armed a) (disks.passed a) (node_past (cluster_of plan) s a) other
-        (subst (λ (x : Slot D). IsStrictSlot strict armed_of content synced written plan s disks a x) is are))
+        (subst (λ (x : Slot D). IsStrictSlot port plan s disks a x) is are))
 
     -- ---- a store
 
     module _ (t : StoreActor D) (is : slot ≡ Store t) where
-      there : (s : Situation) → IsAsked images faults plan s a (MessageEvent number) (Takes m) slot → IsAsked images faults plan s a (MessageEvent number) (Takes m) (Store t)
-      there s asked = subst (λ (x : Slot D). IsAsked images faults plan s a (MessageEvent number) (Takes m) x) is asked
+      there : (s : Situation) → IsAsked port plan s a (MessageEvent number) (Takes m) slot → IsAsked port plan s a (MessageEvent number) (Takes m) (Store t)
+      there s asked = subst (λ (x : Slot D). IsAsked port plan s a (MessageEvent number) (Takes m) x) is asked
 
-      pub may_take : NumbersAlone → IsPlan plan → MayAsk images faults plan a (MessageEvent number) (Takes m) slot → store.MayTake images layout t [] m
+      pub may_take : NumbersAlone → IsPlan plan → MayAsk port plan a (MessageEvent number) (Takes m) slot → store.MayTake port layout t [] m
       may_take numbers_alone valid may =
           let s : Situation = may.0 in
-          let asked : IsAsked images faults plan s a (MessageEvent number) (Takes m) (Store t) = there s may.1 in
+          let asked : IsAsked port plan s a (MessageEvent number) (Takes m) (Store t) = there s may.1 in
           let told : IsDeliverable (cluster_of plan) (whole s) m = deliverable s (Store t) asked in
           let meets : StoreMeets (cluster_of plan) (whole s) a = store_meets (cluster_of plan) (whole s) a (sound_standing (cluster_of plan) s asked.sound) (few_whole s asked.few) asked.stands.kind in
           let here = same _ a asked.may.place in
-          subst (λ (l : Layout). store.MayTake images l t [] m) (sym layout_is) (record {
+          subst (λ (l : Layout). store.MayTake port l t [] m) (sym layout_is) (record {
             own = a;
             version = plan.version;
             past = store_past (cluster_of plan) s a;
@@ -153,32 +153,32 @@ module _ {D : Type 0} (images : D → List ℕ → Type 0) (faults : D → ℕ) 
           })
 
       pub store_called : (new : StoreActor D) (r : Result (Option Emitted) OutOfMemory)
-          → IfOk r (λ given. (own : Actor) (version : ℕ) (past : Past Message) → store.StandsFor images layout own version past t → store.Steps images layout own version past (store.message_stop number m) new given)
-          → IfOk r (λ given. store.is_down new ≡ is_none given) → faults (store.disk_of t) ≤ faults (store.disk_of new)
-          → (r ≡ Ok None → Rose (faults (store.disk_of t)) (faults (store.disk_of new)))
-          → IfOk r (λ given. (s : Situation) → IsAsked images faults plan s a (MessageEvent number) (Takes m) slot → HasTried images faults plan s a (MessageEvent number) (Store new) given)
+          → IfOk r (λ given. (own : Actor) (version : ℕ) (past : Past Message) → store.StandsFor port layout own version past t → store.Steps port layout own version past (store.message_stop number m) new given)
+          → IfOk r (λ given. store.is_down new ≡ is_none given) → (port.state (store.disk_of t)).faults ≤ (port.state (store.disk_of new)).faults
+          → (r ≡ Ok None → Rose (port.state (store.disk_of t)).faults (port.state (store.disk_of new)).faults)
+          → IfOk r (λ given. (s : Situation) → IsAsked port plan s a (MessageEvent number) (Takes m) slot → HasTried port plan s a (MessageEvent number) (Store new) given)
       store_called new (Err e) ok down counted cause = tt
       store_called new (Ok given) ok down counted cause = λ s asked.
-          let here : IsAsked images faults plan s a (MessageEvent number) (Takes m) (Store t) = there s asked in
-          store_tried images faults plan s a number m here.stands.kind here.sound here.up here.may (found s (Store t) here) t new given here
-          (subst (λ (l : Layout). (own : Actor) (version : ℕ) (past : Past Message) → store.StandsFor images l own version past t → store.Steps images l own version past (store.message_stop number m) new given) layout_is ok
+          let here : IsAsked port plan s a (MessageEvent number) (Takes m) (Store t) = there s asked in
+          store_tried port plan s a number m here.stands.kind here.sound here.up here.may (found s (Store t) here) t new given here
+          (subst (λ (l : Layout). (own : Actor) (version : ℕ) (past : Past Message) → store.StandsFor port l own version past t → store.Steps port l own version past (store.message_stop number m) new given) layout_is ok
           a plan.version (store_past (cluster_of plan) s a) here.stands.stands)
           down counted (λ none. cause (ap Ok none))
 
-      pub store_called_strictly : (strict : D → Bool) (armed_of : D → Option ℕ) (content synced : D → List ℕ) (written : D → Ranges) (new : StoreActor D) (r : Result (Option Emitted) OutOfMemory)
-          → ((own : Actor) (version : ℕ) (armed passed : Option ℕ) (past : Past Message) → store.StandsFor images layout own version past t
-          → store.IsStrictAt strict armed_of content synced written layout own version armed passed past t
+      pub store_called_strictly : (new : StoreActor D) (r : Result (Option Emitted) OutOfMemory)
+          → ((own : Actor) (version : ℕ) (armed passed : Option ℕ) (past : Past Message) → store.StandsFor port layout own version past t
+          → store.IsStrictAt port layout own version armed passed past t
           → IfOk r (λ given. (is_none given ≡ fails_append armed)
-          × store.IsStrictAt strict armed_of content synced written layout own version (after_append armed) (passed_in armed) (after_step given past (store.message_stop number m)) new))
-          → IfOk r (λ given. (s : Situation) (disks : Disks) → IsAsked images faults plan s a (MessageEvent number) (Takes m) slot
-          → IsStrictSlot strict armed_of content synced written plan s disks a slot → HasTriedStrictly strict armed_of content synced written plan s disks a (MessageEvent number) (Store new) given)
-      store_called_strictly strict armed_of content synced written new (Err e) ok = tt
-      store_called_strictly strict armed_of content synced written new (Ok given) ok = λ s disks asked are.
-          let here : IsAsked images faults plan s a (MessageEvent number) (Takes m) (Store t) = there s asked in
-          store_tried_strictly images faults plan s a number m here.stands.kind here.sound here.up here.may (found s (Store t) here) strict armed_of content synced written disks new given
-          (subst (λ (l : Layout). (own : Actor) (version : ℕ) (armed passed : Option ℕ) (past : Past Message) → store.StandsFor images l own version past t
-          → store.IsStrictAt strict armed_of content synced written l own version armed passed past t
+          × store.IsStrictAt port layout own version (after_append armed) (passed_in armed) (after_step given past (store.message_stop number m)) new))
+          → IfOk r (λ given. (s : Situation) (disks : Disks) → IsAsked port plan s a (MessageEvent number) (Takes m) slot
+          → IsStrictSlot port plan s disks a slot → HasTriedStrictly port plan s disks a (MessageEvent number) (Store new) given)
+      store_called_strictly new (Err e) ok = tt
+      store_called_strictly new (Ok given) ok = λ s disks asked are.
+          let here : IsAsked port plan s a (MessageEvent number) (Takes m) (Store t) = there s asked in
+          store_tried_strictly port plan s a number m here.stands.kind here.sound here.up here.may (found s (Store t) here) disks new given
+          (subst (λ (l : Layout). (own : Actor) (version : ℕ) (armed passed : Option ℕ) (past : Past Message) → store.StandsFor port l own version past t
+          → store.IsStrictAt port l own version armed passed past t
           → (is_none given ≡ fails_append armed)
-          × store.IsStrictAt strict armed_of content synced written l own version (after_append armed) (passed_in armed) (after_step given past (store.message_stop number m)) new) layout_is ok
+          × store.IsStrictAt port l own version (after_append armed) (passed_in armed) (after_step given past (store.message_stop number m)) new) layout_is ok
           a plan.version (disks.armed a) (disks.passed a) (store_past (cluster_of plan) s a) here.stands.stands
-          (subst (λ (x : Slot D). IsStrictSlot strict armed_of content synced written plan s disks a x) is are))
+          (subst (λ (x : Slot D). IsStrictSlot port plan s disks a x) is are))

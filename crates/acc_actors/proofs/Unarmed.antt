@@ -2,7 +2,7 @@
 use Rattle.std.proofs.Common.{◌≡◌, ℕ, Bool, List, Option, None, sym, subst}
 use Rattle.acc_stamp.specs.declared.actors.Actor.{Actor}
 use Rattle.acc_stamp.specs.Actor.{actor_of}
-use Rattle.acc_ports.specs.Strict.{Ranges}
+use Rattle.acc_ports.specs.declared.disk.Disk.{Ghosts}
 use Rattle.acc_message.specs.declared.message.Message.{Message}
 use Rattle.acc_message.specs.declared.item.Item.{Item}
 use Rattle.acc_message.specs.NodeRules.{Act}
@@ -21,25 +21,25 @@ use Rattle.acc_actors.specs.declared.slot.Slot.TheVariants.{Node, Store}
 use Rattle.acc_actors.specs.Pasts.{node_past, store_past}
 use Rattle.acc_actors.specs.Slots.{IsStrictSlot}
 
-module _ {D : Type 0} (strict : D → Bool) (armed : D → Option ℕ) (content synced : D → List ℕ) (written : D → Ranges) (plan : Content) where
+module _ {D : Type 0} (port : Ghosts D) (plan : Content) where
   pub node_unarmed : (number start version : ℕ) (now : Option ℕ) (actor : NodeActor D) → start ≡ clock_start plan.starts number → version ≡ plan.version → now ≡ None
-      → ((passed : Option ℕ) (past : Past Act) → node.IsStrictAt strict armed content synced written plan.topology number start version now passed past actor)
-      → (earlier : List Item) → IsStrictSlot strict armed content synced written plan (opened earlier) fresh_disks (actor_of number 0) (Node actor)
+      → ((passed : Option ℕ) (past : Past Act) → node.IsStrictAt port plan.topology number start version now passed past actor)
+      → (earlier : List Item) → IsStrictSlot port plan (opened earlier) fresh_disks (actor_of number 0) (Node actor)
   node_unarmed number start version now actor started versioned unarmed strictly earlier =
-      subst (λ (m : ℕ). node.IsStrictAt strict armed content synced written plan.topology m (clock_start plan.starts m) plan.version None None past actor) (sym (node_is number))
-      (subst (λ (x : ℕ). node.IsStrictAt strict armed content synced written plan.topology number x plan.version None None past actor) started
-      (subst (λ (x : ℕ). node.IsStrictAt strict armed content synced written plan.topology number start x None None past actor) versioned
-      (subst (λ (x : Option ℕ). node.IsStrictAt strict armed content synced written plan.topology number start version x None past actor) unarmed (strictly None past))))
+      subst (λ (m : ℕ). node.IsStrictAt port plan.topology m (clock_start plan.starts m) plan.version None None past actor) (sym (node_is number))
+      (subst (λ (x : ℕ). node.IsStrictAt port plan.topology number x plan.version None None past actor) started
+      (subst (λ (x : ℕ). node.IsStrictAt port plan.topology number start x None None past actor) versioned
+      (subst (λ (x : Option ℕ). node.IsStrictAt port plan.topology number start version x None past actor) unarmed (strictly None past))))
     where
       past : Past Act
       past = node_past (cluster_of plan) (opened earlier) (actor_of number 0)
 
   pub store_unarmed : (own : Actor) (version : ℕ) (now : Option ℕ) (actor : StoreActor D) → version ≡ plan.version → now ≡ None
-      → ((passed : Option ℕ) (past : Past Message) → store.IsStrictAt strict armed content synced written plan.topology own version now passed past actor)
-      → (earlier : List Item) → IsStrictSlot strict armed content synced written plan (opened earlier) fresh_disks own (Store actor)
+      → ((passed : Option ℕ) (past : Past Message) → store.IsStrictAt port plan.topology own version now passed past actor)
+      → (earlier : List Item) → IsStrictSlot port plan (opened earlier) fresh_disks own (Store actor)
   store_unarmed own version now actor versioned unarmed strictly earlier =
-      subst (λ (x : ℕ). store.IsStrictAt strict armed content synced written plan.topology own x None None past actor) versioned
-      (subst (λ (x : Option ℕ). store.IsStrictAt strict armed content synced written plan.topology own version x None past actor) unarmed (strictly None past))
+      subst (λ (x : ℕ). store.IsStrictAt port plan.topology own x None None past actor) versioned
+      (subst (λ (x : Option ℕ). store.IsStrictAt port plan.topology own version x None past actor) unarmed (strictly None past))
     where
       past : Past Message
       past = store_past (cluster_of plan) (opened earlier) own

@@ -3,6 +3,7 @@ use Rattle.std.proofs.Common.{◌≡◌, ℕ, false, List, Result, Ok, Err, IfOk
 use Rattle.acc_stamp.specs.declared.actors.Actor.{Actor}
 use Rattle.acc_stamp.specs.Actor.{node_of}
 use Rattle.acc_topology.specs.Layout.{Layout}
+use Rattle.acc_ports.specs.declared.disk.Disk.{Ghosts}
 use Rattle.acc_message.specs.declared.message.Message.{Message}
 use Rattle.acc_message.specs.declared.entry.Emitted.{Emitted}
 use Rattle.acc_message.specs.declared.entry.Event.{Event}
@@ -30,16 +31,16 @@ use Rattle.acc_actors.specs.Pasts.{node_past}
 use Rattle.acc_actors.specs.Asked.{IsAsked, MayAsk}
 use Rattle.acc_actors.proofs.Few.{less_than, few_whole}
 
-module _ {D : Type 0} (images : D → List ℕ → Type 0) (faults : D → ℕ) (plan : Content) (a : Actor) (slot : Slot D) (layout : Layout) (layout_is : layout ≡ plan.topology) where
+module _ {D : Type 0} (port : Ghosts D) (plan : Content) (a : Actor) (slot : Slot D) (layout : Layout) (layout_is : layout ≡ plan.topology) where
   abbrev start : ℕ
   start = clock_start plan.starts (node_of a)
 
   -- what is asked of the actor may be done behind all that was entered
-  may_do : (s : Situation) (event : Event) (act : Act) (x : Slot D) → IsAsked images faults plan s a event act x → MayDo (cluster_of plan) (whole s) a act
+  may_do : (s : Situation) (event : Event) (act : Act) (x : Slot D) → IsAsked port plan s a event act x → MayDo (cluster_of plan) (whole s) a act
   may_do s event act x asked = record { event = event_in s event; act_is = asked.may.act_is; place = asked.may.place }
 
   -- what the rules give is what the entry has
-  is_entry : (s : Situation) (event : Event) (act : Act) (x : Slot D) (emitted : Emitted) → IsAsked images faults plan s a event act x → emits (cluster_of plan) (whole s) a act ≡ emitted
+  is_entry : (s : Situation) (event : Event) (act : Act) (x : Slot D) (emitted : Emitted) → IsAsked port plan s a event act x → emits (cluster_of plan) (whole s) a act ≡ emitted
       → weight_of_all emitted.out ≡ weight_of (entry_of (cluster_of plan) s a event false)
   is_entry s event act x emitted asked is =
       ap (λ (e : Emitted). weight_of_all e.out) (sym is ∙ ap (emits_if (cluster_of plan) (whole s) a) (sym asked.may.act_is))
@@ -47,17 +48,17 @@ module _ {D : Type 0} (images : D → List ℕ → Type 0) (faults : D → ℕ) 
   -- ---- a node
 
   module _ (n : NodeActor D) (is : slot ≡ Node n) where
-    there : (s : Situation) (event : Event) (act : Act) → IsAsked images faults plan s a event act slot → IsAsked images faults plan s a event act (Node n)
-    there s event act asked = subst (λ (x : Slot D). IsAsked images faults plan s a event act x) is asked
+    there : (s : Situation) (event : Event) (act : Act) → IsAsked port plan s a event act slot → IsAsked port plan s a event act (Node n)
+    there s event act asked = subst (λ (x : Slot D). IsAsked port plan s a event act x) is asked
 
-    pub node_may_weigh : (number : ℕ) (m : Message) → MayAsk images faults plan a (MessageEvent number) (Takes m) slot → NodeMayWeigh images layout n m
+    pub node_may_weigh : (number : ℕ) (m : Message) → MayAsk port plan a (MessageEvent number) (Takes m) slot → NodeMayWeigh port layout n m
     node_may_weigh number m may =
         let s : Situation = may.0 in
-        let asked : IsAsked images faults plan s a (MessageEvent number) (Takes m) (Node n) = there s (MessageEvent number) (Takes m) may.1 in
+        let asked : IsAsked port plan s a (MessageEvent number) (Takes m) (Node n) = there s (MessageEvent number) (Takes m) may.1 in
         let sends : AreSendable (node.emits_next plan.topology (node_of a) start (node_past (cluster_of plan) s a) (Takes m)).out =
         (node_meets (cluster_of plan) (whole s) a (sound_standing (cluster_of plan) s asked.sound) (few_whole s asked.few) asked.stands.kind).sends
         (Takes m) (may_do s (MessageEvent number) (Takes m) (Node n) asked) in
-        subst (λ (l : Layout). NodeMayWeigh images l n m) (sym layout_is) (record {
+        subst (λ (l : Layout). NodeMayWeigh port l n m) (sym layout_is) (record {
           number = node_of a;
           start = start;
           version = plan.version;
@@ -68,13 +69,13 @@ module _ {D : Type 0} (images : D → List ℕ → Type 0) (faults : D → ℕ) 
         })
 
     pub node_weighs : {E : Type 0} (event : Event) (act : Act) (r : Result ℕ E)
-        → IfOk r (λ weight. (number start version : ℕ) (past : Past Act) → node.StandsFor images layout number start version past n
+        → IfOk r (λ weight. (number start version : ℕ) (past : Past Act) → node.StandsFor port layout number start version past n
         → weight ≡ weight_of_all (node.emits_next layout number start past act).out)
-        → IfOk r (λ weight. (s : Situation) → IsAsked images faults plan s a event act slot → weight ≡ weight_of (entry_of (cluster_of plan) s a event false))
+        → IfOk r (λ weight. (s : Situation) → IsAsked port plan s a event act slot → weight ≡ weight_of (entry_of (cluster_of plan) s a event false))
     node_weighs event act (Err e) is_weight = tt
     node_weighs event act (Ok weight) is_weight = λ s asked.
-        let here : IsAsked images faults plan s a event act (Node n) = there s event act asked in
-        subst (λ (l : Layout). (number start version : ℕ) (past : Past Act) → node.StandsFor images l number start version past n
+        let here : IsAsked port plan s a event act (Node n) = there s event act asked in
+        subst (λ (l : Layout). (number start version : ℕ) (past : Past Act) → node.StandsFor port l number start version past n
         → weight ≡ weight_of_all (node.emits_next l number start past act).out) layout_is is_weight
         (node_of a) start plan.version (node_past (cluster_of plan) s a) here.stands.stands
         ∙ is_entry s event act (Node n) (node.emits_next plan.topology (node_of a) start (node_past (cluster_of plan) s a) act) here

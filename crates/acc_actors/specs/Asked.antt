@@ -2,7 +2,7 @@
 use Rattle.std.specs.Prelude.{◌≡◌, ℕ, ◌+◌, ◌<◌, ◌≤◌, ◌^◌, Bool, true, false, ◌&&◌, List, [], ◌∷◌, length, Option, None, Some, is_none}
 use Rattle.std.specs.List.{AllByRecursion}
 use Rattle.acc_stamp.specs.declared.actors.Actor.{Actor}
-use Rattle.acc_ports.specs.Strict.{Ranges}
+use Rattle.acc_ports.specs.declared.disk.Disk.{Ghosts}
 use Rattle.acc_message.specs.declared.entry.Event.{Event}
 use Rattle.acc_message.specs.declared.entry.Emitted.{Emitted}
 use Rattle.acc_message.specs.declared.item.Skip.{Skip}
@@ -40,10 +40,10 @@ abbrev pub IsFew : Situation → Type 0
 IsFew s = HasRoom s × (length s.own ≤ most_items)
 
 -- the actor in the slot is up, and may take the event
-pub record IsAsked {D : Type 0} (images : D → List ℕ → Type 0) (faults : D → ℕ) (plan : Content) (s : Situation) (a : Actor) (event : Event) (act : Act) (slot : Slot D) : Type 0 where
+pub record IsAsked {D : Type 0} (port : Ghosts D) (plan : Content) (s : Situation) (a : Actor) (event : Event) (act : Act) (slot : Slot D) : Type 0 where
   pub sound : IsSound (cluster_of plan) s
   pub few : IsFew s
-  pub stands : SlotStands images faults plan s a slot
+  pub stands : SlotStands port plan s a slot
   pub up : is_down a (whole s) ≡ false
   pub may : MayTake (cluster_of plan) (whole s) a (event_in s event) act
 
@@ -53,17 +53,17 @@ IsEmitted cluster s a event None = is_journalled a event ≡ true
 IsEmitted cluster s a event (Some emitted) = emitted ≡ emits_if cluster (whole s) a (act_of cluster (whole s) (event_in s event))
 
 -- the slot's actor took it, or went down by it
-pub record HasTried {D : Type 0} (images : D → List ℕ → Type 0) (faults : D → ℕ) (plan : Content) (s : Situation) (a : Actor) (event : Event) (slot : Slot D) (given : Option Emitted) : Type 0 where
+pub record HasTried {D : Type 0} (port : Ghosts D) (plan : Content) (s : Situation) (a : Actor) (event : Event) (slot : Slot D) (given : Option Emitted) : Type 0 where
   pub emitted : IsEmitted (cluster_of plan) s a event given
-  pub stands : SlotStands images faults plan (tried_if (is_none given) (cluster_of plan) s a event) a slot
+  pub stands : SlotStands port plan (tried_if (is_none given) (cluster_of plan) s a event) a slot
 
 -- over a strict disk, which fails just where its armed call is one of the append
-pub record HasTriedStrictly {D : Type 0} (strict : D → Bool) (armed : D → Option ℕ) (content synced : D → List ℕ) (written : D → Ranges) (plan : Content) (s : Situation) (disks : Disks) (a : Actor) (event : Event) (slot : Slot D) (given : Option Emitted) : Type 0 where
+pub record HasTriedStrictly {D : Type 0} (port : Ghosts D) (plan : Content) (s : Situation) (disks : Disks) (a : Actor) (event : Event) (slot : Slot D) (given : Option Emitted) : Type 0 where
   pub fails : is_none given ≡ (is_journalled a event && fails_append (disks.armed a))
-  pub strictly : IsStrictSlot strict armed content synced written plan (tried_if (is_none given) (cluster_of plan) s a event) (after_step (is_journalled a event) a disks) a slot
+  pub strictly : IsStrictSlot port plan (tried_if (is_none given) (cluster_of plan) s a event) (after_step (is_journalled a event) a disks) a slot
 
-abbrev pub MayAsk : {D : Type 0} → (D → List ℕ → Type 0) → (D → ℕ) → Content → Actor → Event → Act → Slot D → Type 0
-MayAsk images faults plan a event act slot = (s : Situation) × IsAsked images faults plan s a event act slot
+abbrev pub MayAsk : {D : Type 0} → Ghosts D → Content → Actor → Event → Act → Slot D → Type 0
+MayAsk port plan a event act slot = (s : Situation) × IsAsked port plan s a event act slot
 
 -- ---- groups
 
@@ -87,20 +87,20 @@ MayTakeEach cluster s a events =
     AllByRecursion (λ (event : Event). (act : Act) × MayTake cluster (whole s) a (event_in s event) act × (is_journalled a event ≡ true)) events
 
 -- the actor in the slot is up, and has taken these events behind its past, in memory alone
-pub record IsStaged {D : Type 0} (images : D → List ℕ → Type 0) (faults : D → ℕ) (plan : Content) (s : Situation) (a : Actor) (staged : List Event) (slot : Slot D) : Type 0 where
+pub record IsStaged {D : Type 0} (port : Ghosts D) (plan : Content) (s : Situation) (a : Actor) (staged : List Event) (slot : Slot D) : Type 0 where
   pub sound : IsSound (cluster_of plan) s
   pub few : IsFewBehind s staged
-  pub stands : SlotStages images faults plan s a staged slot
+  pub stands : SlotStages port plan s a staged slot
   pub up : is_down a (whole s) ≡ false
   pub each : MayTakeEach (cluster_of plan) s a staged
 
 -- behind these events it may take one more
-pub record IsAskedBehind {D : Type 0} (images : D → List ℕ → Type 0) (faults : D → ℕ) (plan : Content) (s : Situation) (a : Actor) (staged : List Event) (event : Event) (act : Act) (slot : Slot D) : Type 0 where
-  pub behind : IsStaged images faults plan s a staged slot
+pub record IsAskedBehind {D : Type 0} (port : Ghosts D) (plan : Content) (s : Situation) (a : Actor) (staged : List Event) (event : Event) (act : Act) (slot : Slot D) : Type 0 where
+  pub behind : IsStaged port plan s a staged slot
   pub may : MayTake (cluster_of plan) (whole s) a (event_in s event) act
 
-abbrev pub MayAskBehind : {D : Type 0} → (D → List ℕ → Type 0) → (D → ℕ) → Content → Actor → Event → Act → Slot D → Type 0
-MayAskBehind images faults plan a event act slot = (s : Situation) × (staged : List Event) × IsAskedBehind images faults plan s a staged event act slot
+abbrev pub MayAskBehind : {D : Type 0} → Ghosts D → Content → Actor → Event → Act → Slot D → Type 0
+MayAskBehind port plan a event act slot = (s : Situation) × (staged : List Event) × IsAskedBehind port plan s a staged event act slot
 
 -- what a group gives is what the rules say of each event, behind the entries of those before it
 abbrev pub AreGiven : Cluster → Situation → Actor → List Event → Option (List Unsent) → Type 0
@@ -113,21 +113,21 @@ settled_if true cluster s a events = stopped_by a events s
 settled_if false cluster s a events = entered_all cluster s a events false
 
 -- the slot's actor took all that was staged, or went down by it
-pub record HasSettled {D : Type 0} (images : D → List ℕ → Type 0) (faults : D → ℕ) (plan : Content) (s : Situation) (a : Actor) (staged : List Event) (slot : Slot D) (given : Option (List Unsent)) : Type 0 where
+pub record HasSettled {D : Type 0} (port : Ghosts D) (plan : Content) (s : Situation) (a : Actor) (staged : List Event) (slot : Slot D) (given : Option (List Unsent)) : Type 0 where
   pub given_are : AreGiven (cluster_of plan) s a staged given
-  pub stands : SlotStands images faults plan (settled_if (is_none given) (cluster_of plan) s a staged) a slot
+  pub stands : SlotStands port plan (settled_if (is_none given) (cluster_of plan) s a staged) a slot
 
 -- over a strict disk, which fails just where its armed call is one of the append
-pub record HasSettledStrictly {D : Type 0} (strict : D → Bool) (armed : D → Option ℕ) (content synced : D → List ℕ) (written : D → Ranges) (plan : Content) (s : Situation) (disks : Disks) (a : Actor) (staged : List Event) (slot : Slot D) (given : Option (List Unsent)) : Type 0 where
+pub record HasSettledStrictly {D : Type 0} (port : Ghosts D) (plan : Content) (s : Situation) (disks : Disks) (a : Actor) (staged : List Event) (slot : Slot D) (given : Option (List Unsent)) : Type 0 where
   pub fails : is_none given ≡ fails_append (disks.armed a)
-  pub strictly : IsStrictSlot strict armed content synced written plan (settled_if (is_none given) (cluster_of plan) s a staged) (after_step true a disks) a slot
+  pub strictly : IsStrictSlot port plan (settled_if (is_none given) (cluster_of plan) s a staged) (after_step true a disks) a slot
 
 -- ---- slowing
 
 -- the home of the transaction is up
-pub record IsHomeUp {D : Type 0} (images : D → List ℕ → Type 0) (faults : D → ℕ) (plan : Content) (s : Situation) (a : Actor) (txn : ℕ) (slot : Slot D) : Type 0 where
+pub record IsHomeUp {D : Type 0} (port : Ghosts D) (plan : Content) (s : Situation) (a : Actor) (txn : ℕ) (slot : Slot D) : Type 0 where
   pub sound : IsSound (cluster_of plan) s
-  pub stands : SlotStands images faults plan s a slot
+  pub stands : SlotStands port plan s a slot
   pub up : is_down a (whole s) ≡ false
   pub home : IsHomeOf (cluster_of plan) txn a
 
@@ -148,13 +148,13 @@ abbrev pub AreKeptSteps : Cluster → Situation → Actor → List Unsent → Ty
 AreKeptSteps cluster s a [] = Unit {0}
 AreKeptSteps cluster s a (unsent ∷ others) = AreSteps cluster s a (stopped_at a s.stopped) true (unsent ∷ others)
 
-abbrev pub HasRestartedAt : {D : Type 0} → (D → List ℕ → Type 0) → (D → ℕ) → Content → Situation → Actor → Restarted → Slot D → Type 0
-HasRestartedAt images faults plan s a (Up kept) slot =
-    AreKeptSteps (cluster_of plan) s a kept × SlotStands images faults plan (reopened (cluster_of plan) s a (kept_if (some kept) a s)) a slot
-HasRestartedAt images faults plan s a RestartedDown slot = SlotStands images faults plan (with_item (Down a) s) a slot
+abbrev pub HasRestartedAt : {D : Type 0} → Ghosts D → Content → Situation → Actor → Restarted → Slot D → Type 0
+HasRestartedAt port plan s a (Up kept) slot =
+    AreKeptSteps (cluster_of plan) s a kept × SlotStands port plan (reopened (cluster_of plan) s a (kept_if (some kept) a s)) a slot
+HasRestartedAt port plan s a RestartedDown slot = SlotStands port plan (with_item (Down a) s) a slot
 
-abbrev pub HasRestartedStrictlyAt : {D : Type 0} → (D → Bool) → (D → Option ℕ) → (D → List ℕ) → (D → List ℕ) → (D → Ranges) → Content → Situation → Disks → Actor → ℕ → Restarted → Slot D → Type 0
-HasRestartedStrictlyAt strict armed content synced written plan s disks a choice (Up kept) slot =
+abbrev pub HasRestartedStrictlyAt : {D : Type 0} → Ghosts D → Content → Situation → Disks → Actor → ℕ → Restarted → Slot D → Type 0
+HasRestartedStrictlyAt port plan s disks a choice (Up kept) slot =
     (kept_if (some kept) a s ≡ kept_if (keeps_group (disks.passed a) choice) a s)
-    × IsStrictSlot strict armed content synced written plan (reopened (cluster_of plan) s a (kept_if (some kept) a s)) (after_restart a disks) a slot
-HasRestartedStrictlyAt strict armed content synced written plan s disks a choice RestartedDown slot = ⊥
+    × IsStrictSlot port plan (reopened (cluster_of plan) s a (kept_if (some kept) a s)) (after_restart a disks) a slot
+HasRestartedStrictlyAt port plan s disks a choice RestartedDown slot = ⊥

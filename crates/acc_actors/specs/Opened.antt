@@ -1,6 +1,7 @@
 -- What an actor is that was opened, behind an earlier run.
 use Rattle.std.specs.Prelude.{◌≡◌, ℕ, Bool, List, Option, None, IsTrue}
 use Rattle.acc_stamp.specs.Actor.{actor_of}
+use Rattle.acc_ports.specs.declared.disk.Disk.{Ghosts}
 use Rattle.acc_message.specs.declared.item.Item.{Item}
 use Rattle.acc_message.specs.Run.{deeds_of, taken_of}
 use Rattle.acc_actor_laws.specs.TakenAlone.{messages_taken}
@@ -23,5 +24,5 @@ pub record HasTaken {D : Type 0} (plan : Content) (earlier : List Item) (t : Dur
   pub held : without_marks t.journal.payloads ≡ payloads_in (store.actor_in t) earlier
 
 -- a disk is strict, and nothing is armed there
-abbrev pub IsUnarmed : {D : Type 0} → (D → Bool) → (D → Option ℕ) → D → Type 0
-IsUnarmed strict armed disk = IsTrue (strict disk) × (armed disk ≡ None)
+abbrev pub IsUnarmed : {D : Type 0} → Ghosts D → D → Type 0
+IsUnarmed port disk = IsTrue (port.state disk).strict × ((port.state disk).armed ≡ None)

@@ -5,7 +5,7 @@
 use Rattle.std.specs.Prelude.{◌≡◌, ℕ, ◌≤◌, Bool, true, false, List, [], ◌∷◌, Option}
 use Rattle.acc_stamp.specs.declared.actors.Actor.{Actor}
 use Rattle.acc_stamp.specs.Actor.{node_of}
-use Rattle.acc_ports.specs.Strict.{Ranges}
+use Rattle.acc_ports.specs.declared.disk.Disk.{Ghosts}
 use Rattle.acc_message.specs.declared.entry.Event.{Event}
 use Rattle.acc_message.specs.declared.message.Message.{Message}
 use Rattle.acc_message.specs.Run.{clock_start, is_node, is_down}
@@ -24,49 +24,49 @@ use Rattle.acc_actors.specs.Pasts.{stops_in, store_stops, node_past, store_past}
 use Rattle.acc_actors.specs.declared.slot.Slot.{Slot}
 use Rattle.acc_actors.specs.declared.slot.Slot.TheVariants.{Empty, Node, Store}
 
-pub record NodeStands {D : Type 0} (images : D → List ℕ → Type 0) (faults : D → ℕ) (plan : Content) (s : Situation) (a : Actor) (n : NodeActor D) : Type 0 where
+pub record NodeStands {D : Type 0} (port : Ghosts D) (plan : Content) (s : Situation) (a : Actor) (n : NodeActor D) : Type 0 where
   pub kind : is_node a ≡ true
-  pub stands : node.StandsFor images plan.topology (node_of a) (clock_start plan.starts (node_of a)) plan.version (node_past (cluster_of plan) s a) n
+  pub stands : node.StandsFor port plan.topology (node_of a) (clock_start plan.starts (node_of a)) plan.version (node_past (cluster_of plan) s a) n
   pub down : node.is_down n ≡ is_down a (whole s)
-  pub counted : downs_in a s.own ≤ faults (node.disk_of n)
+  pub counted : downs_in a s.own ≤ (port.state (node.disk_of n)).faults
 
 -- it has taken the messages of the events behind its past, in memory alone
-pub record StoreStages {D : Type 0} (images : D → List ℕ → Type 0) (faults : D → ℕ) (plan : Content) (s : Situation) (a : Actor) (staged : List Event) (t : StoreActor D) : Type 0 where
+pub record StoreStages {D : Type 0} (port : Ghosts D) (plan : Content) (s : Situation) (a : Actor) (staged : List Event) (t : StoreActor D) : Type 0 where
   pub kind : is_node a ≡ false
-  pub stands : store.IsStaging images plan.topology a plan.version (store_past (cluster_of plan) s a) (store_stops (stops_in (cluster_of plan) s a staged false)) t
+  pub stands : store.IsStaging port plan.topology a plan.version (store_past (cluster_of plan) s a) (store_stops (stops_in (cluster_of plan) s a staged false)) t
   pub down : store.is_down t ≡ is_down a (whole s)
-  pub counted : downs_in a s.own ≤ faults (store.disk_of t)
+  pub counted : downs_in a s.own ≤ (port.state (store.disk_of t)).faults
 
-abbrev pub StoreStands : {D : Type 0} → (D → List ℕ → Type 0) → (D → ℕ) → Content → Situation → Actor → StoreActor D → Type 0
-StoreStands images faults plan s a t = StoreStages images faults plan s a [] t
+abbrev pub StoreStands : {D : Type 0} → Ghosts D → Content → Situation → Actor → StoreActor D → Type 0
+StoreStands port plan s a t = StoreStages port plan s a [] t
 
 -- a node stages nothing
-abbrev pub NodeStages : {D : Type 0} → (D → List ℕ → Type 0) → (D → ℕ) → Content → Situation → Actor → List Event → NodeActor D → Type 0
-NodeStages images faults plan s a [] n = NodeStands images faults plan s a n
-NodeStages images faults plan s a (event ∷ events) n = ⊥
+abbrev pub NodeStages : {D : Type 0} → Ghosts D → Content → Situation → Actor → List Event → NodeActor D → Type 0
+NodeStages port plan s a [] n = NodeStands port plan s a n
+NodeStages port plan s a (event ∷ events) n = ⊥
 
-abbrev pub SlotStages : {D : Type 0} → (D → List ℕ → Type 0) → (D → ℕ) → Content → Situation → Actor → List Event → Slot D → Type 0
-SlotStages images faults plan s a staged Empty = ⊥
-SlotStages images faults plan s a staged (Node n) = NodeStages images faults plan s a staged n
-SlotStages images faults plan s a staged (Store t) = StoreStages images faults plan s a staged t
+abbrev pub SlotStages : {D : Type 0} → Ghosts D → Content → Situation → Actor → List Event → Slot D → Type 0
+SlotStages port plan s a staged Empty = ⊥
+SlotStages port plan s a staged (Node n) = NodeStages port plan s a staged n
+SlotStages port plan s a staged (Store t) = StoreStages port plan s a staged t
 
-abbrev pub SlotStands : {D : Type 0} → (D → List ℕ → Type 0) → (D → ℕ) → Content → Situation → Actor → Slot D → Type 0
-SlotStands images faults plan s a slot = SlotStages images faults plan s a [] slot
+abbrev pub SlotStands : {D : Type 0} → Ghosts D → Content → Situation → Actor → Slot D → Type 0
+SlotStands port plan s a slot = SlotStages port plan s a [] slot
 
 -- the disk of the actor has counted so many faults
-abbrev pub faults_in : {D : Type 0} → (D → ℕ) → Slot D → ℕ
-faults_in faults Empty = 0
-faults_in faults (Node n) = faults (node.disk_of n)
-faults_in faults (Store t) = faults (store.disk_of t)
+abbrev pub faults_in : {D : Type 0} → Ghosts D → Slot D → ℕ
+faults_in port Empty = 0
+faults_in port (Node n) = (port.state (node.disk_of n)).faults
+faults_in port (Store t) = (port.state (store.disk_of t)).faults
 
 -- ---- over strict disks
 
-abbrev pub IsStrictSlot : {D : Type 0} → (D → Bool) → (D → Option ℕ) → (D → List ℕ) → (D → List ℕ) → (D → Ranges) → Content → Situation → Disks → Actor → Slot D → Type 0
-IsStrictSlot strict armed content synced written plan s disks a Empty = ⊥
-IsStrictSlot strict armed content synced written plan s disks a (Node n) =
-    node.IsStrictAt strict armed content synced written plan.topology (node_of a) (clock_start plan.starts (node_of a)) plan.version (disks.armed a) (disks.passed a) (node_past (cluster_of plan) s a) n
-IsStrictSlot strict armed content synced written plan s disks a (Store t) =
-    store.IsStrictAt strict armed content synced written plan.topology a plan.version (disks.armed a) (disks.passed a) (store_past (cluster_of plan) s a) t
+abbrev pub IsStrictSlot : {D : Type 0} → Ghosts D → Content → Situation → Disks → Actor → Slot D → Type 0
+IsStrictSlot port plan s disks a Empty = ⊥
+IsStrictSlot port plan s disks a (Node n) =
+    node.IsStrictAt port plan.topology (node_of a) (clock_start plan.starts (node_of a)) plan.version (disks.armed a) (disks.passed a) (node_past (cluster_of plan) s a) n
+IsStrictSlot port plan s disks a (Store t) =
+    store.IsStrictAt port plan.topology a plan.version (disks.armed a) (disks.passed a) (store_past (cluster_of plan) s a) t
 
 -- ---- by their numbers
 

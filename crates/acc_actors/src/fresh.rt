@@ -17,17 +17,17 @@ use acc_topology::NodeSpec;
 use std::alloc::Global;
 
 impl<D: Rig + Drop> Slot<D> {
-    ghost use Rattle.acc_journal.specs.Journal.{IsAtRest};
+    ghost use Rattle.acc_ports.specs.Disk.{IsAtRest};
     ghost use Rattle.acc_actors.specs.Slots.{SlotStands, IsStrictSlot};
 
     /// A node of the plan over a disk of its own, which holds the bytes 1 and 0, synced.
     pub fn fresh_node(alloc: Global, plan: &Plan, number: u32, disk: D) -> Slot<D>
         requires known { IsTrue (is_among plan.now.topology.nodes number) }
-        requires content { D.content disk ≡ 1 ∷ 0 ∷ [] }
-        requires rest { IsAtRest (D.content disk) (D.is_image disk) (D.strict disk) (D.synced disk) (D.written disk) }
-        ensures stands { SlotStands D.is_image D.faults plan.now (opened []) (actor_of number 0) result }
-        ensures strict { IsUnarmed D.strict D.armed disk
-            → IsStrictSlot D.strict D.armed D.content D.synced D.written plan.now (opened []) fresh_disks (actor_of number 0) result }
+        requires content { (D.state disk).content ≡ 1 ∷ 0 ∷ [] }
+        requires rest { IsAtRest (D.state disk) (D.is_image disk) }
+        ensures stands { SlotStands D.Disk plan.now (opened []) (actor_of number 0) result }
+        ensures strict { IsUnarmed D.Disk disk
+            → IsStrictSlot D.Disk plan.now (opened []) fresh_disks (actor_of number 0) result }
     {
         let start = start_of(plan.starts.as_slice(), number);
         let node = DurableNode::fresh(alloc, number, start, plan.version, disk);
@@ -37,11 +37,11 @@ impl<D: Rig + Drop> Slot<D> {
     /// A store over a disk of its own, which holds the bytes 1 and 0, synced.
     pub fn fresh_store(alloc: Global, plan: &Plan, actor: Actor, disk: D) -> Slot<D>
         requires kind { is_node actor ≡ false }
-        requires content { D.content disk ≡ 1 ∷ 0 ∷ [] }
-        requires rest { IsAtRest (D.content disk) (D.is_image disk) (D.strict disk) (D.synced disk) (D.written disk) }
-        ensures stands { SlotStands D.is_image D.faults plan.now (opened []) actor result }
-        ensures strict { IsUnarmed D.strict D.armed disk
-            → IsStrictSlot D.strict D.armed D.content D.synced D.written plan.now (opened []) fresh_disks actor result }
+        requires content { (D.state disk).content ≡ 1 ∷ 0 ∷ [] }
+        requires rest { IsAtRest (D.state disk) (D.is_image disk) }
+        ensures stands { SlotStands D.Disk plan.now (opened []) actor result }
+        ensures strict { IsUnarmed D.Disk disk
+            → IsStrictSlot D.Disk plan.now (opened []) fresh_disks actor result }
     {
         let store = DurableStore::fresh(alloc, actor, plan.version, disk);
         Slot::Store(StoreActor::opened(alloc, actor, plan.version, store))

@@ -1,7 +1,7 @@
 //! Where actors are kept, and what they are asked for there.
 ghost use Rattle.std.specs.Prelude.{◌≡◌, ◌≢◌, ℕ, ◌≤◌, ◌^◌, ◌<◌, Bool, true, false, not, Contains, IfOk, IfErr, OnErr, IfSome, is_none, Option as Maybe, Ok, Err, None, Some};
 ghost use Rattle.acc_stamp.specs.declared.actors.Actor.{Actor as AnActor};
-ghost use Rattle.acc_ports.specs.Faults.{Rose};
+ghost use Rattle.acc_ports.specs.Faults.{CountsFaults};
 ghost use Rattle.acc_message.specs.declared.message.Message.{Message as AMessage};
 ghost use Rattle.acc_message.specs.declared.entry.Event.{Event as AnEvent};
 ghost use Rattle.acc_message.specs.declared.item.Skip.{Skip as ASkip};
@@ -55,14 +55,13 @@ impl<D: Rig> Slot<D> {
         txn: u32,
         body: &Body,
     ) -> Result<Option<Emitted>, OutOfMemory>
-        requires { MayAsk D.is_image D.faults plan.now actor (AnEvent.Begin txn) (Begins txn body.now) self.old }
-        ensures ok { IfOk result (λ given. (s : Situation) → IsAsked D.is_image D.faults plan.now s actor (AnEvent.Begin txn) (Begins txn body.now) self.old
-            → HasTried D.is_image D.faults plan.now s actor (AnEvent.Begin txn) self.new given) }
-        ensures strict { IfOk result (λ given. (s : Situation) (disks : Disks) → IsAsked D.is_image D.faults plan.now s actor (AnEvent.Begin txn) (Begins txn body.now) self.old
-            → IsStrictSlot D.strict D.armed D.content D.synced D.written plan.now s disks actor self.old
-            → HasTriedStrictly D.strict D.armed D.content D.synced D.written plan.now s disks actor (AnEvent.Begin txn) self.new given) }
-        ensures counted { IfOk result (λ given. faults_in D.faults self.old ≤ faults_in D.faults self.new) }
-        ensures cause { result ≡ Ok None → Rose (faults_in D.faults self.old) (faults_in D.faults self.new) }
+        requires { MayAsk D.Disk plan.now actor (AnEvent.Begin txn) (Begins txn body.now) self.old }
+        ensures ok { IfOk result (λ given. (s : Situation) → IsAsked D.Disk plan.now s actor (AnEvent.Begin txn) (Begins txn body.now) self.old
+            → HasTried D.Disk plan.now s actor (AnEvent.Begin txn) self.new given) }
+        ensures strict { IfOk result (λ given. (s : Situation) (disks : Disks) → IsAsked D.Disk plan.now s actor (AnEvent.Begin txn) (Begins txn body.now) self.old
+            → IsStrictSlot D.Disk plan.now s disks actor self.old
+            → HasTriedStrictly D.Disk plan.now s disks actor (AnEvent.Begin txn) self.new given) }
+        ensures faults { CountsFaults (result ≡ Ok None) (faults_in D.Disk self.old) (faults_in D.Disk self.new) }
     {
         match self {
             Slot::Node(node) => node.begin(&plan.topology, txn, body),
@@ -79,14 +78,13 @@ impl<D: Rig> Slot<D> {
         id: TxnId,
         body: &Body,
     ) -> Result<Option<Emitted>, OutOfMemory>
-        requires { MayAsk D.is_image D.faults plan.now actor (AnEvent.Recover txn) (Recovers id body.now) self.old }
-        ensures ok { IfOk result (λ given. (s : Situation) → IsAsked D.is_image D.faults plan.now s actor (AnEvent.Recover txn) (Recovers id body.now) self.old
-            → HasTried D.is_image D.faults plan.now s actor (AnEvent.Recover txn) self.new given) }
-        ensures strict { IfOk result (λ given. (s : Situation) (disks : Disks) → IsAsked D.is_image D.faults plan.now s actor (AnEvent.Recover txn) (Recovers id body.now) self.old
-            → IsStrictSlot D.strict D.armed D.content D.synced D.written plan.now s disks actor self.old
-            → HasTriedStrictly D.strict D.armed D.content D.synced D.written plan.now s disks actor (AnEvent.Recover txn) self.new given) }
-        ensures counted { IfOk result (λ given. faults_in D.faults self.old ≤ faults_in D.faults self.new) }
-        ensures cause { result ≡ Ok None → Rose (faults_in D.faults self.old) (faults_in D.faults self.new) }
+        requires { MayAsk D.Disk plan.now actor (AnEvent.Recover txn) (Recovers id body.now) self.old }
+        ensures ok { IfOk result (λ given. (s : Situation) → IsAsked D.Disk plan.now s actor (AnEvent.Recover txn) (Recovers id body.now) self.old
+            → HasTried D.Disk plan.now s actor (AnEvent.Recover txn) self.new given) }
+        ensures strict { IfOk result (λ given. (s : Situation) (disks : Disks) → IsAsked D.Disk plan.now s actor (AnEvent.Recover txn) (Recovers id body.now) self.old
+            → IsStrictSlot D.Disk plan.now s disks actor self.old
+            → HasTriedStrictly D.Disk plan.now s disks actor (AnEvent.Recover txn) self.new given) }
+        ensures faults { CountsFaults (result ≡ Ok None) (faults_in D.Disk self.old) (faults_in D.Disk self.new) }
     {
         match self {
             Slot::Node(node) => node.recover(&plan.topology, txn, id, body),
@@ -96,18 +94,18 @@ impl<D: Rig> Slot<D> {
 
     /// The home gives the fast path of a transaction up. An error but that of memory is the cause for which a step is passed over.
     pub fn slow(&mut self, plan: &Plan, actor: Actor, txn: u32) -> Result<Emitted, NodeError>
-        requires { (s : Situation) × IsHomeUp D.is_image D.faults plan.now s actor txn self.old }
-        ensures ok { IfOk result (λ emitted. (s : Situation) → IsHomeUp D.is_image D.faults plan.now s actor txn self.old
-            → (skips_slow plan.now s txn ≡ None) × HasTried D.is_image D.faults plan.now s actor (AnEvent.Slow txn) self.new (Some emitted)) }
-        ensures refused { IfErr result (λ error. (s : Situation) → IsHomeUp D.is_image D.faults plan.now s actor txn self.old → IsSlowRefused plan.now s txn error) }
-        ensures as_before { OnErr result ((s : Situation) → IsHomeUp D.is_image D.faults plan.now s actor txn self.old → SlotStands D.is_image D.faults plan.now s actor self.new) }
-        ensures strict { IfOk result (λ emitted. (s : Situation) (disks : Disks) → IsHomeUp D.is_image D.faults plan.now s actor txn self.old
-            → IsStrictSlot D.strict D.armed D.content D.synced D.written plan.now s disks actor self.old
-            → HasTriedStrictly D.strict D.armed D.content D.synced D.written plan.now s disks actor (AnEvent.Slow txn) self.new (Some emitted)) }
-        ensures strict_as_before { OnErr result ((s : Situation) (disks : Disks) → IsHomeUp D.is_image D.faults plan.now s actor txn self.old
-            → IsStrictSlot D.strict D.armed D.content D.synced D.written plan.now s disks actor self.old
-            → IsStrictSlot D.strict D.armed D.content D.synced D.written plan.now s disks actor self.new) }
-        ensures faults { faults_in D.faults self.new ≡ faults_in D.faults self.old }
+        requires { (s : Situation) × IsHomeUp D.Disk plan.now s actor txn self.old }
+        ensures ok { IfOk result (λ emitted. (s : Situation) → IsHomeUp D.Disk plan.now s actor txn self.old
+            → (skips_slow plan.now s txn ≡ None) × HasTried D.Disk plan.now s actor (AnEvent.Slow txn) self.new (Some emitted)) }
+        ensures refused { IfErr result (λ error. (s : Situation) → IsHomeUp D.Disk plan.now s actor txn self.old → IsSlowRefused plan.now s txn error) }
+        ensures as_before { OnErr result ((s : Situation) → IsHomeUp D.Disk plan.now s actor txn self.old → SlotStands D.Disk plan.now s actor self.new) }
+        ensures strict { IfOk result (λ emitted. (s : Situation) (disks : Disks) → IsHomeUp D.Disk plan.now s actor txn self.old
+            → IsStrictSlot D.Disk plan.now s disks actor self.old
+            → HasTriedStrictly D.Disk plan.now s disks actor (AnEvent.Slow txn) self.new (Some emitted)) }
+        ensures strict_as_before { OnErr result ((s : Situation) (disks : Disks) → IsHomeUp D.Disk plan.now s actor txn self.old
+            → IsStrictSlot D.Disk plan.now s disks actor self.old
+            → IsStrictSlot D.Disk plan.now s disks actor self.new) }
+        ensures faults { faults_in D.Disk self.new ≡ faults_in D.Disk self.old }
     {
         match self {
             Slot::Node(node) => node.slow(&plan.topology, txn),
@@ -124,14 +122,13 @@ impl<D: Rig> Slot<D> {
         number: u64,
         m: &Message,
     ) -> Result<Option<Emitted>, OutOfMemory>
-        requires { MayAsk D.is_image D.faults plan.now actor (AnEvent.Message number) (Takes m.now) self.old }
-        ensures ok { IfOk result (λ given. (s : Situation) → IsAsked D.is_image D.faults plan.now s actor (AnEvent.Message number) (Takes m.now) self.old
-            → HasTried D.is_image D.faults plan.now s actor (AnEvent.Message number) self.new given) }
-        ensures strict { IfOk result (λ given. (s : Situation) (disks : Disks) → IsAsked D.is_image D.faults plan.now s actor (AnEvent.Message number) (Takes m.now) self.old
-            → IsStrictSlot D.strict D.armed D.content D.synced D.written plan.now s disks actor self.old
-            → HasTriedStrictly D.strict D.armed D.content D.synced D.written plan.now s disks actor (AnEvent.Message number) self.new given) }
-        ensures counted { IfOk result (λ given. faults_in D.faults self.old ≤ faults_in D.faults self.new) }
-        ensures cause { result ≡ Ok None → Rose (faults_in D.faults self.old) (faults_in D.faults self.new) }
+        requires { MayAsk D.Disk plan.now actor (AnEvent.Message number) (Takes m.now) self.old }
+        ensures ok { IfOk result (λ given. (s : Situation) → IsAsked D.Disk plan.now s actor (AnEvent.Message number) (Takes m.now) self.old
+            → HasTried D.Disk plan.now s actor (AnEvent.Message number) self.new given) }
+        ensures strict { IfOk result (λ given. (s : Situation) (disks : Disks) → IsAsked D.Disk plan.now s actor (AnEvent.Message number) (Takes m.now) self.old
+            → IsStrictSlot D.Disk plan.now s disks actor self.old
+            → HasTriedStrictly D.Disk plan.now s disks actor (AnEvent.Message number) self.new given) }
+        ensures faults { CountsFaults (result ≡ Ok None) (faults_in D.Disk self.old) (faults_in D.Disk self.new) }
     {
         messages_have_numbers_alone();
         match self {
@@ -143,7 +140,7 @@ impl<D: Rig> Slot<D> {
 
     /// Whether the actor is down.
     pub fn is_down(&self) -> bool
-        ensures { (plan : Content) (s : Situation) (a : AnActor) → SlotStands D.is_image D.faults plan s a self.now → result ≡ is_down a (whole s) }
+        ensures { (plan : Content) (s : Situation) (a : AnActor) → SlotStands D.Disk plan s a self.now → result ≡ is_down a (whole s) }
     {
         match self {
             Slot::Empty => true,
@@ -155,9 +152,9 @@ impl<D: Rig> Slot<D> {
     /// The store, where one is up.
     pub fn store(&self) -> Option<&Store>
         ensures taken { IfSome result (λ store. IsTaken self.now) }
-        ensures some { IfSome result (λ store. (plan : Content) (s : Situation) (a : AnActor) → IsSound (cluster_of plan) s → SlotStands D.is_image D.faults plan s a self.now
+        ensures some { IfSome result (λ store. (plan : Content) (s : Situation) (a : AnActor) → IsSound (cluster_of plan) s → SlotStands D.Disk plan s a self.now
             → (is_node a ≡ false) × (is_down a (whole s) ≡ false) × IsStoreOf plan s a store.now) }
-        ensures none { result ≡ None → (plan : Content) (s : Situation) (a : AnActor) → SlotStands D.is_image D.faults plan s a self.now
+        ensures none { result ≡ None → (plan : Content) (s : Situation) (a : AnActor) → SlotStands D.Disk plan s a self.now
             → is_node a ≡ false → is_down a (whole s) ≡ false → ⊥ }
     {
         match self {
@@ -168,10 +165,10 @@ impl<D: Rig> Slot<D> {
 
     /// Arms a call of the actor's disk.
     pub fn arm(&mut self, plan: &Plan, actor: Actor, calls: u64)
-        ensures stands { (s : Situation) → SlotStands D.is_image D.faults plan.now s actor self.old → SlotStands D.is_image D.faults plan.now s actor self.new }
-        ensures strict { (s : Situation) (disks : Disks) → IsStrictSlot D.strict D.armed D.content D.synced D.written plan.now s disks actor self.old
-            → IsStrictSlot D.strict D.armed D.content D.synced D.written plan.now s (after_fail actor calls disks) actor self.new }
-        ensures faults { faults_in D.faults self.new ≡ faults_in D.faults self.old }
+        ensures stands { (s : Situation) → SlotStands D.Disk plan.now s actor self.old → SlotStands D.Disk plan.now s actor self.new }
+        ensures strict { (s : Situation) (disks : Disks) → IsStrictSlot D.Disk plan.now s disks actor self.old
+            → IsStrictSlot D.Disk plan.now s (after_fail actor calls disks) actor self.new }
+        ensures faults { faults_in D.Disk self.new ≡ faults_in D.Disk self.old }
     {
         let _plan = plan;
         match self {
@@ -188,14 +185,13 @@ impl<D: Rig> Slot<D> {
         actor: Actor,
         choice: u8,
     ) -> (Slot<D>, Result<Restarted, OutOfMemory>)
-        requires { (s : Situation) × SlotStands D.is_image D.faults plan.now s actor self × Contains (actors plan.now.topology) actor }
-        ensures ok { IfOk result.1 (λ found. (s : Situation) → IsSound (cluster_of plan.now) s → IsFew s → SlotStands D.is_image D.faults plan.now s actor self
-            → HasRestartedAt D.is_image D.faults plan.now s actor found result.0) }
-        ensures strict { IfOk result.1 (λ found. (s : Situation) (disks : Disks) → IsSound (cluster_of plan.now) s → SlotStands D.is_image D.faults plan.now s actor self
-            → IsStrictSlot D.strict D.armed D.content D.synced D.written plan.now s disks actor self
-            → HasRestartedStrictlyAt D.strict D.armed D.content D.synced D.written plan.now s disks actor choice found result.0) }
-        ensures counted { IfOk result.1 (λ found. faults_in D.faults self ≤ faults_in D.faults result.0) }
-        ensures cause { result.1 ≡ Ok Restarted.Down → Rose (faults_in D.faults self) (faults_in D.faults result.0) }
+        requires { (s : Situation) × SlotStands D.Disk plan.now s actor self × Contains (actors plan.now.topology) actor }
+        ensures ok { IfOk result.1 (λ found. (s : Situation) → IsSound (cluster_of plan.now) s → IsFew s → SlotStands D.Disk plan.now s actor self
+            → HasRestartedAt D.Disk plan.now s actor found result.0) }
+        ensures strict { IfOk result.1 (λ found. (s : Situation) (disks : Disks) → IsSound (cluster_of plan.now) s → SlotStands D.Disk plan.now s actor self
+            → IsStrictSlot D.Disk plan.now s disks actor self
+            → HasRestartedStrictlyAt D.Disk plan.now s disks actor choice found result.0) }
+        ensures faults { CountsFaults (result.1 ≡ Ok Restarted.Down) (faults_in D.Disk self) (faults_in D.Disk result.0) }
     {
         match self {
             Slot::Empty => (Slot::Empty, Err(OutOfMemory)),

@@ -1,6 +1,6 @@
 //! Groups of messages that a store takes with one append.
 ghost use Rattle.std.specs.Prelude.{◌≡◌, ◌≢◌, ◌≤◌, false, List, [], ◌∷◌, ◌++◌, IfOk, OnOk, OnErr, Ok, None};
-ghost use Rattle.acc_ports.specs.Faults.{Rose};
+ghost use Rattle.acc_ports.specs.Faults.{CountsFaults};
 ghost use Rattle.acc_message.specs.declared.entry.Event.{Event as AnEvent};
 ghost use Rattle.acc_message.specs.NodeRules.{Takes};
 ghost use Rattle.acc_message_code.specs.Weight.{weight_of};
@@ -32,8 +32,8 @@ impl<D: Rig> Slot<D> {
         number: u64,
         m: &Message,
     ) -> Result<(u64, Prepared), OutOfMemory>
-        requires { MayAskBehind D.is_image D.faults plan.now actor (AnEvent.Message number) (Takes m.now) self.now }
-        ensures weight { IfOk result (λ found. (s : Situation) (staged : List AnEvent) → IsAskedBehind D.is_image D.faults plan.now s actor staged (AnEvent.Message number) (Takes m.now) self.now
+        requires { MayAskBehind D.Disk plan.now actor (AnEvent.Message number) (Takes m.now) self.now }
+        ensures weight { IfOk result (λ found. (s : Situation) (staged : List AnEvent) → IsAskedBehind D.Disk plan.now s actor staged (AnEvent.Message number) (Takes m.now) self.now
             → found.0 ≡ weight_of (entry_of (cluster_of plan.now) (entered_all (cluster_of plan.now) s actor staged false) actor (AnEvent.Message number) false)) }
         ensures prepared { IfOk result (λ found. IsPreparedIn plan.now self.now m.now found.1) }
     {
@@ -60,15 +60,15 @@ impl<D: Rig> Slot<D> {
         m: &Message,
         prepared: Prepared,
     ) -> Result<(), OutOfMemory>
-        requires may { MayAskBehind D.is_image D.faults plan.now actor (AnEvent.Message number) (Takes m.now) self.old }
+        requires may { MayAskBehind D.Disk plan.now actor (AnEvent.Message number) (Takes m.now) self.old }
         requires prepared { IsPreparedIn plan.now self.old m.now prepared }
-        ensures ok { OnOk result ((s : Situation) (staged : List AnEvent) → IsAskedBehind D.is_image D.faults plan.now s actor staged (AnEvent.Message number) (Takes m.now) self.old
-            → SlotStages D.is_image D.faults plan.now s actor (staged ++ AnEvent.Message number ∷ []) self.new) }
-        ensures err { OnErr result ((s : Situation) (staged : List AnEvent) → SlotStages D.is_image D.faults plan.now s actor staged self.old
-            → SlotStages D.is_image D.faults plan.now s actor staged self.new) }
-        ensures strict { (s : Situation) (disks : Disks) → IsStrictSlot D.strict D.armed D.content D.synced D.written plan.now s disks actor self.old
-            → IsStrictSlot D.strict D.armed D.content D.synced D.written plan.now s disks actor self.new }
-        ensures faults { faults_in D.faults self.new ≡ faults_in D.faults self.old }
+        ensures ok { OnOk result ((s : Situation) (staged : List AnEvent) → IsAskedBehind D.Disk plan.now s actor staged (AnEvent.Message number) (Takes m.now) self.old
+            → SlotStages D.Disk plan.now s actor (staged ++ AnEvent.Message number ∷ []) self.new) }
+        ensures err { OnErr result ((s : Situation) (staged : List AnEvent) → SlotStages D.Disk plan.now s actor staged self.old
+            → SlotStages D.Disk plan.now s actor staged self.new) }
+        ensures strict { (s : Situation) (disks : Disks) → IsStrictSlot D.Disk plan.now s disks actor self.old
+            → IsStrictSlot D.Disk plan.now s disks actor self.new }
+        ensures faults { faults_in D.Disk self.new ≡ faults_in D.Disk self.old }
     {
         messages_have_numbers_alone();
         let _actor = actor;
@@ -81,14 +81,13 @@ impl<D: Rig> Slot<D> {
     /// Appends all that is staged with one append, and gives it: it may be entered now. `None` where its disk failed, which takes the actor
     /// down; a restart then finds all of it or nothing.
     pub fn settle(&mut self, plan: &Plan, actor: Actor) -> Result<Option<Unsents>, OutOfMemory>
-        requires { (s : Situation) × (staged : List AnEvent) × IsStaged D.is_image D.faults plan.now s actor staged self.old }
-        ensures ok { IfOk result (λ given. (s : Situation) (staged : List AnEvent) → IsStaged D.is_image D.faults plan.now s actor staged self.old
-            → HasSettled D.is_image D.faults plan.now s actor staged self.new given) }
-        ensures strict { IfOk result (λ given. (s : Situation) (staged : List AnEvent) (disks : Disks) → IsStaged D.is_image D.faults plan.now s actor staged self.old → staged ≢ []
-            → IsStrictSlot D.strict D.armed D.content D.synced D.written plan.now s disks actor self.old
-            → HasSettledStrictly D.strict D.armed D.content D.synced D.written plan.now s disks actor staged self.new given) }
-        ensures counted { IfOk result (λ given. faults_in D.faults self.old ≤ faults_in D.faults self.new) }
-        ensures cause { result ≡ Ok None → Rose (faults_in D.faults self.old) (faults_in D.faults self.new) }
+        requires { (s : Situation) × (staged : List AnEvent) × IsStaged D.Disk plan.now s actor staged self.old }
+        ensures ok { IfOk result (λ given. (s : Situation) (staged : List AnEvent) → IsStaged D.Disk plan.now s actor staged self.old
+            → HasSettled D.Disk plan.now s actor staged self.new given) }
+        ensures strict { IfOk result (λ given. (s : Situation) (staged : List AnEvent) (disks : Disks) → IsStaged D.Disk plan.now s actor staged self.old → staged ≢ []
+            → IsStrictSlot D.Disk plan.now s disks actor self.old
+            → HasSettledStrictly D.Disk plan.now s disks actor staged self.new given) }
+        ensures faults { CountsFaults (result ≡ Ok None) (faults_in D.Disk self.old) (faults_in D.Disk self.new) }
     {
         let _plan = plan;
         let _actor = actor;

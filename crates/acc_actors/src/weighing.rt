@@ -27,8 +27,8 @@ impl<D: Rig> Slot<D> {
         txn: u32,
         body: &Body,
     ) -> Result<u64, OutOfMemory>
-        requires { MayAsk D.is_image D.faults plan.now actor (AnEvent.Begin txn) (Begins txn body.now) self.now }
-        ensures { IfOk result (λ weight. (s : Situation) → IsAsked D.is_image D.faults plan.now s actor (AnEvent.Begin txn) (Begins txn body.now) self.now
+        requires { MayAsk D.Disk plan.now actor (AnEvent.Begin txn) (Begins txn body.now) self.now }
+        ensures { IfOk result (λ weight. (s : Situation) → IsAsked D.Disk plan.now s actor (AnEvent.Begin txn) (Begins txn body.now) self.now
             → weight ≡ weight_of (entry_of (cluster_of plan.now) s actor (AnEvent.Begin txn) false)) }
     {
         let _actor = actor;
@@ -47,8 +47,8 @@ impl<D: Rig> Slot<D> {
         id: TxnId,
         body: &Body,
     ) -> Result<u64, OutOfMemory>
-        requires { MayAsk D.is_image D.faults plan.now actor (AnEvent.Recover txn) (Recovers id body.now) self.now }
-        ensures { IfOk result (λ weight. (s : Situation) → IsAsked D.is_image D.faults plan.now s actor (AnEvent.Recover txn) (Recovers id body.now) self.now
+        requires { MayAsk D.Disk plan.now actor (AnEvent.Recover txn) (Recovers id body.now) self.now }
+        ensures { IfOk result (λ weight. (s : Situation) → IsAsked D.Disk plan.now s actor (AnEvent.Recover txn) (Recovers id body.now) self.now
             → weight ≡ weight_of (entry_of (cluster_of plan.now) s actor (AnEvent.Recover txn) false)) }
     {
         let _actor = actor;
@@ -67,8 +67,8 @@ impl<D: Rig> Slot<D> {
         number: u64,
         m: &Message,
     ) -> Result<u64, OutOfMemory>
-        requires { MayAskBehind D.is_image D.faults plan.now actor (AnEvent.Message number) (Takes m.now) self.now }
-        ensures { IfOk result (λ weight. (s : Situation) (staged : List AnEvent) → IsAskedBehind D.is_image D.faults plan.now s actor staged (AnEvent.Message number) (Takes m.now) self.now
+        requires { MayAskBehind D.Disk plan.now actor (AnEvent.Message number) (Takes m.now) self.now }
+        ensures { IfOk result (λ weight. (s : Situation) (staged : List AnEvent) → IsAskedBehind D.Disk plan.now s actor staged (AnEvent.Message number) (Takes m.now) self.now
             → weight ≡ weight_of (entry_of (cluster_of plan.now) (entered_all (cluster_of plan.now) s actor staged false) actor (AnEvent.Message number) false)) }
     {
         messages_have_numbers_alone();

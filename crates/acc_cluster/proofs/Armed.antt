@@ -3,7 +3,7 @@ use Rattle.std.proofs.Common.{◌≡◌, ℕ, ◌<◌, Bool, List, Option, Some,
 use Rattle.std.specs.List.{slice_index_or}
 use Rattle.std.proofs.Math.ListN.{set}
 use Rattle.acc_stamp.specs.declared.actors.Actor.{Actor}
-use Rattle.acc_ports.specs.Strict.{Ranges}
+use Rattle.acc_ports.specs.declared.disk.Disk.{Ghosts}
 use Rattle.acc_schedule.specs.Actors.{actors}
 use Rattle.acc_schedule.specs.Content.{Content}
 use Rattle.acc_schedule_runs.specs.Situations.{Situation}
@@ -31,16 +31,16 @@ module _ {D : Type 0} (plan : Content) (old : Cluster D) (slots : List (Slot D))
   apart : AllApart plan s s a
   apart b e = apart_itself (cluster_of plan) s b
 
-  pub armed_stands : (images : D → List ℕ → Type 0) (faults : D → ℕ) → (SlotStands images faults plan s a slot → SlotStands images faults plan s a new_slot)
-      → StandsFor images faults plan old s → AreActors images faults plan slots s
-  armed_stands images faults stands h =
-      actors_written plan old.slots.items slots s s a new_slot written known apart images faults h.actors
-      (stands (subst (λ (x : Slot D). SlotStands images faults plan s a x) (sym slot_is) (h.actors.each a known)))
+  pub armed_stands : (port : Ghosts D) → (SlotStands port plan s a slot → SlotStands port plan s a new_slot)
+      → StandsFor port plan old s → AreActors port plan slots s
+  armed_stands port stands h =
+      actors_written plan old.slots.items slots s s a new_slot written known apart port h.actors
+      (stands (subst (λ (x : Slot D). SlotStands port plan s a x) (sym slot_is) (h.actors.each a known)))
 
-  pub armed_strictly : (strict : D → Bool) (armed : D → Option ℕ) (content synced : D → List ℕ) (written_of : D → Ranges) (disks : Disks) (calls : ℕ)
-      → (IsStrictSlot strict armed content synced written_of plan s disks a slot → IsStrictSlot strict armed content synced written_of plan s (after_fail a calls disks) a new_slot)
-      → AreStrict strict armed content synced written_of plan old.slots.items s disks → AreStrict strict armed content synced written_of plan slots s (after_fail a calls disks)
-  armed_strictly strict armed content synced written_of disks calls strictly are =
-      strict_written plan old.slots.items slots s s a new_slot written known apart strict armed content synced written_of disks (after_fail a calls disks)
+  pub armed_strictly : (port : Ghosts D) (disks : Disks) (calls : ℕ)
+      → (IsStrictSlot port plan s disks a slot → IsStrictSlot port plan s (after_fail a calls disks) a new_slot)
+      → AreStrict port plan old.slots.items s disks → AreStrict port plan slots s (after_fail a calls disks)
+  armed_strictly port disks calls strictly are =
+      strict_written plan old.slots.items slots s s a new_slot written known apart port disks (after_fail a calls disks)
       (λ b e. (entry_other a b (Some calls) disks.armed (turned a b e), refl)) are
-      (strictly (subst (λ (x : Slot D). IsStrictSlot strict armed content synced written_of plan s disks a x) (sym slot_is) (are a known)))
+      (strictly (subst (λ (x : Slot D). IsStrictSlot port plan s disks a x) (sym slot_is) (are a known)))

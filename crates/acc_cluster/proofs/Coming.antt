@@ -1,7 +1,7 @@
 -- How far a drain has come: the invariant of its loop.
 use Rattle.std.proofs.Common.{◌≡◌, ℕ, suc, ◌<◌, ◌≤◌, Bool, true, false, ◌&&◌, List, [], ◌∷◌, Option, None, Contains, length, refl, sym, ◌∙◌, ap, subst, inl, inr, arith}
 use Rattle.acc_stamp.specs.declared.actors.Actor.{Actor}
-use Rattle.acc_ports.specs.Strict.{Ranges}
+use Rattle.acc_ports.specs.declared.disk.Disk.{Ghosts}
 use Rattle.acc_message.specs.declared.entry.Event.{Event}
 use Rattle.acc_message.specs.declared.entry.Event.TheVariants.{Message as MessageEvent}
 use Rattle.acc_message.specs.declared.error.Which.{Which}
@@ -32,24 +32,24 @@ abbrev pub over : Situation → Disks → StrictSituation
 over s disks = record { found = s; disks = disks }
 
 -- no count of faults has fallen
-abbrev pub NoneFell : {D : Type 0} → (D → ℕ) → Content → Cluster D → Cluster D → Type 0
-NoneFell faults plan old now = (a : Actor) → Contains (actors plan.topology) a → faults_at faults old a ≤ faults_at faults now a
+abbrev pub NoneFell : {D : Type 0} → Ghosts D → Content → Cluster D → Cluster D → Type 0
+NoneFell port plan old now = (a : Actor) → Contains (actors plan.topology) a → faults_at port old a ≤ faults_at port now a
 
 -- with some answers, and whatever is answered later
 abbrev pub HasComeBy : RunCluster → Situation → Situation → Answers → Type 0
 HasComeBy cluster reached s answers =
     (other : Answers) × AgreeBelow answers other (length s.own) × ((more : Answers) → AgreeBelow other more (length reached.own) → DrainsTo cluster more reached s)
 
-pub record HasCome {D : Type 0} (images : D → List ℕ → Type 0) (faults : D → ℕ) (strict : D → Bool) (armed : D → Option ℕ) (content synced : D → List ℕ) (written : D → Ranges) (plan : Content) (old now : Cluster D) (s : Situation) : Type 0 where
+pub record HasCome {D : Type 0} (port : Ghosts D) (plan : Content) (old now : Cluster D) (s : Situation) : Type 0 where
   pub reached : Situation
-  pub stands : StandsFor images faults plan now reached
-  pub counted : NoneFell faults plan old now
-  pub rose : RoseByDowns faults plan old now s reached
+  pub stands : StandsFor port plan now reached
+  pub counted : NoneFell port plan old now
+  pub rose : RoseByDowns port plan old now s reached
   pub grows : length s.own ≤ length reached.own
   pub answered : (answers : Answers) → HasComeBy (cluster_of plan) reached s answers
   pub strictly :
-      (disks : Disks) → AreStrict strict armed content synced written plan old.slots.items s disks
-      → (later : Disks) × StrictlyDrainsTo (cluster_of plan) (over reached later) (over s disks) × AreStrict strict armed content synced written plan now.slots.items reached later
+      (disks : Disks) → AreStrict port plan old.slots.items s disks
+      → (later : Disks) × StrictlyDrainsTo (cluster_of plan) (over reached later) (over s disks) × AreStrict port plan now.slots.items reached later
 
 -- ---- answers
 
@@ -109,23 +109,23 @@ come_further cluster reached s message fails grows oldest may answers come = (
         (ap (λ b. tried_if (is_journalled a event && b) cluster reached a event) at ∙ ap (λ b. tried_if b cluster reached a event) (only_journalled (is_journalled a event) fails may))
         (one_more cluster more reached message oldest s (come.2 more so_far))
 
-module _ {D : Type 0} (images : D → List ℕ → Type 0) (faults : D → ℕ) (strict : D → Bool) (armed : D → Option ℕ) (content synced : D → List ℕ) (written : D → Ranges)
+module _ {D : Type 0} (port : Ghosts D)
     (plan : Content) (old : Cluster D) (s : Situation) where
   -- ---- at the start
 
-  pub start : StandsFor images faults plan old s → HasCome images faults strict armed content synced written plan old old s
+  pub start : StandsFor port plan old s → HasCome port plan old old s
   start stands =
       record {
         reached = s;
         stands = stands;
-        counted = λ a there. at_most (faults_at faults old a);
+        counted = λ a there. at_most (faults_at port old a);
         rose = λ a there. inl refl;
         grows = at_most (length s.own);
         answered = λ answers. (answers, λ place below. (refl, refl), λ more agree. comes s refl);
         strictly = λ disks are. (disks, comes_strictly (over s disks) refl, are);
       }
 
-  module _ (now : Cluster D) (come : HasCome images faults strict armed content synced written plan old now s) where
+  module _ (now : Cluster D) (come : HasCome port plan old now s) where
     -- ---- one delivery more
 
     -- over strict disks
@@ -143,8 +143,8 @@ module _ {D : Type 0} (images : D → List ℕ → Type 0) (faults : D → ℕ) 
         (sym is) (one_more_strictly (cluster_of plan) (over come.reached later) message oldest (over s disks) path)
 
     pub come_on : (new : Cluster D) (message : ℕ) → IsOldestWaiting come.reached message
-        → HasStepped images faults strict armed content synced written plan None 0 (receiver_in come.reached message) (MessageEvent message) now new come.reached
-        → NoneFell faults plan now new → HasCome images faults strict armed content synced written plan old new s
+        → HasStepped port plan None 0 (receiver_in come.reached message) (MessageEvent message) now new come.reached
+        → NoneFell port plan now new → HasCome port plan old new s
     come_on new message oldest stepped none_fell =
         let a : Actor = receiver_in come.reached message in
         let event : Event = MessageEvent message in
@@ -152,9 +152,9 @@ module _ {D : Type 0} (images : D → List ℕ → Type 0) (faults : D → ℕ) 
         record {
           reached = next;
           stands = stepped.stands;
-          counted = λ b there. most_on (faults_at faults old b) (faults_at faults now b) (faults_at faults new b) (come.counted b there) (none_fell b there);
+          counted = λ b there. most_on (faults_at port old b) (faults_at port now b) (faults_at port new b) (come.counted b there) (none_fell b there);
           rose = λ b there.
-              rose_on (faults_at faults old b) (faults_at faults now b) (faults_at faults new b) (downs_in b s.own) (downs_in b come.reached.own) (downs_in b next.own)
+              rose_on (faults_at port old b) (faults_at port now b) (faults_at port new b) (downs_in b s.own) (downs_in b come.reached.own) (downs_in b next.own)
               (come.counted b there) (none_fell b there) (come.rose b there) (stepped.rose b there);
           grows = most_on (length s.own) (length come.reached.own) (length next.own) come.grows (next_most (longer stepped.fails (cluster_of plan) come.reached a event));
           answered = λ answers. come_further (cluster_of plan) come.reached s message stepped.fails come.grows oldest stepped.may answers (come.answered answers);
@@ -169,7 +169,7 @@ module _ {D : Type 0} (images : D → List ℕ → Type 0) (faults : D → ℕ) 
 
     -- ---- the end
 
-    pub has_drained : NothingWaits come.reached → HasDrained images faults strict armed content synced written plan old now s
+    pub has_drained : NothingWaits come.reached → HasDrained port plan old now s
     has_drained none =
         record {
           next = come.reached;
@@ -190,22 +190,22 @@ module _ {D : Type 0} (images : D → List ℕ → Type 0) (faults : D → ℕ) 
     at_front P Q f items which limit h = record { next = h.next; front = f (h.next ∷ items) h.front; within = h.within; passed = h.passed }
 
     module _ (message : ℕ) (oldest : IsOldestWaiting come.reached message) (which : Which) (limit : ℕ)
-        (hits : HitsLimit strict armed content synced written plan None 0 (receiver_in come.reached message) (MessageEvent message) now come.reached which limit) where
+        (hits : HitsLimit port plan None 0 (receiver_in come.reached message) (MessageEvent message) now come.reached which limit) where
       abbrev HitsAt : Bool → Type 0
       HitsAt fails =
           EndsAt (λ front. front ≡ (tried_if fails (cluster_of plan) come.reached (receiver_in come.reached message) (MessageEvent message)).own) come.reached.own which limit
 
-      unfailing : HitsLimit strict armed content synced written plan None 0 (receiver_in come.reached message) (MessageEvent message) now come.reached which limit → HitsAt false
+      unfailing : HitsLimit port plan None 0 (receiver_in come.reached message) (MessageEvent message) now come.reached which limit → HitsAt false
       unfailing (inl all) = all false
       unfailing (inr known) = known.0
 
-      by_disks : HitsLimit strict armed content synced written plan None 0 (receiver_in come.reached message) (MessageEvent message) now come.reached which limit
-          → (later : Disks) → AreStrict strict armed content synced written plan now.slots.items come.reached later
+      by_disks : HitsLimit port plan None 0 (receiver_in come.reached message) (MessageEvent message) now come.reached which limit
+          → (later : Disks) → AreStrict port plan now.slots.items come.reached later
           → HitsAt (fails_strictly later (receiver_in come.reached message) (MessageEvent message))
       by_disks (inl all) later are = all (fails_strictly later (receiver_in come.reached message) (MessageEvent message))
       by_disks (inr known) later are = subst (λ b. HitsAt b) (sym (known.1 later are refl)) known.0
 
-      pub hits_in_drain : HitsLimitInDrain strict armed content synced written plan old s which limit
+      pub hits_in_drain : HitsLimitInDrain port plan old s which limit
       hits_in_drain =
           record {
             items = come.reached.own;

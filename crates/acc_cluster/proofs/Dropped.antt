@@ -2,7 +2,7 @@
 use Rattle.std.proofs.Common.{◌≡◌, ℕ, ◌<◌, ◌≤◌, nat_lt, Bool, true, false, List, ◌∷◌, Option, None, Some, Result, IfErr, IsErrAnd, length, refl, sym, ◌∙◌, ap, subst, inl, arith}
 use Rattle.std.proofs.lemmas.Bool.Decides.{nat_tests}
 use Rattle.acc_stamp.specs.declared.actors.Actor.{Actor}
-use Rattle.acc_ports.specs.Strict.{Ranges}
+use Rattle.acc_ports.specs.declared.disk.Disk.{Ghosts}
 use Rattle.acc_message.specs.declared.entry.Event.{Event}
 use Rattle.acc_message.specs.declared.error.Which.{Which}
 use Rattle.acc_message.specs.declared.error.Which.TheVariants.{Items}
@@ -58,48 +58,48 @@ nothing_sent plan s message sent is none =
     not_sent true e = let found = message_there s.own message e in absurd (not_none found.0 (sym none ∙ found.1))
     not_sent false e = e
 
-module _ {D : Type 0} (images : D → List ℕ → Type 0) (faults : D → ℕ) (strict : D → Bool) (armed : D → Option ℕ) (content synced : D → List ℕ) (written : D → Ranges)
+module _ {D : Type 0} (port : Ghosts D)
     (plan : Content) (number message : ℕ) (old new : Cluster D) (s : Situation) where
-  pub changed_dropped : StandsFor images faults plan old s → message < length (sent_of s.own) → history.StandsFor new.history (history.with_dropped message s)
+  pub changed_dropped : StandsFor port plan old s → message < length (sent_of s.own) → history.StandsFor new.history (history.with_dropped message s)
       → history.IsWeighed new.history (history.with_dropped message s) → new.slots.items ≡ old.slots.items
-      → HasChanged images faults strict armed content synced written plan old new s (dropped_unless (message_skip s message) number s message)
+      → HasChanged port plan old new s (dropped_unless (message_skip s message) number s message)
   changed_dropped h less stands weighed same =
-      subst (λ (skip : Option Skip). HasChanged images faults strict armed content synced written plan old new s (dropped_unless skip number s message))
+      subst (λ (skip : Option Skip). HasChanged port plan old new s (dropped_unless skip number s message))
       (sym (message_skip_is (cluster_of plan) s message true (less_is message (length (sent_of s.own)) less)))
       (record {
         stands = record {
           sound = sound_dropped (cluster_of plan) s message h.sound;
           room = h.room;
           past = record { stands = stands; weighed = weighed; within = h.past.within };
-          actors = actors_same plan new.slots.items s (history.with_dropped message s) apart images faults (subst (λ (slots : List (Slot D)). AreActors images faults plan slots s) (sym same) h.actors);
+          actors = actors_same plan new.slots.items s (history.with_dropped message s) apart port (subst (λ (slots : List (Slot D)). AreActors port plan slots s) (sym same) h.actors);
         };
         rose = λ b known. inl refl;
         strictly = λ disks are.
-            strict_same plan new.slots.items s (history.with_dropped message s) apart strict armed content synced written disks
-            (subst (λ (slots : List (Slot D)). AreStrict strict armed content synced written plan slots s disks) (sym same) are);
+            strict_same plan new.slots.items s (history.with_dropped message s) apart port disks
+            (subst (λ (slots : List (Slot D)). AreStrict port plan slots s disks) (sym same) are);
       })
     where
       apart : (b : Actor) → IsApart (cluster_of plan) s (history.with_dropped message s) b
       apart b = record { untouched = record { deeds = refl; payloads = refl; downs = refl; down = refl; ends = refl }; stop = stops_same (cluster_of plan) b (stopped_at b s.stopped) s (message ∷ s.dropped) s.stopped true; downs = refl }
 
   pub changed_skipped : (cause : Skip) (a : Actor) (event : Event) → message_skip s message ≡ Some cause
-      → HasStepped images faults strict armed content synced written plan (Some cause) number a event old new s
-      → HasChanged images faults strict armed content synced written plan old new s (dropped_unless (message_skip s message) number s message)
+      → HasStepped port plan (Some cause) number a event old new s
+      → HasChanged port plan old new s (dropped_unless (message_skip s message) number s message)
   changed_skipped cause a event is h =
-      subst (λ (skip : Option Skip). HasChanged images faults strict armed content synced written plan old new s (dropped_unless skip number s message)) (sym is)
+      subst (λ (skip : Option Skip). HasChanged port plan old new s (dropped_unless skip number s message)) (sym is)
       (record { stands = h.stands; rose = h.rose; strictly = λ disks are. (h.strictly disks are).1 })
 
 -- a limit ends the run before the skip
-abbrev pub EndsDropped : {D : Type 0} → (D → List ℕ → Type 0) → (D → ℕ) → Content → ℕ → ℕ → Cluster D → Which → ℕ → Type 0
-EndsDropped images faults plan number message old which limit =
-    (s : Situation) → StandsFor images faults plan old s → EndsAt (λ front. front ≡ (dropped_unless (message_skip s message) number s message).own) s.own which limit
+abbrev pub EndsDropped : {D : Type 0} → Ghosts D → Content → ℕ → ℕ → Cluster D → Which → ℕ → Type 0
+EndsDropped port plan number message old which limit =
+    (s : Situation) → StandsFor port plan old s → EndsAt (λ front. front ≡ (dropped_unless (message_skip s message) number s message).own) s.own which limit
 
 -- no place for the skip
-pub drop_refused : {D T : Type 0} (images : D → List ℕ → Type 0) (faults : D → ℕ) (plan : Content) (number message sent : ℕ) (old : Cluster D) (r : Result T RunError) (e : RunError)
+pub drop_refused : {D T : Type 0} (port : Ghosts D) (plan : Content) (number message sent : ℕ) (old : Cluster D) (r : Result T RunError) (e : RunError)
     → ((s : Situation) → history.StandsFor old.history s → sent ≡ length (sent_of s.own)) → sent ≤ message → IsErrAnd r (λ y. y ≡ e)
     → (e ≡ Limit Items most_items) × ((s : Situation) → history.StandsFor old.history s → most_items ≤ length s.own)
-    → IfErr r (IfLimit (λ which limit. (s : Situation) → StandsFor images faults plan old s → EndsAt (λ front. front ≡ (dropped_unless (message_skip s message) number s message).own) s.own which limit))
-drop_refused images faults plan number message sent old r e sent_is more is told =
-    exit_is r e (IfLimit (EndsDropped images faults plan number message old)) is (subst (IfLimit (EndsDropped images faults plan number message old)) (sym told.0) (λ s h.
+    → IfErr r (IfLimit (λ which limit. (s : Situation) → StandsFor port plan old s → EndsAt (λ front. front ≡ (dropped_unless (message_skip s message) number s message).own) s.own which limit))
+drop_refused port plan number message sent old r e sent_is more is told =
+    exit_is r e (IfLimit (EndsDropped port plan number message old)) is (subst (IfLimit (EndsDropped port plan number message old)) (sym told.0) (λ s h.
     subst (λ (skip : Option Skip). EndsAt (λ front. front ≡ (dropped_unless skip number s message).own) s.own Items most_items) (sym (none_sent plan s message sent (sent_is s h.past.stands) more))
     (full_at s (Skipped number (NoMessage message sent)) h.past.within (told.1 s h.past.stands))))

@@ -5,8 +5,8 @@ use Rattle.std.proofs.lemmas.List.Elements.{Contains-append_cases}
 use Rattle.std.specs.List.{AllByRecursion, list_any, slice_index_or}
 use Rattle.acc_stamp.specs.declared.actors.Actor.{Actor}
 use Rattle.acc_stamp.specs.Actor.{actor_of}
-use Rattle.acc_ports.specs.Strict.{Ranges}
 use Rattle.acc_topology.specs.Sets.{is_among}
+use Rattle.acc_ports.specs.declared.disk.Disk.{Ghosts}
 use Rattle.acc_message.specs.declared.item.Item.{Item}
 use Rattle.acc_message.specs.Run.{is_down}
 use Rattle.acc_durable_node.specs.declared.node.DurableNode.{DurableNode}
@@ -79,13 +79,13 @@ module _ {D : Type 0} (before after : List (Slot D)) (own : Actor) (slot : Slot 
 
 -- ---- a node or a store more
 
-module _ {D : Type 0} (images : D → List ℕ → Type 0) (faults : D → ℕ) (plan : Content) where
+module _ {D : Type 0} (port : Ghosts D) (plan : Content) where
   module _ (before after : List (Slot D)) (nodes : List (DurableNode D)) (stores : List (DurableStore D)) (slot : Slot D) (new : IsTaken slot) where
     pub filled_node : (number : ℕ) (n : DurableNode D) → n.number ≡ number
         → ((k : ℕ) → slice_index_or after k Empty ≡ cond (k == (actor_of number 0).0) slot (slice_index_or before k Empty))
         → Contains (actors plan.topology) (actor_of number 0)
-        → ((earlier : List Item) → ((b : Actor) → is_down b earlier ≡ false) → HasDone plan earlier n → SlotStands images faults plan (opened earlier) (actor_of number 0) slot)
-        → AreFilled images faults plan nodes stores before → AreFilled images faults plan (nodes ++ n ∷ []) stores after
+        → ((earlier : List Item) → ((b : Actor) → is_down b earlier ≡ false) → HasDone plan earlier n → SlotStands port plan (opened earlier) (actor_of number 0) slot)
+        → AreFilled port plan nodes stores before → AreFilled port plan (nodes ++ n ∷ []) stores after
     filled_node number n numbered put member opens filled =
         record {
           only = at_each before after own slot put (λ a x. Contains (actors plan.topology) a) (λ taken. member) filled.only;
@@ -99,7 +99,7 @@ module _ {D : Type 0} (images : D → List ℕ → Type 0) (faults : D → ℕ) 
               (λ t. still_taken before after own slot put new (durable_store.actor_in t)) stores filled.stores_there;
           stand = λ earlier up did took.
               let parts = all_before (HasDone plan earlier) nodes n did in
-              at_each before after own slot put (SlotStands images faults plan (opened earlier)) (λ taken. opens earlier up parts.1) (filled.stand earlier up parts.0 took);
+              at_each before after own slot put (SlotStands port plan (opened earlier)) (λ taken. opens earlier up parts.1) (filled.stand earlier up parts.0 took);
         }
       where
         own : Actor
@@ -108,8 +108,8 @@ module _ {D : Type 0} (images : D → List ℕ → Type 0) (faults : D → ℕ) 
     pub filled_store : (t : DurableStore D)
         → ((k : ℕ) → slice_index_or after k Empty ≡ cond (k == (durable_store.actor_in t).0) slot (slice_index_or before k Empty))
         → Contains (actors plan.topology) (durable_store.actor_in t)
-        → ((earlier : List Item) → ((b : Actor) → is_down b earlier ≡ false) → HasTaken plan earlier t → SlotStands images faults plan (opened earlier) (durable_store.actor_in t) slot)
-        → AreFilled images faults plan nodes stores before → AreFilled images faults plan nodes (stores ++ t ∷ []) after
+        → ((earlier : List Item) → ((b : Actor) → is_down b earlier ≡ false) → HasTaken plan earlier t → SlotStands port plan (opened earlier) (durable_store.actor_in t) slot)
+        → AreFilled port plan nodes stores before → AreFilled port plan nodes (stores ++ t ∷ []) after
     filled_store t put member opens filled =
         record {
           only = at_each before after own slot put (λ a x. Contains (actors plan.topology) a) (λ taken. member) filled.only;
@@ -123,30 +123,30 @@ module _ {D : Type 0} (images : D → List ℕ → Type 0) (faults : D → ℕ) 
               (now_taken before after own slot put new);
           stand = λ earlier up did took.
               let parts = all_before (HasTaken plan earlier) stores t took in
-              at_each before after own slot put (SlotStands images faults plan (opened earlier)) (λ taken. opens earlier up parts.1) (filled.stand earlier up did parts.0);
+              at_each before after own slot put (SlotStands port plan (opened earlier)) (λ taken. opens earlier up parts.1) (filled.stand earlier up did parts.0);
         }
       where
         own : Actor
         own = durable_store.actor_in t
 
   -- over strict disks
-  module _ (strict : D → Bool) (armed : D → Option ℕ) (content synced : D → List ℕ) (written : D → Ranges)
+  module _
       (before after : List (Slot D)) (nodes : List (DurableNode D)) (stores : List (DurableStore D)) (own : Actor) (slot : Slot D)
       (put : (k : ℕ) → slice_index_or after k Empty ≡ cond (k == own.0) slot (slice_index_or before k Empty)) where
     pub filled_node_strictly : (n : DurableNode D)
-        → (IsUnarmed strict armed n.journal.disk → (earlier : List Item) → IsStrictSlot strict armed content synced written plan (opened earlier) fresh_disks own slot)
-        → AreFilledStrictly strict armed content synced written plan nodes stores before → AreFilledStrictly strict armed content synced written plan (nodes ++ n ∷ []) stores after
+        → (IsUnarmed port n.journal.disk → (earlier : List Item) → IsStrictSlot port plan (opened earlier) fresh_disks own slot)
+        → AreFilledStrictly port plan nodes stores before → AreFilledStrictly port plan (nodes ++ n ∷ []) stores after
     filled_node_strictly n opens filled unarmed earlier =
-        let parts = all_before (λ (m : DurableNode D). IsUnarmed strict armed m.journal.disk) nodes n unarmed.nodes_are in
-        at_each before after own slot put (IsStrictSlot strict armed content synced written plan (opened earlier) fresh_disks) (λ taken. opens parts.1 earlier)
+        let parts = all_before (λ (m : DurableNode D). IsUnarmed port m.journal.disk) nodes n unarmed.nodes_are in
+        at_each before after own slot put (IsStrictSlot port plan (opened earlier) fresh_disks) (λ taken. opens parts.1 earlier)
         (filled (record { nodes_are = parts.0; stores_are = unarmed.stores_are }) earlier)
 
     pub filled_store_strictly : (t : DurableStore D)
-        → (IsUnarmed strict armed t.journal.disk → (earlier : List Item) → IsStrictSlot strict armed content synced written plan (opened earlier) fresh_disks own slot)
-        → AreFilledStrictly strict armed content synced written plan nodes stores before → AreFilledStrictly strict armed content synced written plan nodes (stores ++ t ∷ []) after
+        → (IsUnarmed port t.journal.disk → (earlier : List Item) → IsStrictSlot port plan (opened earlier) fresh_disks own slot)
+        → AreFilledStrictly port plan nodes stores before → AreFilledStrictly port plan nodes (stores ++ t ∷ []) after
     filled_store_strictly t opens filled unarmed earlier =
-        let parts = all_before (λ (u : DurableStore D). IsUnarmed strict armed u.journal.disk) stores t unarmed.stores_are in
-        at_each before after own slot put (IsStrictSlot strict armed content synced written plan (opened earlier) fresh_disks) (λ taken. opens parts.1 earlier)
+        let parts = all_before (λ (u : DurableStore D). IsUnarmed port u.journal.disk) stores t unarmed.stores_are in
+        at_each before after own slot put (IsStrictSlot port plan (opened earlier) fresh_disks) (λ taken. opens parts.1 earlier)
         (filled (record { nodes_are = unarmed.nodes_are; stores_are = parts.0 }) earlier)
 
   -- ---- all of them
@@ -157,15 +157,15 @@ module _ {D : Type 0} (images : D → List ℕ → Type 0) (faults : D → ℕ) 
   in_map f P (x ∷ xs) a zero low is h = subst P is h.0
   in_map f P (x ∷ xs) a (suc k) low is h = in_map f P xs a k (omega (arith, low)) is h.1
 
-  pub taken_everywhere : (nodes : List (DurableNode D)) (stores : List (DurableStore D)) (slots : List (Slot D)) → AreActorsOf plan nodes stores → AreFilled images faults plan nodes stores slots
+  pub taken_everywhere : (nodes : List (DurableNode D)) (stores : List (DurableStore D)) (slots : List (Slot D)) → AreActorsOf plan nodes stores → AreFilled port plan nodes stores slots
       → (a : Actor) → Contains (actors plan.topology) a → IsTaken (slot_at slots a)
   taken_everywhere nodes stores slots are filled a member =
       ⊎_elim (λ here. in_map (λ (n : DurableNode D). actor_of n.number 0) (λ b. IsTaken (slot_at slots b)) nodes a here.0 here.1 here.2 filled.nodes_there)
       (λ there. in_map durable_store.actor_in (λ b. IsTaken (slot_at slots b)) stores a there.0 there.1 there.2 filled.stores_there)
       (Contains-append_cases (map (λ (n : DurableNode D). actor_of n.number 0) nodes) (map durable_store.actor_in stores) a (are.each a member))
 
-  pub filled_actors : (nodes : List (DurableNode D)) (stores : List (DurableStore D)) (slots : List (Slot D)) → AreActorsOf plan nodes stores → AreFilled images faults plan nodes stores slots
-      → (earlier : List Item) → IsEarlier plan nodes stores earlier → AreActors images faults plan slots (opened earlier)
+  pub filled_actors : (nodes : List (DurableNode D)) (stores : List (DurableStore D)) (slots : List (Slot D)) → AreActorsOf plan nodes stores → AreFilled port plan nodes stores slots
+      → (earlier : List Item) → IsEarlier plan nodes stores earlier → AreActors port plan slots (opened earlier)
   filled_actors nodes stores slots are filled earlier is =
       record {
         each = λ a member. filled.stand earlier is.up is.nodes_did is.stores_did a (taken_everywhere nodes stores slots are filled a member);

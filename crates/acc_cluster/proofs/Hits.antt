@@ -1,7 +1,7 @@
 -- Limits that end a step of one actor.
 use Rattle.std.proofs.Common.{◌≡◌, ℕ, suc, ◌<◌, ◌≤◌, Bool, true, false, List, ◌∷◌, Option, None, Some, Result, Ok, Err, IfErr, IsErrAnd, length, refl, sym, subst, inl, arith}
 use Rattle.acc_stamp.specs.declared.actors.Actor.{Actor}
-use Rattle.acc_ports.specs.Strict.{Ranges}
+use Rattle.acc_ports.specs.declared.disk.Disk.{Ghosts}
 use Rattle.acc_message.specs.declared.entry.Event.{Event}
 use Rattle.acc_message.specs.declared.error.Which.{Which}
 use Rattle.acc_message.specs.declared.error.Which.TheVariants.{Items}
@@ -32,8 +32,8 @@ above n high = omega (arith, high)
 pub full_at : (s : Situation) (item : Item) → IsWithin s.own → most_items ≤ length s.own → EndsAt (λ front. front ≡ item ∷ s.own) s.own Items most_items
 full_at s item within full = record { next = item; front = refl; within = within; passed = (refl, above (length s.own) full) }
 
-module _ {D : Type 0} (strict : D → Bool) (armed : D → Option ℕ) (content synced : D → List ℕ) (written : D → Ranges) (plan : Content) (number : ℕ) (a : Actor) (event : Event) (old : Cluster D) (s : Situation) where
-  pub hits_full : (skip : Option Skip) → IsWithin s.own → most_items ≤ length s.own → HitsLimit strict armed content synced written plan skip number a event old s Items most_items
+module _ {D : Type 0} (port : Ghosts D) (plan : Content) (number : ℕ) (a : Actor) (event : Event) (old : Cluster D) (s : Situation) where
+  pub hits_full : (skip : Option Skip) → IsWithin s.own → most_items ≤ length s.own → HitsLimit port plan skip number a event old s Items most_items
   hits_full skip within full = inl (λ fails. by skip fails)
     where
       by : (skip : Option Skip) (fails : Bool) → EndsAt (λ front. front ≡ (stepped_if skip fails (cluster_of plan) number s a event).own) s.own Items most_items
@@ -43,9 +43,9 @@ module _ {D : Type 0} (strict : D → Bool) (armed : D → Option ℕ) (content 
 
   -- where the check of the place refuses
   pub refused_full : (skip : Option Skip) (e : RunError) → e ≡ Limit Items most_items → IsWithin s.own → most_items ≤ length s.own
-      → IfLimit (λ which limit. HitsLimit strict armed content synced written plan skip number a event old s which limit) e
+      → IfLimit (λ which limit. HitsLimit port plan skip number a event old s which limit) e
   refused_full skip e is within full =
-      subst (IfLimit (λ which limit. HitsLimit strict armed content synced written plan skip number a event old s which limit)) (sym is) (hits_full skip within full)
+      subst (IfLimit (λ which limit. HitsLimit port plan skip number a event old s which limit)) (sym is) (hits_full skip within full)
 
 -- what the exit of a `?` returns
 pub exit_is : {T : Type 0} (r : Result T RunError) (e : RunError) (P : RunError → Type 0) → IsErrAnd r (λ y. y ≡ e) → P e → IfErr r P
@@ -53,11 +53,11 @@ exit_is (Ok x) e P is h = absurd is
 exit_is (Err y) e P is h = subst P (sym is) h
 
 -- where the check of the place refuses, for whatever skip and actor
-pub full_refused : {D T : Type 0} (images : D → List ℕ → Type 0) (faults : D → ℕ) (strict : D → Bool) (armed : D → Option ℕ) (content synced : D → List ℕ) (written : D → Ranges) (plan : Content) (number : ℕ)
+pub full_refused : {D T : Type 0} (port : Ghosts D) (plan : Content) (number : ℕ)
     (old : Cluster D) (skip : Situation → Option Skip) (actor : Situation → Actor) (event : Event) (r : Result T RunError) (e : RunError) → IsErrAnd r (λ y. y ≡ e)
     → (e ≡ Limit Items most_items) × ((s : Situation) → history.StandsFor old.history s → most_items ≤ length s.own)
-    → IfErr r (IfLimit (λ which limit. (s : Situation) → StandsFor images faults plan old s → HitsLimit strict armed content synced written plan (skip s) number (actor s) event old s which limit))
-full_refused images faults strict armed content synced written plan number old skip actor event r e is told =
-    exit_is r e (IfLimit (λ which limit. (s : Situation) → StandsFor images faults plan old s → HitsLimit strict armed content synced written plan (skip s) number (actor s) event old s which limit)) is
-    (subst (IfLimit (λ which limit. (s : Situation) → StandsFor images faults plan old s → HitsLimit strict armed content synced written plan (skip s) number (actor s) event old s which limit)) (sym told.0)
-    (λ s h. hits_full strict armed content synced written plan number (actor s) event old s (skip s) h.past.within (told.1 s h.past.stands)))
+    → IfErr r (IfLimit (λ which limit. (s : Situation) → StandsFor port plan old s → HitsLimit port plan (skip s) number (actor s) event old s which limit))
+full_refused port plan number old skip actor event r e is told =
+    exit_is r e (IfLimit (λ which limit. (s : Situation) → StandsFor port plan old s → HitsLimit port plan (skip s) number (actor s) event old s which limit)) is
+    (subst (IfLimit (λ which limit. (s : Situation) → StandsFor port plan old s → HitsLimit port plan (skip s) number (actor s) event old s which limit)) (sym told.0)
+    (λ s h. hits_full port plan number (actor s) event old s (skip s) h.past.within (told.1 s h.past.stands)))

@@ -9,6 +9,7 @@ use Rattle.acc_stamp.specs.declared.stamps.TxnId.{TxnId}
 use Rattle.acc_stamp.specs.Actor.{actor_of}
 use Rattle.acc_topology.specs.Layout.{Layout}
 use Rattle.acc_topology.specs.Sets.{is_among}
+use Rattle.acc_ports.specs.declared.disk.Disk.{Ghosts}
 use Rattle.acc_message.specs.declared.item.Item.{Item}
 use Rattle.acc_message.specs.Items.{is_begun, id_of_txn}
 use Rattle.acc_message.specs.NodeRules.{Act, begun_id, node_replay}
@@ -77,9 +78,9 @@ known_is (Some x) = refl
 known_so : (id drawn : Option TxnId) (begun : Bool) → id ≡ drawn → is_some id ≡ begun → known_as (Some id) ≡ begun_as begun drawn
 known_so id drawn begun is so = known_is id ∙ ap (λ b. begun_as b id) so ∙ ap (begun_as begun) is
 
-module _ {D : Type 0} (images : D → List ℕ → Type 0) (plan : Content) where
+module _ {D : Type 0} (port : Ghosts D) (plan : Content) where
   -- tells what the run before drew for it
-  home_tells : (n : DurableNode D) (txn : ℕ) (id : Option TxnId) → IsNodeOf images plan n → slice_get plan.homes txn ≡ Some n.number
+  home_tells : (n : DurableNode D) (txn : ℕ) (id : Option TxnId) → IsNodeOf port plan n → slice_get plan.homes txn ≡ Some n.number
       → ((layout : Layout) (acts : List Act) → node.StandsFor layout n acts → id ≡ begun_id n.number n.start txn (node_replay layout n.number n.start acts))
       → (earlier : List Item) → IsSound (cluster_of plan) (opened earlier) → HasDone plan earlier n
       → known_as (Some id) ≡ begun_as (is_begun earlier txn) (id_of_txn earlier txn)
@@ -112,11 +113,11 @@ module _ {D : Type 0} (images : D → List ℕ → Type 0) (plan : Content) wher
 
   -- the node at this place is the home
   pub tells_at : (nodes : List (DurableNode D)) (place : ℕ) (n : DurableNode D) (txn : ℕ) (id : Option TxnId) → place < length nodes → n ≡ slice_index_or nodes place n
-      → slice_get plan.homes txn ≡ Some n.number → AllByRecursion (IsNodeOf images plan) nodes
+      → slice_get plan.homes txn ≡ Some n.number → AllByRecursion (IsNodeOf port plan) nodes
       → ((layout : Layout) (acts : List Act) → node.StandsFor layout n acts → id ≡ begun_id n.number n.start txn (node_replay layout n.number n.start acts))
       → TellsOf plan nodes txn id
   tells_at nodes place n txn id low is home of_plan told = λ earlier sound did.
-      home_tells n txn id (subst (IsNodeOf images plan) (sym is) (each_read (IsNodeOf images plan) nodes place n of_plan low)) home told earlier sound
+      home_tells n txn id (subst (IsNodeOf port plan) (sym is) (each_read (IsNodeOf port plan) nodes place n of_plan low)) home told earlier sound
       (subst (HasDone plan earlier) (sym is) (each_read (HasDone plan earlier) nodes place n did low))
 
 -- ---- all of them

@@ -6,6 +6,7 @@ use Rattle.std.specs.List.{AllByRecursion, slice_index_or}
 use Rattle.acc_stamp.specs.declared.actors.Actor.{Actor}
 use Rattle.acc_stamp.specs.Actor.{node_of}
 use Rattle.acc_topology.specs.Layout.{Layout}
+use Rattle.acc_ports.specs.declared.disk.Disk.{Ghosts}
 use Rattle.acc_message.specs.declared.message.Message.{Message}
 use Rattle.acc_message.specs.declared.entry.Event.{Event}
 use Rattle.acc_message.specs.declared.item.Item.{Item}
@@ -130,22 +131,22 @@ some_stop [] h = h
 some_stop (stop ∷ stops) h = refl
 
 -- what a node's disk holds, as it is given back
-pub node_left : {D : Type 0} (images : D → List ℕ → Type 0) (faults : D → ℕ) (slot : Slot D) (n : NodeActor D) (disk : D) → slot ≡ Node n → disk ≡ node.disk_of n
-    → ((layout : Layout) (number start version : ℕ) (past : Past Act) → node.StandsFor images layout number start version past n
-    → (image : List ℕ) → images disk image → HoldsPayloads version past image)
-    → LeavesHeld images faults slot
-node_left {D} images faults slot n disk is disk_is holds =
-    subst (λ (x : Slot D). LeavesHeld images faults x) (sym is)
-    (λ plan s a stands image left. holds plan.topology (node_of a) (clock_start plan.starts (node_of a)) plan.version (node_past (cluster_of plan) s a) stands.stands image (subst (λ (d : D). images d image) (sym disk_is) left))
+pub node_left : {D : Type 0} (port : Ghosts D) (slot : Slot D) (n : NodeActor D) (disk : D) → slot ≡ Node n → disk ≡ node.disk_of n
+    → ((layout : Layout) (number start version : ℕ) (past : Past Act) → node.StandsFor port layout number start version past n
+    → (image : List ℕ) → port.is_image disk image → HoldsPayloads version past image)
+    → LeavesHeld port slot
+node_left {D} port slot n disk is disk_is holds =
+    subst (λ (x : Slot D). LeavesHeld port x) (sym is)
+    (λ plan s a stands image left. holds plan.topology (node_of a) (clock_start plan.starts (node_of a)) plan.version (node_past (cluster_of plan) s a) stands.stands image (subst (λ (d : D). port.is_image d image) (sym disk_is) left))
 
 -- what a store's disk holds, as it is given back
-pub store_left : {D : Type 0} (images : D → List ℕ → Type 0) (faults : D → ℕ) (slot : Slot D) (t : StoreActor D) (disk : D) → slot ≡ Store t → disk ≡ store.disk_of t
-    → ((layout : Layout) (own : Actor) (version : ℕ) (past : Past Message) (staged : List (Stop Message)) → store.IsStaging images layout own version past staged t
-    → (image : List ℕ) → images disk image → HoldsPayloads version past image)
-    → LeavesHeld images faults slot
-store_left {D} images faults slot t disk is disk_is holds =
-    subst (λ (x : Slot D). LeavesHeld images faults x) (sym is)
-    (λ plan s a stands image left. holds plan.topology a plan.version (store_past (cluster_of plan) s a) [] stands.stands image (subst (λ (d : D). images d image) (sym disk_is) left))
+pub store_left : {D : Type 0} (port : Ghosts D) (slot : Slot D) (t : StoreActor D) (disk : D) → slot ≡ Store t → disk ≡ store.disk_of t
+    → ((layout : Layout) (own : Actor) (version : ℕ) (past : Past Message) (staged : List (Stop Message)) → store.IsStaging port layout own version past staged t
+    → (image : List ℕ) → port.is_image disk image → HoldsPayloads version past image)
+    → LeavesHeld port slot
+store_left {D} port slot t disk is disk_is holds =
+    subst (λ (x : Slot D). LeavesHeld port x) (sym is)
+    (λ plan s a stands image left. holds plan.topology a plan.version (store_past (cluster_of plan) s a) [] stands.stands image (subst (λ (d : D). port.is_image d image) (sym disk_is) left))
 
 module _ (plan : Content) (s : Situation) (sound : IsSound (cluster_of plan) s) where
   -- an actor of which steps were stopped is down
@@ -163,7 +164,7 @@ module _ (plan : Content) (s : Situation) (sound : IsSound (cluster_of plan) s) 
       (subst (λ c. AreKept c (payloads_in a (whole s)) kept) (sym (ends_is_down (cluster_of plan) (whole s) a sound.run))
       (loosen b (is_down a (whole s)) (payloads_in a (whole s)) kept implied h))
 
-  module _ {D : Type 0} (images : D → List ℕ → Type 0) (faults : D → ℕ) where
+  module _ {D : Type 0} (port : Ghosts D) where
     node_image : (a : Actor) (image : List ℕ) → s.earlier ≡ [] → HoldsPayloads plan.version (node_past (cluster_of plan) s a) image → KeepsImage plan.version a s.own image
     node_image a image alone h =
         record {
@@ -185,29 +186,29 @@ module _ (plan : Content) (s : Situation) (sound : IsSound (cluster_of plan) s) 
         }
 
     abbrev IsKept : Actor → D → Type 0
-    IsKept a d = Keeps plan.version a s.own (faults d) (images d)
+    IsKept a d = Keeps plan.version a s.own (port.state d).faults (port.is_image d)
 
-    keeps_at : (a : Actor) (slot : Slot D) → s.earlier ≡ [] → (IsTaken slot → SlotStands images faults plan s a slot) → LeavesHeld images faults slot → at_slot IsKept a slot
+    keeps_at : (a : Actor) (slot : Slot D) → s.earlier ≡ [] → (IsTaken slot → SlotStands port plan s a slot) → LeavesHeld port slot → at_slot IsKept a slot
     keeps_at a Empty alone stands left = tt
     keeps_at a (Node n) alone stands left =
-        let here : NodeStands images faults plan s a n = stands tt in record {
+        let here : NodeStands port plan s a n = stands tt in record {
           counted = here.counted;
           each = λ image i. node_image a image alone (left plan s a here image i);
         }
     keeps_at a (Store t) alone stands left =
-        let here : StoreStands images faults plan s a t = stands tt in record {
+        let here : StoreStands port plan s a t = stands tt in record {
           counted = here.counted;
           each = λ image i. store_image a image alone (left plan s a here image i);
         }
 
-    stands_taken : (a : Actor) (slot : Slot D) → SlotStands images faults plan s a slot → IsTaken slot
+    stands_taken : (a : Actor) (slot : Slot D) → SlotStands port plan s a slot → IsTaken slot
     stands_taken a Empty h = h
     stands_taken a (Node n) h = tt
     stands_taken a (Store t) h = tt
 
     -- ---- the whole
 
-    module _ (slots : List (Slot D)) (stand : AreActors images faults plan slots s) where
+    module _ (slots : List (Slot D)) (stand : AreActors port plan slots s) where
       -- by the number of the slot
       at_number : (Q : Actor → D → Type 0) → ((j : ℕ) → at_slot Q (record { 0 = j }) (slice_index_or slots j Empty))
           → AllByRecursion (λ (entry : Actor × D). Q entry.0 entry.1) (disks_from 0 slots)
@@ -225,9 +226,9 @@ module _ (plan : Content) (s : Situation) (sound : IsSound (cluster_of plan) s) 
             each = λ a member. names_at 0 slots a.0 a.0 (omega arith) (stands_taken a (slot_at slots a) (stand.each a member));
           }
 
-      pub disks_keep : AllByRecursion (LeavesHeld images faults) slots → s.earlier ≡ []
-          → AllByRecursion (λ (entry : Actor × D). Keeps plan.version entry.0 s.own (faults entry.1) (images entry.1)) (disks_from 0 slots)
+      pub disks_keep : AllByRecursion (LeavesHeld port) slots → s.earlier ≡ []
+          → AllByRecursion (λ (entry : Actor × D). Keeps plan.version entry.0 s.own (port.state entry.1).faults (port.is_image entry.1)) (disks_from 0 slots)
       disks_keep left alone =
           at_number IsKept
           (λ j. keeps_at (record { 0 = j }) (slice_index_or slots j Empty) alone (λ taken. stand.each (record { 0 = j }) (stand.only (record { 0 = j }) taken))
-          (all_get (LeavesHeld images faults) slots j (λ plan s a none. tt) left))
+          (all_get (LeavesHeld port) slots j (λ plan s a none. tt) left))

@@ -3,7 +3,7 @@ use Rattle.std.proofs.Common.{◌≡◌, ℕ, ◌==◌, ◌<◌, Bool, true, fal
 use Rattle.std.proofs.lemmas.Bool.{eq-eqb}
 use Rattle.std.proofs.lemmas.Bool.Decides.{nat_tests}
 use Rattle.acc_stamp.specs.declared.actors.Actor.{Actor}
-use Rattle.acc_ports.specs.Strict.{Ranges}
+use Rattle.acc_ports.specs.declared.disk.Disk.{Ghosts}
 use Rattle.acc_journal.specs.Journal.{keeps_group}
 use Rattle.acc_message.specs.declared.entry.Event.{Event}
 use Rattle.acc_message.specs.declared.item.Skip.{Skip}
@@ -88,14 +88,14 @@ module _ (cluster : RunCluster) (skip : Option Skip) (number : ℕ) (s : Situati
       by (Some cause) is = refl
       by None is = ap (λ b. record { found = tried_if b cluster s a event; disks = after_step (is_journalled a event) a disks }) (is refl)
 
-module _ {D : Type 0} (images : D → List ℕ → Type 0) (faults : D → ℕ) (strict : D → Bool) (armed : D → Option ℕ) (content synced : D → List ℕ) (written : D → Ranges)
+module _ {D : Type 0} (port : Ghosts D)
     (plan : Content) (number : ℕ) (step : Step) (old new : Cluster D) where
   abbrev cluster : RunCluster
   cluster = cluster_of plan
 
   module _ (s : Situation) (skip : Option Skip) (a : Actor) (event : Event) where
     pub steps_to : ((answers : Answers) (next : Situation) → next ≡ stepped_unless skip cluster answers number s a event → IsNext cluster answers number step s next)
-        → HasStepped images faults strict armed content synced written plan skip number a event old new s → (answers : Answers) → StepsTo images faults plan answers number step old new s
+        → HasStepped port plan skip number a event old new s → (answers : Answers) → StepsTo port plan answers number step old new s
     steps_to to h answers =
         record {
           other = with_answer answers (length s.own) h.fails false;
@@ -107,7 +107,7 @@ module _ {D : Type 0} (images : D → List ℕ → Type 0) (faults : D → ℕ) 
         }
 
     pub ends_in : ((answers : Answers) (reached : Situation) → reached ≡ stepped_unless skip cluster answers number s a event → ComesTo cluster answers number step s reached)
-        → (which : Which) (limit : ℕ) → HitsLimit strict armed content synced written plan skip number a event old s which limit → (answers : Answers) → EndsIn plan answers number step s which limit
+        → (which : Which) (limit : ℕ) → HitsLimit port plan skip number a event old s which limit → (answers : Answers) → EndsIn plan answers number step s which limit
     ends_in to which limit hits answers =
         record {
           other = with_answer answers (length s.own) false false;
@@ -124,8 +124,8 @@ module _ {D : Type 0} (images : D → List ℕ → Type 0) (faults : D → ℕ) 
 
   module _ (ss : StrictSituation) (skip : Option Skip) (a : Actor) (event : Event) where
     pub steps_strictly : ((next : StrictSituation) → next ≡ stepped_strictly skip cluster number ss a event → IsStrictNext cluster number step ss next)
-        → HasStepped images faults strict armed content synced written plan skip number a event old new ss.found → AreStrict strict armed content synced written plan old.slots.items ss.found ss.disks
-        → StepsStrictly images faults strict armed content synced written plan number step new ss
+        → HasStepped port plan skip number a event old new ss.found → AreStrict port plan old.slots.items ss.found ss.disks
+        → StepsStrictly port plan number step new ss
     steps_strictly to h are =
         let after = h.strictly ss.disks are in
         record {
@@ -135,8 +135,8 @@ module _ {D : Type 0} (images : D → List ℕ → Type 0) (faults : D → ℕ) 
         }
 
     pub ends_strictly : ((reached : StrictSituation) → reached ≡ stepped_strictly skip cluster number ss a event → StrictlyComesTo cluster number step ss reached)
-        → (which : Which) (limit : ℕ) → HitsLimit strict armed content synced written plan skip number a event old ss.found which limit
-        → AreStrict strict armed content synced written plan old.slots.items ss.found ss.disks → EndsStrictlyIn plan number step ss which limit
+        → (which : Which) (limit : ℕ) → HitsLimit port plan skip number a event old ss.found which limit
+        → AreStrict port plan old.slots.items ss.found ss.disks → EndsStrictlyIn plan number step ss which limit
     ends_strictly to which limit hits are =
         ⊎_elim (λ any. by (fails_strictly ss.disks a event) (λ none. refl) (any (fails_strictly ss.disks a event))) (λ one. by false (λ none. sym (one.1 ss.disks are none)) one.0) hits
       where
@@ -165,13 +165,13 @@ restarted_is cluster s a fails keeps answers =
     by true = refl
     by false = ap (λ k. reopened cluster s a (kept_if k a s)) (sym (keeps_with answers (length s.own) fails keeps))
 
-module _ {D : Type 0} (images : D → List ℕ → Type 0) (faults : D → ℕ) (strict : D → Bool) (armed : D → Option ℕ) (content synced : D → List ℕ) (written : D → Ranges)
+module _ {D : Type 0} (port : Ghosts D)
     (plan : Content) (number : ℕ) (a : Actor) (choice : ℕ) (old new : Cluster D) where
   abbrev run : RunCluster
   run = cluster_of plan
 
-  pub restarts_to : (s : Situation) → HasRestarted images faults strict armed content synced written plan a choice old new s → (answers : Answers)
-      → StepsTo images faults plan answers number (Restart a choice) old new s
+  pub restarts_to : (s : Situation) → HasRestarted port plan a choice old new s → (answers : Answers)
+      → StepsTo port plan answers number (Restart a choice) old new s
   restarts_to s h answers =
       record {
         other = with_answer answers (length s.own) h.fails h.keeps;
@@ -182,8 +182,8 @@ module _ {D : Type 0} (images : D → List ℕ → Type 0) (faults : D → ℕ) 
         rose = h.rose;
       }
 
-  pub restarts_strictly : (ss : StrictSituation) → HasRestarted images faults strict armed content synced written plan a choice old new ss.found
-      → AreStrict strict armed content synced written plan old.slots.items ss.found ss.disks → StepsStrictly images faults strict armed content synced written plan number (Restart a choice) new ss
+  pub restarts_strictly : (ss : StrictSituation) → HasRestarted port plan a choice old new ss.found
+      → AreStrict port plan old.slots.items ss.found ss.disks → StepsStrictly port plan number (Restart a choice) new ss
   restarts_strictly ss h are =
       let after = h.strictly ss.disks are in
       record {
@@ -194,7 +194,7 @@ module _ {D : Type 0} (images : D → List ℕ → Type 0) (faults : D → ℕ) 
         stands = record { stands = h.stands; strictly = after.2 };
       }
 
-  pub restart_ends : (s : Situation) (which : Which) (limit : ℕ) → HitsLimitInRestart strict armed content synced written plan a choice old s which limit → (answers : Answers)
+  pub restart_ends : (s : Situation) (which : Which) (limit : ℕ) → HitsLimitInRestart port plan a choice old s which limit → (answers : Answers)
       → EndsIn plan answers number (Restart a choice) s which limit
   restart_ends s which limit hits answers =
       ⊎_elim (λ any. by false (any false)) (λ one. by one.0 one.1) hits.ends
@@ -209,8 +209,8 @@ module _ {D : Type 0} (images : D → List ℕ → Type 0) (faults : D → ℕ) 
                 (λ front begins. (restarted_by false keeps run s a, restarted_is run s a false keeps answers, begins)) hits.items which limit ends;
           }
 
-  pub restart_ends_strictly : (ss : StrictSituation) (which : Which) (limit : ℕ) → HitsLimitInRestart strict armed content synced written plan a choice old ss.found which limit
-      → AreStrict strict armed content synced written plan old.slots.items ss.found ss.disks → EndsStrictlyIn plan number (Restart a choice) ss which limit
+  pub restart_ends_strictly : (ss : StrictSituation) (which : Which) (limit : ℕ) → HitsLimitInRestart port plan a choice old ss.found which limit
+      → AreStrict port plan old.slots.items ss.found ss.disks → EndsStrictlyIn plan number (Restart a choice) ss which limit
   restart_ends_strictly ss which limit hits are =
       ⊎_elim (λ any. by (keeps_group (ss.disks.passed a) choice) refl (any (keeps_group (ss.disks.passed a) choice))) (λ one. by one.0 (one.2 ss.disks are) one.1) hits.ends
     where
@@ -230,18 +230,18 @@ module _ {D : Type 0} (images : D → List ℕ → Type 0) (faults : D → ℕ) 
 
 -- ---- drops, failing disks and drains
 
-module _ {D : Type 0} (images : D → List ℕ → Type 0) (faults : D → ℕ) (strict : D → Bool) (armed : D → Option ℕ) (content synced : D → List ℕ) (written : D → Ranges)
+module _ {D : Type 0} (port : Ghosts D)
     (plan : Content) (number : ℕ) (old new : Cluster D) where
   abbrev there : RunCluster
   there = cluster_of plan
 
-  pub drops_to : (message : ℕ) (s : Situation) → HasChanged images faults strict armed content synced written plan old new s (dropped_unless (message_skip s message) number s message)
-      → (answers : Answers) → StepsTo images faults plan answers number (Drop message) old new s
+  pub drops_to : (message : ℕ) (s : Situation) → HasChanged port plan old new s (dropped_unless (message_skip s message) number s message)
+      → (answers : Answers) → StepsTo port plan answers number (Drop message) old new s
   drops_to message s h answers =
       record { other = answers; next = dropped_unless (message_skip s message) number s message; agree = λ place less. (refl, refl); next_is = refl; stands = h.stands; rose = h.rose }
 
-  pub drops_strictly : (message : ℕ) (ss : StrictSituation) → HasChanged images faults strict armed content synced written plan old new ss.found (dropped_unless (message_skip ss.found message) number ss.found message)
-      → AreStrict strict armed content synced written plan old.slots.items ss.found ss.disks → StepsStrictly images faults strict armed content synced written plan number (Drop message) new ss
+  pub drops_strictly : (message : ℕ) (ss : StrictSituation) → HasChanged port plan old new ss.found (dropped_unless (message_skip ss.found message) number ss.found message)
+      → AreStrict port plan old.slots.items ss.found ss.disks → StepsStrictly port plan number (Drop message) new ss
   drops_strictly message ss h are =
       record {
         next = record { found = dropped_unless (message_skip ss.found message) number ss.found message; disks = ss.disks };
@@ -274,26 +274,26 @@ module _ {D : Type 0} (images : D → List ℕ → Type 0) (faults : D → ℕ) 
             ss.found.own which limit ends;
       }
 
-  pub fails_to : (a : Actor) (calls : ℕ) (s : Situation) → StandsFor images faults plan new s → (answers : Answers) → StepsTo images faults plan answers number (Fail a calls) old new s
+  pub fails_to : (a : Actor) (calls : ℕ) (s : Situation) → StandsFor port plan new s → (answers : Answers) → StepsTo port plan answers number (Fail a calls) old new s
   fails_to a calls s h answers = record { other = answers; next = s; agree = λ place less. (refl, refl); next_is = refl; stands = h; rose = λ b known. inl refl }
 
-  pub fails_strictly_to : (a : Actor) (calls : ℕ) (ss : StrictSituation) → StandsFor images faults plan new ss.found
-      → AreStrict strict armed content synced written plan new.slots.items ss.found (after_fail a calls ss.disks) → StepsStrictly images faults strict armed content synced written plan number (Fail a calls) new ss
+  pub fails_strictly_to : (a : Actor) (calls : ℕ) (ss : StrictSituation) → StandsFor port plan new ss.found
+      → AreStrict port plan new.slots.items ss.found (after_fail a calls ss.disks) → StepsStrictly port plan number (Fail a calls) new ss
   fails_strictly_to a calls ss h are = record { next = record { found = ss.found; disks = after_fail a calls ss.disks }; next_is = refl; stands = record { stands = h; strictly = are } }
 
-  pub drains_to : (s : Situation) → HasDrained images faults strict armed content synced written plan old new s → (answers : Answers) → StepsTo images faults plan answers number Drain old new s
+  pub drains_to : (s : Situation) → HasDrained port plan old new s → (answers : Answers) → StepsTo port plan answers number Drain old new s
   drains_to s h answers =
       let found = h.answered answers in record { other = found.0; next = h.next; agree = found.1; next_is = found.2; stands = h.stands; rose = h.rose }
 
-  pub drains_strictly : (ss : StrictSituation) → HasDrained images faults strict armed content synced written plan old new ss.found → AreStrict strict armed content synced written plan old.slots.items ss.found ss.disks
-      → StepsStrictly images faults strict armed content synced written plan number Drain new ss
+  pub drains_strictly : (ss : StrictSituation) → HasDrained port plan old new ss.found → AreStrict port plan old.slots.items ss.found ss.disks
+      → StepsStrictly port plan number Drain new ss
   drains_strictly ss h are =
       let found = h.strictly ss.disks are in
       record { next = record { found = h.next; disks = found.0 }; next_is = found.1; stands = record { stands = h.stands; strictly = found.2 } }
 
-  pub drain_ends : (s : Situation) (which : Which) (limit : ℕ) → HitsLimitInDrain strict armed content synced written plan old s which limit → (answers : Answers) → EndsIn plan answers number Drain s which limit
+  pub drain_ends : (s : Situation) (which : Which) (limit : ℕ) → HitsLimitInDrain port plan old s which limit → (answers : Answers) → EndsIn plan answers number Drain s which limit
   drain_ends s which limit hits answers = let found = hits.answered answers in record { other = found.0; items = hits.items; agree = found.1; ends = found.2 }
 
-  pub drain_ends_strictly : (ss : StrictSituation) (which : Which) (limit : ℕ) → HitsLimitInDrain strict armed content synced written plan old ss.found which limit
-      → AreStrict strict armed content synced written plan old.slots.items ss.found ss.disks → EndsStrictlyIn plan number Drain ss which limit
+  pub drain_ends_strictly : (ss : StrictSituation) (which : Which) (limit : ℕ) → HitsLimitInDrain port plan old ss.found which limit
+      → AreStrict port plan old.slots.items ss.found ss.disks → EndsStrictlyIn plan number Drain ss which limit
   drain_ends_strictly ss which limit hits are = record { items = hits.items; ends = hits.strictly ss.disks are }

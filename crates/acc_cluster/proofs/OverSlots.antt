@@ -6,7 +6,7 @@ use Rattle.std.proofs.lemmas.List.{append_assoc, length-append, reverse-append}
 use Rattle.std.proofs.lemmas.List.Elements.{Contains-append_left, Contains-append_right}
 use Rattle.std.proofs.lemmas.Option.{slice_get_within}
 use Rattle.acc_stamp.specs.declared.actors.Actor.{Actor}
-use Rattle.acc_ports.specs.Strict.{Ranges}
+use Rattle.acc_ports.specs.declared.disk.Disk.{Ghosts}
 use Rattle.acc_message.specs.declared.message.Message.{Message}
 use Rattle.acc_message.specs.declared.entry.Event.{Event}
 use Rattle.acc_message.specs.declared.entry.Event.TheVariants.{Begin, Recover, Slow, Message as MessageEvent, Restart}
@@ -77,36 +77,36 @@ module _ {D : Type 0} (slots : List (Actor × Slot D)) (placed : List (Slot D)) 
         subst (λ (x : Actor). IsTaken (slot_at placed x)) (sym from.is)
         (each_at (λ (one : Actor × Slot D). IsTaken (slot_at placed one.0)) from.source slots (are.there all) from.there)
 
-is_taken : {D : Type 0} (images : D → List ℕ → Type 0) (faults : D → ℕ) (plan : Content) (s : Situation) (a : Actor) (slot : Slot D) → SlotStands images faults plan s a slot → IsTaken slot
-is_taken images faults plan s a Empty stands = absurd stands
-is_taken images faults plan s a (Node n) stands = tt
-is_taken images faults plan s a (Store t) stands = tt
+is_taken : {D : Type 0} (port : Ghosts D) (plan : Content) (s : Situation) (a : Actor) (slot : Slot D) → SlotStands port plan s a slot → IsTaken slot
+is_taken port plan s a Empty stands = absurd stands
+is_taken port plan s a (Node n) stands = tt
+is_taken port plan s a (Store t) stands = tt
 
-module _ {D : Type 0} (images : D → List ℕ → Type 0) (faults : D → ℕ) (plan : Content) (slots : List (Actor × Slot D)) (placed : List (Slot D)) (are : ArePlaced slots placed) (of : AreSlotsOf plan slots)
-    (items : List Item) (stopped : List Stopped) (over : IsOver images faults plan slots items stopped) where
+module _ {D : Type 0} (port : Ghosts D) (plan : Content) (slots : List (Actor × Slot D)) (placed : List (Slot D)) (are : ArePlaced slots placed) (of : AreSlotsOf plan slots)
+    (items : List Item) (stopped : List Stopped) (over : IsOver port plan slots items stopped) where
   all_taken : AllByRecursion (λ (one : Actor × Slot D). IsTaken one.1) slots
   all_taken =
-      all_turn (λ (one : Actor × Slot D). SlotStands images faults plan (behind_items items stopped) one.0 one.1) (λ (one : Actor × Slot D). IsTaken one.1)
-      (λ one stands. is_taken images faults plan (behind_items items stopped) one.0 one.1 stands) slots over.stand
+      all_turn (λ (one : Actor × Slot D). SlotStands port plan (behind_items items stopped) one.0 one.1) (λ (one : Actor × Slot D). IsTaken one.1)
+      (λ one stands. is_taken port plan (behind_items items stopped) one.0 one.1 stands) slots over.stand
 
-  pub actors_stand : AreActors images faults plan placed (behind_items items stopped)
+  pub actors_stand : AreActors port plan placed (behind_items items stopped)
   actors_stand = record {
     each = λ a member.
-        at_its_place slots placed are (SlotStands images faults plan (behind_items items stopped)) over.stand a (stands_there slots placed are plan of all_taken a member);
+        at_its_place slots placed are (SlotStands port plan (behind_items items stopped)) over.stand a (stands_there slots placed are plan of all_taken a member);
     only = λ a taken. at_its_place slots placed are (λ b x. Contains (actors plan.topology) b) of.known a taken;
   }
 
-  pub actors_strictly : (strict : D → Bool) (armed : D → Option ℕ) (content synced : D → List ℕ) (written : D → Ranges) (disks : Disks)
-      → AreStrictSlots strict armed content synced written plan (behind_items items stopped) disks slots → AreStrict strict armed content synced written plan placed (behind_items items stopped) disks
-  actors_strictly strict armed content synced written disks all = λ a member.
-      at_its_place slots placed are (IsStrictSlot strict armed content synced written plan (behind_items items stopped) disks) all a (stands_there slots placed are plan of all_taken a member)
+  pub actors_strictly : (disks : Disks)
+      → AreStrictSlots port plan (behind_items items stopped) disks slots → AreStrict port plan placed (behind_items items stopped) disks
+  actors_strictly disks all = λ a member.
+      at_its_place slots placed are (IsStrictSlot port plan (behind_items items stopped) disks) all a (stands_there slots placed are plan of all_taken a member)
 
-  pub cluster_stands : (cluster : Cluster D) → cluster.slots.items ≡ placed → IsHistoryOver items stopped cluster.history → StandsFor images faults plan cluster (behind_items items stopped)
+  pub cluster_stands : (cluster : Cluster D) → cluster.slots.items ≡ placed → IsHistoryOver items stopped cluster.history → StandsFor port plan cluster (behind_items items stopped)
   cluster_stands cluster slots_are h = record {
     sound = over.sound;
     room = omega arith;
     past = record { stands = h.stands; weighed = h.weighed; within = over.within };
-    actors = subst (λ (l : List (Slot D)). AreActors images faults plan l (behind_items items stopped)) (sym slots_are) actors_stand;
+    actors = subst (λ (l : List (Slot D)). AreActors port plan l (behind_items items stopped)) (sym slots_are) actors_stand;
   }
 
 -- ---- the history

@@ -5,8 +5,8 @@ use Rattle.std.proofs.lemmas.List.{length-set, append_assoc}
 use Rattle.std.proofs.lemmas.Result.{on_ok_weaker, IfErr-weaker}
 use Rattle.acc_base.specs.declared.memory.OutOfMemory.{OutOfMemory as NoMemory}
 use Rattle.acc_stamp.specs.declared.actors.Actor.{Actor}
+use Rattle.acc_ports.specs.declared.disk.Disk.{Ghosts}
 use Rattle.acc_ports.specs.Faults.{Rose}
-use Rattle.acc_ports.specs.Strict.{Ranges}
 use Rattle.acc_message.specs.declared.entry.Event.{Event}
 use Rattle.acc_message.specs.declared.entry.Event.TheVariants.{Restart}
 use Rattle.acc_message.specs.declared.error.Which.{Which}
@@ -54,16 +54,16 @@ use Rattle.acc_cluster.proofs.Written.{IsWritten, write_is, AllApart, actors_wri
 room_reopened : (plan : Content) (s : Situation) (a : Actor) (kept : List Event) → HasRoom s → HasRoom (reopened (cluster_of plan) s a kept)
 room_reopened plan s a kept room = subst (λ (earlier : List Item). length earlier + most_items < 2 ^ 31) (sym (all_earlier (cluster_of plan) a true s kept)) room
 
-module _ {D : Type 0} (images : D → List ℕ → Type 0) (faults : D → ℕ) (strict : D → Bool) (armed : D → Option ℕ) (content synced : D → List ℕ) (written_of : D → Ranges)
-    (plan : Content) (a : Actor) (choice : ℕ) (old new : Cluster D) (s : Situation) (h : StandsFor images faults plan old s) (known : Contains (actors plan.topology) a) where
+module _ {D : Type 0} (port : Ghosts D)
+    (plan : Content) (a : Actor) (choice : ℕ) (old new : Cluster D) (s : Situation) (h : StandsFor port plan old s) (known : Contains (actors plan.topology) a) where
   -- on the disks of others nothing has changed
   others_disks : (disks : Disks) (b : Actor) → same_actor a b ≡ false → ((after_restart a disks).armed b ≡ disks.armed b) × ((after_restart a disks).passed b ≡ disks.passed b)
   others_disks disks b e = (entry_other a b None disks.armed (turned a b e), entry_other a b None disks.passed (turned a b e))
 
   pub has_come_up : (kept : List Unsent)
-      → HasReopened images faults strict armed content synced written_of plan a choice old.slots.items new.slots.items (Up kept) s
+      → HasReopened port plan a choice old.slots.items new.slots.items (Up kept) s
       → IsPastOf new.history (come_up (cluster_of plan) s a kept)
-      → HasRestarted images faults strict armed content synced written_of plan a choice old new s
+      → HasRestarted port plan a choice old new s
   has_come_up kept found past =
       record {
         fails = false;
@@ -72,16 +72,16 @@ module _ {D : Type 0} (images : D → List ℕ → Type 0) (faults : D → ℕ) 
           sound = sound_restarted (cluster_of plan) (some kept) s a h.sound;
           room = room_reopened plan s a (kept_if (some kept) a s) h.room;
           past = past;
-          actors = actors_written plan old.slots.items new.slots.items s next a (slot_at new.slots.items a) written known apart images faults h.actors found.restarted.1;
+          actors = actors_written plan old.slots.items new.slots.items s next a (slot_at new.slots.items a) written known apart port h.actors found.restarted.1;
         };
         rose = λ b there.
-            rose_written plan old.slots.items new.slots.items s next a (slot_at new.slots.items a) written known apart faults
+            rose_written plan old.slots.items new.slots.items s next a (slot_at new.slots.items a) written known apart port
             (inl (downs_reopened (cluster_of plan) s a (kept_if (some kept) a s))) b;
         strictly = λ disks are.
             let told = found.strictly disks (are a known) in (
               refl,
               told.0,
-              strict_written plan old.slots.items new.slots.items s next a (slot_at new.slots.items a) written known apart strict armed content synced written_of disks (after_restart a disks)
+              strict_written plan old.slots.items new.slots.items s next a (slot_at new.slots.items a) written known apart port disks (after_restart a disks)
                   (others_disks disks) are told.1,
             );
       }
@@ -95,9 +95,9 @@ module _ {D : Type 0} (images : D → List ℕ → Type 0) (faults : D → ℕ) 
       apart : AllApart plan s next a
       apart b e = apart_reopened (cluster_of plan) s h.sound a b (kept_if (some kept) a s) e (kept_can (cluster_of plan) s a (some kept) h.sound)
 
-  pub has_stayed_down : HasReopened images faults strict armed content synced written_of plan a choice old.slots.items new.slots.items Down s
+  pub has_stayed_down : HasReopened port plan a choice old.slots.items new.slots.items Down s
       → IsPastOf new.history (with_item (WentDown a) s)
-      → HasRestarted images faults strict armed content synced written_of plan a choice old new s
+      → HasRestarted port plan a choice old new s
   has_stayed_down found past =
       record {
         fails = true;
@@ -106,10 +106,10 @@ module _ {D : Type 0} (images : D → List ℕ → Type 0) (faults : D → ℕ) 
           sound = sound_down (cluster_of plan) s a h.sound;
           room = h.room;
           past = past;
-          actors = actors_written plan old.slots.items new.slots.items s next a (slot_at new.slots.items a) written known apart images faults h.actors found.restarted;
+          actors = actors_written plan old.slots.items new.slots.items s next a (slot_at new.slots.items a) written known apart port h.actors found.restarted;
         };
         rose = λ b there.
-            rose_written plan old.slots.items new.slots.items s next a (slot_at new.slots.items a) written known apart faults (inr (found.cause refl)) b;
+            rose_written plan old.slots.items new.slots.items s next a (slot_at new.slots.items a) written known apart port (inr (found.cause refl)) b;
         strictly = λ disks are. absurd (found.strictly disks (are a known));
       }
     where
@@ -144,33 +144,33 @@ module _ {D : Type 0} (images : D → List ℕ → Type 0) (faults : D → ℕ) 
 
   -- no place for anything
   pub refused_first : (e : RunError) → e ≡ Limit Items most_items → most_items ≤ length s.own
-      → IfLimit (λ which limit. HitsLimitInRestart strict armed content synced written_of plan a choice old s which limit) e
+      → IfLimit (λ which limit. HitsLimitInRestart port plan a choice old s which limit) e
   refused_first e is full =
-      subst (IfLimit (λ which limit. HitsLimitInRestart strict armed content synced written_of plan a choice old s which limit)) (sym is)
+      subst (IfLimit (λ which limit. HitsLimitInRestart port plan a choice old s which limit)) (sym is)
       (record { items = s.own; ends = inl (λ keeps. ends_first h.past.within full (kept_if keeps a s)) })
 
   -- behind the crash
   pub refused_up : (kept : List Unsent)
-      → HasReopened images faults strict armed content synced written_of plan a choice old.slots.items new.slots.items (Up kept) s
-      → (which : Which) (limit : ℕ) → EndsInRestart (cluster_of plan) s a kept which limit → HitsLimitInRestart strict armed content synced written_of plan a choice old s which limit
+      → HasReopened port plan a choice old.slots.items new.slots.items (Up kept) s
+      → (which : Which) (limit : ℕ) → EndsInRestart (cluster_of plan) s a kept which limit → HitsLimitInRestart port plan a choice old s which limit
   refused_up kept found which limit ends =
       record { items = ends.items; ends = inr (some kept, ends.ends, λ disks are. (found.strictly disks (are a known)).0) }
 
 -- ---- the slot is taken out, and put back
 
-module _ {D : Type 0} (images : D → List ℕ → Type 0) (faults : D → ℕ) (strict : D → Bool) (armed : D → Option ℕ) (content synced : D → List ℕ) (written_of : D → Ranges)
+module _ {D : Type 0} (port : Ghosts D)
     (plan : Content) (a : Actor) (choice : ℕ) (before now : List (Slot D)) (place : ℕ) (slot : Slot D) where
-  pub has_reopened : place ≡ a.0 → place < length before → now ≡ set (set before place Empty) place slot → (s : Situation) (found : Restarted) → HasRestartedAt images faults plan s a found slot
-      → ((disks : Disks) → IsStrictSlot strict armed content synced written_of plan s disks a (slot_at before a)
-      → HasRestartedStrictlyAt strict armed content synced written_of plan s disks a choice found slot)
-      → (found ≡ Down → Rose (faults_in faults (slot_at before a)) (faults_in faults slot))
-      → HasReopened images faults strict armed content synced written_of plan a choice before now found s
+  pub has_reopened : place ≡ a.0 → place < length before → now ≡ set (set before place Empty) place slot → (s : Situation) (found : Restarted) → HasRestartedAt port plan s a found slot
+      → ((disks : Disks) → IsStrictSlot port plan s disks a (slot_at before a)
+      → HasRestartedStrictlyAt port plan s disks a choice found slot)
+      → (found ≡ Down → Rose (faults_in port (slot_at before a)) (faults_in port slot))
+      → HasReopened port plan a choice before now found s
   has_reopened at within is s found restarted strictly cause =
       record {
         others = λ b e. put.there b e ∙ taken.there b e;
-        restarted = subst (λ x. HasRestartedAt images faults plan s a found x) (sym put.here) restarted;
-        strictly = λ disks are. subst (λ x. HasRestartedStrictlyAt strict armed content synced written_of plan s disks a choice found x) (sym put.here) (strictly disks are);
-        cause = λ down. subst (λ x. Rose (faults_in faults (slot_at before a)) (faults_in faults x)) (sym put.here) (cause down);
+        restarted = subst (λ x. HasRestartedAt port plan s a found x) (sym put.here) restarted;
+        strictly = λ disks are. subst (λ x. HasRestartedStrictlyAt port plan s disks a choice found x) (sym put.here) (strictly disks are);
+        cause = λ down. subst (λ x. Rose (faults_in port (slot_at before a)) (faults_in port x)) (sym put.here) (cause down);
       }
     where
       taken : IsWritten before (set before place Empty) a Empty
@@ -181,10 +181,10 @@ module _ {D : Type 0} (images : D → List ℕ → Type 0) (faults : D → ℕ) 
 
 -- ---- from what the calls ensure
 
-module _ {D : Type 0} (images : D → List ℕ → Type 0) (faults : D → ℕ) (strict : D → Bool) (armed : D → Option ℕ) (content synced : D → List ℕ) (written_of : D → Ranges)
+module _ {D : Type 0} (port : Ghosts D)
     (plan : Content) (a : Actor) (choice : ℕ) (old : Cluster D) (known : Contains (actors plan.topology) a) where
   abbrev Ended : Which → ℕ → Type 0
-  Ended which limit = (s : Situation) → StandsFor images faults plan old s → HitsLimitInRestart strict armed content synced written_of plan a choice old s which limit
+  Ended which limit = (s : Situation) → StandsFor port plan old s → HitsLimitInRestart port plan a choice old s which limit
 
   -- no place for anything
   pub place_ends : {T : Type 0} (r : Result T RunError) (e : RunError) → IsErrAnd r (λ y. y ≡ e)
@@ -192,50 +192,50 @@ module _ {D : Type 0} (images : D → List ℕ → Type 0) (faults : D → ℕ) 
   place_ends r e is told =
       on_err r e (IfLimit Ended) is
       (subst (IfLimit Ended) (sym told.0)
-      (λ s h. refused_first images faults strict armed content synced written_of plan a choice old old s h known (Limit Items most_items) refl (told.1 s h.past.stands)))
+      (λ s h. refused_first port plan a choice old old s h known (Limit Items most_items) refl (told.1 s h.past.stands)))
 
   module _ (middle : Cluster D) (same : middle.history ≡ old.history) (place : (s : Situation) → history.StandsFor old.history s → HasPlace s) (found : Restarted)
-      (opened : (s : Situation) → StandsFor images faults plan old s → HasPlace s
-      → HasReopened images faults strict armed content synced written_of plan a choice old.slots.items middle.slots.items found s) where
+      (opened : (s : Situation) → StandsFor port plan old s → HasPlace s
+      → HasReopened port plan a choice old.slots.items middle.slots.items found s) where
     abbrev with_history : History → Cluster D
     with_history h = record { alloc = middle.alloc; history = h; slots = middle.slots }
 
-    opened_as : (other : Restarted) → found ≡ other → (s : Situation) → StandsFor images faults plan old s
-        → HasReopened images faults strict armed content synced written_of plan a choice old.slots.items middle.slots.items other s
+    opened_as : (other : Restarted) → found ≡ other → (s : Situation) → StandsFor port plan old s
+        → HasReopened port plan a choice old.slots.items middle.slots.items other s
     opened_as other is s h =
-        subst (λ x. HasReopened images faults strict armed content synced written_of plan a choice old.slots.items middle.slots.items x s) is (opened s h (place s h.past.stands))
+        subst (λ x. HasReopened port plan a choice old.slots.items middle.slots.items x s) is (opened s h (place s h.past.stands))
 
-    past_middle : (s : Situation) → StandsFor images faults plan old s → IsPastOf middle.history s
+    past_middle : (s : Situation) → StandsFor port plan old s → IsPastOf middle.history s
     past_middle s h = subst (λ x. IsPastOf x s) (sym same) h.past
 
     pub down_enters : found ≡ Down → {T : Type 0} (r : Result T RunError) (now : History)
         → OnOk r ((s : Situation) → IsPastOf middle.history s → HasPlace s → IsPastOf now (with_item (WentDown a) s))
-        → OnOk r ((s : Situation) → StandsFor images faults plan old s
-        → HasRestarted images faults strict armed content synced written_of plan a choice old (with_history now) s)
+        → OnOk r ((s : Situation) → StandsFor port plan old s
+        → HasRestarted port plan a choice old (with_history now) s)
     down_enters is r now =
         on_ok_weaker r
         (λ told s h.
-        has_stayed_down images faults strict armed content synced written_of plan a choice old (with_history now) s h known (opened_as Down is s h)
+        has_stayed_down port plan a choice old (with_history now) s h known (opened_as Down is s h)
         (told s (past_middle s h) (place s h.past.stands)))
 
     module _ (kept : List Unsent) (is : found ≡ Up kept) where
-      abbrev reopened_up : (s : Situation) → StandsFor images faults plan old s
-          → HasReopened images faults strict armed content synced written_of plan a choice old.slots.items middle.slots.items (Up kept) s
+      abbrev reopened_up : (s : Situation) → StandsFor port plan old s
+          → HasReopened port plan a choice old.slots.items middle.slots.items (Up kept) s
       reopened_up s h = opened_as (Up kept) is s h
 
-      pub up_back : (s : Situation) → StandsFor images faults plan old s → CanComeBack middle.history a kept s × AreSendableBehind a kept s
+      pub up_back : (s : Situation) → StandsFor port plan old s → CanComeBack middle.history a kept s × AreSendableBehind a kept s
       up_back s h = (
         record { past = past_middle s h; place = place s h.past.stands; taken = kept_sent (cluster_of plan) s a h.sound kept (reopened_up s h).restarted.0 },
         kept_sendable (cluster_of plan) s a h.sound kept (reopened_up s h).restarted.0 h.room,
       )
 
       pub up_enters : {T : Type 0} (r : Result T RunError) (now : History) → OnOk r (Enters middle.history now a kept)
-          → OnOk r ((s : Situation) → StandsFor images faults plan old s
-          → HasRestarted images faults strict armed content synced written_of plan a choice old (with_history now) s)
+          → OnOk r ((s : Situation) → StandsFor port plan old s
+          → HasRestarted port plan a choice old (with_history now) s)
       up_enters r now =
           on_ok_weaker r
           (λ told s h.
-          has_come_up images faults strict armed content synced written_of plan a choice old (with_history now) s h known kept (reopened_up s h)
+          has_come_up port plan a choice old (with_history now) s h known kept (reopened_up s h)
           (told (cluster_of plan) s h.sound (past_middle s h) (place s h.past.stands) (reopened_up s h).restarted.0))
 
       pub up_ends : {T : Type 0} (r : Result T RunError) → IfErr r (IfLimit (Ends middle.history a kept)) → IfErr r (IfLimit Ended)
@@ -243,22 +243,22 @@ module _ {D : Type 0} (images : D → List ℕ → Type 0) (faults : D → ℕ) 
           IfErr-weaker r (IfLimit (Ends middle.history a kept)) (IfLimit Ended)
           (λ e. limit_weaker (Ends middle.history a kept) Ended e
           (λ which limit told. λ s h.
-          refused_up images faults strict armed content synced written_of plan a choice old middle s h known kept (reopened_up s h) which limit
+          refused_up port plan a choice old middle s h known kept (reopened_up s h) which limit
           (told (cluster_of plan) s h.sound (past_middle s h) (place s h.past.stands) (reopened_up s h).restarted.0)))
 
-module _ {D : Type 0} (images : D → List ℕ → Type 0) (faults : D → ℕ) (strict : D → Bool) (armed : D → Option ℕ) (content synced : D → List ℕ) (written_of : D → Ranges)
+module _ {D : Type 0} (port : Ghosts D)
     (plan : Content) (a : Actor) (choice : ℕ) (old : Cluster D) (known : Contains (actors plan.topology) a) (left taken slot : Slot D) where
   pub slot_reopened : (r : Result Restarted NoMemory) → a.0 < length old.slots.items → left ≡ Empty → taken ≡ slot_at old.slots.items a
-      → IfOk r (λ found. (s : Situation) → IsSound (cluster_of plan) s → IsFew s → SlotStands images faults plan s a taken → HasRestartedAt images faults plan s a found slot)
-      → IfOk r (λ found. (s : Situation) (disks : Disks) → IsSound (cluster_of plan) s → SlotStands images faults plan s a taken
-      → IsStrictSlot strict armed content synced written_of plan s disks a taken → HasRestartedStrictlyAt strict armed content synced written_of plan s disks a choice found slot)
-      → (r ≡ Ok Down → Rose (faults_in faults taken) (faults_in faults slot))
-      → IfOk r (λ found. (s : Situation) → StandsFor images faults plan old s → HasPlace s
-      → HasReopened images faults strict armed content synced written_of plan a choice old.slots.items (set (set old.slots.items a.0 left) a.0 slot) found s)
+      → IfOk r (λ found. (s : Situation) → IsSound (cluster_of plan) s → IsFew s → SlotStands port plan s a taken → HasRestartedAt port plan s a found slot)
+      → IfOk r (λ found. (s : Situation) (disks : Disks) → IsSound (cluster_of plan) s → SlotStands port plan s a taken
+      → IsStrictSlot port plan s disks a taken → HasRestartedStrictlyAt port plan s disks a choice found slot)
+      → (r ≡ Ok Down → Rose (faults_in port taken) (faults_in port slot))
+      → IfOk r (λ found. (s : Situation) → StandsFor port plan old s → HasPlace s
+      → HasReopened port plan a choice old.slots.items (set (set old.slots.items a.0 left) a.0 slot) found s)
   slot_reopened (Err e) within left_is taken_is ok strictly cause = tt
   slot_reopened (Ok found) within left_is taken_is ok strictly cause = λ s h place.
-      let stands : SlotStands images faults plan s a taken = subst (λ (x : Slot D). SlotStands images faults plan s a x) (sym taken_is) (h.actors.each a known) in
-      has_reopened images faults strict armed content synced written_of plan a choice old.slots.items (set (set old.slots.items a.0 left) a.0 slot) a.0 slot refl within
+      let stands : SlotStands port plan s a taken = subst (λ (x : Slot D). SlotStands port plan s a x) (sym taken_is) (h.actors.each a known) in
+      has_reopened port plan a choice old.slots.items (set (set old.slots.items a.0 left) a.0 slot) a.0 slot refl within
       (ap (λ (x : Slot D). set (set old.slots.items a.0 x) a.0 slot) left_is) s found (ok s h.sound (few_placed s h.room place) stands)
-      (λ disks are. strictly s disks h.sound stands (subst (λ (x : Slot D). IsStrictSlot strict armed content synced written_of plan s disks a x) (sym taken_is) are))
-      (λ down. subst (λ (x : Slot D). Rose (faults_in faults x) (faults_in faults slot)) taken_is (cause (ap Ok down)))
+      (λ disks are. strictly s disks h.sound stands (subst (λ (x : Slot D). IsStrictSlot port plan s disks a x) (sym taken_is) are))
+      (λ down. subst (λ (x : Slot D). Rose (faults_in port x) (faults_in port slot)) taken_is (cause (ap Ok down)))

@@ -3,8 +3,8 @@ use Rattle.std.proofs.Common.{◌≡◌, ℕ, suc, ◌-◌, ◌<◌, ◌≤◌, 
 use Rattle.std.specs.Result.{IsErrAnd}
 use Rattle.std.proofs.lemmas.Result.{err_from_is_err_and}
 use Rattle.std.proofs.lemmas.List.{length-reverse}
-use Rattle.acc_ports.specs.Strict.{Ranges}
 use Rattle.acc_stamp.specs.declared.actors.Actor.{Actor}
+use Rattle.acc_ports.specs.declared.disk.Disk.{Ghosts}
 use Rattle.acc_message.specs.declared.entry.Event.{Event}
 use Rattle.acc_message.specs.declared.entry.Event.TheVariants.{Message as MessageEvent}
 use Rattle.acc_message.specs.declared.error.Which.{Which}
@@ -43,11 +43,11 @@ as_many h s stands = ap length stands.holds.items_are ∙ length-reverse s.own
 less_room : (before now n : ℕ) → before ≡ n → now ≡ suc n → n < most_items → most_items - now < most_items - before
 less_room before now n is grown place = omega (arith, is, grown, place)
 
-pub smaller : {D : Type 0} (images : D → List ℕ → Type 0) (faults : D → ℕ) (strict : D → Bool) (armed : D → Option ℕ) (content synced : D → List ℕ) (written : D → Ranges)
-    (plan : Content) (now new : Cluster D) (s : Situation) (message : ℕ) → StandsFor images faults plan now s → HasPlace s
-    → HasStepped images faults strict armed content synced written plan None 0 (receiver_in s message) (MessageEvent message) now new s
+pub smaller : {D : Type 0} (port : Ghosts D)
+    (plan : Content) (now new : Cluster D) (s : Situation) (message : ℕ) → StandsFor port plan now s → HasPlace s
+    → HasStepped port plan None 0 (receiver_in s message) (MessageEvent message) now new s
     → most_items - length new.history.items.items < most_items - length now.history.items.items
-smaller images faults strict armed content synced written plan now new s message stands place stepped =
+smaller port plan now new s message stands place stepped =
     less_room (length now.history.items.items) (length new.history.items.items) (length s.own)
     (as_many now.history s stands.past.stands)
     (as_many new.history _ stepped.stands.past.stands ∙ longer stepped.fails (cluster_of plan) s (receiver_in s message) (MessageEvent message))
@@ -63,11 +63,11 @@ at_full : (s : Situation) (item : Item) → IsWithin s.own → most_items ≤ le
 at_full s item within full = record { next = item; front = refl; within = within; passed = (refl, above (length s.own) full) }
 
 -- the limits that end a round, where its error is passed on
-module _ {D : Type 0} (images : D → List ℕ → Type 0) (faults : D → ℕ) (strict : D → Bool) (armed : D → Option ℕ) (content synced : D → List ℕ) (written : D → Ranges)
-    (plan : Content) (old now : Cluster D) (message : ℕ) (come : (s : Situation) → StandsFor images faults plan old s → HasCome images faults strict armed content synced written plan old now s)
+module _ {D : Type 0} (port : Ghosts D)
+    (plan : Content) (old now : Cluster D) (message : ℕ) (come : (s : Situation) → StandsFor port plan old s → HasCome port plan old now s)
     (oldest : (s : Situation) → history.StandsFor now.history s → IsOldestWaiting s message) where
   abbrev Hits : Which → ℕ → Type 0
-  Hits which most = (s : Situation) → StandsFor images faults plan old s → HitsLimitInDrain strict armed content synced written plan old s which most
+  Hits which most = (s : Situation) → StandsFor port plan old s → HitsLimitInDrain port plan old s which most
 
   passed_on : (e : RunError) → IfLimit Hits e → (r : Result (Unit {0}) RunError) → IsErrAnd r (λ x. x ≡ e) → IfErr r (IfLimit Hits)
   passed_on e h r is =
@@ -86,23 +86,23 @@ module _ {D : Type 0} (images : D → List ℕ → Type 0) (faults : D → ℕ) 
 
       hits : Hits Items most_items
       hits s stands =
-          let reached : HasCome images faults strict armed content synced written plan old now s = come s stands in
-          hits_in_drain images faults strict armed content synced written plan old s now reached message (oldest reached.reached reached.stands.past.stands) Items most_items
+          let reached : HasCome port plan old now s = come s stands in
+          hits_in_drain port plan old s now reached message (oldest reached.reached reached.stands.past.stands) Items most_items
           (inl (λ fails.
           by reached.reached (receiver_in reached.reached message) (MessageEvent message) fails reached.stands.past.within
           (full.1 reached.reached reached.stands.past.stands)))
 
   -- the step hits one
   pub ends_taken : (e : RunError)
-      → IfLimit (λ which most. (number : ℕ) (s : Situation) → StandsFor images faults plan now s → HasPlace s → deliver_skip s message ≡ None
-      → HitsLimit strict armed content synced written plan None number (receiver_in s message) (MessageEvent message) now s which most) e
+      → IfLimit (λ which most. (number : ℕ) (s : Situation) → StandsFor port plan now s → HasPlace s → deliver_skip s message ≡ None
+      → HitsLimit port plan None number (receiver_in s message) (MessageEvent message) now s which most) e
       → ((s : Situation) → history.StandsFor now.history s → HasPlace s) → (r : Result (Unit {0}) RunError) → IsErrAnd r (λ x. x ≡ e) → IfErr r (IfLimit Hits)
   ends_taken OutOfMemory h place = passed_on OutOfMemory tt
   ends_taken (Limit which most) h place = passed_on (Limit which most) hits
     where
       hits : Hits which most
       hits s stands =
-          let reached : HasCome images faults strict armed content synced written plan old now s = come s stands in
+          let reached : HasCome port plan old now s = come s stands in
           let first : IsOldestWaiting reached.reached message = oldest reached.reached reached.stands.past.stands in
-          hits_in_drain images faults strict armed content synced written plan old s now reached message first which most
+          hits_in_drain port plan old s now reached message first which most
           (h 0 reached.reached reached.stands (place reached.reached reached.stands.past.stands) (waiting_is_taken (cluster_of plan) reached.reached message first.0))

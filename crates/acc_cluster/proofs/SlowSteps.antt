@@ -5,8 +5,8 @@ use Rattle.std.proofs.Math.ListN.{set}
 use Rattle.acc_stamp.specs.declared.actors.Actor.{Actor}
 use Rattle.acc_stamp.specs.declared.stamps.TxnId.{TxnId}
 use Rattle.acc_stamp.specs.Actor.{actor_of}
+use Rattle.acc_ports.specs.declared.disk.Disk.{Ghosts}
 use Rattle.acc_ports.specs.Faults.{Rose}
-use Rattle.acc_ports.specs.Strict.{Ranges}
 use Rattle.acc_message.specs.declared.entry.Emitted.{Emitted}
 use Rattle.acc_message.specs.declared.entry.Event.{Event}
 use Rattle.acc_message.specs.declared.entry.Event.TheVariants.{Slow as SlowEvent}
@@ -55,27 +55,27 @@ home_of_plan plan valid txn less a is =
     let home = there_is plan.homes txn (subst (λ n. txn < n) (sym valid.homes_as_many) less) in
     (home.0, home.1, is ∙ ap (λ o. actor_of (unwrap_or o 0) 0) home.1)
 
-module _ {D : Type 0} (images : D → List ℕ → Type 0) (faults : D → ℕ) (strict : D → Bool) (armed : D → Option ℕ) (content synced : D → List ℕ) (written_of : D → Ranges)
+module _ {D : Type 0} (port : Ghosts D)
     (plan : Content) (old : Cluster D) (a : Actor) (txn : ℕ) (slot : Slot D) (here : slot ≡ slice_index_or old.slots.items a.0 slot) (within : a.0 < length old.slots.items)
     (home : IsHomeOf (cluster_of plan) txn a) where
   slot_is : slot ≡ slot_at old.slots.items a
   slot_is = here ∙ within_any old.slots.items a.0 slot Empty within
 
-  known : (s : Situation) → StandsFor images faults plan old s → Contains (actors plan.topology) a
+  known : (s : Situation) → StandsFor port plan old s → Contains (actors plan.topology) a
   known s h = IsIn-Contains a (actors plan.topology) (at_home (cluster_of plan) h.sound.valid txn a home)
 
   -- it is up
-  pub home_up : (s : Situation) → StandsFor images faults plan old s → is_down a (whole s) ≡ false → IsHomeUp images faults plan s a txn slot
+  pub home_up : (s : Situation) → StandsFor port plan old s → is_down a (whole s) ≡ false → IsHomeUp port plan s a txn slot
   home_up s h up =
       record {
         sound = h.sound;
-        stands = subst (λ (x : Slot D). SlotStands images faults plan s a x) (sym slot_is) (h.actors.each a (known s h));
+        stands = subst (λ (x : Slot D). SlotStands port plan s a x) (sym slot_is) (h.actors.each a (known s h));
         up = up;
         home = home;
       }
 
   -- what isn't passed over may be taken next
-  goes_slow : (s : Situation) → StandsFor images faults plan old s → is_down a (whole s) ≡ false → skips_slow plan s txn ≡ None → (x : TxnId) × Goes plan s a (SlowEvent txn) (Slows x)
+  goes_slow : (s : Situation) → StandsFor port plan old s → is_down a (whole s) ≡ false → skips_slow plan s txn ≡ None → (x : TxnId) × Goes plan s a (SlowEvent txn) (Slows x)
   goes_slow s h up none =
       let found = slow_has_id (cluster_of plan) (whole s) txn none in
       let not_skipped : slow_skip (cluster_of plan) (whole s) txn (Some found.0) ≡ None = sym (ap (slow_skip (cluster_of plan) (whole s) txn) found.1) ∙ none in
@@ -94,101 +94,101 @@ module _ {D : Type 0} (images : D → List ℕ → Type 0) (faults : D → ℕ) 
       )
 
   pub slowed_sendable : (new_slot : Slot D) (emitted : Emitted)
-      → ((s : Situation) → IsHomeUp images faults plan s a txn slot → (skips_slow plan s txn ≡ None) × HasTried images faults plan s a (SlowEvent txn) new_slot (Some emitted))
-      → (s : Situation) → StandsFor images faults plan old s → is_down a (whole s) ≡ false → AreSendable emitted.out
+      → ((s : Situation) → IsHomeUp port plan s a txn slot → (skips_slow plan s txn ≡ None) × HasTried port plan s a (SlowEvent txn) new_slot (Some emitted))
+      → (s : Situation) → StandsFor port plan old s → is_down a (whole s) ≡ false → AreSendable emitted.out
   slowed_sendable new_slot emitted ok s h up =
       let answer = ok s (home_up s h up) in
       let go = goes_slow s h up answer.0 in
-      sendable_at images faults plan old a (SlowEvent txn) (Slows go.0) slot here within s h go.1 (Some emitted) answer.1.emitted
+      sendable_at port plan old a (SlowEvent txn) (Slows go.0) slot here within s h go.1 (Some emitted) answer.1.emitted
 
   module _ (new_slot : Slot D) (number : ℕ) (r : Result (Unit {0}) RunError) where
     -- ---- it gives the fast path up
 
     module _ (emitted : Emitted)
-        (ok : (s : Situation) → IsHomeUp images faults plan s a txn slot → (skips_slow plan s txn ≡ None) × HasTried images faults plan s a (SlowEvent txn) new_slot (Some emitted)) where
+        (ok : (s : Situation) → IsHomeUp port plan s a txn slot → (skips_slow plan s txn ≡ None) × HasTried port plan s a (SlowEvent txn) new_slot (Some emitted)) where
       pub slowed_ok : (new : Cluster D) → new.slots.items ≡ set old.slots.items a.0 new_slot
-          → ((s : Situation) (disks : Disks) → IsHomeUp images faults plan s a txn slot → IsStrictSlot strict armed content synced written_of plan s disks a slot
-          → HasTriedStrictly strict armed content synced written_of plan s disks a (SlowEvent txn) new_slot (Some emitted))
+          → ((s : Situation) (disks : Disks) → IsHomeUp port plan s a txn slot → IsStrictSlot port plan s disks a slot
+          → HasTriedStrictly port plan s disks a (SlowEvent txn) new_slot (Some emitted))
           → OnOk r ((cluster : RunCluster) (s : Situation) → IsPastOf old.history s → HasPlace s → EventTakesSent s (SlowEvent txn) → IsEmitted cluster s a (SlowEvent txn) (Some emitted)
           → IsPastOf new.history (tried_if (is_none (Some emitted)) cluster s a (SlowEvent txn)))
-          → OnOk r ((s : Situation) → StandsFor images faults plan old s → HasPlace s → is_down a (whole s) ≡ false
-          → HasStepped images faults strict armed content synced written_of plan (skips_slow plan s txn) number a (SlowEvent txn) old new s)
+          → OnOk r ((s : Situation) → StandsFor port plan old s → HasPlace s → is_down a (whole s) ≡ false
+          → HasStepped port plan (skips_slow plan s txn) number a (SlowEvent txn) old new s)
       slowed_ok new set_is strictly = on_ok _ _ r (λ enter s h place up.
-          let up_there : IsHomeUp images faults plan s a txn slot = home_up s h up in
+          let up_there : IsHomeUp port plan s a txn slot = home_up s h up in
           let answer = ok s up_there in
           let go = goes_slow s h up answer.0 in
-          subst (λ skip. HasStepped images faults strict armed content synced written_of plan skip number a (SlowEvent txn) old new s) (sym answer.0)
-          (has_stepped images faults strict armed content synced written_of plan old new s number a (SlowEvent txn) h (Slows go.0) new_slot (Some emitted) go.1.known
+          subst (λ skip. HasStepped port plan skip number a (SlowEvent txn) old new s) (sym answer.0)
+          (has_stepped port plan old new s number a (SlowEvent txn) h (Slows go.0) new_slot (Some emitted) go.1.known
           (write_is old.slots.items new.slots.items a a.0 new_slot refl within set_is) go.1.may go.1.none go.1.up answer.1
           (enter (cluster_of plan) s h.past place tt answer.1.emitted)
           (λ none. absurd (not_none emitted (sym none)))
-          (λ disks are. strictly s disks up_there (subst (λ (x : Slot D). IsStrictSlot strict armed content synced written_of plan s disks a x) (sym slot_is) are))))
+          (λ disks are. strictly s disks up_there (subst (λ (x : Slot D). IsStrictSlot port plan s disks a x) (sym slot_is) are))))
 
       pub slowed_limit : IfErr r (IfLimit (λ which limit. (cluster : RunCluster) (s : Situation) → IsPastOf old.history s → HasPlace s → IsEmitted cluster s a (SlowEvent txn) (Some emitted)
           → (is_none (Some emitted) ≡ false) × EndsAt (λ front. front ≡ (tried_if false cluster s a (SlowEvent txn)).own) s.own which limit))
-          → IfErr r (IfLimit (λ which limit. (s : Situation) → StandsFor images faults plan old s → HasPlace s → is_down a (whole s) ≡ false
-          → HitsLimit strict armed content synced written_of plan (skips_slow plan s txn) number a (SlowEvent txn) old s which limit))
+          → IfErr r (IfLimit (λ which limit. (s : Situation) → StandsFor port plan old s → HasPlace s → is_down a (whole s) ≡ false
+          → HitsLimit port plan (skips_slow plan s txn) number a (SlowEvent txn) old s which limit))
       slowed_limit = if_limit _ _ r (λ which limit enter s h place up.
           let answer = ok s (home_up s h up) in
           let ends = enter (cluster_of plan) s h.past place answer.1.emitted in
-          subst (λ skip. HitsLimit strict armed content synced written_of plan skip number a (SlowEvent txn) old s which limit) (sym answer.0)
+          subst (λ skip. HitsLimit port plan skip number a (SlowEvent txn) old s which limit) (sym answer.0)
           (inr (ends.1, λ disks are skipped. refl)))
 
     -- ---- it refuses
 
     module _ (between : Cluster D) (set_is : between.slots.items ≡ set old.slots.items a.0 new_slot) (same_history : between.history ≡ old.history)
-        (as_before : (s : Situation) → IsHomeUp images faults plan s a txn slot → SlotStands images faults plan s a new_slot) (cause : Skip)
-        (refused : (s : Situation) → IsHomeUp images faults plan s a txn slot → skips_slow plan s txn ≡ Some cause) where
+        (as_before : (s : Situation) → IsHomeUp port plan s a txn slot → SlotStands port plan s a new_slot) (cause : Skip)
+        (refused : (s : Situation) → IsHomeUp port plan s a txn slot → skips_slow plan s txn ≡ Some cause) where
       written : IsWritten old.slots.items between.slots.items a new_slot
       written = write_is old.slots.items between.slots.items a a.0 new_slot refl within set_is
 
       apart : (s : Situation) → AllApart plan s s a
       apart s b e = apart_itself (cluster_of plan) s b
 
-      still_stands : (s : Situation) → StandsFor images faults plan old s → is_down a (whole s) ≡ false → StandsFor images faults plan between s
+      still_stands : (s : Situation) → StandsFor port plan old s → is_down a (whole s) ≡ false → StandsFor port plan between s
       still_stands s h up =
           record {
             sound = h.sound;
             room = h.room;
             past = subst (λ (x : History). IsPastOf x s) (sym same_history) h.past;
-            actors = actors_written plan old.slots.items between.slots.items s s a new_slot written (known s h) (apart s) images faults h.actors (as_before s (home_up s h up));
+            actors = actors_written plan old.slots.items between.slots.items s s a new_slot written (known s h) (apart s) port h.actors (as_before s (home_up s h up));
           }
 
-      still_strict : (s : Situation) → StandsFor images faults plan old s → is_down a (whole s) ≡ false
-          → ((disks : Disks) → IsHomeUp images faults plan s a txn slot → IsStrictSlot strict armed content synced written_of plan s disks a slot → IsStrictSlot strict armed content synced written_of plan s disks a new_slot)
-          → (disks : Disks) → AreStrict strict armed content synced written_of plan old.slots.items s disks → AreStrict strict armed content synced written_of plan between.slots.items s disks
+      still_strict : (s : Situation) → StandsFor port plan old s → is_down a (whole s) ≡ false
+          → ((disks : Disks) → IsHomeUp port plan s a txn slot → IsStrictSlot port plan s disks a slot → IsStrictSlot port plan s disks a new_slot)
+          → (disks : Disks) → AreStrict port plan old.slots.items s disks → AreStrict port plan between.slots.items s disks
       still_strict s h up strictly disks are =
-          strict_written plan old.slots.items between.slots.items s s a new_slot written (known s h) (apart s) strict armed content synced written_of disks disks (λ b e. (refl, refl)) are
-          (strictly disks (home_up s h up) (subst (λ (x : Slot D). IsStrictSlot strict armed content synced written_of plan s disks a x) (sym slot_is) (are a (known s h))))
+          strict_written plan old.slots.items between.slots.items s s a new_slot written (known s h) (apart s) port disks disks (λ b e. (refl, refl)) are
+          (strictly disks (home_up s h up) (subst (λ (x : Slot D). IsStrictSlot port plan s disks a x) (sym slot_is) (are a (known s h))))
 
-      same_faults : faults_in faults new_slot ≡ faults_in faults slot → (b : Actor) → faults_at faults between b ≡ faults_at faults old b
+      same_faults : faults_in port new_slot ≡ faults_in port slot → (b : Actor) → faults_at port between b ≡ faults_at port old b
       same_faults is b = by (same_actor a b) refl
         where
-          by : (t : Bool) → same_actor a b ≡ t → faults_at faults between b ≡ faults_at faults old b
+          by : (t : Bool) → same_actor a b ≡ t → faults_at port between b ≡ faults_at port old b
           by true e =
-              subst (λ (c : Actor). faults_at faults between c ≡ faults_at faults old c) (same a b e)
-              (ap (faults_in faults) written.here ∙ is ∙ ap (faults_in faults) slot_is)
-          by false e = ap (faults_in faults) (written.there b e)
+              subst (λ (c : Actor). faults_at port between c ≡ faults_at port old c) (same a b e)
+              (ap (faults_in port) written.here ∙ is ∙ ap (faults_in port) slot_is)
+          by false e = ap (faults_in port) (written.there b e)
 
-      pub refused_ok : (new : Cluster D) → faults_in faults new_slot ≡ faults_in faults slot
-          → ((s : Situation) (disks : Disks) → IsHomeUp images faults plan s a txn slot → IsStrictSlot strict armed content synced written_of plan s disks a slot → IsStrictSlot strict armed content synced written_of plan s disks a new_slot)
-          → OnOk r ((s : Situation) (b : Actor) (event : Event) → StandsFor images faults plan between s → HasPlace s
-          → HasStepped images faults strict armed content synced written_of plan (Some cause) number b event between new s)
-          → OnOk r ((s : Situation) → StandsFor images faults plan old s → HasPlace s → is_down a (whole s) ≡ false
-          → HasStepped images faults strict armed content synced written_of plan (skips_slow plan s txn) number a (SlowEvent txn) old new s)
+      pub refused_ok : (new : Cluster D) → faults_in port new_slot ≡ faults_in port slot
+          → ((s : Situation) (disks : Disks) → IsHomeUp port plan s a txn slot → IsStrictSlot port plan s disks a slot → IsStrictSlot port plan s disks a new_slot)
+          → OnOk r ((s : Situation) (b : Actor) (event : Event) → StandsFor port plan between s → HasPlace s
+          → HasStepped port plan (Some cause) number b event between new s)
+          → OnOk r ((s : Situation) → StandsFor port plan old s → HasPlace s → is_down a (whole s) ≡ false
+          → HasStepped port plan (skips_slow plan s txn) number a (SlowEvent txn) old new s)
       refused_ok new same_count strictly = on_ok _ _ r (λ passed s h place up.
-          let step : HasStepped images faults strict armed content synced written_of plan (Some cause) number a (SlowEvent txn) between new s =
+          let step : HasStepped port plan (Some cause) number a (SlowEvent txn) between new s =
           passed s a (SlowEvent txn) (still_stands s h up) place in
-          subst (λ skip. HasStepped images faults strict armed content synced written_of plan skip number a (SlowEvent txn) old new s) (sym (refused s (home_up s h up)))
+          subst (λ skip. HasStepped port plan skip number a (SlowEvent txn) old new s) (sym (refused s (home_up s h up)))
           (record {
             fails = step.fails;
             may = step.may;
             stands = step.stands;
-            rose = λ b there. ⊎_elim (λ stays. inl stays) (λ rose. inr (subst (λ n. Rose n (faults_at faults new b)) (same_faults same_count b) rose)) (step.rose b there);
+            rose = λ b there. ⊎_elim (λ stays. inl stays) (λ rose. inr (subst (λ n. Rose n (faults_at port new b)) (same_faults same_count b) rose)) (step.rose b there);
             strictly = λ disks are. step.strictly disks (still_strict s h up (λ some_disks. strictly s some_disks) disks are);
           }))
 
-      pub refused_limit : IfErr r (IfLimit (λ which limit. (s : Situation) → StandsFor images faults plan between s → HasPlace s → ⊥))
-          → IfErr r (IfLimit (λ which limit. (s : Situation) → StandsFor images faults plan old s → HasPlace s → is_down a (whole s) ≡ false
-          → HitsLimit strict armed content synced written_of plan (skips_slow plan s txn) number a (SlowEvent txn) old s which limit))
+      pub refused_limit : IfErr r (IfLimit (λ which limit. (s : Situation) → StandsFor port plan between s → HasPlace s → ⊥))
+          → IfErr r (IfLimit (λ which limit. (s : Situation) → StandsFor port plan old s → HasPlace s → is_down a (whole s) ≡ false
+          → HitsLimit port plan (skips_slow plan s txn) number a (SlowEvent txn) old s which limit))
       refused_limit = if_limit _ _ r (λ which limit never s h place up. absurd (never s (still_stands s h up) place))

@@ -3,8 +3,8 @@ use Rattle.std.proofs.Common.{◌≡◌, ◌⊎◌, ℕ, Bool, true, false, List
 use Rattle.std.proofs.lemmas.Bool.{true≢false, eq-eqb}
 use Rattle.acc_safety.proofs.Bridge.{same}
 use Rattle.acc_stamp.specs.declared.actors.Actor.{Actor}
+use Rattle.acc_ports.specs.declared.disk.Disk.{Ghosts}
 use Rattle.acc_ports.specs.Faults.{Rose}
-use Rattle.acc_ports.specs.Strict.{Ranges}
 use Rattle.acc_message.specs.declared.entry.Emitted.{Emitted}
 use Rattle.acc_message.specs.declared.entry.Event.{Event}
 use Rattle.acc_message.specs.declared.item.Skip.{Skip}
@@ -58,16 +58,16 @@ sound_tried : (plan : Content) (fails : Bool) (s : Situation) (a : Actor) (event
 sound_tried plan true s a event act may none up journalled sound = sound_stopped_one (cluster_of plan) s a event act may (journalled refl) sound
 sound_tried plan false s a event act may none up journalled sound = sound_entered (cluster_of plan) s a event act may none up sound
 
-module _ {D : Type 0} (images : D → List ℕ → Type 0) (faults : D → ℕ) (strict : D → Bool) (armed : D → Option ℕ) (content synced : D → List ℕ) (written_of : D → Ranges)
-    (plan : Content) (old new : Cluster D) (s : Situation) (number : ℕ) (a : Actor) (event : Event) (h : StandsFor images faults plan old s) where
+module _ {D : Type 0} (port : Ghosts D)
+    (plan : Content) (old new : Cluster D) (s : Situation) (number : ℕ) (a : Actor) (event : Event) (h : StandsFor port plan old s) where
   -- taken, or stopped
   pub has_stepped : (act : Act) (slot : Slot D) (given : Option Emitted) → Contains (actors plan.topology) a → IsWritten old.slots.items new.slots.items a slot
       → MayTake (cluster_of plan) (whole s) a (event_in s event) act → kept_of (event_in s event) ≡ 0 → is_down a (whole s) ≡ false
-      → HasTried images faults plan s a event slot given → IsPastOf new.history (tried_if (is_none given) (cluster_of plan) s a event)
-      → (given ≡ None → Rose (faults_in faults (slot_at old.slots.items a)) (faults_in faults slot))
-      → ((disks : Disks) → IsStrictSlot strict armed content synced written_of plan s disks a (slot_at old.slots.items a)
-      → HasTriedStrictly strict armed content synced written_of plan s disks a event slot given)
-      → HasStepped images faults strict armed content synced written_of plan None number a event old new s
+      → HasTried port plan s a event slot given → IsPastOf new.history (tried_if (is_none given) (cluster_of plan) s a event)
+      → (given ≡ None → Rose (faults_in port (slot_at old.slots.items a)) (faults_in port slot))
+      → ((disks : Disks) → IsStrictSlot port plan s disks a (slot_at old.slots.items a)
+      → HasTriedStrictly port plan s disks a event slot given)
+      → HasStepped port plan None number a event old new s
   has_stepped act slot given known written may none up tried past cause strictly =
       record {
         fails = is_none given;
@@ -76,13 +76,13 @@ module _ {D : Type 0} (images : D → List ℕ → Type 0) (faults : D → ℕ) 
           sound = sound_tried plan (is_none given) s a event act may none up (journalled given tried.emitted) h.sound;
           room = room_still plan (is_none given) s a event h.room;
           past = past;
-          actors = actors_written plan old.slots.items new.slots.items s (tried_if (is_none given) (cluster_of plan) s a event) a slot written known apart images faults h.actors tried.stands;
+          actors = actors_written plan old.slots.items new.slots.items s (tried_if (is_none given) (cluster_of plan) s a event) a slot written known apart port h.actors tried.stands;
         };
-        rose = λ b there. rose_written plan old.slots.items new.slots.items s (tried_if (is_none given) (cluster_of plan) s a event) a slot written known apart faults (rose given cause) b;
+        rose = λ b there. rose_written plan old.slots.items new.slots.items s (tried_if (is_none given) (cluster_of plan) s a event) a slot written known apart port (rose given cause) b;
         strictly = λ disks are.
-            let answer : HasTriedStrictly strict armed content synced written_of plan s disks a event slot given = strictly disks (are a known) in (
+            let answer : HasTriedStrictly port plan s disks a event slot given = strictly disks (are a known) in (
               λ skipped. answer.fails,
-              strict_written plan old.slots.items new.slots.items s (tried_if (is_none given) (cluster_of plan) s a event) a slot written known apart strict armed content synced written_of disks
+              strict_written plan old.slots.items new.slots.items s (tried_if (is_none given) (cluster_of plan) s a event) a slot written known apart port disks
                   (after_step (is_journalled a event) a disks) (λ b e. others_disks (is_journalled a event) a disks b (turned a b e)) are answer.strictly,
             );
       }
@@ -94,14 +94,14 @@ module _ {D : Type 0} (images : D → List ℕ → Type 0) (faults : D → ℕ) 
       apart : AllApart plan s (tried_if (is_none given) (cluster_of plan) s a event) a
       apart b e = apart_tried (cluster_of plan) s h.sound (is_none given) a b event act e may
 
-      rose : (given : Option Emitted) → (given ≡ None → Rose (faults_in faults (slot_at old.slots.items a)) (faults_in faults slot))
-          → (downs_in a (tried_if (is_none given) (cluster_of plan) s a event).own ≡ downs_in a s.own) ⊎ Rose (faults_in faults (slot_at old.slots.items a)) (faults_in faults slot)
+      rose : (given : Option Emitted) → (given ≡ None → Rose (faults_in port (slot_at old.slots.items a)) (faults_in port slot))
+          → (downs_in a (tried_if (is_none given) (cluster_of plan) s a event).own ≡ downs_in a s.own) ⊎ Rose (faults_in port (slot_at old.slots.items a)) (faults_in port slot)
       rose None cause = inr (cause refl)
       rose (Some emitted) cause = inl refl
 
   -- passed over
   pub has_skipped : (cause : Skip) → new.slots.items ≡ old.slots.items → IsPastOf new.history (with_item (Skipped number cause) s)
-      → HasStepped images faults strict armed content synced written_of plan (Some cause) number a event old new s
+      → HasStepped port plan (Some cause) number a event old new s
   has_skipped cause same_slots past =
       record {
         fails = false;
@@ -110,13 +110,13 @@ module _ {D : Type 0} (images : D → List ℕ → Type 0) (faults : D → ℕ) 
           sound = sound_skip (cluster_of plan) s number cause h.sound;
           room = h.room;
           past = past;
-          actors = actors_same plan new.slots.items s (with_item (Skipped number cause) s) apart images faults (subst (λ (slots : List (Slot D)). AreActors images faults plan slots s) (sym same_slots) h.actors);
+          actors = actors_same plan new.slots.items s (with_item (Skipped number cause) s) apart port (subst (λ (slots : List (Slot D)). AreActors port plan slots s) (sym same_slots) h.actors);
         };
         rose = λ b there. inl refl;
         strictly = λ disks are. (
           λ (skipped : Some cause ≡ None). absurd (not_none cause (sym skipped)),
-          strict_same plan new.slots.items s (with_item (Skipped number cause) s) apart strict armed content synced written_of disks
-              (subst (λ (slots : List (Slot D)). AreStrict strict armed content synced written_of plan slots s disks) (sym same_slots) are),
+          strict_same plan new.slots.items s (with_item (Skipped number cause) s) apart port disks
+              (subst (λ (slots : List (Slot D)). AreStrict port plan slots s disks) (sym same_slots) are),
         );
       }
     where

@@ -3,8 +3,8 @@ use Rattle.std.proofs.Common.{◌≡◌, ℕ, zero, suc, ◌<◌, ◌≤◌, Boo
 use Rattle.std.specs.List.{slice_index_or}
 use Rattle.std.proofs.Math.ListN.{set}
 use Rattle.acc_stamp.specs.declared.actors.Actor.{Actor}
+use Rattle.acc_ports.specs.declared.disk.Disk.{Ghosts}
 use Rattle.acc_ports.specs.Faults.{Rose}
-use Rattle.acc_ports.specs.Strict.{Ranges}
 use Rattle.acc_message.specs.declared.entry.Emitted.{Emitted}
 use Rattle.acc_message.specs.declared.entry.Event.{Event}
 use Rattle.acc_message.specs.declared.error.Which.{Which}
@@ -82,22 +82,22 @@ pub record Goes (plan : Content) (s : Situation) (a : Actor) (event : Event) (ac
   pub up : is_down a (whole s) ≡ false
   pub sent : EventTakesSent s event
 
-module _ {D : Type 0} (images : D → List ℕ → Type 0) (faults : D → ℕ) (plan : Content) (old : Cluster D) (a : Actor) (event : Event) (act : Act) (slot : Slot D)
+module _ {D : Type 0} (port : Ghosts D) (plan : Content) (old : Cluster D) (a : Actor) (event : Event) (act : Act) (slot : Slot D)
     (here : slot ≡ slice_index_or old.slots.items a.0 slot) (within : a.0 < length old.slots.items) where
   slot_is : slot ≡ slot_at old.slots.items a
   slot_is = here ∙ within_any old.slots.items a.0 slot Empty within
 
-  pub asked_at : (s : Situation) → StandsFor images faults plan old s → Goes plan s a event act → IsAsked images faults plan s a event act slot
+  pub asked_at : (s : Situation) → StandsFor port plan old s → Goes plan s a event act → IsAsked port plan s a event act slot
   asked_at s h goes =
       record {
         sound = h.sound;
         few = (h.room, h.past.within.few);
-        stands = subst (λ (x : Slot D). SlotStands images faults plan s a x) (sym slot_is) (h.actors.each a goes.known);
+        stands = subst (λ (x : Slot D). SlotStands port plan s a x) (sym slot_is) (h.actors.each a goes.known);
         up = goes.up;
         may = goes.may;
       }
 
-  pub sendable_at : (s : Situation) → StandsFor images faults plan old s → Goes plan s a event act → (given : Option Emitted) → IsEmitted (cluster_of plan) s a event given
+  pub sendable_at : (s : Situation) → StandsFor port plan old s → Goes plan s a event act → (given : Option Emitted) → IsEmitted (cluster_of plan) s a event given
       → IfSome given (λ emitted. AreSendable emitted.out)
   sendable_at s h goes None is = tt
   sendable_at s h goes (Some emitted) is =
@@ -105,8 +105,8 @@ module _ {D : Type 0} (images : D → List ℕ → Type 0) (faults : D → ℕ) 
       (next_sendable (cluster_of plan) (whole s) a act (sound_standing (cluster_of plan) s h.sound) (may_do (cluster_of plan) (whole s) a (event_in s event) act goes.may) (few_whole s (h.room, h.past.within.few)))
 
   -- no count falls
-  pub taken_counted : (new : List (Slot D)) (new_slot : Slot D) → new ≡ set old.slots.items a.0 new_slot → faults_in faults slot ≤ faults_in faults new_slot
-      → (b : Actor) → faults_in faults (slot_at old.slots.items b) ≤ faults_in faults (slot_at new b)
+  pub taken_counted : (new : List (Slot D)) (new_slot : Slot D) → new ≡ set old.slots.items a.0 new_slot → faults_in port slot ≤ faults_in port new_slot
+      → (b : Actor) → faults_in port (slot_at old.slots.items b) ≤ faults_in port (slot_at new b)
   taken_counted new new_slot set_is counted b = by (same_actor a b) refl
     where
       written : IsWritten old.slots.items new a new_slot
@@ -115,45 +115,45 @@ module _ {D : Type 0} (images : D → List ℕ → Type 0) (faults : D → ℕ) 
       same_count : {n k : ℕ} → n ≡ k → n ≤ k
       same_count is = omega (arith, is)
 
-      by : (t : Bool) → same_actor a b ≡ t → faults_in faults (slot_at old.slots.items b) ≤ faults_in faults (slot_at new b)
-      by false e = same_count (ap (faults_in faults) (sym (written.there b e)))
+      by : (t : Bool) → same_actor a b ≡ t → faults_in port (slot_at old.slots.items b) ≤ faults_in port (slot_at new b)
+      by false e = same_count (ap (faults_in port) (sym (written.there b e)))
       by true e =
-          subst (λ (c : Actor). faults_in faults (slot_at old.slots.items c) ≤ faults_in faults (slot_at new c)) (same a b e)
-          (subst (λ (x : Slot D). faults_in faults x ≤ faults_in faults (slot_at new a)) slot_is (subst (λ (x : Slot D). faults_in faults slot ≤ faults_in faults x) (sym written.here) counted))
+          subst (λ (c : Actor). faults_in port (slot_at old.slots.items c) ≤ faults_in port (slot_at new c)) (same a b e)
+          (subst (λ (x : Slot D). faults_in port x ≤ faults_in port (slot_at new a)) slot_is (subst (λ (x : Slot D). faults_in port slot ≤ faults_in port x) (sym written.here) counted))
 
-  module _ (strict : D → Bool) (armed : D → Option ℕ) (content synced : D → List ℕ) (written : D → Ranges) (new_slot : Slot D) (given : Option Emitted)
-      (ok : (s : Situation) → IsAsked images faults plan s a event act slot → HasTried images faults plan s a event new_slot given)
-      (strictly : (s : Situation) (disks : Disks) → IsAsked images faults plan s a event act slot → IsStrictSlot strict armed content synced written plan s disks a slot
-      → HasTriedStrictly strict armed content synced written plan s disks a event new_slot given)
-      (P : Situation → Type 0) (goes : (s : Situation) → StandsFor images faults plan old s → P s → Goes plan s a event act) (r : Result (Unit {0}) RunError) where
+  module _ (new_slot : Slot D) (given : Option Emitted)
+      (ok : (s : Situation) → IsAsked port plan s a event act slot → HasTried port plan s a event new_slot given)
+      (strictly : (s : Situation) (disks : Disks) → IsAsked port plan s a event act slot → IsStrictSlot port plan s disks a slot
+      → HasTriedStrictly port plan s disks a event new_slot given)
+      (P : Situation → Type 0) (goes : (s : Situation) → StandsFor port plan old s → P s → Goes plan s a event act) (r : Result (Unit {0}) RunError) where
     pub taken_ok : (new : Cluster D) → new.slots.items ≡ set old.slots.items a.0 new_slot
-        → (given ≡ None → Rose (faults_in faults slot) (faults_in faults new_slot))
+        → (given ≡ None → Rose (faults_in port slot) (faults_in port new_slot))
         → OnOk r ((cluster : RunCluster) (s : Situation) → IsPastOf old.history s → HasPlace s → EventTakesSent s event → IsEmitted cluster s a event given
         → IsPastOf new.history (tried_if (is_none given) cluster s a event))
-        → OnOk r ((number : ℕ) (s : Situation) → StandsFor images faults plan old s → HasPlace s → P s
-        → HasStepped images faults strict armed content synced written plan None number a event old new s)
+        → OnOk r ((number : ℕ) (s : Situation) → StandsFor port plan old s → HasPlace s → P s
+        → HasStepped port plan None number a event old new s)
     taken_ok new set_is cause entered = on_ok _ _ r (λ enter number s h place p.
         let go : Goes plan s a event act = goes s h p in
-        let asked : IsAsked images faults plan s a event act slot = asked_at s h go in
-        let tried : HasTried images faults plan s a event new_slot given = ok s asked in
-        has_stepped images faults strict armed content synced written plan old new s number a event h act new_slot given go.known
+        let asked : IsAsked port plan s a event act slot = asked_at s h go in
+        let tried : HasTried port plan s a event new_slot given = ok s asked in
+        has_stepped port plan old new s number a event h act new_slot given go.known
         (write_is old.slots.items new.slots.items a a.0 new_slot refl within set_is) go.may go.none go.up tried
         (enter (cluster_of plan) s h.past place go.sent tried.emitted)
-        (λ none. subst (λ (x : Slot D). Rose (faults_in faults x) (faults_in faults new_slot)) slot_is (cause none))
-        (λ disks are. strictly s disks asked (subst (λ (x : Slot D). IsStrictSlot strict armed content synced written plan s disks a x) (sym slot_is) are))) entered
+        (λ none. subst (λ (x : Slot D). Rose (faults_in port x) (faults_in port new_slot)) slot_is (cause none))
+        (λ disks are. strictly s disks asked (subst (λ (x : Slot D). IsStrictSlot port plan s disks a x) (sym slot_is) are))) entered
 
     pub taken_limit : IfErr r (IfLimit (λ which limit. (cluster : RunCluster) (s : Situation) → IsPastOf old.history s → HasPlace s → IsEmitted cluster s a event given
         → (is_none given ≡ false) × EndsAt (λ front. front ≡ (tried_if false cluster s a event).own) s.own which limit))
-        → IfErr r (IfLimit (λ which limit. (number : ℕ) (s : Situation) → StandsFor images faults plan old s → HasPlace s → P s
-        → HitsLimit strict armed content synced written plan None number a event old s which limit))
+        → IfErr r (IfLimit (λ which limit. (number : ℕ) (s : Situation) → StandsFor port plan old s → HasPlace s → P s
+        → HitsLimit port plan None number a event old s which limit))
     taken_limit entered = if_limit _ _ r (λ which limit enter number s h place p.
         let go : Goes plan s a event act = goes s h p in
-        let asked : IsAsked images faults plan s a event act slot = asked_at s h go in
+        let asked : IsAsked port plan s a event act slot = asked_at s h go in
         let ends = enter (cluster_of plan) s h.past place (ok s asked).emitted in
         inr (
           ends.1,
           λ disks are skipped.
-              let answer : HasTriedStrictly strict armed content synced written plan s disks a event new_slot given =
-              strictly s disks asked (subst (λ (x : Slot D). IsStrictSlot strict armed content synced written plan s disks a x) (sym slot_is) (are a go.known)) in
+              let answer : HasTriedStrictly port plan s disks a event new_slot given =
+              strictly s disks asked (subst (λ (x : Slot D). IsStrictSlot port plan s disks a x) (sym slot_is) (are a go.known)) in
               sym answer.fails ∙ ends.0,
         )) entered

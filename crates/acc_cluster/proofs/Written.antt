@@ -5,8 +5,8 @@ use Rattle.std.proofs.Math.ListN.{set}
 use Rattle.std.proofs.lemmas.List.{get_or-set_same, get_or-set_other}
 use Rattle.std.proofs.lemmas.Bool.{eq-eqb}
 use Rattle.acc_stamp.specs.declared.actors.Actor.{Actor}
+use Rattle.acc_ports.specs.declared.disk.Disk.{Ghosts}
 use Rattle.acc_ports.specs.Faults.{Rose}
-use Rattle.acc_ports.specs.Strict.{Ranges}
 use Rattle.acc_message.specs.Items.{same_actor}
 use Rattle.acc_payloads.specs.Items.{downs_in}
 use Rattle.acc_safety.proofs.Bridge.{same}
@@ -55,44 +55,44 @@ module _ {D : Type 0} (plan : Content) (before now : List (Slot D)) (s next : Si
       by true e = subst P (same a b e) here
       by false e = there b e
 
-  pub actors_written : (images : D → List ℕ → Type 0) (faults : D → ℕ) → AreActors images faults plan before s → SlotStands images faults plan next a slot
-      → AreActors images faults plan now next
-  actors_written images faults h stands =
+  pub actors_written : (port : Ghosts D) → AreActors port plan before s → SlotStands port plan next a slot
+      → AreActors port plan now next
+  actors_written port h stands =
       record {
         each =
-            by_actor (λ b. Contains (actors plan.topology) b → SlotStands images faults plan next b (slot_at now b))
-            (λ there. subst (λ x. SlotStands images faults plan next a x) (sym written.here) stands)
-            (λ b e there. subst (λ x. SlotStands images faults plan next b x) (sym (written.there b e)) (slot_apart plan s next b (apart b e) images faults (slot_at before b) (h.each b there)));
+            by_actor (λ b. Contains (actors plan.topology) b → SlotStands port plan next b (slot_at now b))
+            (λ there. subst (λ x. SlotStands port plan next a x) (sym written.here) stands)
+            (λ b e there. subst (λ x. SlotStands port plan next b x) (sym (written.there b e)) (slot_apart plan s next b (apart b e) port (slot_at before b) (h.each b there)));
         only =
             by_actor (λ b. IsTaken (slot_at now b) → Contains (actors plan.topology) b) (λ taken. known)
             (λ b e taken. h.only b (subst IsTaken (written.there b e) taken));
       }
 
-  pub strict_written : (strict : D → Bool) (armed : D → Option ℕ) (content synced : D → List ℕ) (written_of : D → Ranges) (disks later : Disks)
+  pub strict_written : (port : Ghosts D) (disks later : Disks)
       → ((b : Actor) → same_actor a b ≡ false → (later.armed b ≡ disks.armed b) × (later.passed b ≡ disks.passed b))
-      → AreStrict strict armed content synced written_of plan before s disks → IsStrictSlot strict armed content synced written_of plan next later a slot
-      → AreStrict strict armed content synced written_of plan now next later
-  strict_written strict armed content synced written_of disks later same_disks h stands =
-      by_actor (λ b. Contains (actors plan.topology) b → IsStrictSlot strict armed content synced written_of plan next later b (slot_at now b))
-      (λ there. subst (λ x. IsStrictSlot strict armed content synced written_of plan next later a x) (sym written.here) stands)
+      → AreStrict port plan before s disks → IsStrictSlot port plan next later a slot
+      → AreStrict port plan now next later
+  strict_written port disks later same_disks h stands =
+      by_actor (λ b. Contains (actors plan.topology) b → IsStrictSlot port plan next later b (slot_at now b))
+      (λ there. subst (λ x. IsStrictSlot port plan next later a x) (sym written.here) stands)
       (λ b e there.
-      subst (λ x. IsStrictSlot strict armed content synced written_of plan next later b x) (sym (written.there b e))
-      (strict_apart plan s next b (apart b e) strict armed content synced written_of disks later (slot_at before b) (same_disks b e).0 (same_disks b e).1 (h b there)))
+      subst (λ x. IsStrictSlot port plan next later b x) (sym (written.there b e))
+      (strict_apart plan s next b (apart b e) port disks later (slot_at before b) (same_disks b e).0 (same_disks b e).1 (h b there)))
 
-  pub rose_written : (faults : D → ℕ) → (downs_in a next.own ≡ downs_in a s.own) ⊎ Rose (faults_in faults (slot_at before a)) (faults_in faults slot)
-      → (b : Actor) → (downs_in b next.own ≡ downs_in b s.own) ⊎ Rose (faults_in faults (slot_at before b)) (faults_in faults (slot_at now b))
-  rose_written faults here =
-      by_actor (λ b. (downs_in b next.own ≡ downs_in b s.own) ⊎ Rose (faults_in faults (slot_at before b)) (faults_in faults (slot_at now b)))
-      (subst (λ x. (downs_in a next.own ≡ downs_in a s.own) ⊎ Rose (faults_in faults (slot_at before a)) (faults_in faults x)) (sym written.here) here)
+  pub rose_written : (port : Ghosts D) → (downs_in a next.own ≡ downs_in a s.own) ⊎ Rose (faults_in port (slot_at before a)) (faults_in port slot)
+      → (b : Actor) → (downs_in b next.own ≡ downs_in b s.own) ⊎ Rose (faults_in port (slot_at before b)) (faults_in port (slot_at now b))
+  rose_written port here =
+      by_actor (λ b. (downs_in b next.own ≡ downs_in b s.own) ⊎ Rose (faults_in port (slot_at before b)) (faults_in port (slot_at now b)))
+      (subst (λ x. (downs_in a next.own ≡ downs_in a s.own) ⊎ Rose (faults_in port (slot_at before a)) (faults_in port x)) (sym written.here) here)
       (λ b e. inl (apart b e).downs)
 
 -- no slot was written
 module _ {D : Type 0} (plan : Content) (slots : List (Slot D)) (s next : Situation) (apart : (b : Actor) → IsApart (cluster_of plan) s next b) where
-  pub actors_same : (images : D → List ℕ → Type 0) (faults : D → ℕ) → AreActors images faults plan slots s → AreActors images faults plan slots next
-  actors_same images faults h =
-      record { each = λ b there. slot_apart plan s next b (apart b) images faults (slot_at slots b) (h.each b there); only = h.only }
+  pub actors_same : (port : Ghosts D) → AreActors port plan slots s → AreActors port plan slots next
+  actors_same port h =
+      record { each = λ b there. slot_apart plan s next b (apart b) port (slot_at slots b) (h.each b there); only = h.only }
 
-  pub strict_same : (strict : D → Bool) (armed : D → Option ℕ) (content synced : D → List ℕ) (written_of : D → Ranges) (disks : Disks)
-      → AreStrict strict armed content synced written_of plan slots s disks → AreStrict strict armed content synced written_of plan slots next disks
-  strict_same strict armed content synced written_of disks h =
-      λ b there. strict_apart plan s next b (apart b) strict armed content synced written_of disks disks (slot_at slots b) refl refl (h b there)
+  pub strict_same : (port : Ghosts D) (disks : Disks)
+      → AreStrict port plan slots s disks → AreStrict port plan slots next disks
+  strict_same port disks h =
+      λ b there. strict_apart plan s next b (apart b) port disks disks (slot_at slots b) refl refl (h b there)

@@ -2,6 +2,7 @@
 use Rattle.std.specs.Prelude.{◌≡◌, ℕ, ◌+◌, ◌≤◌, List, [], ◌∷◌, ◌++◌, map, reverse, Contains}
 use Rattle.std.specs.List.{AllByRecursion}
 use Rattle.acc_stamp.specs.declared.actors.Actor.{Actor}
+use Rattle.acc_ports.specs.declared.disk.Disk.{Ghosts}
 use Rattle.acc_payloads.specs.Items.{Keeps}
 use Rattle.acc_payloads.specs.Stops.{HoldsPayloads}
 use Rattle.acc_durable_node.specs.Actor as node
@@ -29,13 +30,13 @@ disks_from number [] = []
 disks_from number (slot ∷ slots) = entry_of number slot ++ disks_from (number + 1) slots
 
 -- each image of the disk holds the payloads of the past for which the actor stands
-abbrev pub SlotHolds : {D : Type 0} → (D → List ℕ → Type 0) → Content → Situation → Actor → Slot D → Type 0
-SlotHolds images plan s a Empty = Unit {0}
-SlotHolds images plan s a (Node n) = (image : List ℕ) → images (node.disk_of n) image → HoldsPayloads plan.version (node_past (cluster_of plan) s a) image
-SlotHolds images plan s a (Store t) = (image : List ℕ) → images (store.disk_of t) image → HoldsPayloads plan.version (store_past (cluster_of plan) s a) image
+abbrev pub SlotHolds : {D : Type 0} → Ghosts D → Content → Situation → Actor → Slot D → Type 0
+SlotHolds port plan s a Empty = Unit {0}
+SlotHolds port plan s a (Node n) = (image : List ℕ) → port.is_image (node.disk_of n) image → HoldsPayloads plan.version (node_past (cluster_of plan) s a) image
+SlotHolds port plan s a (Store t) = (image : List ℕ) → port.is_image (store.disk_of t) image → HoldsPayloads plan.version (store_past (cluster_of plan) s a) image
 
-abbrev pub LeavesHeld : {D : Type 0} → (D → List ℕ → Type 0) → (D → ℕ) → Slot D → Type 0
-LeavesHeld images faults slot = (plan : Content) (s : Situation) (a : Actor) → SlotStands images faults plan s a slot → SlotHolds images plan s a slot
+abbrev pub LeavesHeld : {D : Type 0} → Ghosts D → Slot D → Type 0
+LeavesHeld port slot = (plan : Content) (s : Situation) (a : Actor) → SlotStands port plan s a slot → SlotHolds port plan s a slot
 
 -- ---- the whole
 
@@ -49,7 +50,7 @@ pub record AreDisksOf {D : Type 0} (plan : Content) (disks : List (Actor × D)) 
   pub known : AllByRecursion (λ (entry : Actor × D). Contains (actors plan.topology) entry.0) disks
   pub each : (a : Actor) → Contains (actors plan.topology) a → Contains (map (λ (entry : Actor × D). entry.0) disks) a
 
-pub record IsEndOf {D : Type 0} (images : D → List ℕ → Type 0) (faults : D → ℕ) (plan : Content) (s : Situation) (ended : Ended D) : Type 0 where
+pub record IsEndOf {D : Type 0} (port : Ghosts D) (plan : Content) (s : Situation) (ended : Ended D) : Type 0 where
   pub items_are : ended.items ≡ reverse s.own
   pub disks_are : AreDisksOf plan ended.disks.items
-  pub kept : s.earlier ≡ [] → AllByRecursion (λ (entry : Actor × D). Keeps plan.version entry.0 s.own (faults entry.1) (images entry.1)) ended.disks.items
+  pub kept : s.earlier ≡ [] → AllByRecursion (λ (entry : Actor × D). Keeps plan.version entry.0 s.own (port.state entry.1).faults (port.is_image entry.1)) ended.disks.items

@@ -4,6 +4,7 @@ use Rattle.std.specs.List.{AllByRecursion}
 use Rattle.acc_stamp.specs.declared.actors.Actor.{Actor}
 use Rattle.acc_stamp.specs.declared.stamps.TxnId.{TxnId}
 use Rattle.acc_stamp.specs.Actor.{actor_of}
+use Rattle.acc_ports.specs.declared.disk.Disk.{Ghosts}
 use Rattle.acc_journal.specs.Layout.{Reads}
 use Rattle.acc_message.specs.declared.item.Item.{Item}
 use Rattle.acc_message.specs.Items.{is_begun, id_of_txn}
@@ -18,7 +19,6 @@ use Rattle.acc_schedule_runs.specs.Situations.{opened}
 use Rattle.acc_schedule_runs.specs.Schedules.{cluster_of}
 use Rattle.acc_history.specs.Begun.{begun_as, known_as}
 use Rattle.acc_schedule_runs.specs.Disks.{fresh_disks}
-use Rattle.acc_ports.specs.Strict.{Ranges}
 use Rattle.acc_actors.specs.Asked.{HasRoom}
 use Rattle.acc_actors.specs.Opened.{HasDone, HasTaken, IsUnarmed}
 use Rattle.acc_actors.specs.Slots.{SlotStands, IsStrictSlot, IsTaken}
@@ -26,18 +26,18 @@ use Rattle.acc_actors.specs.declared.slot.Slot.{Slot}
 use Rattle.acc_cluster.specs.Stands.{slot_at}
 
 -- a durable node of the plan that isn't broken, and whose disk keeps its journal
-pub record IsNodeOf {D : Type 0} (images : D → List ℕ → Type 0) (plan : Content) (n : DurableNode D) : Type 0 where
+pub record IsNodeOf {D : Type 0} (port : Ghosts D) (plan : Content) (n : DurableNode D) : Type 0 where
   pub sound : n.journal.broken ≡ false
   pub start_is : n.start ≡ clock_start plan.starts n.number
   pub version_is : n.version ≡ plan.version
-  pub lasts : (image : List ℕ) → images n.journal.disk image → Reads image n.journal.payloads
+  pub lasts : (image : List ℕ) → port.is_image n.journal.disk image → Reads image n.journal.payloads
 
 -- a durable store of the plan, with nothing staged
-pub record IsStoreOf {D : Type 0} (images : D → List ℕ → Type 0) (plan : Content) (t : DurableStore D) : Type 0 where
+pub record IsStoreOf {D : Type 0} (port : Ghosts D) (plan : Content) (t : DurableStore D) : Type 0 where
   pub sound : t.journal.broken ≡ false
   pub none_staged : t.journal.group ≡ []
   pub version_is : t.version ≡ plan.version
-  pub lasts : (image : List ℕ) → images t.journal.disk image → Reads image t.journal.payloads
+  pub lasts : (image : List ℕ) → port.is_image t.journal.disk image → Reads image t.journal.payloads
 
 -- a store has the number of a store of the plan
 pub record IsStoreNumber {D : Type 0} (plan : Content) (t : DurableStore D) : Type 0 where
@@ -66,23 +66,23 @@ TellsOf plan nodes txn id =
     → known_as (Some id) ≡ begun_as (is_begun earlier txn) (id_of_txn earlier txn)
 
 -- all disks are strict, and nothing is armed there
-pub record AreUnarmed {D : Type 0} (strict : D → Bool) (armed : D → Option ℕ) (nodes : List (DurableNode D)) (stores : List (DurableStore D)) : Type 0 where
-  pub nodes_are : AllByRecursion (λ (n : DurableNode D). IsUnarmed strict armed n.journal.disk) nodes
-  pub stores_are : AllByRecursion (λ (t : DurableStore D). IsUnarmed strict armed t.journal.disk) stores
+pub record AreUnarmed {D : Type 0} (port : Ghosts D) (nodes : List (DurableNode D)) (stores : List (DurableStore D)) : Type 0 where
+  pub nodes_are : AllByRecursion (λ (n : DurableNode D). IsUnarmed port n.journal.disk) nodes
+  pub stores_are : AllByRecursion (λ (t : DurableStore D). IsUnarmed port t.journal.disk) stores
 
 -- ---- the slots, as they are filled with actors
 
 -- The actors of these nodes and stores stand in the slots, none stands at a number that isn't the plan's, and those that are there
 -- stand for an earlier run in which nobody is down if they did their parts in it.
-pub record AreFilled {D : Type 0} (images : D → List ℕ → Type 0) (faults : D → ℕ) (plan : Content) (nodes : List (DurableNode D)) (stores : List (DurableStore D)) (slots : List (Slot D)) : Type 0 where
+pub record AreFilled {D : Type 0} (port : Ghosts D) (plan : Content) (nodes : List (DurableNode D)) (stores : List (DurableStore D)) (slots : List (Slot D)) : Type 0 where
   pub only : (a : Actor) → IsTaken (slot_at slots a) → Contains (actors plan.topology) a
   pub nodes_there : AllByRecursion (λ (n : DurableNode D). IsTaken (slot_at slots (actor_of n.number 0))) nodes
   pub stores_there : AllByRecursion (λ (t : DurableStore D). IsTaken (slot_at slots (store.actor_in t))) stores
   pub stand : (earlier : List Item) → ((a : Actor) → is_down a earlier ≡ false) → AllByRecursion (HasDone plan earlier) nodes → AllByRecursion (HasTaken plan earlier) stores
-      → (a : Actor) → IsTaken (slot_at slots a) → SlotStands images faults plan (opened earlier) a (slot_at slots a)
+      → (a : Actor) → IsTaken (slot_at slots a) → SlotStands port plan (opened earlier) a (slot_at slots a)
 
 -- and if nothing is armed on their disks, and all are strict, that is so in their slots
-abbrev pub AreFilledStrictly : {D : Type 0} → (D → Bool) → (D → Option ℕ) → (D → List ℕ) → (D → List ℕ) → (D → Ranges) → Content → List (DurableNode D) → List (DurableStore D) → List (Slot D) → Type 0
-AreFilledStrictly strict armed content synced written plan nodes stores slots =
-    AreUnarmed strict armed nodes stores → (earlier : List Item) (a : Actor) → IsTaken (slot_at slots a)
-    → IsStrictSlot strict armed content synced written plan (opened earlier) fresh_disks a (slot_at slots a)
+abbrev pub AreFilledStrictly : {D : Type 0} → Ghosts D → Content → List (DurableNode D) → List (DurableStore D) → List (Slot D) → Type 0
+AreFilledStrictly port plan nodes stores slots =
+    AreUnarmed port nodes stores → (earlier : List Item) (a : Actor) → IsTaken (slot_at slots a)
+    → IsStrictSlot port plan (opened earlier) fresh_disks a (slot_at slots a)

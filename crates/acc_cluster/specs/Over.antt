@@ -2,7 +2,7 @@
 use Rattle.std.specs.Prelude.{ℕ, Bool, List, [], reverse, map, Option, Contains}
 use Rattle.std.specs.List.{AllByRecursion}
 use Rattle.acc_stamp.specs.declared.actors.Actor.{Actor}
-use Rattle.acc_ports.specs.Strict.{Ranges}
+use Rattle.acc_ports.specs.declared.disk.Disk.{Ghosts}
 use Rattle.acc_message.specs.declared.item.Item.{Item}
 use Rattle.acc_schedule.specs.Actors.{actors}
 use Rattle.acc_schedule.specs.Content.{Content}
@@ -32,15 +32,15 @@ pub record AreSlotsOf {D : Type 0} (plan : Content) (slots : List (Actor × Slot
   pub each : (a : Actor) → Contains (actors plan.topology) a → Contains (map actor_in slots) a
 
 -- each actor stands for its part in the items, which are a run within the limits
-pub record IsOver {D : Type 0} (images : D → List ℕ → Type 0) (faults : D → ℕ) (plan : Content) (slots : List (Actor × Slot D)) (items : List Item) (stopped : List Stopped) : Type 0 where
+pub record IsOver {D : Type 0} (port : Ghosts D) (plan : Content) (slots : List (Actor × Slot D)) (items : List Item) (stopped : List Stopped) : Type 0 where
   pub sound : IsSound (cluster_of plan) (behind_items items stopped)
   pub within : IsWithin (reverse items)
-  pub stand : AllByRecursion (λ (one : Actor × Slot D). SlotStands images faults plan (behind_items items stopped) one.0 one.1) slots
+  pub stand : AllByRecursion (λ (one : Actor × Slot D). SlotStands port plan (behind_items items stopped) one.0 one.1) slots
 
 -- over strict disks, on which is known what is armed
-abbrev pub AreStrictSlots : {D : Type 0} → (D → Bool) → (D → Option ℕ) → (D → List ℕ) → (D → List ℕ) → (D → Ranges) → Content → Situation → Disks → List (Actor × Slot D) → Type 0
-AreStrictSlots {D} strict armed content synced written plan s disks slots =
-    AllByRecursion (λ (one : Actor × Slot D). IsStrictSlot strict armed content synced written plan s disks one.0 one.1) slots
+abbrev pub AreStrictSlots : {D : Type 0} → Ghosts D → Content → Situation → Disks → List (Actor × Slot D) → Type 0
+AreStrictSlots {D} port plan s disks slots =
+    AllByRecursion (λ (one : Actor × Slot D). IsStrictSlot port plan s disks one.0 one.1) slots
 
 -- ---- how they are put together
 

@@ -2,8 +2,8 @@
 use Rattle.std.specs.Prelude.{◌≡◌, ℕ, Bool, true, false, List, [], ◌∷◌, Option}
 use Rattle.std.specs.List.{AllByRecursion}
 use Rattle.acc_stamp.specs.declared.actors.Actor.{Actor}
+use Rattle.acc_ports.specs.declared.disk.Disk.{Ghosts}
 use Rattle.acc_ports.specs.Faults.{Rose}
-use Rattle.acc_ports.specs.Strict.{Ranges}
 use Rattle.acc_message.specs.declared.error.Which.{Which}
 use Rattle.acc_message.specs.declared.item.Item.{Item}
 use Rattle.acc_message.specs.Items.{same_actor}
@@ -28,13 +28,13 @@ use Rattle.acc_cluster.specs.Entering.{HasPlace, IsPastOf, step_item}
 use Rattle.acc_cluster.specs.Stands.{slot_at}
 
 -- The actor has restarted in its slot, and the other slots are as before.
-pub record HasReopened {D : Type 0} (images : D → List ℕ → Type 0) (faults : D → ℕ) (strict : D → Bool) (armed : D → Option ℕ) (content synced : D → List ℕ) (written : D → Ranges) (plan : Content) (a : Actor) (choice : ℕ) (before now : List (Slot D)) (found : Restarted) (s : Situation) : Type 0 where
+pub record HasReopened {D : Type 0} (port : Ghosts D) (plan : Content) (a : Actor) (choice : ℕ) (before now : List (Slot D)) (found : Restarted) (s : Situation) : Type 0 where
   pub others : (b : Actor) → same_actor a b ≡ false → slot_at now b ≡ slot_at before b
-  pub restarted : HasRestartedAt images faults plan s a found (slot_at now a)
+  pub restarted : HasRestartedAt port plan s a found (slot_at now a)
   pub strictly :
-      (disks : Disks) → IsStrictSlot strict armed content synced written plan s disks a (slot_at before a)
-      → HasRestartedStrictlyAt strict armed content synced written plan s disks a choice found (slot_at now a)
-  pub cause : found ≡ Down → Rose (faults_in faults (slot_at before a)) (faults_in faults (slot_at now a))
+      (disks : Disks) → IsStrictSlot port plan s disks a (slot_at before a)
+      → HasRestartedStrictlyAt port plan s disks a choice found (slot_at now a)
+  pub cause : found ≡ Down → Rose (faults_in port (slot_at before a)) (faults_in port (slot_at now a))
 
 -- the situation behind a restart that kept this
 abbrev pub come_up : Cluster → Situation → Actor → List Unsent → Situation

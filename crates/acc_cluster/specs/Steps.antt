@@ -1,8 +1,8 @@
 -- What a step of the schedule leads to: the next situation, or a limit that ends the run.
 use Rattle.std.specs.Prelude.{◌≡◌, ◌⊎◌, ℕ, Bool, List, length, Option, Contains}
 use Rattle.acc_ports.specs.Faults.{Rose}
-use Rattle.acc_ports.specs.Strict.{Ranges}
 use Rattle.acc_stamp.specs.declared.actors.Actor.{Actor}
+use Rattle.acc_ports.specs.declared.disk.Disk.{Ghosts}
 use Rattle.acc_message.specs.declared.item.Item.{Item}
 use Rattle.acc_message.specs.declared.error.Which.{Which}
 use Rattle.acc_message.specs.declared.error.RunError.{RunError}
@@ -23,24 +23,24 @@ use Rattle.acc_cluster.specs.declared.cluster.Cluster.{Cluster}
 use Rattle.acc_cluster.specs.Stands.{StandsFor, StandsStrictly, faults_at}
 
 -- an actor goes down only where its disk failed
-abbrev pub RoseByDowns : {D : Type 0} → (D → ℕ) → Content → Cluster D → Cluster D → Situation → Situation → Type 0
-RoseByDowns faults plan old new s next =
-    (a : Actor) → Contains (actors plan.topology) a → (downs_in a next.own ≡ downs_in a s.own) ⊎ Rose (faults_at faults old a) (faults_at faults new a)
+abbrev pub RoseByDowns : {D : Type 0} → Ghosts D → Content → Cluster D → Cluster D → Situation → Situation → Type 0
+RoseByDowns port plan old new s next =
+    (a : Actor) → Contains (actors plan.topology) a → (downs_in a next.own ≡ downs_in a s.own) ⊎ Rose (faults_at port old a) (faults_at port new a)
 
 -- Some answers of the disks, those given so far among them, take the situation to the next one by the step, and the cluster stands for it.
-pub record StepsTo {D : Type 0} (images : D → List ℕ → Type 0) (faults : D → ℕ) (plan : Content) (answers : Answers) (number : ℕ) (step : Step) (old new : Cluster D) (s : Situation) : Type 0 where
+pub record StepsTo {D : Type 0} (port : Ghosts D) (plan : Content) (answers : Answers) (number : ℕ) (step : Step) (old new : Cluster D) (s : Situation) : Type 0 where
   pub other : Answers
   pub next : Situation
   pub agree : AgreeBelow answers other (length s.own)
   pub next_is : IsNext (cluster_of plan) other number step s next
-  pub stands : StandsFor images faults plan new next
-  pub rose : RoseByDowns faults plan old new s next
+  pub stands : StandsFor port plan new next
+  pub rose : RoseByDowns port plan old new s next
 
 -- the same over strict disks, which answer by themselves
-pub record StepsStrictly {D : Type 0} (images : D → List ℕ → Type 0) (faults : D → ℕ) (strict : D → Bool) (armed : D → Option ℕ) (content synced : D → List ℕ) (written : D → Ranges) (plan : Content) (number : ℕ) (step : Step) (new : Cluster D) (s : StrictSituation) : Type 0 where
+pub record StepsStrictly {D : Type 0} (port : Ghosts D) (plan : Content) (number : ℕ) (step : Step) (new : Cluster D) (s : StrictSituation) : Type 0 where
   pub next : StrictSituation
   pub next_is : IsStrictNext (cluster_of plan) number step s next
-  pub stands : StandsStrictly images faults strict armed content synced written plan new next
+  pub stands : StandsStrictly port plan new next
 
 -- a limit is hit, and what holds then
 abbrev pub IfLimit : (Which → ℕ → Type 0) → RunError → Type 0

@@ -1,7 +1,7 @@
 -- What a step of one actor makes of the cluster: it is passed over, taken, or stopped by a fault of the disk.
 use Rattle.std.specs.Prelude.{◌≡◌, ◌⊎◌, ℕ, Bool, true, false, ◌&&◌, List, length, Option, None, Some}
 use Rattle.acc_stamp.specs.declared.actors.Actor.{Actor}
-use Rattle.acc_ports.specs.Strict.{Ranges}
+use Rattle.acc_ports.specs.declared.disk.Disk.{Ghosts}
 use Rattle.acc_journal.specs.Journal.{keeps_group}
 use Rattle.acc_message.specs.declared.entry.Event.{Event}
 use Rattle.acc_message.specs.declared.item.Skip.{Skip}
@@ -39,30 +39,30 @@ disks_after (Some cause) disks a event = disks
 disks_after None disks a event = after_step (is_journalled a event) a disks
 
 -- The cluster stands for what the step makes of the situation, by whether the disk failed. Over strict disks that is known.
-pub record HasStepped {D : Type 0} (images : D → List ℕ → Type 0) (faults : D → ℕ) (strict : D → Bool) (armed : D → Option ℕ) (content synced : D → List ℕ) (written : D → Ranges) (plan : Content) (skip : Option Skip) (number : ℕ) (a : Actor) (event : Event) (old new : Cluster D) (s : Situation) : Type 0 where
+pub record HasStepped {D : Type 0} (port : Ghosts D) (plan : Content) (skip : Option Skip) (number : ℕ) (a : Actor) (event : Event) (old new : Cluster D) (s : Situation) : Type 0 where
   pub fails : Bool
   pub may : fails ≡ true → is_journalled a event ≡ true
-  pub stands : StandsFor images faults plan new (stepped_if skip fails (cluster_of plan) number s a event)
-  pub rose : RoseByDowns faults plan old new s (stepped_if skip fails (cluster_of plan) number s a event)
+  pub stands : StandsFor port plan new (stepped_if skip fails (cluster_of plan) number s a event)
+  pub rose : RoseByDowns port plan old new s (stepped_if skip fails (cluster_of plan) number s a event)
   pub strictly :
-      (disks : Disks) → AreStrict strict armed content synced written plan old.slots.items s disks
+      (disks : Disks) → AreStrict port plan old.slots.items s disks
       → (skip ≡ None → fails ≡ fails_strictly disks a event)
-      × AreStrict strict armed content synced written plan new.slots.items (stepped_if skip fails (cluster_of plan) number s a event) (disks_after skip disks a event)
+      × AreStrict port plan new.slots.items (stepped_if skip fails (cluster_of plan) number s a event) (disks_after skip disks a event)
 
 -- The cluster stands for the next situation, and nothing has changed on any disk.
-pub record HasChanged {D : Type 0} (images : D → List ℕ → Type 0) (faults : D → ℕ) (strict : D → Bool) (armed : D → Option ℕ) (content synced : D → List ℕ) (written : D → Ranges) (plan : Content) (old new : Cluster D) (s next : Situation) : Type 0 where
-  pub stands : StandsFor images faults plan new next
-  pub rose : RoseByDowns faults plan old new s next
+pub record HasChanged {D : Type 0} (port : Ghosts D) (plan : Content) (old new : Cluster D) (s next : Situation) : Type 0 where
+  pub stands : StandsFor port plan new next
+  pub rose : RoseByDowns port plan old new s next
   pub strictly :
-      (disks : Disks) → AreStrict strict armed content synced written plan old.slots.items s disks
-      → AreStrict strict armed content synced written plan new.slots.items next disks
+      (disks : Disks) → AreStrict port plan old.slots.items s disks
+      → AreStrict port plan new.slots.items next disks
 
 -- A limit ends the run before the step's item: whatever the disk would answer, or behind a step that the disk didn't stop.
-abbrev pub HitsLimit : {D : Type 0} → (D → Bool) → (D → Option ℕ) → (D → List ℕ) → (D → List ℕ) → (D → Ranges) → Content → Option Skip → ℕ → Actor → Event → Cluster D → Situation → Which → ℕ → Type 0
-HitsLimit strict armed content synced written plan skip number a event old s which limit =
+abbrev pub HitsLimit : {D : Type 0} → Ghosts D → Content → Option Skip → ℕ → Actor → Event → Cluster D → Situation → Which → ℕ → Type 0
+HitsLimit port plan skip number a event old s which limit =
     ((fails : Bool) → EndsAt (λ front. front ≡ (stepped_if skip fails (cluster_of plan) number s a event).own) s.own which limit)
     ⊎ (EndsAt (λ front. front ≡ (stepped_if skip false (cluster_of plan) number s a event).own) s.own which limit
-    × ((disks : Disks) → AreStrict strict armed content synced written plan old.slots.items s disks → skip ≡ None → fails_strictly disks a event ≡ false))
+    × ((disks : Disks) → AreStrict port plan old.slots.items s disks → skip ≡ None → fails_strictly disks a event ≡ false))
 
 -- ---- restarts
 
@@ -75,42 +75,42 @@ restarted_by false keeps cluster s a = reopened cluster s a (kept_if keeps a s)
 abbrev pub kept_strictly : Disks → ℕ → Actor → Situation → List Event
 kept_strictly disks choice a s = kept_if (keeps_group (disks.passed a) choice) a s
 
-pub record HasRestarted {D : Type 0} (images : D → List ℕ → Type 0) (faults : D → ℕ) (strict : D → Bool) (armed : D → Option ℕ) (content synced : D → List ℕ) (written : D → Ranges) (plan : Content) (a : Actor) (choice : ℕ) (old new : Cluster D) (s : Situation) : Type 0 where
+pub record HasRestarted {D : Type 0} (port : Ghosts D) (plan : Content) (a : Actor) (choice : ℕ) (old new : Cluster D) (s : Situation) : Type 0 where
   pub fails : Bool
   pub keeps : Bool
-  pub stands : StandsFor images faults plan new (restarted_by fails keeps (cluster_of plan) s a)
-  pub rose : RoseByDowns faults plan old new s (restarted_by fails keeps (cluster_of plan) s a)
+  pub stands : StandsFor port plan new (restarted_by fails keeps (cluster_of plan) s a)
+  pub rose : RoseByDowns port plan old new s (restarted_by fails keeps (cluster_of plan) s a)
   pub strictly :
-      (disks : Disks) → AreStrict strict armed content synced written plan old.slots.items s disks
+      (disks : Disks) → AreStrict port plan old.slots.items s disks
       → (fails ≡ false) × (kept_if keeps a s ≡ kept_strictly disks choice a s)
-      × AreStrict strict armed content synced written plan new.slots.items (restarted_by fails keeps (cluster_of plan) s a) (after_restart a disks)
+      × AreStrict port plan new.slots.items (restarted_by fails keeps (cluster_of plan) s a) (after_restart a disks)
 
 -- a limit ends the run inside a restart
-pub record HitsLimitInRestart {D : Type 0} (strict : D → Bool) (armed : D → Option ℕ) (content synced : D → List ℕ) (written : D → Ranges) (plan : Content) (a : Actor) (choice : ℕ) (old : Cluster D) (s : Situation) (which : Which) (limit : ℕ) : Type 0 where
+pub record HitsLimitInRestart {D : Type 0} (port : Ghosts D) (plan : Content) (a : Actor) (choice : ℕ) (old : Cluster D) (s : Situation) (which : Which) (limit : ℕ) : Type 0 where
   pub items : List Item
   pub ends :
       ((keeps : Bool) → EndsAt (λ front. Begins front (restarted_by false keeps (cluster_of plan) s a).own) items which limit)
       ⊎ ((keeps : Bool) × EndsAt (λ front. Begins front (restarted_by false keeps (cluster_of plan) s a).own) items which limit
-      × ((disks : Disks) → AreStrict strict armed content synced written plan old.slots.items s disks → kept_if keeps a s ≡ kept_strictly disks choice a s))
+      × ((disks : Disks) → AreStrict port plan old.slots.items s disks → kept_if keeps a s ≡ kept_strictly disks choice a s))
 
 -- ---- drains
 
-pub record HasDrained {D : Type 0} (images : D → List ℕ → Type 0) (faults : D → ℕ) (strict : D → Bool) (armed : D → Option ℕ) (content synced : D → List ℕ) (written : D → Ranges) (plan : Content) (old new : Cluster D) (s : Situation) : Type 0 where
+pub record HasDrained {D : Type 0} (port : Ghosts D) (plan : Content) (old new : Cluster D) (s : Situation) : Type 0 where
   pub next : Situation
-  pub stands : StandsFor images faults plan new next
-  pub rose : RoseByDowns faults plan old new s next
+  pub stands : StandsFor port plan new next
+  pub rose : RoseByDowns port plan old new s next
   pub answered : (answers : Answers) → (other : Answers) × AgreeBelow answers other (length s.own) × Drains (cluster_of plan) other next s
   pub strictly :
-      (disks : Disks) → AreStrict strict armed content synced written plan old.slots.items s disks
+      (disks : Disks) → AreStrict port plan old.slots.items s disks
       → (later : Disks) × StrictDrains (cluster_of plan) (record { found = next; disks = later }) (record { found = s; disks = disks })
-      × AreStrict strict armed content synced written plan new.slots.items next later
+      × AreStrict port plan new.slots.items next later
 
-pub record HitsLimitInDrain {D : Type 0} (strict : D → Bool) (armed : D → Option ℕ) (content synced : D → List ℕ) (written : D → Ranges) (plan : Content) (old : Cluster D) (s : Situation) (which : Which) (limit : ℕ) : Type 0 where
+pub record HitsLimitInDrain {D : Type 0} (port : Ghosts D) (plan : Content) (old : Cluster D) (s : Situation) (which : Which) (limit : ℕ) : Type 0 where
   pub items : List Item
   pub answered :
       (answers : Answers)
       → (other : Answers) × AgreeBelow answers other (length s.own)
       × EndsAt (λ front. (reached : Situation) × DrainsTo (cluster_of plan) other reached s × Begins front reached.own) items which limit
   pub strictly :
-      (disks : Disks) → AreStrict strict armed content synced written plan old.slots.items s disks
+      (disks : Disks) → AreStrict port plan old.slots.items s disks
       → EndsAt (λ front. (reached : StrictSituation) × StrictlyDrainsTo (cluster_of plan) reached (record { found = s; disks = disks }) × Begins front reached.found.own) items which limit

@@ -25,7 +25,7 @@ pub(crate) fn begun_before<D: Rig>(
     plan: &Plan,
     nodes: &[DurableNode<D>],
 ) -> Result<Vec<Option<TxnId>>, OutOfMemory>
-    requires nodes { AllByRecursion (IsNodeOf D.is_image plan.now) nodes.now }
+    requires nodes { AllByRecursion (IsNodeOf D.Disk plan.now) nodes.now }
     requires numbers { map (λ (n : ANode D). n.number) nodes.now ≡ plan.now.topology.nodes }
     ensures few { IfOk result (λ ids. length ids.items < 2 ^ 32) }
     ensures told { IfOk result (λ ids. (earlier : List AnItem) → IsSound (cluster_of plan.now) (opened earlier) → AllByRecursion (HasDone plan.now earlier) nodes.now
@@ -47,7 +47,7 @@ fn id_at_home<D: Rig>(
     numbers: &[u32],
     txn: u32,
 ) -> Option<TxnId>
-    requires nodes { AllByRecursion (IsNodeOf D.is_image plan.now) nodes.now }
+    requires nodes { AllByRecursion (IsNodeOf D.Disk plan.now) nodes.now }
     requires numbers { map (λ (n : ANode D). n.number) nodes.now ≡ numbers.now }
     requires members { numbers.now ≡ plan.now.topology.nodes }
     requires known { txn < length plan.now.names }

@@ -37,17 +37,17 @@ impl<D: Rig + Drop> Cluster<D> {
     /// to be within the limit of items, which is asked first; then the step is passed over by its first cause, or its actor takes it over
     /// its disk; and what that gave is entered within the limit of bytes.
     pub fn step(&mut self, plan: &Plan, number: u32, step: &Step) -> Result<(), RunError>
-        requires standing { (s : Situation) × StandsFor D.is_image D.faults plan.now self.old s }
+        requires standing { (s : Situation) × StandsFor D.Disk plan.now self.old s }
         requires known { IsStep (length plan.now.names) plan.now.topology step.now }
 
-        ensures ok { OnOk result ((s : Situation) (answers : Answers) → StandsFor D.is_image D.faults plan.now self.old s
-            → StepsTo D.is_image D.faults plan.now answers number step.now self.old self.new s) }
-        ensures strict { OnOk result ((s : StrictSituation) → StandsStrictly D.is_image D.faults D.strict D.armed D.content D.synced D.written plan.now self.old s
-            → StepsStrictly D.is_image D.faults D.strict D.armed D.content D.synced D.written plan.now number step.now self.new s) }
+        ensures ok { OnOk result ((s : Situation) (answers : Answers) → StandsFor D.Disk plan.now self.old s
+            → StepsTo D.Disk plan.now answers number step.now self.old self.new s) }
+        ensures strict { OnOk result ((s : StrictSituation) → StandsStrictly D.Disk plan.now self.old s
+            → StepsStrictly D.Disk plan.now number step.now self.new s) }
 
-        ensures limit { IfErr result (IfLimit (λ which most. (s : Situation) (answers : Answers) → StandsFor D.is_image D.faults plan.now self.old s
+        ensures limit { IfErr result (IfLimit (λ which most. (s : Situation) (answers : Answers) → StandsFor D.Disk plan.now self.old s
             → EndsIn plan.now answers number step.now s which most)) }
-        ensures strict_limit { IfErr result (IfLimit (λ which most. (s : StrictSituation) → StandsStrictly D.is_image D.faults D.strict D.armed D.content D.synced D.written plan.now self.old s
+        ensures strict_limit { IfErr result (IfLimit (λ which most. (s : StrictSituation) → StandsStrictly D.Disk plan.now self.old s
             → EndsStrictlyIn plan.now number step.now s which most)) }
     {
         match *step {
@@ -64,30 +64,30 @@ impl<D: Rig + Drop> Cluster<D> {
 
     /// The items since the cluster was opened, in the order in which they were entered.
     pub fn items(&self) -> &GrowingItems
-        ensures { (plan : Content) (s : Situation) → StandsFor D.is_image D.faults plan self.now s → result.now.items ≡ reverse s.own }
+        ensures { (plan : Content) (s : Situation) → StandsFor D.Disk plan self.now s → result.now.items ≡ reverse s.own }
     {
         self.history.items()
     }
 
     /// Whether an actor is down.
     pub fn is_down(&self, actor: Actor) -> bool
-        ensures { (plan : Content) (s : Situation) → StandsFor D.is_image D.faults plan self.now s → result ≡ is_down actor (whole s) }
+        ensures { (plan : Content) (s : Situation) → StandsFor D.Disk plan self.now s → result ≡ is_down actor (whole s) }
     {
         self.history.is_down(actor)
     }
 
     /// Whether the transaction with this number was begun.
     pub fn is_begun(&self, txn: u32) -> bool
-        ensures { (plan : Content) (s : Situation) → StandsFor D.is_image D.faults plan self.now s → result ≡ is_begun (whole s) txn }
+        ensures { (plan : Content) (s : Situation) → StandsFor D.Disk plan self.now s → result ≡ is_begun (whole s) txn }
     {
         self.history.is_begun(txn)
     }
 
     /// The store with this number, where it is up. `None` comes exactly where the actor is no store of the plan or is down.
     pub fn store(&self, actor: Actor) -> Option<&Store>
-        ensures some { IfSome result (λ store. (plan : Content) (s : Situation) → StandsFor D.is_image D.faults plan self.now s
+        ensures some { IfSome result (λ store. (plan : Content) (s : Situation) → StandsFor D.Disk plan self.now s
             → IsStoreUp plan s actor × IsStoreOf plan s actor store.now) }
-        ensures none { result ≡ None → (plan : Content) (s : Situation) → StandsFor D.is_image D.faults plan self.now s → IsStoreUp plan s actor → ⊥ }
+        ensures none { result ≡ None → (plan : Content) (s : Situation) → StandsFor D.Disk plan self.now s → IsStoreUp plan s actor → ⊥ }
     {
         let place = actor.0 as usize;
         if place >= self.slots.len() {

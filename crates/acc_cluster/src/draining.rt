@@ -16,11 +16,11 @@ impl<D: Rig + Drop> Cluster<D> {
     /// All messages that wait are delivered, the oldest first, and those that come meanwhile. Each delivery enters an item, so that the limit
     /// of items ends a drain that would go on for ever.
     pub(crate) fn drain(&mut self, plan: &Plan) -> Result<(), RunError>
-        requires standing { (s : Situation) × StandsFor D.is_image D.faults plan.now self.old s }
-        ensures ok { OnOk result ((s : Situation) → StandsFor D.is_image D.faults plan.now self.old s
-            → HasDrained D.is_image D.faults D.strict D.armed D.content D.synced D.written plan.now self.old self.new s) }
-        ensures limit { IfErr result (IfLimit (λ which most. (s : Situation) → StandsFor D.is_image D.faults plan.now self.old s
-            → HitsLimitInDrain D.strict D.armed D.content D.synced D.written plan.now self.old s which most)) }
+        requires standing { (s : Situation) × StandsFor D.Disk plan.now self.old s }
+        ensures ok { OnOk result ((s : Situation) → StandsFor D.Disk plan.now self.old s
+            → HasDrained D.Disk plan.now self.old self.new s) }
+        ensures limit { IfErr result (IfLimit (λ which most. (s : Situation) → StandsFor D.Disk plan.now self.old s
+            → HitsLimitInDrain D.Disk plan.now self.old s which most)) }
     {
         while let Some(message) = self.history.oldest_waiting() {
             check_place(&self.history)?;

@@ -64,7 +64,7 @@ impl<D: Rig + Drop> Cluster<D> {
 
     /// Gives the items and the disks back, and what its actors knew to `remains`.
     pub fn finish(self, remains: &mut Remains) -> Result<Ended<D>, OutOfMemory>
-        ensures ok { IfOk result (λ ended. (plan : Content) (s : Situation) → StandsFor D.is_image D.faults plan self s → IsEndOf D.is_image D.faults plan s ended) }
+        ensures ok { IfOk result (λ ended. (plan : Content) (s : Situation) → StandsFor D.Disk plan self s → IsEndOf D.Disk plan s ended) }
     {
         let Cluster {
             alloc,
@@ -87,7 +87,7 @@ fn disks_of<D: Rig + Drop>(
     remains: &mut Remains,
 ) -> Result<Disks<D>, OutOfMemory>
     ensures disks { IfOk result (λ disks. disks.items ≡ disks_from 0 slots.items) }
-    ensures left { OnOk result (AllByRecursion (LeavesHeld D.is_image D.faults) slots.items) }
+    ensures left { OnOk result (AllByRecursion (LeavesHeld D.Disk) slots.items) }
 {
     let mut disks = Vec::new(alloc);
     let mut number = 0;
@@ -113,7 +113,7 @@ fn put_disk<D: Rig + Drop>(
     remains: &mut Remains,
 ) -> Result<(), OutOfMemory>
     ensures disks { OnOk result (disks.new.items ≡ disks.old.items ++ entry_of number slot) }
-    ensures left { OnOk result (LeavesHeld D.is_image D.faults slot) }
+    ensures left { OnOk result (LeavesHeld D.Disk slot) }
 {
     match slot {
         Slot::Empty => {}

@@ -34,14 +34,14 @@ impl<D: Rig + Drop> Cluster<D> {
         nodes: Vec<DurableNode<D>>,
         stores: Vec<DurableStore<D>>,
     ) -> Result<Cluster<D>, OutOfMemory>
-        requires nodes { AllByRecursion (IsNodeOf D.is_image plan.now) nodes.items }
-        requires stores { AllByRecursion (IsStoreOf D.is_image plan.now) stores.items }
+        requires nodes { AllByRecursion (IsNodeOf D.Disk plan.now) nodes.items }
+        requires stores { AllByRecursion (IsStoreOf D.Disk plan.now) stores.items }
         requires actors { AreActorsOf plan.now nodes.items stores.items }
         ensures ok { IfOk result (λ cluster. (earlier : List AnItem) → IsEarlier plan.now nodes.items stores.items earlier
-            → StandsFor D.is_image D.faults plan.now cluster (opened earlier)) }
+            → StandsFor D.Disk plan.now cluster (opened earlier)) }
         ensures strict { IfOk result (λ cluster. (earlier : List AnItem) → IsEarlier plan.now nodes.items stores.items earlier
-            → AreUnarmed D.strict D.armed nodes.items stores.items
-            → StandsStrictly D.is_image D.faults D.strict D.armed D.content D.synced D.written plan.now cluster (opened_strictly earlier)) }
+            → AreUnarmed D.Disk nodes.items stores.items
+            → StandsStrictly D.Disk plan.now cluster (opened_strictly earlier)) }
     {
         let begun = begun_before(alloc, plan, nodes.as_slice())?;
         let history = History::behind(alloc, begun.as_slice())?;
@@ -61,10 +61,10 @@ fn node_slots<D: Rig + Drop>(
     plan: &Plan,
     nodes: Vec<DurableNode<D>>,
 ) -> Result<Vec<Slot<D>>, OutOfMemory>
-    requires nodes { AllByRecursion (IsNodeOf D.is_image plan.now) nodes.items }
+    requires nodes { AllByRecursion (IsNodeOf D.Disk plan.now) nodes.items }
     requires numbers { map (λ (n : ANode D). n.number) nodes.items ≡ plan.now.topology.nodes }
-    ensures filled { IfOk result (λ slots. AreFilled D.is_image D.faults plan.now nodes.items [] slots.items) }
-    ensures strictly { IfOk result (λ slots. AreFilledStrictly D.strict D.armed D.content D.synced D.written plan.now nodes.items [] slots.items) }
+    ensures filled { IfOk result (λ slots. AreFilled D.Disk plan.now nodes.items [] slots.items) }
+    ensures strictly { IfOk result (λ slots. AreFilledStrictly D.Disk plan.now nodes.items [] slots.items) }
 {
     let numbers = numbers_of(alloc, plan.topology.nodes())?;
     let mut slots = Vec::new(alloc);
@@ -86,12 +86,12 @@ fn with_stores<D: Rig + Drop>(
     slots: Vec<Slot<D>>,
     stores: Vec<DurableStore<D>>,
 ) -> Result<Vec<Slot<D>>, OutOfMemory>
-    requires stores { AllByRecursion (IsStoreOf D.is_image plan.now) stores.items }
+    requires stores { AllByRecursion (IsStoreOf D.Disk plan.now) stores.items }
     requires numbers { AllByRecursion (IsStoreNumber plan.now) stores.items }
-    ensures filled { IfOk result (λ full. (nodes : List (ANode D)) → AreFilled D.is_image D.faults plan.now nodes [] slots.items
-        → AreFilled D.is_image D.faults plan.now nodes stores.items full.items) }
-    ensures strictly { IfOk result (λ full. (nodes : List (ANode D)) → AreFilledStrictly D.strict D.armed D.content D.synced D.written plan.now nodes [] slots.items
-        → AreFilledStrictly D.strict D.armed D.content D.synced D.written plan.now nodes stores.items full.items) }
+    ensures filled { IfOk result (λ full. (nodes : List (ANode D)) → AreFilled D.Disk plan.now nodes [] slots.items
+        → AreFilled D.Disk plan.now nodes stores.items full.items) }
+    ensures strictly { IfOk result (λ full. (nodes : List (ANode D)) → AreFilledStrictly D.Disk plan.now nodes [] slots.items
+        → AreFilledStrictly D.Disk plan.now nodes stores.items full.items) }
 {
     let mut full = slots;
     for store in stores {
@@ -108,14 +108,14 @@ fn put_node<D: Rig + Drop>(
     number: u32,
     node: DurableNode<D>,
 ) -> Result<(), OutOfMemory>
-    requires node { IsNodeOf D.is_image plan.now node }
+    requires node { IsNodeOf D.Disk plan.now node }
     requires number { node.number ≡ number }
     requires known { IsTrue (is_among plan.now.topology.nodes number) }
-    ensures filled { OnOk result ((nodes : List (ANode D)) (stores : List (AStore D)) → AreFilled D.is_image D.faults plan.now nodes stores slots.old.items
-        → AreFilled D.is_image D.faults plan.now (nodes ++ node ∷ []) stores slots.new.items) }
+    ensures filled { OnOk result ((nodes : List (ANode D)) (stores : List (AStore D)) → AreFilled D.Disk plan.now nodes stores slots.old.items
+        → AreFilled D.Disk plan.now (nodes ++ node ∷ []) stores slots.new.items) }
     ensures strictly { OnOk result ((nodes : List (ANode D)) (stores : List (AStore D))
-        → AreFilledStrictly D.strict D.armed D.content D.synced D.written plan.now nodes stores slots.old.items
-        → AreFilledStrictly D.strict D.armed D.content D.synced D.written plan.now (nodes ++ node ∷ []) stores slots.new.items) }
+        → AreFilledStrictly D.Disk plan.now nodes stores slots.old.items
+        → AreFilledStrictly D.Disk plan.now (nodes ++ node ∷ []) stores slots.new.items) }
 {
     let start = start_of(plan.starts.as_slice(), number);
     let place = actor(number, 0).0;
@@ -130,13 +130,13 @@ fn put_store<D: Rig + Drop>(
     slots: &mut Vec<Slot<D>>,
     store: DurableStore<D>,
 ) -> Result<(), OutOfMemory>
-    requires store { IsStoreOf D.is_image plan.now store }
+    requires store { IsStoreOf D.Disk plan.now store }
     requires number { IsStoreNumber plan.now store }
-    ensures filled { OnOk result ((nodes : List (ANode D)) (stores : List (AStore D)) → AreFilled D.is_image D.faults plan.now nodes stores slots.old.items
-        → AreFilled D.is_image D.faults plan.now nodes (stores ++ store ∷ []) slots.new.items) }
+    ensures filled { OnOk result ((nodes : List (ANode D)) (stores : List (AStore D)) → AreFilled D.Disk plan.now nodes stores slots.old.items
+        → AreFilled D.Disk plan.now nodes (stores ++ store ∷ []) slots.new.items) }
     ensures strictly { OnOk result ((nodes : List (ANode D)) (stores : List (AStore D))
-        → AreFilledStrictly D.strict D.armed D.content D.synced D.written plan.now nodes stores slots.old.items
-        → AreFilledStrictly D.strict D.armed D.content D.synced D.written plan.now nodes (stores ++ store ∷ []) slots.new.items) }
+        → AreFilledStrictly D.Disk plan.now nodes stores slots.old.items
+        → AreFilledStrictly D.Disk plan.now nodes (stores ++ store ∷ []) slots.new.items) }
 {
     let own = store.store().actor();
     let opened = StoreActor::opened(alloc, own, plan.version, store);

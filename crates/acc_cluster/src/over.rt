@@ -34,13 +34,13 @@ impl<D: Rig + Drop> Cluster<D> {
         slots: Slots<D>,
         items: GrowingItems,
     ) -> Result<Cluster<D>, OutOfMemory>
-        requires standing { (stopped : List Stopped) × IsOver D.is_image D.faults plan.now slots.items items.items stopped }
+        requires standing { (stopped : List Stopped) × IsOver D.Disk plan.now slots.items items.items stopped }
         requires actors { AreSlotsOf plan.now slots.items }
-        ensures ok { IfOk result (λ cluster. (stopped : List Stopped) → IsOver D.is_image D.faults plan.now slots.items items.items stopped
-            → StandsFor D.is_image D.faults plan.now cluster (behind_items items.items stopped)) }
-        ensures strict { IfOk result (λ cluster. (stopped : List Stopped) (disks : Disks) → IsOver D.is_image D.faults plan.now slots.items items.items stopped
-            → AreStrictSlots D.strict D.armed D.content D.synced D.written plan.now (behind_items items.items stopped) disks slots.items
-            → StandsStrictly D.is_image D.faults D.strict D.armed D.content D.synced D.written plan.now cluster (record { found = behind_items items.items stopped; disks = disks })) }
+        ensures ok { IfOk result (λ cluster. (stopped : List Stopped) → IsOver D.Disk plan.now slots.items items.items stopped
+            → StandsFor D.Disk plan.now cluster (behind_items items.items stopped)) }
+        ensures strict { IfOk result (λ cluster. (stopped : List Stopped) (disks : Disks) → IsOver D.Disk plan.now slots.items items.items stopped
+            → AreStrictSlots D.Disk plan.now (behind_items items.items stopped) disks slots.items
+            → StandsStrictly D.Disk plan.now cluster (record { found = behind_items items.items stopped; disks = disks })) }
     {
         let history = history_over(alloc, plan, items)?;
         let slots = placed(alloc, slots)?;

@@ -111,12 +111,12 @@ impl<D: Rig + Drop> Cluster<D> {
     /// An actor's disk crashes, in the way of the choice, and the actor opens it again. The steps that were stopped, if it kept them, are
     /// entered as lost, the oldest first, and then the restart.
     pub(crate) fn restart(&mut self, plan: &Plan, actor: Actor, choice: u8) -> Result<(), RunError>
-        requires standing { (s : Situation) × StandsFor D.is_image D.faults plan.now self.old s }
+        requires standing { (s : Situation) × StandsFor D.Disk plan.now self.old s }
         requires known { Contains (actors plan.now.topology) actor }
-        ensures ok { OnOk result ((s : Situation) → StandsFor D.is_image D.faults plan.now self.old s
-            → HasRestarted D.is_image D.faults D.strict D.armed D.content D.synced D.written plan.now actor choice self.old self.new s) }
-        ensures limit { IfErr result (IfLimit (λ which most. (s : Situation) → StandsFor D.is_image D.faults plan.now self.old s
-            → HitsLimitInRestart D.strict D.armed D.content D.synced D.written plan.now actor choice self.old s which most)) }
+        ensures ok { OnOk result ((s : Situation) → StandsFor D.Disk plan.now self.old s
+            → HasRestarted D.Disk plan.now actor choice self.old self.new s) }
+        ensures limit { IfErr result (IfLimit (λ which most. (s : Situation) → StandsFor D.Disk plan.now self.old s
+            → HitsLimitInRestart D.Disk plan.now actor choice self.old s which most)) }
     {
         check_place(&self.history)?;
         match self.reopen(plan, actor, choice)? {
@@ -127,11 +127,11 @@ impl<D: Rig + Drop> Cluster<D> {
 
     // Restarts the actor in its slot.
     fn reopen(&mut self, plan: &Plan, actor: Actor, choice: u8) -> Result<Restarted, OutOfMemory>
-        requires standing { (s : Situation) × StandsFor D.is_image D.faults plan.now self.old s }
+        requires standing { (s : Situation) × StandsFor D.Disk plan.now self.old s }
         requires known { Contains (actors plan.now.topology) actor }
         ensures history { self.new.history ≡ self.old.history }
-        ensures ok { IfOk result (λ found. (s : Situation) → StandsFor D.is_image D.faults plan.now self.old s → HasPlace s
-            → HasReopened D.is_image D.faults D.strict D.armed D.content D.synced D.written plan.now actor choice self.old.slots.items self.new.slots.items found s) }
+        ensures ok { IfOk result (λ found. (s : Situation) → StandsFor D.Disk plan.now self.old s → HasPlace s
+            → HasReopened D.Disk plan.now actor choice self.old.slots.items self.new.slots.items found s) }
     {
         let place = actor.0 as usize;
         if place >= self.slots.len() {

@@ -41,9 +41,9 @@ impl<D: Rig + Drop> Cluster<D> {
 
     // Enters that the step was passed over.
     fn pass_over(&mut self, plan: &Plan, number: u32, cause: Skip) -> Result<(), RunError>
-        ensures ok { OnOk result ((s : Situation) (a : AnActor) (event : AnEvent) → StandsFor D.is_image D.faults plan.now self.old s → HasPlace s
-            → HasStepped D.is_image D.faults D.strict D.armed D.content D.synced D.written plan.now (Some cause) number a event self.old self.new s) }
-        ensures never { IfErr result (IfLimit (λ which most. (s : Situation) → StandsFor D.is_image D.faults plan.now self.old s → HasPlace s → ⊥)) }
+        ensures ok { OnOk result ((s : Situation) (a : AnActor) (event : AnEvent) → StandsFor D.Disk plan.now self.old s → HasPlace s
+            → HasStepped D.Disk plan.now (Some cause) number a event self.old self.new s) }
+        ensures never { IfErr result (IfLimit (λ which most. (s : Situation) → StandsFor D.Disk plan.now self.old s → HasPlace s → ⊥)) }
     {
         let _plan = plan;
         enter_skip(&mut self.history, number, cause)
@@ -51,12 +51,12 @@ impl<D: Rig + Drop> Cluster<D> {
 
     /// The home of a transaction begins it.
     pub(crate) fn begin(&mut self, plan: &Plan, number: u32, txn: u32) -> Result<(), RunError>
-        requires standing { (s : Situation) × StandsFor D.is_image D.faults plan.now self.old s }
+        requires standing { (s : Situation) × StandsFor D.Disk plan.now self.old s }
         requires known { txn < length plan.now.names }
-        ensures ok { OnOk result ((s : Situation) → StandsFor D.is_image D.faults plan.now self.old s
-            → HasStepped D.is_image D.faults D.strict D.armed D.content D.synced D.written plan.now (begin_skip (cluster_of plan.now) s txn) number (home_of_txn (cluster_of plan.now) txn) (AnEvent.Begin txn) self.old self.new s) }
-        ensures limit { IfErr result (IfLimit (λ which most. (s : Situation) → StandsFor D.is_image D.faults plan.now self.old s
-            → HitsLimit D.strict D.armed D.content D.synced D.written plan.now (begin_skip (cluster_of plan.now) s txn) number (home_of_txn (cluster_of plan.now) txn) (AnEvent.Begin txn) self.old s which most)) }
+        ensures ok { OnOk result ((s : Situation) → StandsFor D.Disk plan.now self.old s
+            → HasStepped D.Disk plan.now (begin_skip (cluster_of plan.now) s txn) number (home_of_txn (cluster_of plan.now) txn) (AnEvent.Begin txn) self.old self.new s) }
+        ensures limit { IfErr result (IfLimit (λ which most. (s : Situation) → StandsFor D.Disk plan.now self.old s
+            → HitsLimit D.Disk plan.now (begin_skip (cluster_of plan.now) s txn) number (home_of_txn (cluster_of plan.now) txn) (AnEvent.Begin txn) self.old s which most)) }
     {
         let home = home_of(plan, txn);
         check_place(&self.history)?;
@@ -71,13 +71,13 @@ impl<D: Rig + Drop> Cluster<D> {
 
     // The home of a transaction that isn't begun begins it. It is up.
     fn begin_at(&mut self, plan: &Plan, home: Actor, txn: u32) -> Result<(), RunError>
-        requires standing { (s : Situation) × StandsFor D.is_image D.faults plan.now self.old s × HasPlace s × (begin_skip (cluster_of plan.now) s txn ≡ None) }
+        requires standing { (s : Situation) × StandsFor D.Disk plan.now self.old s × HasPlace s × (begin_skip (cluster_of plan.now) s txn ≡ None) }
         requires known { txn < length plan.now.names }
         requires home { home ≡ home_of_txn (cluster_of plan.now) txn }
-        ensures ok { OnOk result ((number : ℕ) (s : Situation) → StandsFor D.is_image D.faults plan.now self.old s → HasPlace s → begin_skip (cluster_of plan.now) s txn ≡ None
-            → HasStepped D.is_image D.faults D.strict D.armed D.content D.synced D.written plan.now None number home (AnEvent.Begin txn) self.old self.new s) }
-        ensures limit { IfErr result (IfLimit (λ which most. (number : ℕ) (s : Situation) → StandsFor D.is_image D.faults plan.now self.old s → HasPlace s → begin_skip (cluster_of plan.now) s txn ≡ None
-            → HitsLimit D.strict D.armed D.content D.synced D.written plan.now None number home (AnEvent.Begin txn) self.old s which most)) }
+        ensures ok { OnOk result ((number : ℕ) (s : Situation) → StandsFor D.Disk plan.now self.old s → HasPlace s → begin_skip (cluster_of plan.now) s txn ≡ None
+            → HasStepped D.Disk plan.now None number home (AnEvent.Begin txn) self.old self.new s) }
+        ensures limit { IfErr result (IfLimit (λ which most. (number : ℕ) (s : Situation) → StandsFor D.Disk plan.now self.old s → HasPlace s → begin_skip (cluster_of plan.now) s txn ≡ None
+            → HitsLimit D.Disk plan.now None number home (AnEvent.Begin txn) self.old s which most)) }
     {
         let place = home.0 as usize;
         if place >= self.slots.len() {
@@ -96,12 +96,12 @@ impl<D: Rig + Drop> Cluster<D> {
         txn: u32,
         node: u32,
     ) -> Result<(), RunError>
-        requires standing { (s : Situation) × StandsFor D.is_image D.faults plan.now self.old s }
+        requires standing { (s : Situation) × StandsFor D.Disk plan.now self.old s }
         requires known { (txn < length plan.now.names) × IsTrue (is_among plan.now.topology.nodes node) }
-        ensures ok { OnOk result ((s : Situation) → StandsFor D.is_image D.faults plan.now self.old s
-            → HasStepped D.is_image D.faults D.strict D.armed D.content D.synced D.written plan.now (recover_skip s txn node) number (actor_of node 0) (AnEvent.Recover txn) self.old self.new s) }
-        ensures limit { IfErr result (IfLimit (λ which most. (s : Situation) → StandsFor D.is_image D.faults plan.now self.old s
-            → HitsLimit D.strict D.armed D.content D.synced D.written plan.now (recover_skip s txn node) number (actor_of node 0) (AnEvent.Recover txn) self.old s which most)) }
+        ensures ok { OnOk result ((s : Situation) → StandsFor D.Disk plan.now self.old s
+            → HasStepped D.Disk plan.now (recover_skip s txn node) number (actor_of node 0) (AnEvent.Recover txn) self.old self.new s) }
+        ensures limit { IfErr result (IfLimit (λ which most. (s : Situation) → StandsFor D.Disk plan.now self.old s
+            → HitsLimit D.Disk plan.now (recover_skip s txn node) number (actor_of node 0) (AnEvent.Recover txn) self.old s which most)) }
     {
         let actor = Actor(node * 64);
         check_place(&self.history)?;
@@ -116,13 +116,13 @@ impl<D: Rig + Drop> Cluster<D> {
 
     // A node that is up recovers a transaction that is begun.
     fn recover_at(&mut self, plan: &Plan, actor: Actor, txn: u32, id: TxnId) -> Result<(), RunError>
-        requires standing { (s : Situation) × StandsFor D.is_image D.faults plan.now self.old s × HasPlace s × (is_down actor (whole s) ≡ false) × (id_of_txn (whole s) txn ≡ Some id) }
+        requires standing { (s : Situation) × StandsFor D.Disk plan.now self.old s × HasPlace s × (is_down actor (whole s) ≡ false) × (id_of_txn (whole s) txn ≡ Some id) }
         requires known { txn < length plan.now.names }
         requires node { IsNodeOf plan.now.topology actor }
-        ensures ok { OnOk result ((number : ℕ) (s : Situation) → StandsFor D.is_image D.faults plan.now self.old s → HasPlace s → is_down actor (whole s) ≡ false → id_of_txn (whole s) txn ≡ Some id
-            → HasStepped D.is_image D.faults D.strict D.armed D.content D.synced D.written plan.now None number actor (AnEvent.Recover txn) self.old self.new s) }
-        ensures limit { IfErr result (IfLimit (λ which most. (number : ℕ) (s : Situation) → StandsFor D.is_image D.faults plan.now self.old s → HasPlace s → is_down actor (whole s) ≡ false → id_of_txn (whole s) txn ≡ Some id
-            → HitsLimit D.strict D.armed D.content D.synced D.written plan.now None number actor (AnEvent.Recover txn) self.old s which most)) }
+        ensures ok { OnOk result ((number : ℕ) (s : Situation) → StandsFor D.Disk plan.now self.old s → HasPlace s → is_down actor (whole s) ≡ false → id_of_txn (whole s) txn ≡ Some id
+            → HasStepped D.Disk plan.now None number actor (AnEvent.Recover txn) self.old self.new s) }
+        ensures limit { IfErr result (IfLimit (λ which most. (number : ℕ) (s : Situation) → StandsFor D.Disk plan.now self.old s → HasPlace s → is_down actor (whole s) ≡ false → id_of_txn (whole s) txn ≡ Some id
+            → HitsLimit D.Disk plan.now None number actor (AnEvent.Recover txn) self.old s which most)) }
     {
         let place = actor.0 as usize;
         if place >= self.slots.len() {
@@ -135,12 +135,12 @@ impl<D: Rig + Drop> Cluster<D> {
 
     /// The home of a transaction gives its fast path up.
     pub(crate) fn slow(&mut self, plan: &Plan, number: u32, txn: u32) -> Result<(), RunError>
-        requires standing { (s : Situation) × StandsFor D.is_image D.faults plan.now self.old s }
+        requires standing { (s : Situation) × StandsFor D.Disk plan.now self.old s }
         requires known { txn < length plan.now.names }
-        ensures ok { OnOk result ((s : Situation) → StandsFor D.is_image D.faults plan.now self.old s
-            → HasStepped D.is_image D.faults D.strict D.armed D.content D.synced D.written plan.now (slowing_skip (cluster_of plan.now) s txn) number (home_of_txn (cluster_of plan.now) txn) (AnEvent.Slow txn) self.old self.new s) }
-        ensures limit { IfErr result (IfLimit (λ which most. (s : Situation) → StandsFor D.is_image D.faults plan.now self.old s
-            → HitsLimit D.strict D.armed D.content D.synced D.written plan.now (slowing_skip (cluster_of plan.now) s txn) number (home_of_txn (cluster_of plan.now) txn) (AnEvent.Slow txn) self.old s which most)) }
+        ensures ok { OnOk result ((s : Situation) → StandsFor D.Disk plan.now self.old s
+            → HasStepped D.Disk plan.now (slowing_skip (cluster_of plan.now) s txn) number (home_of_txn (cluster_of plan.now) txn) (AnEvent.Slow txn) self.old self.new s) }
+        ensures limit { IfErr result (IfLimit (λ which most. (s : Situation) → StandsFor D.Disk plan.now self.old s
+            → HitsLimit D.Disk plan.now (slowing_skip (cluster_of plan.now) s txn) number (home_of_txn (cluster_of plan.now) txn) (AnEvent.Slow txn) self.old s which most)) }
     {
         let home = home_of(plan, txn);
         check_place(&self.history)?;
@@ -152,13 +152,13 @@ impl<D: Rig + Drop> Cluster<D> {
 
     // The home, which is up, gives the fast path up, or the step is passed over.
     fn slow_at(&mut self, plan: &Plan, number: u32, home: Actor, txn: u32) -> Result<(), RunError>
-        requires standing { (s : Situation) × StandsFor D.is_image D.faults plan.now self.old s × HasPlace s × (is_down home (whole s) ≡ false) }
+        requires standing { (s : Situation) × StandsFor D.Disk plan.now self.old s × HasPlace s × (is_down home (whole s) ≡ false) }
         requires known { txn < length plan.now.names }
         requires home { home ≡ home_of_txn (cluster_of plan.now) txn }
-        ensures ok { OnOk result ((s : Situation) → StandsFor D.is_image D.faults plan.now self.old s → HasPlace s → is_down home (whole s) ≡ false
-            → HasStepped D.is_image D.faults D.strict D.armed D.content D.synced D.written plan.now (slow_skip (cluster_of plan.now) (whole s) txn (id_of_txn (whole s) txn)) number home (AnEvent.Slow txn) self.old self.new s) }
-        ensures limit { IfErr result (IfLimit (λ which most. (s : Situation) → StandsFor D.is_image D.faults plan.now self.old s → HasPlace s → is_down home (whole s) ≡ false
-            → HitsLimit D.strict D.armed D.content D.synced D.written plan.now (slow_skip (cluster_of plan.now) (whole s) txn (id_of_txn (whole s) txn)) number home (AnEvent.Slow txn) self.old s which most)) }
+        ensures ok { OnOk result ((s : Situation) → StandsFor D.Disk plan.now self.old s → HasPlace s → is_down home (whole s) ≡ false
+            → HasStepped D.Disk plan.now (slow_skip (cluster_of plan.now) (whole s) txn (id_of_txn (whole s) txn)) number home (AnEvent.Slow txn) self.old self.new s) }
+        ensures limit { IfErr result (IfLimit (λ which most. (s : Situation) → StandsFor D.Disk plan.now self.old s → HasPlace s → is_down home (whole s) ≡ false
+            → HitsLimit D.Disk plan.now (slow_skip (cluster_of plan.now) (whole s) txn (id_of_txn (whole s) txn)) number home (AnEvent.Slow txn) self.old s which most)) }
     {
         if txn as usize >= plan.homes.as_slice().len() {
             return Err(RunError::OutOfMemory);
@@ -177,11 +177,11 @@ impl<D: Rig + Drop> Cluster<D> {
 
     /// A message is delivered.
     pub(crate) fn deliver(&mut self, plan: &Plan, number: u32, message: u64) -> Result<(), RunError>
-        requires standing { (s : Situation) × StandsFor D.is_image D.faults plan.now self.old s }
-        ensures ok { OnOk result ((s : Situation) → StandsFor D.is_image D.faults plan.now self.old s
-            → HasStepped D.is_image D.faults D.strict D.armed D.content D.synced D.written plan.now (deliver_skip s message) number (receiver_in s message) (AnEvent.Message message) self.old self.new s) }
-        ensures limit { IfErr result (IfLimit (λ which most. (s : Situation) → StandsFor D.is_image D.faults plan.now self.old s
-            → HitsLimit D.strict D.armed D.content D.synced D.written plan.now (deliver_skip s message) number (receiver_in s message) (AnEvent.Message message) self.old s which most)) }
+        requires standing { (s : Situation) × StandsFor D.Disk plan.now self.old s }
+        ensures ok { OnOk result ((s : Situation) → StandsFor D.Disk plan.now self.old s
+            → HasStepped D.Disk plan.now (deliver_skip s message) number (receiver_in s message) (AnEvent.Message message) self.old self.new s) }
+        ensures limit { IfErr result (IfLimit (λ which most. (s : Situation) → StandsFor D.Disk plan.now self.old s
+            → HitsLimit D.Disk plan.now (deliver_skip s message) number (receiver_in s message) (AnEvent.Message message) self.old s which most)) }
     {
         check_place(&self.history)?;
         let Some(m) = self.history.message(message) else {
@@ -205,12 +205,12 @@ impl<D: Rig + Drop> Cluster<D> {
     /// The actor that a message goes to takes it. The message was sent, and the actor is up.
     #[inline(always)]
     pub(crate) fn take(&mut self, plan: &Plan, message: u64) -> Result<(), RunError>
-        requires standing { (s : Situation) × StandsFor D.is_image D.faults plan.now self.old s × HasPlace s × (deliver_skip s message ≡ None) }
-        ensures ok { OnOk result ((number : ℕ) (s : Situation) → StandsFor D.is_image D.faults plan.now self.old s → HasPlace s → deliver_skip s message ≡ None
-            → HasStepped D.is_image D.faults D.strict D.armed D.content D.synced D.written plan.now None number (receiver_in s message) (AnEvent.Message message) self.old self.new s) }
-        ensures limit { IfErr result (IfLimit (λ which most. (number : ℕ) (s : Situation) → StandsFor D.is_image D.faults plan.now self.old s → HasPlace s → deliver_skip s message ≡ None
-            → HitsLimit D.strict D.armed D.content D.synced D.written plan.now None number (receiver_in s message) (AnEvent.Message message) self.old s which most)) }
-        ensures counted { OnOk result ((a : AnActor) → Contains (actors plan.now.topology) a → faults_at D.faults self.old a ≤ faults_at D.faults self.new a) }
+        requires standing { (s : Situation) × StandsFor D.Disk plan.now self.old s × HasPlace s × (deliver_skip s message ≡ None) }
+        ensures ok { OnOk result ((number : ℕ) (s : Situation) → StandsFor D.Disk plan.now self.old s → HasPlace s → deliver_skip s message ≡ None
+            → HasStepped D.Disk plan.now None number (receiver_in s message) (AnEvent.Message message) self.old self.new s) }
+        ensures limit { IfErr result (IfLimit (λ which most. (number : ℕ) (s : Situation) → StandsFor D.Disk plan.now self.old s → HasPlace s → deliver_skip s message ≡ None
+            → HitsLimit D.Disk plan.now None number (receiver_in s message) (AnEvent.Message message) self.old s which most)) }
+        ensures counted { OnOk result ((a : AnActor) → Contains (actors plan.now.topology) a → faults_at D.Disk self.old a ≤ faults_at D.Disk self.new a) }
     {
         let Some(m) = self.history.message(message) else {
             return Err(RunError::OutOfMemory);
@@ -236,9 +236,9 @@ impl<D: Rig + Drop> Cluster<D> {
         number: u32,
         message: u64,
     ) -> Result<(), RunError>
-        ensures ok { OnOk result ((s : Situation) → StandsFor D.is_image D.faults plan.now self.old s
-            → HasChanged D.is_image D.faults D.strict D.armed D.content D.synced D.written plan.now self.old self.new s (dropped_unless (message_skip s message) number s message)) }
-        ensures limit { IfErr result (IfLimit (λ which most. (s : Situation) → StandsFor D.is_image D.faults plan.now self.old s
+        ensures ok { OnOk result ((s : Situation) → StandsFor D.Disk plan.now self.old s
+            → HasChanged D.Disk plan.now self.old self.new s (dropped_unless (message_skip s message) number s message)) }
+        ensures limit { IfErr result (IfLimit (λ which most. (s : Situation) → StandsFor D.Disk plan.now self.old s
             → EndsAt (λ front. front ≡ (dropped_unless (message_skip s message) number s message).own) s.own which most)) }
     {
         if message < self.history.sent() {
@@ -260,10 +260,10 @@ impl<D: Rig + Drop> Cluster<D> {
     /// A call of an actor's disk is armed.
     pub(crate) fn fail(&mut self, plan: &Plan, actor: Actor, calls: u64) -> Result<(), RunError>
         requires { Contains (actors plan.now.topology) actor }
-        ensures ok { OnOk result ((s : Situation) → StandsFor D.is_image D.faults plan.now self.old s → StandsFor D.is_image D.faults plan.now self.new s) }
-        ensures strict { OnOk result ((s : Situation) (disks : Disks) → StandsFor D.is_image D.faults plan.now self.old s
-            → AreStrict D.strict D.armed D.content D.synced D.written plan.now self.old.slots.items s disks
-            → AreStrict D.strict D.armed D.content D.synced D.written plan.now self.new.slots.items s (after_fail actor calls disks)) }
+        ensures ok { OnOk result ((s : Situation) → StandsFor D.Disk plan.now self.old s → StandsFor D.Disk plan.now self.new s) }
+        ensures strict { OnOk result ((s : Situation) (disks : Disks) → StandsFor D.Disk plan.now self.old s
+            → AreStrict D.Disk plan.now self.old.slots.items s disks
+            → AreStrict D.Disk plan.now self.new.slots.items s (after_fail actor calls disks)) }
         ensures never { IfErr result (λ error. error ≡ AnError.OutOfMemory) }
     {
         let place = actor.0 as usize;

@@ -12,6 +12,7 @@ use Rattle.acc_message.specs.declared.item.Item.{Item}
 use Rattle.acc_message.specs.declared.item.Item.TheVariants.{Step as StepItem, Skipped, Down}
 use Rattle.acc_message.specs.Items.{notes_of}
 use Rattle.acc_topology.specs.Layout.{Layout}
+use Rattle.acc_ports.specs.declared.disk.Disk.{Ghosts}
 use Rattle.acc_safety.specs.Calm.{is_calm_event}
 use Rattle.acc_safety.proofs.Bridge.{same_itself}
 use Rattle.acc_run_laws.specs.AskLaws.{is_no_down}
@@ -178,10 +179,10 @@ quiet_served plan items h up recovers restarts = all_quiet plan.topology items h
 
 -- ---- reports
 
-module _ {D : Type 0} (faults : D → ℕ) (images : D → List ℕ → Type 0) (before after : List (ℕ × D)) (bytes text : List ℕ) (plan : Content) where
+module _ {D : Type 0} (port : Ghosts D) (before after : List (ℕ × D)) (bytes text : List ℕ) (plan : Content) where
   pub free_none_open : ((items : List Item) → IsServed plan items → NobodyIsDown items
       → last_line (notes_of items) ≡ End (count_by is_begin (notes_of items)) (count_by is_reply (notes_of items)) 0) → Means bytes plan
-      → IsReport (OverThreads faults images true before after) bytes text
+      → IsReport (OverThreads port true before after) bytes text
       → (begun : ℕ) × (replied : ℕ) × (front : List ℕ) × (text ≡ front ++ lines_text (End begun replied 0 ∷ []))
   free_none_open calm says report =
       let same : report.plan ≡ plan = same_plan bytes report.plan plan report.says says in
@@ -197,7 +198,7 @@ module _ {D : Type 0} (faults : D → ℕ) (images : D → List ℕ → Type 0) 
   -- what each report of served items of a plan ends with, that of its document ends with
   pub free_ends_alike : (end : List ℕ)
       → ((items : List Item) → IsServed plan items → NobodyIsDown items → (front : List ℕ) × (report_text plan.print plan.names [] items ≡ front ++ end))
-      → Means bytes plan → IsReport (OverThreads faults images true before after) bytes text → (front : List ℕ) × (text ≡ front ++ end)
+      → Means bytes plan → IsReport (OverThreads port true before after) bytes text → (front : List ℕ) × (text ≡ front ++ end)
   free_ends_alike end each says report =
       let same : report.plan ≡ plan = same_plan bytes report.plan plan report.says says in
       let items : List Item = report.reports.items in

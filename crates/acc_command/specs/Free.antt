@@ -1,6 +1,7 @@
 -- What `free` is over, and schedules in which no actor comes back.
 use Rattle.std.specs.Prelude.{ℕ, Bool, not, IsTrue, List, []}
 use Rattle.std.specs.List.{list_all}
+use Rattle.acc_ports.specs.declared.disk.Disk.{Ghosts}
 use Rattle.acc_message.specs.declared.item.Item.{Item}
 use Rattle.acc_schedule.specs.Content.{Content}
 use Rattle.acc_schedule.specs.declared.plan.Step.{Step}
@@ -14,16 +15,16 @@ use Rattle.acc_command_alone.specs.Command.{Over}
 
 -- The items are served: actors took their turns side by side. Their disks came back, each keeping its actor in the items, and over strict
 -- ones nobody went down.
-pub record ServesOver {D : Type 0} (faults : D → ℕ) (images : D → List ℕ → Type 0) (strict : Bool) (before after : List (ℕ × D)) (plan : Content) (items : List Item) : Type 0 where
+pub record ServesOver {D : Type 0} (port : Ghosts D) (strict : Bool) (before after : List (ℕ × D)) (plan : Content) (items : List Item) : Type 0 where
   pub served : IsServed plan items
-  pub back : GivesBack faults images plan items before after
+  pub back : GivesBack port plan items before after
   pub stayed : IsTrue strict → NobodyIsDown items
 
 -- all actors side by side, over these disks
-abbrev pub OverThreads : {D : Type 0} → (D → ℕ) → (D → List ℕ → Type 0) → Bool → List (ℕ × D) → List (ℕ × D) → Over
-OverThreads faults images strict before after =
+abbrev pub OverThreads : {D : Type 0} → Ghosts D → Bool → List (ℕ × D) → List (ℕ × D) → Over
+OverThreads port strict before after =
     record {
-      Items = ServesOver faults images strict before after;
+      Items = ServesOver port strict before after;
       Limits = λ plan items which number. EndsAt (IsFreeFront strict plan []) items which number;
     }
 

@@ -47,8 +47,8 @@ where
     // agreement, coverage and serial outcomes hold; the disks came back, each keeping its actor in the reported items, and strict ones leave
     // no choice of items to `run`.
     ensures usage { ¬ (IsLine words.now) → Ends IsUsage result (K.written sink.old) (K.written sink.new) }
-    ensures run { IsRunLine words.now → EndsOnGiven (OverDisks M.D.faults M.D.is_image (M.strict disks.old) (M.given disks.old) (M.given disks.new)) Run (S.left source.old) result (K.written sink.old) (K.written sink.new) }
-    ensures free { AsksForWorkers words.now → EndsOnGiven (OverThreads M.D.faults M.D.is_image (M.strict disks.old) (M.given disks.old) (M.given disks.new)) Run (S.left source.old) result (K.written sink.old) (K.written sink.new) }
+    ensures run { IsRunLine words.now → EndsOnGiven (OverDisks M.D.Disk (M.strict disks.old) (M.given disks.old) (M.given disks.new)) Run (S.left source.old) result (K.written sink.old) (K.written sink.new) }
+    ensures free { AsksForWorkers words.now → EndsOnGiven (OverThreads M.D.Disk (M.strict disks.old) (M.given disks.old) (M.given disks.new)) Run (S.left source.old) result (K.written sink.old) (K.written sink.new) }
     ensures check { IsCheckLine words.now → EndsOnGiven no_run Check (S.left source.old) result (K.written sink.old) (K.written sink.new) }
     ensures generate { (seed txns : ℕ) → IsGenerateLine words.now seed txns → Ends (IsGenerated seed txns) result (K.written sink.old) (K.written sink.new) }
 

@@ -34,7 +34,7 @@ pub(crate) fn free<R: Threads + Wait + Sync, S: Source, K: Sink, M: DiskMaker, G
 where
     M::D: Drop + Send,
     requires workers { (1 ≤ workers) × (workers ≤ 16) }
-    ensures ends { EndsOnGiven (OverThreads M.D.faults M.D.is_image (M.strict disks.old) (M.given disks.old) (M.given disks.new)) Run (S.left source.old) result (K.written sink.old) (K.written sink.new) }
+    ensures ends { EndsOnGiven (OverThreads M.D.Disk (M.strict disks.old) (M.given disks.old) (M.given disks.new)) Run (S.left source.old) result (K.written sink.old) (K.written sink.new) }
     ensures words { result ≢ Status.Usage }
     ensures leaves { Leaves result (S.left source.old) (S.left source.new) }
     ensures read_fault { result ≡ Status.ReadFault → Rose (S.faults source.old) (S.faults source.new) }
@@ -68,7 +68,7 @@ where
     M::D: Drop + Send,
     requires workers { (1 ≤ workers) × (workers ≤ 16) }
     requires short { length bytes ≤ document_limit }
-    ensures ends { Ends (IsDue (OverThreads M.D.faults M.D.is_image (M.strict disks.old) (M.given disks.old) (M.given disks.new)) Run bytes) result (K.written sink.old) (K.written sink.new) }
+    ensures ends { Ends (IsDue (OverThreads M.D.Disk (M.strict disks.old) (M.given disks.old) (M.given disks.new)) Run bytes) result (K.written sink.old) (K.written sink.new) }
     ensures cause { result ≡ Status.WriteFault → Rose (K.faults sink.old) (K.faults sink.new) }
     ensures still { result ≢ Status.WriteFault → K.faults sink.new ≡ K.faults sink.old }
     ensures reads { result ≢ Status.ReadFault }
@@ -93,7 +93,7 @@ where
     M::D: Drop + Send,
     requires workers { (1 ≤ workers) × (workers ≤ 16) }
     requires short { length bytes ≤ document_limit }
-    ensures { IfOk result (λ reply. IsDue (OverThreads M.D.faults M.D.is_image (M.strict disks.old) (M.given disks.old) (M.given disks.new)) Run bytes reply.status reply.text) }
+    ensures { IfOk result (λ reply. IsDue (OverThreads M.D.Disk (M.strict disks.old) (M.given disks.old) (M.given disks.new)) Run bytes reply.status reply.text) }
 {
     match read_plan(alloc, bytes) {
         Ok(plan) => {
@@ -122,7 +122,7 @@ where
     M::D: Drop + Send,
     requires workers { (1 ≤ workers) × (workers ≤ 16) }
     requires is_plan { IsPlan plan.now }
-    ensures { IfOk result (λ reply. PlanEnds (OverThreads M.D.faults M.D.is_image (M.strict disks.old) (M.given disks.old) (M.given disks.new)) plan.now reply.status reply.text) }
+    ensures { IfOk result (λ reply. PlanEnds (OverThreads M.D.Disk (M.strict disks.old) (M.given disks.old) (M.given disks.new)) plan.now reply.status reply.text) }
 {
     free_runs_are_safe();
     match run_free(rt, alloc, plan, workers, disks, gate, &mut remains.actors) {

@@ -25,10 +25,10 @@ use acc_ports::DiskMaker;
 /// however many threads, and the report of `free` says that none is open.
 pub fn free_reports_leave_none_open<M: DiskMaker>()
     ensures answered { (before after : List (ℕ × M.D)) (plan : Content) (items : List Item) → IsPlan plan → HasNoRecover plan.steps →
-        HasNoRestart plan.steps → ServesOver M.D.faults M.D.is_image true before after plan items →
+        HasNoRestart plan.steps → ServesOver M.D.Disk true before after plan items →
         AllByRecursion (IsBegunIn items) plan.steps × EachBegunIsAnswered items }
     ensures report { (before after : List (ℕ × M.D)) (bytes text : List ℕ) (plan : Content) → IsPlan plan → Means bytes plan →
-        HasNoRecover plan.steps → HasNoRestart plan.steps → IsReport (OverThreads M.D.faults M.D.is_image true before after) bytes text →
+        HasNoRecover plan.steps → HasNoRestart plan.steps → IsReport (OverThreads M.D.Disk true before after) bytes text →
         (begun : ℕ) × (replied : ℕ) × (front : List ℕ) × (text ≡ front ++ lines_text (Line.End begun replied 0 ∷ [])) }
 {
     served_commands_are_taken();
@@ -39,7 +39,7 @@ pub fn free_reports_leave_none_open<M: DiskMaker>()
 /// with the line `end txns=M replied=M open=0`.
 pub fn generated_reports_of_free_leave_none_open<M: DiskMaker>()
     ensures { (before after : List (ℕ × M.D)) (words : List (List ℕ)) (seed txns : ℕ) (bytes text : List ℕ) → IsGenerateLine words seed txns →
-        IsGenerated seed txns Status.Done bytes → IsDue (OverThreads M.D.faults M.D.is_image true before after) Run bytes Status.Done text →
+        IsGenerated seed txns Status.Done bytes → IsDue (OverThreads M.D.Disk true before after) Run bytes Status.Done text →
         (front : List ℕ) × (text ≡ front ++ answered_text txns) }
 {
     generated_documents_are_accepted();

@@ -2,6 +2,7 @@
 use Rattle.std.proofs.Common.{◌≡◌, ℕ, true, List, [], ◌∷◌, ◌++◌, refl, sym, ◌∙◌, ap, subst}
 use Rattle.std.proofs.lemmas.List.{append_assoc}
 use Rattle.std.specs.Prelude.{count_by}
+use Rattle.acc_ports.specs.declared.disk.Disk.{Ghosts}
 use Rattle.acc_message.specs.declared.item.Item.{Item}
 use Rattle.acc_message.specs.Items.{notes_of}
 use Rattle.acc_schedule.specs.declared.plan.Print.{Print}
@@ -27,9 +28,9 @@ ends_with_last Lines names items = (lines_text (lines_of names [] items), lines_
 ends_with_last Summary names items =
     (lines_text (decided_line (notes_of items) ∷ []), lines_append (decided_line (notes_of items) ∷ []) (last_line (notes_of items) ∷ []))
 
-module _ {D : Type 0} (faults : D → ℕ) (images : D → List ℕ → Type 0) (before after : List (ℕ × D)) (bytes text : List ℕ) (plan : Content) where
+module _ {D : Type 0} (port : Ghosts D) (before after : List (ℕ × D)) (bytes text : List ℕ) (plan : Content) where
   pub none_open : ((items : List Item) → ObeysStrictly plan items → last_line (notes_of items) ≡ End (count_by is_begin (notes_of items)) (count_by is_reply (notes_of items)) 0)
-      → Means bytes plan → IsReport (OverDisks faults images true before after) bytes text
+      → Means bytes plan → IsReport (OverDisks port true before after) bytes text
       → (begun : ℕ) × (replied : ℕ) × (front : List ℕ) × (text ≡ front ++ lines_text (End begun replied 0 ∷ []))
   none_open calm says report =
       let same : report.plan ≡ plan = same_plan bytes report.plan plan report.says says in

@@ -2,6 +2,7 @@
 use Rattle.std.proofs.Common.{◌≡◌, ◌≤◌, ℕ, Bool, true, false, IsTrue, List, [], length, inr, Result, Ok, Err, refl, sym, ◌∙◌, ap}
 use Rattle.std.proofs.lemmas.Bool.{true≢false}
 use Rattle.std.specs.Prelude.{IfOk}
+use Rattle.acc_ports.specs.declared.disk.Disk.{Ghosts}
 use Rattle.acc_command_alone.specs.declared.reply.Reply.{Reply}
 use Rattle.acc_message.specs.declared.error.Which.{Which}
 use Rattle.acc_message.specs.declared.item.Item.{Item}
@@ -66,16 +67,16 @@ pub told : (over : Over) (plan : Content) (items : List Item) (which : Which) (n
 told over plan items which number text also prints = record { items = items; which = which; number = number; also = also; prints = prints }
 
 -- over strict disks the front is the one that the plan fixes
-pub limited : {D : Type 0} (faults : D → ℕ) (images : D → List ℕ → Type 0) (strict : Bool) (before after : List (ℕ × D)) (plan : Content) (which : Which) (number : ℕ)
+pub limited : {D : Type 0} (port : Ghosts D) (strict : Bool) (before after : List (ℕ × D)) (plan : Content) (which : Which) (number : ℕ)
     (text : List ℕ) → ((items : List Item) (which : Which) (number : ℕ) → StrictLimitEnds plan items which number → (answers : Answers) × LimitEnds plan answers items which number)
     → (answers : Answers) × (items : List Item) × LimitEnds plan answers items which number → (IsTrue strict → (items : List Item) × StrictLimitEnds plan items which number)
-    → text ≡ line (run_limit_text which number) → TellsLimit (OverDisks faults images strict before after) plan text
-limited faults images true before after plan which number text answered general strictly prints =
+    → text ≡ line (run_limit_text which number) → TellsLimit (OverDisks port strict before after) plan text
+limited port true before after plan which number text answered general strictly prints =
     let front = strictly refl in
     let some = answered front.0 which number front.1 in
-    told (OverDisks faults images true before after) plan front.0 which number text (record { answers = some.0; ends = some.1; strictly = λ _. front.1 }) prints
-limited faults images false before after plan which number text answered general strictly prints =
-    told (OverDisks faults images false before after) plan general.1 which number text
+    told (OverDisks port true before after) plan front.0 which number text (record { answers = some.0; ends = some.1; strictly = λ _. front.1 }) prints
+limited port false before after plan which number text answered general strictly prints =
+    told (OverDisks port false before after) plan general.1 which number text
     (record { answers = general.0; ends = general.2; strictly = λ is. absurd (true≢false (sym is)) }) prints
 
 pub same_limit : (which other : Which) (number other_number : ℕ) (text : List ℕ) → text ≡ line (run_limit_text which number) → which ≡ other → number ≡ other_number

@@ -1,5 +1,6 @@
 -- Over strict disks a document has one report.
 use Rattle.std.proofs.Common.{◌≡◌, ℕ, ◌<◌, ◌≤◌, true, List, [], length, inl, inr, refl, sym, ◌∙◌, ap, subst, arith}
+use Rattle.acc_ports.specs.declared.disk.Disk.{Ghosts}
 use Rattle.acc_message.specs.declared.error.Which.{Which}
 use Rattle.acc_message.specs.declared.item.Item.{Item}
 use Rattle.acc_schedule.specs.declared.error.PlanKind.{PlanKind}
@@ -30,12 +31,12 @@ same_refusal : (kind : PlanKind) (path : List ℕ) (detail at : ℕ) (other_kind
     → refusal_text kind path detail at ≡ refusal_text other_kind other_path other_detail other_at
 same_refusal kind path detail at other_kind other_path other_detail other_at same = cc
 
-module _ {D : Type 0} (faults : D → ℕ) (images : D → List ℕ → Type 0) (fixed : FixRuns) (before after other_before other_after : List (ℕ × D)) (bytes : List ℕ) where
+module _ {D : Type 0} (port : Ghosts D) (fixed : FixRuns) (before after other_before other_after : List (ℕ × D)) (bytes : List ℕ) where
   abbrev one : Over
-  one = OverDisks faults images true before after
+  one = OverDisks port true before after
 
   abbrev other : Over
-  other = OverDisks faults images true other_before other_after
+  other = OverDisks port true other_before other_after
 
   reports : (text other_text : List ℕ) → IsReport one bytes text → IsReport other bytes other_text → text ≡ other_text
   reports text other_text a b =

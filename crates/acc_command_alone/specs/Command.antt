@@ -1,5 +1,6 @@
 -- What a command writes and how it ends, from its words and the bytes of its document.
 use Rattle.std.specs.Prelude.{◌≡◌, ◌⊎◌, ℕ, ◌+◌, ◌<◌, ◌≤◌, Bool, IsTrue, List, [], length, Option, IfSome}
+use Rattle.acc_ports.specs.declared.disk.Disk.{Ghosts}
 use Rattle.acc_ports.specs.Sink.{followed_by, WritesPart}
 use Rattle.acc_ports.specs.Source.{without_first, none_left, TakesAtMost}
 use Rattle.acc_message.specs.declared.error.Which.{Which}
@@ -50,10 +51,10 @@ pub record Over : Type 1 where
 
 -- The items obey the schedule of the plan, whatever the disks answered; these came back, each keeping its actor in the items, and
 -- strict ones fix the items.
-pub record RunsOver {D : Type 0} (faults : D → ℕ) (images : D → List ℕ → Type 0) (strict : Bool) (before after : List (ℕ × D)) (plan : Content) (items : List Item) : Type 0 where
+pub record RunsOver {D : Type 0} (port : Ghosts D) (strict : Bool) (before after : List (ℕ × D)) (plan : Content) (items : List Item) : Type 0 where
   pub answers : Answers
   pub obeys : Obeys plan answers items
-  pub back : GivesBack faults images plan items before after
+  pub back : GivesBack port plan items before after
   pub strictly : IsTrue strict → ObeysStrictly plan items
 
 -- the limit ends the run of the schedule behind these items, with some answers of the disks, and over strict ones it alone does
@@ -63,8 +64,8 @@ pub record EndsOver (strict : Bool) (plan : Content) (items : List Item) (which 
   pub strictly : IsTrue strict → StrictLimitEnds plan items which number
 
 -- the schedule, step by step, over these disks
-abbrev pub OverDisks : {D : Type 0} → (D → ℕ) → (D → List ℕ → Type 0) → Bool → List (ℕ × D) → List (ℕ × D) → Over
-OverDisks faults images strict before after = record { Items = RunsOver faults images strict before after; Limits = EndsOver strict }
+abbrev pub OverDisks : {D : Type 0} → Ghosts D → Bool → List (ℕ × D) → List (ℕ × D) → Over
+OverDisks port strict before after = record { Items = RunsOver port strict before after; Limits = EndsOver strict }
 
 -- where nothing is run
 abbrev pub no_run : Over

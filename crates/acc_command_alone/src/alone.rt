@@ -40,7 +40,7 @@ where
     requires alone { ¬ (AsksForWorkers words.now) }
 
     ensures usage { ¬ (IsLineAlone words.now) → Ends IsUsage result (K.written sink.old) (K.written sink.new) }
-    ensures run { IsRunLine words.now → EndsOnGiven (OverDisks M.D.faults M.D.is_image (M.strict disks.old) (M.given disks.old) (M.given disks.new)) Run (S.left source.old) result (K.written sink.old) (K.written sink.new) }
+    ensures run { IsRunLine words.now → EndsOnGiven (OverDisks M.D.Disk (M.strict disks.old) (M.given disks.old) (M.given disks.new)) Run (S.left source.old) result (K.written sink.old) (K.written sink.new) }
     ensures check { IsCheckLine words.now → EndsOnGiven no_run Check (S.left source.old) result (K.written sink.old) (K.written sink.new) }
     ensures generate { (seed txns : ℕ) → IsGenerateLine words.now seed txns → Ends (IsGenerated seed txns) result (K.written sink.old) (K.written sink.new) }
 
@@ -84,7 +84,7 @@ fn answer<S: Source, K: Sink, M: DiskMaker>(
 ) -> Status
 where
     M::D: Drop,
-    ensures ends { EndsOnGiven (OverDisks M.D.faults M.D.is_image (M.strict disks.old) (M.given disks.old) (M.given disks.new)) command (S.left source.old) result (K.written sink.old) (K.written sink.new) }
+    ensures ends { EndsOnGiven (OverDisks M.D.Disk (M.strict disks.old) (M.given disks.old) (M.given disks.new)) command (S.left source.old) result (K.written sink.old) (K.written sink.new) }
     ensures check { command ≡ Check → disks.new ≡ disks.old }
     ensures words { result ≢ Status.Usage }
     ensures leaves { Leaves result (S.left source.old) (S.left source.new) }
@@ -117,7 +117,7 @@ where
     M::D: Drop,
     requires { length bytes ≤ document_limit }
     ensures check { command ≡ Check → disks.new ≡ disks.old }
-    ensures ends { Ends (IsDue (OverDisks M.D.faults M.D.is_image (M.strict disks.old) (M.given disks.old) (M.given disks.new)) command bytes) result (K.written sink.old) (K.written sink.new) }
+    ensures ends { Ends (IsDue (OverDisks M.D.Disk (M.strict disks.old) (M.given disks.old) (M.given disks.new)) command bytes) result (K.written sink.old) (K.written sink.new) }
     ensures cause { result ≡ Status.WriteFault → Rose (K.faults sink.old) (K.faults sink.new) }
     ensures still { result ≢ Status.WriteFault → K.faults sink.new ≡ K.faults sink.old }
     ensures reads { result ≢ Status.ReadFault }
@@ -140,7 +140,7 @@ where
     M::D: Drop,
     requires { length bytes ≤ document_limit }
     ensures check { command ≡ Check → disks.new ≡ disks.old }
-    ensures due { IfOk result (λ reply. IsDue (OverDisks M.D.faults M.D.is_image (M.strict disks.old) (M.given disks.old) (M.given disks.new)) command bytes reply.status reply.text) }
+    ensures due { IfOk result (λ reply. IsDue (OverDisks M.D.Disk (M.strict disks.old) (M.given disks.old) (M.given disks.new)) command bytes reply.status reply.text) }
 {
     match command {
         Command::Run => run(alloc, bytes, disks, remains),

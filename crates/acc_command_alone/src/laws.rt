@@ -24,8 +24,8 @@ use acc_schedule_runs::strict::one_strict_run;
 /// Over strict disks the document alone fixes what `run` writes, and with which status, unless a port fails or memory runs out.
 pub fn one_report_over_strict_disks<M: DiskMaker>()
     ensures { (before after other_before other_after : List (ℕ × M.D)) (bytes text other_text : List ℕ) (status other : Status) →
-        IsDue (OverDisks M.D.faults M.D.is_image true before after) Run bytes status text →
-        IsDue (OverDisks M.D.faults M.D.is_image true other_before other_after) Run bytes other other_text →
+        IsDue (OverDisks M.D.Disk true before after) Run bytes status text →
+        IsDue (OverDisks M.D.Disk true other_before other_after) Run bytes other other_text →
         (status ≡ other) × (text ≡ other_text) }
 {
     one_strict_run();
@@ -37,7 +37,7 @@ pub fn one_report_over_strict_disks<M: DiskMaker>()
 /// none is open.
 pub fn calm_reports_leave_none_open<M: DiskMaker>()
     ensures { (before after : List (ℕ × M.D)) (bytes text : List ℕ) (plan : Content) → IsPlan plan → Means bytes plan → EndsWithDrain plan.steps →
-        IsReport (OverDisks M.D.faults M.D.is_image true before after) bytes text →
+        IsReport (OverDisks M.D.Disk true before after) bytes text →
         (begun : ℕ) × (replied : ℕ) × (front : List ℕ) × (text ≡ front ++ lines_text (Line.End begun replied 0 ∷ [])) }
 {
     plans_run_safely_over_strict_disks();
@@ -47,7 +47,7 @@ pub fn calm_reports_leave_none_open<M: DiskMaker>()
 /// `end txns=M replied=M open=0`.
 pub fn generated_reports_leave_none_open<M: DiskMaker>()
     ensures { (before after : List (ℕ × M.D)) (words : List (List ℕ)) (seed txns : ℕ) (bytes text : List ℕ) → IsGenerateLine words seed txns →
-        IsGenerated seed txns Status.Done bytes → IsDue (OverDisks M.D.faults M.D.is_image true before after) Run bytes Status.Done text →
+        IsGenerated seed txns Status.Done bytes → IsDue (OverDisks M.D.Disk true before after) Run bytes Status.Done text →
         (front : List ℕ) × (text ≡ front ++ answered_text txns) }
 {
     generated_documents_are_accepted();

@@ -29,7 +29,7 @@ pub(crate) fn run<M: DiskMaker>(
 where
     M::D: Drop,
     requires { length bytes ≤ document_limit }
-    ensures { IfOk result (λ reply. IsDue (OverDisks M.D.faults M.D.is_image (M.strict disks.old) (M.given disks.old) (M.given disks.new)) Run bytes reply.status reply.text) }
+    ensures { IfOk result (λ reply. IsDue (OverDisks M.D.Disk (M.strict disks.old) (M.given disks.old) (M.given disks.new)) Run bytes reply.status reply.text) }
 {
     match read_plan(alloc, bytes) {
         Ok(plan) => {
@@ -54,7 +54,7 @@ fn report<M: DiskMaker>(
 where
     M::D: Drop,
     requires { IsPlan plan.now }
-    ensures { IfOk result (λ reply. PlanEnds (OverDisks M.D.faults M.D.is_image (M.strict disks.old) (M.given disks.old) (M.given disks.new)) plan.now reply.status reply.text) }
+    ensures { IfOk result (λ reply. PlanEnds (OverDisks M.D.Disk (M.strict disks.old) (M.given disks.old) (M.given disks.new)) plan.now reply.status reply.text) }
 {
     plans_run_safely();
     one_limit_over_strict_disks();

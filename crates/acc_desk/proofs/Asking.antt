@@ -10,9 +10,9 @@ use Rattle.acc_stamp.specs.declared.actors.Actor.{Actor}
 use Rattle.acc_stamp.specs.Actor.{actor_of}
 use Rattle.acc_topology.specs.Sets.{is_among}
 use Rattle.acc_txn.specs.declared.parts.BodyParts.{BodyParts}
+use Rattle.acc_ports.specs.declared.disk.Disk.{Ghosts}
 use Rattle.acc_message.specs.declared.message.Message.{Message}
 use Rattle.acc_message.specs.declared.entry.Event.TheVariants.{Begin as BeginEvent, Recover as RecoverEvent, Message as MessageEvent}
-use Rattle.acc_ports.specs.Strict.{Ranges}
 use Rattle.acc_message.specs.declared.item.Item.{Item}
 use Rattle.acc_message.specs.Fields.{to_of}
 use Rattle.acc_message.specs.Items.{sent_in, message_at, id_of_txn}
@@ -38,8 +38,8 @@ use Rattle.acc_desk.proofs.Unbegun.{unbegun}
 
 -- ---- commands
 
-module _ {D : Type 0} (images : D → List ℕ → Type 0) (faults : D → ℕ) (strict : D → Bool) (armed : D → Option ℕ) (content synced : D → List ℕ) (written : D → Ranges) (strict_run : Bool) (plan : Content) (a : Actor) (items : List Item) (slot : Slot D) (commands : List Step) (gone : ℕ)
-    (all : commands ≡ commands_of plan a) (at : IsAt images faults strict armed content synced written strict_run plan a items slot (drop gone commands)) (up : is_down a items ≡ false) where
+module _ {D : Type 0} (port : Ghosts D) (strict_run : Bool) (plan : Content) (a : Actor) (items : List Item) (slot : Slot D) (commands : List Step) (gone : ℕ)
+    (all : commands ≡ commands_of plan a) (at : IsAt port strict_run plan a items slot (drop gone commands)) (up : is_down a items ≡ false) where
   -- the home of a transaction that none of the commands that went by begins
   pub may_begin : (txn : ℕ) → slice_get commands gone ≡ Some (Begin txn) → (home : ℕ) → slice_get plan.homes txn ≡ Some home → (body : BodyParts) → slice_get plan.bodies txn ≡ Some body
       → list_any (begins_it txn) (take gone commands) ≡ false

@@ -8,7 +8,7 @@ use Rattle.std.proofs.lemmas.List.Sums.{sum_by-cons}
 use Rattle.std.proofs.lemmas.Bool.{true≢false}
 use Rattle.acc_stamp.specs.declared.actors.Actor.{Actor}
 use Rattle.acc_stamp.proofs.Rising.{each_weaker}
-use Rattle.acc_ports.specs.Strict.{Ranges}
+use Rattle.acc_ports.specs.declared.disk.Disk.{Ghosts}
 use Rattle.acc_message.specs.declared.item.Item.{Item}
 use Rattle.acc_message.specs.declared.item.Item.TheVariants.{Step as StepItem}
 use Rattle.acc_message.specs.declared.entry.Event.{Event}
@@ -137,9 +137,9 @@ module _ (cluster : Cluster) (before items : List Item) (a : Actor) (event : Eve
         ends = two.ends ∙ sym one.ends;
       }
 
-module _ {D : Type 0} (images : D → List ℕ → Type 0) (faults : D → ℕ) (strict : D → Bool) (armed : D → Option ℕ) (content synced : D → List ℕ) (written : D → Ranges) (strict_run : Bool) (plan : Content) (a : Actor) (slot : Slot D) (left : List Step) where
+module _ {D : Type 0} (port : Ghosts D) (strict_run : Bool) (plan : Content) (a : Actor) (slot : Slot D) (left : List Step) where
   abbrev Entering : List Item → List Event → List Unsent → List ℕ → Type 0
-  Entering items events unsent weights = IsEntering images faults strict armed content synced written strict_run plan a items slot left events unsent weights
+  Entering items events unsent weights = IsEntering port strict_run plan a items slot left events unsent weights
 
   -- others' items leave the actor where it was
   pub entering_on : (items others : List Item) (events : List Event) (unsent : List Unsent) (weights : List ℕ) → AreOthers a others → IsFreeRun plan (others ++ items) → Entering items events unsent weights
@@ -167,7 +167,7 @@ module _ {D : Type 0} (images : D → List ℕ → Type 0) (faults : D → ℕ) 
       }
 
   -- all were entered
-  pub all_entered : (items : List Item) (unsent : List Unsent) (weights : List ℕ) → Entering items [] unsent weights → IsAt images faults strict armed content synced written strict_run plan a items slot left
+  pub all_entered : (items : List Item) (unsent : List Unsent) (weights : List ℕ) → Entering items [] unsent weights → IsAt port strict_run plan a items slot left
   all_entered items unsent weights h =
       let cluster = cluster_of plan in
       let was : Situation = alone h.before h.stopped in
@@ -181,13 +181,13 @@ module _ {D : Type 0} (images : D → List ℕ → Type 0) (faults : D → ℕ) 
       } in
       record {
         stopped = h.stopped;
-        stands = slot_apart plan was now a apart images faults slot h.stands;
+        stands = slot_apart plan was now a apart port slot h.stands;
         serving = h.serving;
         stops = h.stops;
         gone = h.gone;
         stayed = λ on.
             let s = h.stayed on in
-            record { unarmed = strict_apart plan was now a apart strict armed content synced written fresh_disks fresh_disks slot refl refl s.0; none = s.1; up = s.2 };
+            record { unarmed = strict_apart plan was now a apart port fresh_disks fresh_disks slot refl refl s.0; none = s.1; up = s.2 };
       }
 
   -- ---- the first of those that are left
@@ -286,7 +286,7 @@ module _ {D : Type 0} (images : D → List ℕ → Type 0) (faults : D → ℕ) 
           before = first ∷ h.before;
           untouched = untouched_both cluster h.before items a event h.could.0.0 h.untouched h.could.0.1 h.could.0.2;
           none = h.none;
-          stands = subst (λ (t : Situation). SlotStands images faults plan (entered_all cluster t a events false) a slot) was_on h.stands;
+          stands = subst (λ (t : Situation). SlotStands port plan (entered_all cluster t a events false) a slot) was_on h.stands;
           steps = subst (λ (t : Situation). AreSteps cluster t a events false unsent) was_on h.steps.2;
           weighed = subst (λ (t : Situation). AreWeighed cluster t a events weights) was_on h.weighed.1;
           could =
@@ -304,7 +304,7 @@ module _ {D : Type 0} (images : D → List ℕ → Type 0) (faults : D → ℕ) 
           gone = subst (λ (t : Situation). HasGone plan t a left) now_on (message_went plan now a event false left h.joined.each.0.message (λ _. m.up) h.gone);
           stayed = λ on.
               let s = h.stayed on in (
-                subst (λ (t : Situation). IsStrictSlot strict armed content synced written plan (entered_all cluster t a events false) fresh_disks a slot) was_on s.0,
+                subst (λ (t : Situation). IsStrictSlot port plan (entered_all cluster t a events false) fresh_disks a slot) was_on s.0,
                 s.1,
                 did_one.downs ∙ s.2,
               );
@@ -356,13 +356,13 @@ module _ {D : Type 0} (images : D → List ℕ → Type 0) (faults : D → ℕ) 
 
     -- the actor stands behind all of them
     pub all_at : (items : List Item) (events : List Event) (unsent : List Unsent) (weights : List ℕ) → Entering items events unsent weights
-        → IsAt images faults strict armed content synced written strict_run plan a (reverse (map (item_of_unsent a) unsent) ++ items) slot left
+        → IsAt port strict_run plan a (reverse (map (item_of_unsent a) unsent) ++ items) slot left
     all_at items [] [] weights h = all_entered items [] weights h
     all_at items [] (one ∷ unsent) weights h = absurd h.steps
     all_at items (event ∷ events) [] weights h = absurd h.steps
     all_at items (event ∷ events) (one ∷ unsent) [] h = absurd h.weighed
     all_at items (event ∷ events) (one ∷ unsent) (weight ∷ weights) h =
-        subst (λ all. IsAt images faults strict armed content synced written strict_run plan a all slot left) (sym (turned (item_of_unsent a one) (map (item_of_unsent a) unsent) items))
+        subst (λ all. IsAt port strict_run plan a all slot left) (sym (turned (item_of_unsent a one) (map (item_of_unsent a) unsent) items))
         (all_at (item_of_unsent a one ∷ items) events unsent weights (first_entered known items event events one unsent weight weights h))
 
 -- each is the actor's

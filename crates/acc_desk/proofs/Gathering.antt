@@ -5,7 +5,7 @@ use Rattle.std.specs.List.{AllByRecursion}
 use Rattle.std.proofs.lemmas.Bool.{true≢false}
 use Rattle.acc_stamp.specs.declared.actors.Actor.{Actor}
 use Rattle.acc_stamp.proofs.Rising.{each_weaker}
-use Rattle.acc_ports.specs.Strict.{Ranges}
+use Rattle.acc_ports.specs.declared.disk.Disk.{Ghosts}
 use Rattle.acc_message.specs.declared.item.Item.{Item}
 use Rattle.acc_message.specs.declared.item.Item.TheVariants.{Down}
 use Rattle.acc_message.specs.declared.entry.Event.{Event}
@@ -93,9 +93,9 @@ steps_long cluster s a (event ∷ events) lost (one ∷ given) steps = let other
 
 -- ---- what the slot says
 
-module _ {D : Type 0} (images : D → List ℕ → Type 0) (faults : D → ℕ) (strict : D → Bool) (armed : D → Option ℕ) (content synced : D → List ℕ) (written : D → Ranges) (plan : Content) (a : Actor) (first : Slot D) where
+module _ {D : Type 0} (port : Ghosts D) (plan : Content) (a : Actor) (first : Slot D) where
   abbrev Ready : Situation → List Joining → Type 0
-  Ready s joinings = IsReady images faults plan s a joinings first
+  Ready s joinings = IsReady port plan s a joinings first
 
   abbrev Takes : Situation → Joining → Type 0
   Takes s j = MayTake (cluster_of plan) (whole s) a (event_in s j.event) j.act × (is_journalled a j.event ≡ true)
@@ -119,20 +119,20 @@ module _ {D : Type 0} (images : D → List ℕ → Type 0) (faults : D → ℕ) 
       )
 
   abbrev Staged : Slot D → List Joining → List ℕ → Type 0
-  Staged slot joinings weights = HasStaged images faults strict armed content synced written plan a first slot joinings weights
+  Staged slot joinings weights = HasStaged port plan a first slot joinings weights
 
   -- nothing is staged
   pub none_staged : Staged first [] []
   none_staged = record { stages = λ s ready. ready.stands; weighed = λ s ready. tt; strictly = λ s disks h. h }
 
   module _ (slot : Slot D) (joinings : List Joining) (weights : List ℕ) (staged : Staged slot joinings weights) where
-    pub staged_now : (s : Situation) → Ready s joinings → IsStaged images faults plan s a (events_of joinings) slot
+    pub staged_now : (s : Situation) → Ready s joinings → IsStaged port plan s a (events_of joinings) slot
     staged_now s ready = record { sound = ready.sound; few = ready.few; stands = staged.stages s ready; up = ready.up; each = take_each s joinings ready.each }
 
     -- a message was refused
     pub staged_still : (new : Slot D)
-        → ((s : Situation) (events : List Event) → SlotStages images faults plan s a events slot → SlotStages images faults plan s a events new)
-        → ((s : Situation) (disks : Disks) → IsStrictSlot strict armed content synced written plan s disks a slot → IsStrictSlot strict armed content synced written plan s disks a new)
+        → ((s : Situation) (events : List Event) → SlotStages port plan s a events slot → SlotStages port plan s a events new)
+        → ((s : Situation) (disks : Disks) → IsStrictSlot port plan s disks a slot → IsStrictSlot port plan s disks a new)
         → Staged new joinings weights
     staged_still new still strictly =
         record {
@@ -142,22 +142,22 @@ module _ {D : Type 0} (images : D → List ℕ → Type 0) (faults : D → ℕ) 
         }
 
     module _ (j : Joining) where
-      pub asks_behind : (s : Situation) → Ready s joinings → MayTake (cluster_of plan) (whole s) a (event_in s j.event) j.act → IsAskedBehind images faults plan s a (events_of joinings) j.event j.act slot
+      pub asks_behind : (s : Situation) → Ready s joinings → MayTake (cluster_of plan) (whole s) a (event_in s j.event) j.act → IsAskedBehind port plan s a (events_of joinings) j.event j.act slot
       asks_behind s ready may = record { behind = staged_now s ready; may = may }
 
       -- a message was staged
       pub staged_more : (new : Slot D) (weight : ℕ) → length weights ≡ length joinings
-          → ((s : Situation) (events : List Event) → IsAskedBehind images faults plan s a events j.event j.act slot
+          → ((s : Situation) (events : List Event) → IsAskedBehind port plan s a events j.event j.act slot
           → weight ≡ weight_of (entry_of (cluster_of plan) (entered_all (cluster_of plan) s a events false) a j.event false))
-          → ((s : Situation) (events : List Event) → IsAskedBehind images faults plan s a events j.event j.act slot → SlotStages images faults plan s a (events ++ j.event ∷ []) new)
-          → ((s : Situation) (disks : Disks) → IsStrictSlot strict armed content synced written plan s disks a slot → IsStrictSlot strict armed content synced written plan s disks a new)
+          → ((s : Situation) (events : List Event) → IsAskedBehind port plan s a events j.event j.act slot → SlotStages port plan s a (events ++ j.event ∷ []) new)
+          → ((s : Situation) (disks : Disks) → IsStrictSlot port plan s disks a slot → IsStrictSlot port plan s disks a new)
           → Staged new (joinings ++ j ∷ []) (weights ++ weight ∷ [])
       staged_more new weight long weighs stages strictly =
           let back = sym (events_append joinings j) in
           record {
             stages = λ s ready.
                 let front = ready_front s joinings j ready in
-                subst (λ events. SlotStages images faults plan s a events new) back (stages s (events_of joinings) (asks_behind s front.0 front.1.0));
+                subst (λ events. SlotStages port plan s a events new) back (stages s (events_of joinings) (asks_behind s front.0 front.1.0));
             weighed = λ s ready.
                 let front = ready_front s joinings j ready in
                 subst (λ events. AreWeighed (cluster_of plan) s a events (weights ++ weight ∷ [])) back
@@ -168,8 +168,8 @@ module _ {D : Type 0} (images : D → List ℕ → Type 0) (faults : D → ℕ) 
 
 -- ---- at a desk
 
-module _ {D : Type 0} (images : D → List ℕ → Type 0) (faults : D → ℕ) (strict : D → Bool) (armed : D → Option ℕ) (content synced : D → List ℕ) (written : D → Ranges) (strict_run : Bool) (plan : Content) (a : Actor) (items : List Item) (first : Slot D) (left : List Step) (joinings : List Joining)
-    (known : Contains (actors plan.topology) a) (few : length items ≤ most_items) (up : is_down a items ≡ false) (at : IsAt images faults strict armed content synced written strict_run plan a items first left) (joined : CanAllJoin plan items a left joinings) where
+module _ {D : Type 0} (port : Ghosts D) (strict_run : Bool) (plan : Content) (a : Actor) (items : List Item) (first : Slot D) (left : List Step) (joinings : List Joining)
+    (known : Contains (actors plan.topology) a) (few : length items ≤ most_items) (up : is_down a items ≡ false) (at : IsAt port strict_run plan a items first left) (joined : CanAllJoin plan items a left joinings) where
   abbrev pub here : Situation
   here = alone items at.stopped
 
@@ -181,7 +181,7 @@ module _ {D : Type 0} (images : D → List ℕ → Type 0) (faults : D → ℕ) 
   up_here : is_down a (whole here) ≡ false
   up_here = ap (is_down a) (alone_whole items at.stopped) ∙ up
 
-  pub ready_here : IsReady images faults plan here a joinings first
+  pub ready_here : IsReady port plan here a joinings first
   ready_here =
       record {
         sound = at.serving.sound;
@@ -197,8 +197,8 @@ module _ {D : Type 0} (images : D → List ℕ → Type 0) (faults : D → ℕ) 
   of_events Q (j ∷ js) f h = (f j h.0, of_events Q js f h.1)
 
   -- its disk failed, and takes it down
-  module _ (new : Slot D) (settles : Settles images faults plan a first joinings new None) (strictly : SettlesStrictly images faults strict armed content synced written plan a first joinings new None) where
-    pub went_down : IsAt images faults strict armed content synced written strict_run plan a (Down a ∷ items) new left
+  module _ (new : Slot D) (settles : Settles port plan a first joinings new None) (strictly : SettlesStrictly port plan a first joinings new None) where
+    pub went_down : IsAt port strict_run plan a (Down a ∷ items) new left
     went_down =
         let events = events_of joinings in
         record {
@@ -217,9 +217,9 @@ module _ {D : Type 0} (images : D → List ℕ → Type 0) (faults : D → ℕ) 
         }
 
   -- it was settled
-  module _ (new : Slot D) (weights : List ℕ) (given : List Unsent) (weighed : (s : Situation) → IsReady images faults plan s a joinings first → AreWeighed (cluster_of plan) s a (events_of joinings) weights)
-      (settles : Settles images faults plan a first joinings new (Some given)) (strictly : SettlesStrictly images faults strict armed content synced written plan a first joinings new (Some given)) where
-    pub begins_entering : IsEntering images faults strict armed content synced written strict_run plan a items new left (events_of joinings) given weights
+  module _ (new : Slot D) (weights : List ℕ) (given : List Unsent) (weighed : (s : Situation) → IsReady port plan s a joinings first → AreWeighed (cluster_of plan) s a (events_of joinings) weights)
+      (settles : Settles port plan a first joinings new (Some given)) (strictly : SettlesStrictly port plan a first joinings new (Some given)) where
+    pub begins_entering : IsEntering port strict_run plan a items new left (events_of joinings) given weights
     begins_entering =
         let settled = settles here ready_here in
         record {
@@ -242,7 +242,7 @@ module _ {D : Type 0} (images : D → List ℕ → Type 0) (faults : D → ℕ) 
           gone = at.gone;
           stayed = λ on.
               let h = at.stayed on in (
-                stepped_fresh strict armed content synced written plan (entered_all (cluster_of plan) here a (events_of joinings) false) a new true (strictly here fresh_disks ready_here h.unarmed).strictly,
+                stepped_fresh port plan (entered_all (cluster_of plan) here a (events_of joinings) false) a new true (strictly here fresh_disks ready_here h.unarmed).strictly,
                 h.none,
                 h.up,
               );

@@ -5,7 +5,7 @@ use Rattle.std.specs.List.{AllByRecursion}
 use Rattle.std.proofs.lemmas.List.{length-map}
 use Rattle.std.proofs.lemmas.List.Sums.{sum_by_push}
 use Rattle.acc_stamp.specs.declared.actors.Actor.{Actor}
-use Rattle.acc_ports.specs.Strict.{Ranges}
+use Rattle.acc_ports.specs.declared.disk.Disk.{Ghosts}
 use Rattle.acc_message.specs.declared.entry.Event.{Event}
 use Rattle.acc_message.specs.declared.error.Which.{Which}
 use Rattle.acc_message.specs.declared.item.Item.{Item}
@@ -39,34 +39,34 @@ use Rattle.acc_desk.proofs.Seating.{came, newest_few}
 use Rattle.acc_desk.proofs.Rooms.{passed, lacks_room}
 use Rattle.acc_desk.proofs.Gathering.{joined_more, joined_over, none_staged, staged_still, staged_more, staged_now, steps_long, asks_behind, here, may_at, ready_here, begins_entering}
 
-module _ {D : Type 0} (images : D → List ℕ → Type 0) (faults : D → ℕ) (strict : D → Bool) (armed : D → Option ℕ) (content synced : D → List ℕ) (written : D → Ranges) (strict_run : Bool) (plan : Content) (tape : TapeName) (limits : tape.limits.items ≤ most_items) (a : Actor) (commands : List Step) (gone : ℕ)
+module _ {D : Type 0} (port : Ghosts D) (strict_run : Bool) (plan : Content) (tape : TapeName) (limits : tape.limits.items ≤ most_items) (a : Actor) (commands : List Step) (gone : ℕ)
     (first slot : Slot D) (joinings : List Joining) (used : ℕ) (held : Hold) (seat : SeatView Item)
-    (gathering : IsGathering images faults strict armed content synced written strict_run plan tape a seat first slot commands gone joinings used held) where
+    (gathering : IsGathering port strict_run plan tape a seat first slot commands gone joinings used held) where
   -- ---- one message more
 
   module _ (j : Joining) (can : CanJoin plan (newest seat) a (drop gone commands) j) where
     -- the slot may be asked
-    pub asks_now : MayAskBehind images faults plan a j.event j.act slot
+    pub asks_now : MayAskBehind port plan a j.event j.act slot
     asks_now =
         let items = newest seat in
         let left = drop gone commands in
         let few = newest_few plan tape limits a held seat gathering.desk.seated in (
-          here images faults strict armed content synced written strict_run plan a items first left joinings gathering.desk.known few gathering.up gathering.desk.at gathering.joined,
+          here port strict_run plan a items first left joinings gathering.desk.known few gathering.up gathering.desk.at gathering.joined,
           events_of joinings,
-          asks_behind images faults strict armed content synced written plan a first slot joinings gathering.weights gathering.staged j
-              (here images faults strict armed content synced written strict_run plan a items first left joinings gathering.desk.known few gathering.up gathering.desk.at gathering.joined)
-              (ready_here images faults strict armed content synced written strict_run plan a items first left joinings gathering.desk.known few gathering.up gathering.desk.at gathering.joined)
-              (may_at images faults strict armed content synced written strict_run plan a items first left joinings gathering.desk.known few gathering.up gathering.desk.at gathering.joined j.event j.act can.may.may),
+          asks_behind port plan a first slot joinings gathering.weights gathering.staged j
+              (here port strict_run plan a items first left joinings gathering.desk.known few gathering.up gathering.desk.at gathering.joined)
+              (ready_here port strict_run plan a items first left joinings gathering.desk.known few gathering.up gathering.desk.at gathering.joined)
+              (may_at port strict_run plan a items first left joinings gathering.desk.known few gathering.up gathering.desk.at gathering.joined j.event j.act can.may.may),
         )
 
     -- it was staged
     pub joins : (next : Slot D) (weight total : ℕ) → total ≡ used + weight → total ≤ held.weight → length joinings < held.items → length joinings < 16
         → AllByRecursion (λ (other : Event). other ≢ j.event) (events_of joinings)
-        → ((s : Situation) (events : List Event) → IsAskedBehind images faults plan s a events j.event j.act slot
+        → ((s : Situation) (events : List Event) → IsAskedBehind port plan s a events j.event j.act slot
         → weight ≡ weight_of (entry_of (cluster_of plan) (entered_all (cluster_of plan) s a events false) a j.event false))
-        → ((s : Situation) (events : List Event) → IsAskedBehind images faults plan s a events j.event j.act slot → SlotStages images faults plan s a (events ++ j.event ∷ []) next)
-        → ((s : Situation) (disks : Disks) → IsStrictSlot strict armed content synced written plan s disks a slot → IsStrictSlot strict armed content synced written plan s disks a next)
-        → IsGathering images faults strict armed content synced written strict_run plan tape a seat first next commands gone (joinings ++ j ∷ []) total held
+        → ((s : Situation) (events : List Event) → IsAskedBehind port plan s a events j.event j.act slot → SlotStages port plan s a (events ++ j.event ∷ []) next)
+        → ((s : Situation) (disks : Disks) → IsStrictSlot port plan s disks a slot → IsStrictSlot port plan s disks a next)
+        → IsGathering port strict_run plan tape a seat first next commands gone (joinings ++ j ∷ []) total held
     joins next weight total is within more few another weighs stages strictly =
         record {
           kind = gathering.kind;
@@ -75,7 +75,7 @@ module _ {D : Type 0} (images : D → List ℕ → Type 0) (faults : D → ℕ) 
           joined = joined_more plan (newest seat) a (drop gone commands) joinings j gathering.joined can another few;
           weights = gathering.weights ++ weight ∷ [];
           long = (let n = length-append gathering.weights (weight ∷ []) in let m = length-append joinings (j ∷ []) in let l = gathering.long in omega arith);
-          staged = staged_more images faults strict armed content synced written plan a first slot joinings gathering.weights gathering.staged j next weight gathering.long weighs stages strictly;
+          staged = staged_more port plan a first slot joinings gathering.weights gathering.staged j next weight gathering.long weighs stages strictly;
           used_is = (let n = sum_by_push (λ n. n) gathering.weights weight in let u = gathering.used_is in omega arith);
           within = within;
           few = (let m = length-append joinings (j ∷ []) in omega arith);
@@ -83,9 +83,9 @@ module _ {D : Type 0} (images : D → List ℕ → Type 0) (faults : D → ℕ) 
 
   -- a message was refused
   pub refused : (next : Slot D)
-      → ((s : Situation) (events : List Event) → SlotStages images faults plan s a events slot → SlotStages images faults plan s a events next)
-      → ((s : Situation) (disks : Disks) → IsStrictSlot strict armed content synced written plan s disks a slot → IsStrictSlot strict armed content synced written plan s disks a next)
-      → IsGathering images faults strict armed content synced written strict_run plan tape a seat first next commands gone joinings used held
+      → ((s : Situation) (events : List Event) → SlotStages port plan s a events slot → SlotStages port plan s a events next)
+      → ((s : Situation) (disks : Disks) → IsStrictSlot port plan s disks a slot → IsStrictSlot port plan s disks a next)
+      → IsGathering port strict_run plan tape a seat first next commands gone joinings used held
   refused next still strictly =
       record {
         kind = gathering.kind;
@@ -94,7 +94,7 @@ module _ {D : Type 0} (images : D → List ℕ → Type 0) (faults : D → ℕ) 
         joined = gathering.joined;
         weights = gathering.weights;
         long = gathering.long;
-        staged = staged_still images faults strict armed content synced written plan a first slot joinings gathering.weights gathering.staged next still strictly;
+        staged = staged_still port plan a first slot joinings gathering.weights gathering.staged next still strictly;
         used_is = gathering.used_is;
         within = gathering.within;
         few = gathering.few;
@@ -102,16 +102,16 @@ module _ {D : Type 0} (images : D → List ℕ → Type 0) (faults : D → ℕ) 
 
   -- ---- what was staged is settled
 
-  pub settle_asks : (s : Situation) × (events : List Event) × IsStaged images faults plan s a events slot
+  pub settle_asks : (s : Situation) × (events : List Event) × IsStaged port plan s a events slot
   settle_asks =
       let items = newest seat in
       let left = drop gone commands in
       let few = newest_few plan tape limits a held seat gathering.desk.seated in (
-        here images faults strict armed content synced written strict_run plan a items first left joinings gathering.desk.known few gathering.up gathering.desk.at gathering.joined,
+        here port strict_run plan a items first left joinings gathering.desk.known few gathering.up gathering.desk.at gathering.joined,
         events_of joinings,
-        staged_now images faults strict armed content synced written plan a first slot joinings gathering.weights gathering.staged
-            (here images faults strict armed content synced written strict_run plan a items first left joinings gathering.desk.known few gathering.up gathering.desk.at gathering.joined)
-            (ready_here images faults strict armed content synced written strict_run plan a items first left joinings gathering.desk.known few gathering.up gathering.desk.at gathering.joined),
+        staged_now port plan a first slot joinings gathering.weights gathering.staged
+            (here port strict_run plan a items first left joinings gathering.desk.known few gathering.up gathering.desk.at gathering.joined)
+            (ready_here port strict_run plan a items first left joinings gathering.desk.known few gathering.up gathering.desk.at gathering.joined),
       )
 
   no_events : (js : List Joining) → js ≢ [] → events_of js ≢ []
@@ -123,23 +123,23 @@ module _ {D : Type 0} (images : D → List ℕ → Type 0) (faults : D → ℕ) 
   some_long (j ∷ js) some = omega arith
 
   module _ (next : Slot D) (given : Option (List Unsent))
-      (settled : (s : Situation) (staged : List Event) → IsStaged images faults plan s a staged slot → HasSettled images faults plan s a staged next given)
-      (strictly : (s : Situation) (staged : List Event) (disks : Disks) → IsStaged images faults plan s a staged slot → staged ≢ [] → IsStrictSlot strict armed content synced written plan s disks a slot
-      → HasSettledStrictly strict armed content synced written plan s disks a staged next given) (some : joinings ≢ []) where
-    all_settle : Settles images faults plan a first joinings next given
-    all_settle s ready = settled s (events_of joinings) (staged_now images faults strict armed content synced written plan a first slot joinings gathering.weights gathering.staged s ready)
+      (settled : (s : Situation) (staged : List Event) → IsStaged port plan s a staged slot → HasSettled port plan s a staged next given)
+      (strictly : (s : Situation) (staged : List Event) (disks : Disks) → IsStaged port plan s a staged slot → staged ≢ [] → IsStrictSlot port plan s disks a slot
+      → HasSettledStrictly port plan s disks a staged next given) (some : joinings ≢ []) where
+    all_settle : Settles port plan a first joinings next given
+    all_settle s ready = settled s (events_of joinings) (staged_now port plan a first slot joinings gathering.weights gathering.staged s ready)
 
-    all_settle_strictly : SettlesStrictly images faults strict armed content synced written plan a first joinings next given
+    all_settle_strictly : SettlesStrictly port plan a first joinings next given
     all_settle_strictly s disks ready h =
-        strictly s (events_of joinings) disks (staged_now images faults strict armed content synced written plan a first slot joinings gathering.weights gathering.staged s ready) (no_events joinings some)
+        strictly s (events_of joinings) disks (staged_now port plan a first slot joinings gathering.weights gathering.staged s ready) (no_events joinings some)
         (gathering.staged.strictly s disks h)
 
   -- its disk failed
   pub settled_none : (next : Slot D)
-      → ((s : Situation) (staged : List Event) → IsStaged images faults plan s a staged slot → HasSettled images faults plan s a staged next None)
-      → ((s : Situation) (staged : List Event) (disks : Disks) → IsStaged images faults plan s a staged slot → staged ≢ [] → IsStrictSlot strict armed content synced written plan s disks a slot
-      → HasSettledStrictly strict armed content synced written plan s disks a staged next None) → joinings ≢ []
-      → IsStopping images faults strict armed content synced written strict_run plan tape a seat first next commands gone joinings held
+      → ((s : Situation) (staged : List Event) → IsStaged port plan s a staged slot → HasSettled port plan s a staged next None)
+      → ((s : Situation) (staged : List Event) (disks : Disks) → IsStaged port plan s a staged slot → staged ≢ [] → IsStrictSlot port plan s disks a slot
+      → HasSettledStrictly port plan s disks a staged next None) → joinings ≢ []
+      → IsStopping port strict_run plan tape a seat first next commands gone joinings held
   settled_none next settled strictly some =
       record {
         desk = gathering.desk;
@@ -152,12 +152,12 @@ module _ {D : Type 0} (images : D → List ℕ → Type 0) (faults : D → ℕ) 
 
   -- it gives what is to be entered
   pub settled_some : (next : Slot D) (given : List Unsent)
-      → ((s : Situation) (staged : List Event) → IsStaged images faults plan s a staged slot → HasSettled images faults plan s a staged next (Some given))
-      → ((s : Situation) (staged : List Event) (disks : Disks) → IsStaged images faults plan s a staged slot → staged ≢ [] → IsStrictSlot strict armed content synced written plan s disks a slot
-      → HasSettledStrictly strict armed content synced written plan s disks a staged next (Some given)) → joinings ≢ []
-      → IsEnteringDesk images faults strict armed content synced written strict_run plan tape held a seat next commands gone (events_of joinings) given
+      → ((s : Situation) (staged : List Event) → IsStaged port plan s a staged slot → HasSettled port plan s a staged next (Some given))
+      → ((s : Situation) (staged : List Event) (disks : Disks) → IsStaged port plan s a staged slot → staged ≢ [] → IsStrictSlot port plan s disks a slot
+      → HasSettledStrictly port plan s disks a staged next (Some given)) → joinings ≢ []
+      → IsEnteringDesk port strict_run plan tape held a seat next commands gone (events_of joinings) given
   settled_some next given settled strictly some =
-      let entering = begins_entering images faults strict armed content synced written strict_run plan a (newest seat) first (drop gone commands) joinings gathering.desk.known
+      let entering = begins_entering port strict_run plan a (newest seat) first (drop gone commands) joinings gathering.desk.known
       (newest_few plan tape limits a held seat gathering.desk.seated) gathering.up gathering.desk.at gathering.joined next gathering.weights given gathering.staged.weighed
       (all_settle next (Some given) settled strictly some) (all_settle_strictly next (Some given) settled strictly some) in
       let steps = steps_long (cluster_of plan) _ a (events_of joinings) false given entering.steps in
@@ -174,19 +174,19 @@ module _ {D : Type 0} (images : D → List ℕ → Type 0) (faults : D → ℕ) 
       }
 
   -- nothing joined, so the slot stands for what the seat has seen
-  pub none_joined : length joinings ≡ 0 → IsDesk images faults strict armed content synced written strict_run plan tape held a seat slot commands gone
+  pub none_joined : length joinings ≡ 0 → IsDesk port strict_run plan tape held a seat slot commands gone
   none_joined none =
       let at = gathering.desk.at in
       let few = newest_few plan tape limits a held seat gathering.desk.seated in
-      let s : Situation = here images faults strict armed content synced written strict_run plan a (newest seat) first (drop gone commands) joinings gathering.desk.known few gathering.up at gathering.joined in
-      let ready = ready_here images faults strict armed content synced written strict_run plan a (newest seat) first (drop gone commands) joinings gathering.desk.known few gathering.up at gathering.joined in
+      let s : Situation = here port strict_run plan a (newest seat) first (drop gone commands) joinings gathering.desk.known few gathering.up at gathering.joined in
+      let ready = ready_here port strict_run plan a (newest seat) first (drop gone commands) joinings gathering.desk.known few gathering.up at gathering.joined in
       record {
         known = gathering.desk.known;
         all = gathering.desk.all;
         seated = gathering.desk.seated;
         at = record {
           stopped = at.stopped;
-          stands = subst (λ events. SlotStages images faults plan s a events slot) (nothing joinings none) (gathering.staged.stages s ready);
+          stands = subst (λ events. SlotStages port plan s a events slot) (nothing joinings none) (gathering.staged.stages s ready);
           serving = at.serving;
           stops = at.stops;
           gone = at.gone;
@@ -200,10 +200,10 @@ module _ {D : Type 0} (images : D → List ℕ → Type 0) (faults : D → ℕ) 
 
 -- ---- a desk that stages nothing yet
 
-module _ {D : Type 0} (images : D → List ℕ → Type 0) (faults : D → ℕ) (strict : D → Bool) (armed : D → Option ℕ) (content synced : D → List ℕ) (written : D → Ranges) (strict_run : Bool) (plan : Content) (tape : TapeName) (limits : tape.limits.items ≤ most_items) (a : Actor) (commands : List Step) (gone : ℕ) where
+module _ {D : Type 0} (port : Ghosts D) (strict_run : Bool) (plan : Content) (tape : TapeName) (limits : tape.limits.items ≤ most_items) (a : Actor) (commands : List Step) (gone : ℕ) where
   pub begins_gathering : (slot : Slot D) (seat : SeatView Item) → is_node a ≡ false → is_down a (newest seat) ≡ false
-      → IsDesk images faults strict armed content synced written strict_run plan tape no_hold a seat slot commands gone
-      → IsGathering images faults strict armed content synced written strict_run plan tape a seat slot slot commands gone [] 0 no_hold
+      → IsDesk port strict_run plan tape no_hold a seat slot commands gone
+      → IsGathering port strict_run plan tape a seat slot slot commands gone [] 0 no_hold
   begins_gathering slot seat kind up desk =
       record {
         kind = kind;
@@ -212,16 +212,16 @@ module _ {D : Type 0} (images : D → List ℕ → Type 0) (faults : D → ℕ) 
         joined = record { each = tt; different = tt; few = omega arith };
         weights = [];
         long = refl;
-        staged = none_staged images faults strict armed content synced written plan a slot;
+        staged = none_staged port plan a slot;
         used_is = refl;
         within = omega arith;
         few = omega arith;
       }
 
   -- a store that has staged nothing was asked what it would send for its oldest message, and the tape has no room for it
-  pub first_no_room : (slot : Slot D) (seat : SeatView Item) (j : Joining) → IsGathering images faults strict armed content synced written strict_run plan tape a seat slot slot commands gone [] 0 no_hold
+  pub first_no_room : (slot : Slot D) (seat : SeatView Item) (j : Joining) → IsGathering port strict_run plan tape a seat slot slot commands gone [] 0 no_hold
       → CanJoin plan (newest seat) a (drop gone commands) j → (weight : ℕ)
-      → ((s : Situation) (events : List Event) → IsAskedBehind images faults plan s a events j.event j.act slot
+      → ((s : Situation) (events : List Event) → IsAskedBehind port plan s a events j.event j.act slot
       → weight ≡ weight_of (entry_of (cluster_of plan) (entered_all (cluster_of plan) s a events false) a j.event false))
       → (which : Which) (number : ℕ) → Refuses tape.limits (length seat.seen + seat.out_count) (sum_by weight_of seat.seen + seat.out_weight) 1 weight (Full which number)
       → HasNoRoom plan tape a (drop gone commands) seat
@@ -229,10 +229,10 @@ module _ {D : Type 0} (images : D → List ℕ → Type 0) (faults : D → ℕ) 
       let items = newest seat in
       let left = drop gone commands in
       let few = newest_few plan tape limits a no_hold seat gathering.desk.seated in
-      let s : Situation = here images faults strict armed content synced written strict_run plan a items slot left [] gathering.desk.known few gathering.up gathering.desk.at gathering.joined in
-      let is = weighs s [] (asks_behind images faults strict armed content synced written plan a slot slot [] gathering.weights gathering.staged j s
-      (ready_here images faults strict armed content synced written strict_run plan a items slot left [] gathering.desk.known few gathering.up gathering.desk.at gathering.joined)
-      (may_at images faults strict armed content synced written strict_run plan a items slot left [] gathering.desk.known few gathering.up gathering.desk.at gathering.joined j.event j.act can.may.may)) in
+      let s : Situation = here port strict_run plan a items slot left [] gathering.desk.known few gathering.up gathering.desk.at gathering.joined in
+      let is = weighs s [] (asks_behind port plan a slot slot [] gathering.weights gathering.staged j s
+      (ready_here port strict_run plan a items slot left [] gathering.desk.known few gathering.up gathering.desk.at gathering.joined)
+      (may_at port strict_run plan a items slot left [] gathering.desk.known few gathering.up gathering.desk.at gathering.joined j.event j.act can.may.may)) in
       lacks_room plan tape a left left seat j.event j.act can.may weight (is ∙ ap weight_of (entry_is (cluster_of plan) s refl a j.event false))
       (passed tape.limits (length seat.seen + seat.out_count) (sum_by weight_of seat.seen + seat.out_weight) weight which number refuses)
 

@@ -4,7 +4,7 @@ use Rattle.std.proofs.lemmas.List.{reverse-append}
 use Rattle.std.proofs.lemmas.List.Elements.{filter-append}
 use mathlib.Core.List.{IsPrefix}
 use Rattle.acc_stamp.specs.declared.actors.Actor.{Actor}
-use Rattle.acc_ports.specs.Strict.{Ranges}
+use Rattle.acc_ports.specs.declared.disk.Disk.{Ghosts}
 use Rattle.acc_message.specs.declared.item.Item.{Item}
 use Rattle.acc_message.specs.declared.item.Item.TheVariants.{Step as StepItem, Skipped, Down}
 use Rattle.acc_message.specs.Run.{Cluster, EachStands}
@@ -89,10 +89,10 @@ module _ (cluster : Cluster) (seen : List Item) (stopped : List Stopped) (a : Ac
         goes_on = goes_item cluster (alone (others ++ seen) stopped) item a apart.0 past.goes_on stands.0;
       }
 
-module _ {D : Type 0} (images : D → List ℕ → Type 0) (faults : D → ℕ) (strict : D → Bool) (armed : D → Option ℕ) (content synced : D → List ℕ) (written : D → Ranges) (strict_run : Bool) (plan : Content) (a : Actor) where
+module _ {D : Type 0} (port : Ghosts D) (strict_run : Bool) (plan : Content) (a : Actor) where
   -- others' items leave the actor where it was
-  pub at_on : (seen others : List Item) (slot : Slot D) (left : List Step) → AreOthers a others → IsFreeRun plan (others ++ seen) → IsAt images faults strict armed content synced written strict_run plan a seen slot left
-      → IsAt images faults strict armed content synced written strict_run plan a (others ++ seen) slot left
+  pub at_on : (seen others : List Item) (slot : Slot D) (left : List Step) → AreOthers a others → IsFreeRun plan (others ++ seen) → IsAt port strict_run plan a seen slot left
+      → IsAt port strict_run plan a (others ++ seen) slot left
   at_on seen others slot left apart free at =
       let cluster = cluster_of plan in
       let st = at.stopped in
@@ -100,14 +100,14 @@ module _ {D : Type 0} (images : D → List ℕ → Type 0) (faults : D → ℕ) 
       let over = apart_over cluster seen st a (at.serving.sound.stopped a) others apart stands in
       record {
         stopped = st;
-        stands = slot_apart plan (alone seen st) (alone (others ++ seen) st) a over.apart images faults slot at.stands;
+        stands = slot_apart plan (alone seen st) (alone (others ++ seen) st) a over.apart port slot at.stands;
         serving = serving_over plan seen others a st apart at.stops free at.serving;
         stops = at.stops;
         gone = gone_over plan seen others a st left apart at.gone;
         stayed = λ on.
             let h = at.stayed on in
             record {
-              unarmed = strict_apart plan (alone seen st) (alone (others ++ seen) st) a over.apart strict armed content synced written fresh_disks fresh_disks slot refl refl h.unarmed;
+              unarmed = strict_apart plan (alone seen st) (alone (others ++ seen) st) a over.apart port fresh_disks fresh_disks slot refl refl h.unarmed;
               none = h.none;
               up = over.apart.downs ∙ h.up;
             };

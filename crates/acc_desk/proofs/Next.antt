@@ -5,7 +5,7 @@ use Rattle.std.proofs.lemmas.List.{reverse-append, take-append-drop, append_canc
 use Rattle.std.proofs.lemmas.List.Folds.{list_any-append}
 use Rattle.std.proofs.Math.Bool.{or-false}
 use Rattle.acc_stamp.specs.declared.actors.Actor.{Actor}
-use Rattle.acc_ports.specs.Strict.{Ranges}
+use Rattle.acc_ports.specs.declared.disk.Disk.{Ghosts}
 use Rattle.acc_message.specs.declared.item.Item.{Item}
 use Rattle.acc_message.specs.Run.{is_down}
 use Rattle.acc_schedule.specs.Content.{Content}
@@ -67,6 +67,6 @@ none_gone p commands gone n split none = sym (any_reversed p gone) ∙ sym (ap (
 -- ---- the slot
 
 -- what a slot says of its actor holds of the items for which it stands
-pub down_says : {D : Type 0} (images : D → List ℕ → Type 0) (faults : D → ℕ) (strict : D → Bool) (armed : D → Option ℕ) (content synced : D → List ℕ) (written : D → Ranges) (strict_run : Bool) (plan : Content) (a : Actor) (items : List Item) (slot : Slot D) (left : List Step) → IsAt images faults strict armed content synced written strict_run plan a items slot left
-    → (down : Bool) → ((p : Content) (s : Situation) (b : Actor) → SlotStands images faults p s b slot → down ≡ is_down b (whole s)) → down ≡ is_down a items
-down_says images faults strict armed content synced written strict_run plan a items slot left at down says = says plan (alone items at.stopped) a at.stands ∙ ap (is_down a) (alone_whole items at.stopped)
+pub down_says : {D : Type 0} (port : Ghosts D) (strict_run : Bool) (plan : Content) (a : Actor) (items : List Item) (slot : Slot D) (left : List Step) → IsAt port strict_run plan a items slot left
+    → (down : Bool) → ((p : Content) (s : Situation) (b : Actor) → SlotStands port p s b slot → down ≡ is_down b (whole s)) → down ≡ is_down a items
+down_says port strict_run plan a items slot left at down says = says plan (alone items at.stopped) a at.stands ∙ ap (is_down a) (alone_whole items at.stopped)

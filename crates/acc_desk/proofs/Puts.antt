@@ -3,7 +3,7 @@ use Rattle.std.proofs.Common.{◌≡◌, ℕ, ◌-◌, ◌≤◌, Bool, false, L
 use Rattle.std.specs.Prelude.{All, sum_by}
 use Rattle.std.proofs.lemmas.List.{length-map, length-reverse, reverse-append}
 use Rattle.acc_stamp.specs.declared.actors.Actor.{Actor}
-use Rattle.acc_ports.specs.Strict.{Ranges}
+use Rattle.acc_ports.specs.declared.disk.Disk.{Ghosts}
 use Rattle.acc_message.specs.declared.entry.Event.{Event}
 use Rattle.acc_message.specs.declared.item.Item.{Item}
 use Rattle.acc_message.specs.declared.item.Item.TheVariants.{Down}
@@ -31,14 +31,14 @@ use Rattle.acc_desk.proofs.Seating.{held_none, reverse_last, seen_few, seated_on
 use Rattle.acc_desk.proofs.Entered.{entering_on, all_fit, all_short, all_weigh, all_at, all_own}
 use Rattle.acc_desk.proofs.Gathering.{joined_over, went_down}
 
-module _ {D : Type 0} (images : D → List ℕ → Type 0) (faults : D → ℕ) (strict : D → Bool) (armed : D → Option ℕ) (content synced : D → List ℕ) (written : D → Ranges) (strict_run : Bool) (plan : Content) (tape : TapeName) (limits : tape.limits.items ≤ most_items) (a : Actor) (commands : List Step) (gone : ℕ) where
+module _ {D : Type 0} (port : Ghosts D) (strict_run : Bool) (plan : Content) (tape : TapeName) (limits : tape.limits.items ≤ most_items) (a : Actor) (commands : List Step) (gone : ℕ) where
   abbrev TurnsOf : SeatView Item → SeatView Item → Type 0
   TurnsOf old new = Turns actor_of_item weight_of (fits_plan plan) old new
 
   -- ---- what was settled is entered at once
 
   module _ (slot : Slot D) (held : Hold) (events : List Event) (unsent : List Unsent) (seat : SeatView Item)
-      (desk : IsEnteringDesk images faults strict armed content synced written strict_run plan tape held a seat slot commands gone events unsent) where
+      (desk : IsEnteringDesk port strict_run plan tape held a seat slot commands gone events unsent) where
     abbrev items : List Item
     items = map (item_of_unsent a) unsent
 
@@ -50,12 +50,12 @@ module _ {D : Type 0} (images : D → List ℕ → Type 0) (faults : D → ℕ) 
 
     pub puts_short : All (λ item. All IsShortMessage (sent_in item)) items
     puts_short =
-        all_short images faults strict armed content synced written strict_run plan a slot (drop gone commands) desk.known (newest seat) events unsent desk.weights desk.entering
+        all_short port strict_run plan a slot (drop gone commands) desk.known (newest seat) events unsent desk.weights desk.entering
         (let n = newest_few plan tape limits a held seat desk.seated in let l = desk.most in omega arith)
 
     pub puts_weigh : sum_by weight_of items ≤ held.weight
     puts_weigh =
-        let w = all_weigh images faults strict armed content synced written strict_run plan a slot (drop gone commands) desk.known (newest seat) events unsent desk.weights desk.entering in
+        let w = all_weigh port strict_run plan a slot (drop gone commands) desk.known (newest seat) events unsent desk.weights desk.entering in
         let l = desk.light in
         omega arith
 
@@ -64,26 +64,26 @@ module _ {D : Type 0} (images : D → List ℕ → Type 0) (faults : D → ℕ) 
         let b = others_since plan tape limits a held seat desk.seated before begins mine in
         let run = subst (IsFreeRun plan) b.items_are free in
         subst (IsFreeRun plan) (sym (reverse-append before (take k items) ∙ ap (λ all. reverse (take k items) ++ all) b.items_are))
-        (all_fit images faults strict armed content synced written strict_run plan a slot (drop gone commands) desk.known (b.others ++ newest seat) events unsent desk.weights
-        (entering_on images faults strict armed content synced written strict_run plan a slot (drop gone commands) (newest seat) b.others events unsent desk.weights b.apart run desk.entering) run k)
+        (all_fit port strict_run plan a slot (drop gone commands) desk.known (b.others ++ newest seat) events unsent desk.weights
+        (entering_on port strict_run plan a slot (drop gone commands) (newest seat) b.others events unsent desk.weights b.apart run desk.entering) run k)
 
     pub puts_on : (new : SeatView Item) → TurnsOf seat new → held_of new ≡ no_hold → ComeLast actor_of_item (fits_plan plan) seat new.seen items
-        → IsDesk images faults strict armed content synced written strict_run plan tape no_hold a new slot commands gone
+        → IsDesk port strict_run plan tape no_hold a new slot commands gone
     puts_on new turns free last =
         let b = others_since plan tape limits a held seat desk.seated last.before last.begins last.mine in
-        let there = entering_on images faults strict armed content synced written strict_run plan a slot (drop gone commands) (newest seat) b.others events unsent desk.weights b.apart (subst (IsFreeRun plan) b.items_are last.fitting) desk.entering in
+        let there = entering_on port strict_run plan a slot (drop gone commands) (newest seat) b.others events unsent desk.weights b.apart (subst (IsFreeRun plan) b.items_are last.fitting) desk.entering in
         record {
           known = desk.known;
           all = desk.all;
           seated = seated_on plan tape limits a held no_hold seat new desk.seated turns free;
-          at = subst (λ all. IsAt images faults strict armed content synced written strict_run plan a all slot (drop gone commands)) (sym (ap reverse last.seen_is ∙ reverse-append last.before items ∙ ap (λ all. reverse items ++ all) b.items_are))
-              (all_at images faults strict armed content synced written strict_run plan a slot (drop gone commands) desk.known (b.others ++ newest seat) events unsent desk.weights there);
+          at = subst (λ all. IsAt port strict_run plan a all slot (drop gone commands)) (sym (ap reverse last.seen_is ∙ reverse-append last.before items ∙ ap (λ all. reverse items ++ all) b.items_are))
+              (all_at port strict_run plan a slot (drop gone commands) desk.known (b.others ++ newest seat) events unsent desk.weights there);
         }
 
   -- ---- the disk failed
 
   module _ (first slot : Slot D) (joinings : List Joining) (held : Hold) (seat : SeatView Item)
-      (stopping : IsStopping images faults strict armed content synced written strict_run plan tape a seat first slot commands gone joinings held) where
+      (stopping : IsStopping port strict_run plan tape a seat first slot commands gone joinings held) where
     pub down_own : actor_of_item (Down a) ≡ seat.actor
     down_own = sym stopping.desk.seated.actor_is
 
@@ -98,12 +98,12 @@ module _ {D : Type 0} (images : D → List ℕ → Type 0) (faults : D → ℕ) 
         subst (IsFreeRun plan) (sym (reverse_last before (Down a))) (down_fits plan (reverse before) a stopping.desk.known free)
 
     pub down_on : (new : SeatView Item) → TurnsOf seat new → held_of new ≡ no_hold → ComesLast actor_of_item (fits_plan plan) seat new.seen (Down a)
-        → IsDesk images faults strict armed content synced written strict_run plan tape no_hold a new slot commands gone
+        → IsDesk port strict_run plan tape no_hold a new slot commands gone
     down_on new turns free last =
         let b = others_since plan tape limits a held seat stopping.desk.seated last.before last.begins last.mine in
         let items = b.others ++ newest seat in
         let run = subst (IsFreeRun plan) b.items_are last.fitting in
-        let at' = at_on images faults strict armed content synced written strict_run plan a (newest seat) b.others first (drop gone commands) b.apart run stopping.desk.at in
+        let at' = at_on port strict_run plan a (newest seat) b.others first (drop gone commands) b.apart run stopping.desk.at in
         let joined' = joined_over plan a (newest seat) b.others (drop gone commands) joinings b.apart run stopping.joined in
         let up' : is_down a items ≡ false = (untouched_by (cluster_of plan) (newest seat) a b.others b.apart).down ∙ stopping.up in
         let few' : length items ≤ most_items =
@@ -112,18 +112,18 @@ module _ {D : Type 0} (images : D → List ℕ → Type 0) (faults : D → ℕ) 
           known = stopping.desk.known;
           all = stopping.desk.all;
           seated = seated_on plan tape limits a held no_hold seat new stopping.desk.seated turns free;
-          at = subst (λ all. IsAt images faults strict armed content synced written strict_run plan a all slot (drop gone commands)) (sym (ap reverse last.seen_is ∙ reverse_last last.before (Down a) ∙ ap (λ all. Down a ∷ all) b.items_are))
-              (went_down images faults strict armed content synced written strict_run plan a items first (drop gone commands) joinings stopping.desk.known few' up' at' joined' slot stopping.settles stopping.strictly);
+          at = subst (λ all. IsAt port strict_run plan a all slot (drop gone commands)) (sym (ap reverse last.seen_is ∙ reverse_last last.before (Down a) ∙ ap (λ all. Down a ∷ all) b.items_are))
+              (went_down port strict_run plan a items first (drop gone commands) joinings stopping.desk.known few' up' at' joined' slot stopping.settles stopping.strictly);
         }
 
   -- ---- while messages are staged
 
   module _ (first slot : Slot D) (joinings : List Joining) (used : ℕ) (held later : Hold) (old new : SeatView Item)
-      (gathering : IsGathering images faults strict armed content synced written strict_run plan tape a old first slot commands gone joinings used held)
+      (gathering : IsGathering port strict_run plan tape a old first slot commands gone joinings used held)
       (turns : TurnsOf old new) (same : new.mine ≡ old.mine) (is : held_of new ≡ later) where
     -- the desk as it was before, and what may be taken
-    pub desk_moves : IsDesk images faults strict armed content synced written strict_run plan tape later a new first commands gone
-    desk_moves = desk_on plan tape limits a images faults strict armed content synced written strict_run commands gone first held later old new gathering.desk turns same is
+    pub desk_moves : IsDesk port strict_run plan tape later a new first commands gone
+    desk_moves = desk_on plan tape limits a port strict_run commands gone first held later old new gathering.desk turns same is
 
     pub up_moves : is_down a (newest new) ≡ false
     up_moves =
@@ -138,7 +138,7 @@ module _ {D : Type 0} (images : D → List ℕ → Type 0) (faults : D → ℕ) 
 
     -- with the same slot, where what is staged is within what the seat holds now
     pub gathering_moves : used ≤ later.weight → length joinings ≤ later.items
-        → IsGathering images faults strict armed content synced written strict_run plan tape a new first slot commands gone joinings used later
+        → IsGathering port strict_run plan tape a new first slot commands gone joinings used later
     gathering_moves within few =
         record {
           kind = gathering.kind;
@@ -159,8 +159,8 @@ module _ {D : Type 0} (images : D → List ℕ → Type 0) (faults : D → ℕ) 
     pub released_seat : IsSeated tape a hold old → IsSeated tape a no_hold new
     released_seat seated = seated_on plan tape limits a hold no_hold old new seated turns (held_none old new hold seated.held_is items_less weight_less)
 
-    pub released_desk : (slot : Slot D) → new.mine ≡ old.mine → IsDesk images faults strict armed content synced written strict_run plan tape hold a old slot commands gone
-        → IsDesk images faults strict armed content synced written strict_run plan tape no_hold a new slot commands gone
+    pub released_desk : (slot : Slot D) → new.mine ≡ old.mine → IsDesk port strict_run plan tape hold a old slot commands gone
+        → IsDesk port strict_run plan tape no_hold a new slot commands gone
     released_desk slot same desk =
-        desk_on plan tape limits a images faults strict armed content synced written strict_run commands gone slot hold no_hold old new desk turns same
+        desk_on plan tape limits a port strict_run commands gone slot hold no_hold old new desk turns same
         (held_none old new hold desk.seated.held_is items_less weight_less)

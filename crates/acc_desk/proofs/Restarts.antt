@@ -3,7 +3,7 @@ use Rattle.std.proofs.Common.{◌≡◌, ℕ, ◌+◌, ◌≤◌, Bool, true, fa
 use Rattle.std.specs.Prelude.{All}
 use Rattle.std.proofs.lemmas.List.{length-reverse}
 use Rattle.acc_stamp.specs.declared.actors.Actor.{Actor}
-use Rattle.acc_ports.specs.Strict.{Ranges}
+use Rattle.acc_ports.specs.declared.disk.Disk.{Ghosts}
 use Rattle.acc_message.specs.declared.entry.Event.TheVariants.{Restart as RestartEvent}
 use Rattle.acc_message.specs.declared.entry.Entry.{Entry}
 use Rattle.acc_message.specs.declared.entry.Emitted.{Emitted}
@@ -50,9 +50,9 @@ abbrev pub is_silent : Option Emitted → Type 0
 is_silent None = Unit {0}
 is_silent (Some emitted) = emitted ≡ silence
 
-pub reopened_silent : {D : Type 0} (images : D → List ℕ → Type 0) (faults : D → ℕ) (plan : Content) (s : Situation) (a : Actor) (given : Option Emitted) (slot : Slot D) → HasReopened images faults plan s a given slot → is_silent given
-reopened_silent images faults plan s a None slot h = tt
-reopened_silent images faults plan s a (Some emitted) slot h = h.0
+pub reopened_silent : {D : Type 0} (port : Ghosts D) (plan : Content) (s : Situation) (a : Actor) (given : Option Emitted) (slot : Slot D) → HasReopened port plan s a given slot → is_silent given
+reopened_silent port plan s a None slot h = tt
+reopened_silent port plan s a (Some emitted) slot h = h.0
 
 silent_by : (plan : Content) (items : List Item) (a : Actor) → (StepItem (record { actor = a; event = RestartEvent 0; emitted = silence; lost = false })) ≡ entering (cluster_of plan) items a (RestartEvent 0) false
 silent_by plan items a = by (is_node a) refl
@@ -81,14 +81,14 @@ pub restart_weighs : (a : Actor) (given : Option Emitted) → is_silent given �
 restart_weighs a None is = omega arith
 restart_weighs a (Some emitted) is = subst (λ (e : Emitted). weight_of (StepItem (record { actor = a; event = RestartEvent 0; emitted = e; lost = false })) ≤ 0) (sym is) (omega arith)
 
-module _ {D : Type 0} (images : D → List ℕ → Type 0) (faults : D → ℕ) (strict : D → Bool) (armed : D → Option ℕ) (content synced : D → List ℕ) (written : D → Ranges) (strict_run : Bool) (plan : Content) (a : Actor) (items : List Item) (slot new_slot : Slot D) (left : List Step) (command : Step)
-    (known : Contains (actors plan.topology) a) (few : length items ≤ most_items) (restart : is_restart command ≡ true) (at : IsAt images faults strict armed content synced written strict_run plan a items slot (command ∷ left)) where
+module _ {D : Type 0} (port : Ghosts D) (strict_run : Bool) (plan : Content) (a : Actor) (items : List Item) (slot new_slot : Slot D) (left : List Step) (command : Step)
+    (known : Contains (actors plan.topology) a) (few : length items ≤ most_items) (restart : is_restart command ≡ true) (at : IsAt port strict_run plan a items slot (command ∷ left)) where
   -- the actor stands behind its restart
   pub restarted : (given : Option Emitted)
-      → ((s : Situation) → IsSound (cluster_of plan) s → IsFew s → SlotStands images faults plan s a slot → HasReopened images faults plan s a given new_slot)
-      → ((s : Situation) (disks : Disks) → IsSound (cluster_of plan) s → SlotStands images faults plan s a slot → IsStrictSlot strict armed content synced written plan s disks a slot
-      → HasReopenedStrictly strict armed content synced written plan s disks a given new_slot)
-      → IsAt images faults strict armed content synced written strict_run plan a (item_of a (RestartEvent 0) given ∷ items) new_slot left
+      → ((s : Situation) → IsSound (cluster_of plan) s → IsFew s → SlotStands port plan s a slot → HasReopened port plan s a given new_slot)
+      → ((s : Situation) (disks : Disks) → IsSound (cluster_of plan) s → SlotStands port plan s a slot → IsStrictSlot port plan s disks a slot
+      → HasReopenedStrictly port plan s disks a given new_slot)
+      → IsAt port strict_run plan a (item_of a (RestartEvent 0) given ∷ items) new_slot left
   restarted None opened strictly =
       record {
         stopped = at.stopped;
@@ -104,54 +104,54 @@ module _ {D : Type 0} (images : D → List ℕ → Type 0) (faults : D → ℕ) 
       let e = ap (λ (item : Item). alone (item ∷ items) (without a at.stopped)) (restart_item plan items a emitted found.0) ∙ sym (alone_reopened (cluster_of plan) items at.stopped a) in
       record {
         stopped = without a at.stopped;
-        stands = subst (λ (t : Situation). SlotStands images faults plan t a new_slot) (sym e) found.1;
+        stands = subst (λ (t : Situation). SlotStands port plan t a new_slot) (sym e) found.1;
         serving = subst (IsServing plan) (sym e) (serving_restarted plan s at.serving a known false);
         stops = stops_without a at.stopped at.stops;
         gone = subst (λ (t : Situation). HasGone plan t a left) (sym e) (reopened_went plan s a false command left restart at.gone);
         stayed = λ on.
             let h = at.stayed on in
             let next = reopened (cluster_of plan) s a [] in
-            subst (λ (t : Situation). HasStayed strict armed content synced written plan t a new_slot) (sym e) (record {
-              unarmed = reopened_fresh strict armed content synced written plan next a new_slot (strictly s fresh_disks at.serving.sound at.stands h.unarmed);
+            subst (λ (t : Situation). HasStayed port plan t a new_slot) (sym e) (record {
+              unarmed = reopened_fresh port plan next a new_slot (strictly s fresh_disks at.serving.sound at.stands h.unarmed);
               none = ap (without a) h.none;
               up = h.up;
             });
       }
 
-module _ {D : Type 0} (images : D → List ℕ → Type 0) (faults : D → ℕ) (strict : D → Bool) (armed : D → Option ℕ) (content synced : D → List ℕ) (written : D → Ranges) (strict_run : Bool) (plan : Content) (tape : TapeName) (limits : tape.limits.items ≤ most_items) (a : Actor) (commands : List Step) (gone : ℕ) (slot new_slot : Slot D) (held : Hold) (seat : SeatView Item) (command : Step)
-    (desk : IsDesk images faults strict armed content synced written strict_run plan tape held a seat slot commands gone) (next : drop gone commands ≡ command ∷ drop (gone + 1) commands) (restart : is_restart command ≡ true) (given : Option Emitted) where
+module _ {D : Type 0} (port : Ghosts D) (strict_run : Bool) (plan : Content) (tape : TapeName) (limits : tape.limits.items ≤ most_items) (a : Actor) (commands : List Step) (gone : ℕ) (slot new_slot : Slot D) (held : Hold) (seat : SeatView Item) (command : Step)
+    (desk : IsDesk port strict_run plan tape held a seat slot commands gone) (next : drop gone commands ≡ command ∷ drop (gone + 1) commands) (restart : is_restart command ≡ true) (given : Option Emitted) where
   pub restart_fits_behind : is_silent given → FitsBehind actor_of_item (fits_plan plan) seat (item_of a (RestartEvent 0) given)
   restart_fits_behind silent before begins mine free =
       let item = item_of a (RestartEvent 0) given in
       subst (IsFreeRun plan) (sym (reverse_last before item)) (restart_item_fits plan (reverse before) a desk.known free given silent)
 
-  pub restart_taken : ((s : Situation) → IsSound (cluster_of plan) s → IsFew s → SlotStands images faults plan s a slot → HasReopened images faults plan s a given new_slot)
-      → ((s : Situation) (disks : Disks) → IsSound (cluster_of plan) s → SlotStands images faults plan s a slot → IsStrictSlot strict armed content synced written plan s disks a slot
-      → HasReopenedStrictly strict armed content synced written plan s disks a given new_slot)
+  pub restart_taken : ((s : Situation) → IsSound (cluster_of plan) s → IsFew s → SlotStands port plan s a slot → HasReopened port plan s a given new_slot)
+      → ((s : Situation) (disks : Disks) → IsSound (cluster_of plan) s → SlotStands port plan s a slot → IsStrictSlot port plan s disks a slot
+      → HasReopenedStrictly port plan s disks a given new_slot)
       → (new : SeatView Item) → Turns actor_of_item weight_of (fits_plan plan) seat new → held_of new ≡ no_hold → ComesLast actor_of_item (fits_plan plan) seat new.seen (item_of a (RestartEvent 0) given)
-      → IsDesk images faults strict armed content synced written strict_run plan tape no_hold a new new_slot commands (gone + 1)
+      → IsDesk port strict_run plan tape no_hold a new new_slot commands (gone + 1)
   restart_taken opened strictly new turns free last =
       let item = item_of a (RestartEvent 0) given in
       let b = others_since plan tape limits a held seat desk.seated last.before last.begins last.mine in
       let items = b.others ++ newest seat in
-      let at' = subst (IsAt images faults strict armed content synced written strict_run plan a items slot) next (at_on images faults strict armed content synced written strict_run plan a (newest seat) b.others slot (drop gone commands) b.apart (subst (IsFreeRun plan) b.items_are last.fitting) desk.at) in
+      let at' = subst (IsAt port strict_run plan a items slot) next (at_on port strict_run plan a (newest seat) b.others slot (drop gone commands) b.apart (subst (IsFreeRun plan) b.items_are last.fitting) desk.at) in
       let few' : length items ≤ most_items =
       (let n = ap length b.items_are in let r = length-reverse last.before in let l = ap length last.seen_is in let m = length-append last.before (item ∷ []) in let f = seen_few plan tape limits a seat new turns (turns.tape ∙ desk.seated.tape_is) in omega arith) in
       record {
         known = desk.known;
         all = desk.all;
         seated = seated_on plan tape limits a held no_hold seat new desk.seated turns free;
-        at = subst (λ all. IsAt images faults strict armed content synced written strict_run plan a all new_slot (drop (gone + 1) commands)) (sym (ap reverse last.seen_is ∙ reverse_last last.before item ∙ ap (λ all. item ∷ all) b.items_are))
-            (restarted images faults strict armed content synced written strict_run plan a items slot new_slot (drop (gone + 1) commands) command desk.known few' restart at' given opened strictly);
+        at = subst (λ all. IsAt port strict_run plan a all new_slot (drop (gone + 1) commands)) (sym (ap reverse last.seen_is ∙ reverse_last last.before item ∙ ap (λ all. item ∷ all) b.items_are))
+            (restarted port strict_run plan a items slot new_slot (drop (gone + 1) commands) command desk.known few' restart at' given opened strictly);
       }
 
   -- what it entered
-  module _ (opened : (s : Situation) → IsSound (cluster_of plan) s → IsFew s → SlotStands images faults plan s a slot → HasReopened images faults plan s a given new_slot) where
+  module _ (opened : (s : Situation) → IsSound (cluster_of plan) s → IsFew s → SlotStands port plan s a slot → HasReopened port plan s a given new_slot) where
     pub restart_silent : is_silent given
     restart_silent =
         let s = alone (newest seat) desk.at.stopped in
         let few : length (newest seat) ≤ most_items = (let n = length-reverse seat.seen in let f = desk.seated.few in omega arith) in
-        reopened_silent images faults plan s a given new_slot (opened s desk.at.serving.sound (few_alone (newest seat) desk.at.stopped few) desk.at.stands)
+        reopened_silent port plan s a given new_slot (opened s desk.at.serving.sound (few_alone (newest seat) desk.at.stopped few) desk.at.stands)
 
     pub restart_owned : actor_of_item (item_of a (RestartEvent 0) given) ≡ seat.actor
     restart_owned = own_item a (RestartEvent 0) given ∙ sym desk.seated.actor_is

@@ -2,7 +2,7 @@
 use Rattle.std.proofs.Common.{◌≡◌, ◌⊎◌, ℕ, ◌+◌, ◌<◌, ◌≤◌, Bool, false, List, length, drop, Option, inl, inr, refl, ◌∙◌, ap, subst, arith}
 use Rattle.std.specs.Prelude.{sum_by}
 use Rattle.acc_stamp.specs.declared.actors.Actor.{Actor}
-use Rattle.acc_ports.specs.Strict.{Ranges}
+use Rattle.acc_ports.specs.declared.disk.Disk.{Ghosts}
 use Rattle.acc_message.specs.declared.entry.Event.{Event}
 use Rattle.acc_message.specs.declared.error.Which.{Which}
 use Rattle.acc_message.specs.declared.error.Which.TheVariants.{Document, Items, Bytes}
@@ -44,15 +44,15 @@ module _ (plan : Content) (tape : TapeName) (a : Actor) (left later : List Step)
   lacks_room weight is (inl many) = inl many
   lacks_room weight is (inr heavy) = inr (event, act, later, may, subst (λ w. tape.limits.weight < sum_by weight_of seat.seen + seat.out_weight + w) is heavy)
 
-module _ {D : Type 0} (images : D → List ℕ → Type 0) (faults : D → ℕ) (strict : D → Bool) (armed : D → Option ℕ) (content synced : D → List ℕ) (written : D → Ranges) (strict_run : Bool) (plan : Content) (tape : TapeName) (limits : tape.limits.items ≤ most_items) (a : Actor) (commands : List Step) (gone : ℕ) (slot : Slot D)
-    (event : Event) (act : Act) (later : ℕ) (held : Hold) (seat : SeatView Item) (desk : IsDesk images faults strict armed content synced written strict_run plan tape held a seat slot commands gone) (may : MayStep plan (newest seat) a event act (drop gone commands) (drop later commands)) where
+module _ {D : Type 0} (port : Ghosts D) (strict_run : Bool) (plan : Content) (tape : TapeName) (limits : tape.limits.items ≤ most_items) (a : Actor) (commands : List Step) (gone : ℕ) (slot : Slot D)
+    (event : Event) (act : Act) (later : ℕ) (held : Hold) (seat : SeatView Item) (desk : IsDesk port strict_run plan tape held a seat slot commands gone) (may : MayStep plan (newest seat) a event act (drop gone commands) (drop later commands)) where
   -- an actor that was asked what it would send
-  pub asked_no_room : (weight : ℕ) → ((s : Situation) → IsAsked images faults plan s a event act slot → weight ≡ weight_of (entry_of (cluster_of plan) s a event false))
+  pub asked_no_room : (weight : ℕ) → ((s : Situation) → IsAsked port plan s a event act slot → weight ≡ weight_of (entry_of (cluster_of plan) s a event false))
       → (which : Which) (number : ℕ) → Refuses tape.limits (length seat.seen + seat.out_count) (sum_by weight_of seat.seen + seat.out_weight) 1 weight (Full which number)
       → HasNoRoom plan tape a (drop gone commands) seat
   asked_no_room weight is which number refuses =
       let s : Situation = alone (newest seat) desk.at.stopped in
       let few = newest_few plan tape limits a held seat desk.seated in
-      let asked_now = asked images faults strict armed content synced written strict_run plan a (newest seat) slot (drop gone commands) (drop later commands) event act desk.known few desk.at may in
+      let asked_now = asked port strict_run plan a (newest seat) slot (drop gone commands) (drop later commands) event act desk.known few desk.at may in
       lacks_room plan tape a (drop gone commands) (drop later commands) seat event act may weight (is s asked_now ∙ ap weight_of (entry_is (cluster_of plan) s refl a event false))
       (passed tape.limits (length seat.seen + seat.out_count) (sum_by weight_of seat.seen + seat.out_weight) weight which number refuses)

@@ -4,7 +4,7 @@ use Rattle.std.specs.Prelude.{All, sum_by}
 use Rattle.std.proofs.lemmas.List.{reverse-append, length-reverse}
 use mathlib.Core.List.{IsPrefix}
 use Rattle.acc_stamp.specs.declared.actors.Actor.{Actor}
-use Rattle.acc_ports.specs.Strict.{Ranges}
+use Rattle.acc_ports.specs.declared.disk.Disk.{Ghosts}
 use Rattle.acc_message.specs.declared.entry.Event.{Event}
 use Rattle.acc_message.specs.declared.entry.Emitted.{Emitted}
 use Rattle.acc_message.specs.declared.item.Item.{Item}
@@ -107,9 +107,9 @@ module _ (plan : Content) (tape : TapeName) (limits : tape.limits.items ≤ most
   pub newest_few : (held : Hold) (seat : SeatView Item) → IsSeated tape a held seat → length (newest seat) ≤ most_items
   newest_few held seat seated = let n = length-reverse seat.seen in let f = seated.few in omega arith
 
-  module _ {D : Type 0} (images : D → List ℕ → Type 0) (faults : D → ℕ) (strict : D → Bool) (armed : D → Option ℕ) (content synced : D → List ℕ) (written : D → Ranges) (strict_run : Bool) (commands : List Step) (gone : ℕ) (slot : Slot D) where
+  module _ {D : Type 0} (port : Ghosts D) (strict_run : Bool) (commands : List Step) (gone : ℕ) (slot : Slot D) where
     abbrev Desk : Hold → SeatView Item → Type 0
-    Desk held seat = IsDesk images faults strict armed content synced written strict_run plan tape held a seat slot commands gone
+    Desk held seat = IsDesk port strict_run plan tape held a seat slot commands gone
 
     pub desk_on : (held later : Hold) (old new : SeatView Item) → Desk held old → TurnsOf old new → new.mine ≡ old.mine → held_of new ≡ later → Desk later new
     desk_on held later old new desk turns same is =
@@ -118,8 +118,8 @@ module _ (plan : Content) (tape : TapeName) (limits : tape.limits.items ≤ most
           known = desk.known;
           all = desk.all;
           seated = seated_on held later old new desk.seated turns is;
-          at = subst (λ items. IsAt images faults strict armed content synced written strict_run plan a items slot (drop gone commands)) (sym b.items_are)
-              (at_on images faults strict armed content synced written strict_run plan a (newest old) b.others slot (drop gone commands) b.apart (subst (IsFreeRun plan) b.items_are turns.fitting) desk.at);
+          at = subst (λ items. IsAt port strict_run plan a items slot (drop gone commands)) (sym b.items_are)
+              (at_on port strict_run plan a (newest old) b.others slot (drop gone commands) b.apart (subst (IsFreeRun plan) b.items_are turns.fitting) desk.at);
         }
 
     module _ (event : Event) (act : Act) (later : ℕ) where
@@ -140,53 +140,53 @@ module _ (plan : Content) (tape : TapeName) (limits : tape.limits.items ≤ most
         abbrev seen_now : Situation
         seen_now = alone (newest seat) desk.at.stopped
 
-        asked_now : IsAsked images faults plan seen_now a event act slot
-        asked_now = asked images faults strict armed content synced written strict_run plan a (newest seat) slot (drop gone commands) (drop later commands) event act desk.known few_now desk.at may
+        asked_now : IsAsked port plan seen_now a event act slot
+        asked_now = asked port strict_run plan a (newest seat) slot (drop gone commands) (drop later commands) event act desk.known few_now desk.at may
 
-        pub asks : MayAsk images faults plan a event act slot
+        pub asks : MayAsk port plan a event act slot
         asks = (seen_now, asked_now)
 
-        module _ (given : Option Emitted) (new_slot : Slot D) (tried : (s : Situation) → IsAsked images faults plan s a event act slot → HasTried images faults plan s a event new_slot given) where
-          now_tried : HasTried images faults plan seen_now a event new_slot given
+        module _ (given : Option Emitted) (new_slot : Slot D) (tried : (s : Situation) → IsAsked port plan s a event act slot → HasTried port plan s a event new_slot given) where
+          now_tried : HasTried port plan seen_now a event new_slot given
           now_tried = tried seen_now asked_now
 
           pub own : actor_of_item (item_of a event given) ≡ seat.actor
           own = own_item a event given ∙ sym desk.seated.actor_is
 
           pub short : All IsShortMessage (sent_in (item_of a event given))
-          short = item_short images faults strict armed content synced written strict_run plan a (newest seat) slot (drop gone commands) (drop later commands) event act desk.known few_now desk.at may given now_tried.emitted
+          short = item_short port strict_run plan a (newest seat) slot (drop gone commands) (drop later commands) event act desk.known few_now desk.at may given now_tried.emitted
 
-          pub weighs : (weight : ℕ) → ((s : Situation) → IsAsked images faults plan s a event act slot → weight ≡ weight_of (entry_of (cluster_of plan) s a event false)) → weight_of (item_of a event given) ≤ weight
-          weighs weight is = item_weighs images faults strict armed content synced written strict_run plan a (newest seat) slot (drop gone commands) (drop later commands) event act desk.known few_now desk.at may given now_tried.emitted weight (is seen_now asked_now)
+          pub weighs : (weight : ℕ) → ((s : Situation) → IsAsked port plan s a event act slot → weight ≡ weight_of (entry_of (cluster_of plan) s a event false)) → weight_of (item_of a event given) ≤ weight
+          weighs weight is = item_weighs port strict_run plan a (newest seat) slot (drop gone commands) (drop later commands) event act desk.known few_now desk.at may given now_tried.emitted weight (is seen_now asked_now)
 
           pub fits : FitsBehind actor_of_item (fits_plan plan) seat (item_of a event given)
           fits before begins mine free =
               let b = others_since held seat desk.seated before begins mine in
               let item = item_of a event given in
               subst (IsFreeRun plan) (sym (reverse_last before item ∙ ap (λ items. item ∷ items) b.items_are))
-              (item_behind images faults strict armed content synced written strict_run plan a (newest seat) slot (drop gone commands) (drop later commands) event act desk.known few_now desk.at may given now_tried.emitted b.others b.apart (subst (IsFreeRun plan) b.items_are free))
+              (item_behind port strict_run plan a (newest seat) slot (drop gone commands) (drop later commands) event act desk.known few_now desk.at may given now_tried.emitted b.others b.apart (subst (IsFreeRun plan) b.items_are free))
 
           abbrev Strictly : Type 0
           Strictly =
-              (s : Situation) (disks : Disks) → IsAsked images faults plan s a event act slot → IsStrictSlot strict armed content synced written plan s disks a slot
-              → HasTriedStrictly strict armed content synced written plan s disks a event new_slot given
+              (s : Situation) (disks : Disks) → IsAsked port plan s a event act slot → IsStrictSlot port plan s disks a slot
+              → HasTriedStrictly port plan s disks a event new_slot given
 
-          pub taken : Strictly → (new : SeatView Item) → TurnsOf seat new → held_of new ≡ no_hold → ComesLast actor_of_item (fits_plan plan) seat new.seen (item_of a event given) → IsDesk images faults strict armed content synced written strict_run plan tape no_hold a new new_slot commands later
+          pub taken : Strictly → (new : SeatView Item) → TurnsOf seat new → held_of new ≡ no_hold → ComesLast actor_of_item (fits_plan plan) seat new.seen (item_of a event given) → IsDesk port strict_run plan tape no_hold a new new_slot commands later
           taken strictly new turns free last =
               let item = item_of a event given in
               let b = others_since held seat desk.seated last.before last.begins last.mine in
               let run : IsFreeRun plan (b.others ++ newest seat) = subst (IsFreeRun plan) b.items_are last.fitting in
               let items = b.others ++ newest seat in
-              let at' = at_on images faults strict armed content synced written strict_run plan a (newest seat) b.others slot (drop gone commands) b.apart run desk.at in
+              let at' = at_on port strict_run plan a (newest seat) b.others slot (drop gone commands) b.apart run desk.at in
               let may' = step_on plan a (newest seat) b.others event act (drop gone commands) (drop later commands) b.apart run may in
               let few' : length items ≤ most_items =
               (let n = ap length b.items_are in let r = length-reverse last.before in let l = ap length last.seen_is in let m = length-append last.before (item ∷ []) in let f = seen_few seat new turns (turns.tape ∙ desk.seated.tape_is) in omega arith) in
-              let here' = here images faults strict armed content synced written strict_run plan a items slot (drop gone commands) (drop later commands) event act desk.known few' at' may' in
-              let asked' = asked images faults strict armed content synced written strict_run plan a items slot (drop gone commands) (drop later commands) event act desk.known few' at' may' in
+              let here' = here port strict_run plan a items slot (drop gone commands) (drop later commands) event act desk.known few' at' may' in
+              let asked' = asked port strict_run plan a items slot (drop gone commands) (drop later commands) event act desk.known few' at' may' in
               record {
                 known = desk.known;
                 all = desk.all;
                 seated = seated_on held no_hold seat new desk.seated turns free;
-                at = subst (λ all. IsAt images faults strict armed content synced written strict_run plan a all new_slot (drop later commands)) (sym (ap reverse last.seen_is ∙ reverse_last last.before item ∙ ap (λ all. item ∷ all) b.items_are))
-                    (stepped images faults strict armed content synced written strict_run plan a items slot (drop gone commands) (drop later commands) event act desk.known few' at' may' given new_slot (tried here' asked') (λ disks. strictly here' disks asked'));
+                at = subst (λ all. IsAt port strict_run plan a all new_slot (drop later commands)) (sym (ap reverse last.seen_is ∙ reverse_last last.before item ∙ ap (λ all. item ∷ all) b.items_are))
+                    (stepped port strict_run plan a items slot (drop gone commands) (drop later commands) event act desk.known few' at' may' given new_slot (tried here' asked') (λ disks. strictly here' disks asked'));
               }

@@ -4,7 +4,7 @@ use Rattle.std.specs.Prelude.{All, is_none}
 use Rattle.std.proofs.Math.Bool.{and-false}
 use Rattle.std.proofs.lemmas.Bool.{true≢false}
 use Rattle.acc_stamp.specs.declared.actors.Actor.{Actor}
-use Rattle.acc_ports.specs.Strict.{Ranges}
+use Rattle.acc_ports.specs.declared.disk.Disk.{Ghosts}
 use Rattle.acc_message.specs.declared.entry.Event.{Event}
 use Rattle.acc_message.specs.declared.entry.Emitted.{Emitted}
 use Rattle.acc_message.specs.declared.item.Item.{Item}
@@ -69,8 +69,8 @@ stops_put a events stopped stops b apart = stopped_other a b events stopped apar
 pub stops_without : (a : Actor) (stopped : List Stopped) → AreStopsOf a stopped → AreStopsOf a (without a stopped)
 stops_without a stopped stops b apart = without_other b a apart stopped ∙ stops b apart
 
-module _ {D : Type 0} (images : D → List ℕ → Type 0) (faults : D → ℕ) (strict : D → Bool) (armed : D → Option ℕ) (content synced : D → List ℕ) (written : D → Ranges) (strict_run : Bool) (plan : Content) (a : Actor) (items : List Item) (slot : Slot D) (left later : List Step) (event : Event) (act : Act)
-    (known : Contains (actors plan.topology) a) (few : length items ≤ most_items) (at : IsAt images faults strict armed content synced written strict_run plan a items slot left) (may : MayStep plan items a event act left later) where
+module _ {D : Type 0} (port : Ghosts D) (strict_run : Bool) (plan : Content) (a : Actor) (items : List Item) (slot : Slot D) (left later : List Step) (event : Event) (act : Act)
+    (known : Contains (actors plan.topology) a) (few : length items ≤ most_items) (at : IsAt port strict_run plan a items slot left) (may : MayStep plan items a event act left later) where
   abbrev pub here : Situation
   here = alone items at.stopped
 
@@ -82,7 +82,7 @@ module _ {D : Type 0} (images : D → List ℕ → Type 0) (faults : D → ℕ) 
   up_here : is_down a (whole here) ≡ false
   up_here = ap (is_down a) (alone_whole items at.stopped) ∙ may.up
 
-  pub asked : IsAsked images faults plan here a event act slot
+  pub asked : IsAsked port plan here a event act slot
   asked = record { sound = at.serving.sound; few = few_alone items at.stopped few; stands = at.stands; up = up_here; may = may_here }
 
   -- what it emits is what its entry has
@@ -119,8 +119,8 @@ module _ {D : Type 0} (images : D → List ℕ → Type 0) (faults : D → ℕ) 
   went fails (inl message) gone = subst (HasGone plan (tried_if fails (cluster_of plan) here a event) a) (sym message.1) (message_went plan here a event fails left message.0 (λ _. may.up) gone)
   went fails (inr command) gone = command_went plan here a event fails command.0 later command.2 command.3 (λ _. may.up) (subst (HasGone plan here a) command.1 gone)
 
-  module _ (given : Option Emitted) (new_slot : Slot D) (tried : HasTried images faults plan here a event new_slot given)
-      (strictly : (disks : Disks) → IsStrictSlot strict armed content synced written plan here disks a slot → HasTriedStrictly strict armed content synced written plan here disks a event new_slot given) where
+  module _ (given : Option Emitted) (new_slot : Slot D) (tried : HasTried port plan here a event new_slot given)
+      (strictly : (disks : Disks) → IsStrictSlot port plan here disks a slot → HasTriedStrictly port plan here disks a event new_slot given) where
     journalled : is_none given ≡ true → is_journalled a event ≡ true
     journalled = by given tried.emitted
       where
@@ -132,15 +132,15 @@ module _ {D : Type 0} (images : D → List ℕ → Type 0) (faults : D → ℕ) 
     serving = serving_tried plan here at.serving a known event act (is_none given) may_here may.plain may.kept up_here may.untaken journalled
 
     abbrev Stays : Situation → Type 0
-    Stays s = HasStayed strict armed content synced written plan s a new_slot
+    Stays s = HasStayed port plan s a new_slot
 
     -- its disk didn't fail
     stays_by : (given : Option Emitted) → is_none given ≡ false
-        → IsStrictSlot strict armed content synced written plan (tried_if (is_none given) (cluster_of plan) here a event) (after_step (is_journalled a event) a fresh_disks) a new_slot
-        → HasStayed strict armed content synced written plan here a slot → Stays (tried_if (is_none given) (cluster_of plan) here a event)
+        → IsStrictSlot port plan (tried_if (is_none given) (cluster_of plan) here a event) (after_step (is_journalled a event) a fresh_disks) a new_slot
+        → HasStayed port plan here a slot → Stays (tried_if (is_none given) (cluster_of plan) here a event)
     stays_by None went_on there h = absurd (true≢false went_on)
     stays_by (Some emitted) went_on there h = record {
-      unarmed = stepped_fresh strict armed content synced written plan (tried_if false (cluster_of plan) here a event) a new_slot (is_journalled a event) there;
+      unarmed = stepped_fresh port plan (tried_if false (cluster_of plan) here a event) a new_slot (is_journalled a event) there;
       none = h.none;
       up = h.up;
     }
@@ -151,17 +151,17 @@ module _ {D : Type 0} (images : D → List ℕ → Type 0) (faults : D → ℕ) 
         let t = strictly fresh_disks h.unarmed in
         stays_by given (t.fails ∙ and-false (is_journalled a event)) t.strictly h
 
-    stepped_by : (given : Option Emitted) → IsEmitted (cluster_of plan) here a event given → SlotStands images faults plan (tried_if (is_none given) (cluster_of plan) here a event) a new_slot
+    stepped_by : (given : Option Emitted) → IsEmitted (cluster_of plan) here a event given → SlotStands port plan (tried_if (is_none given) (cluster_of plan) here a event) a new_slot
         → IsServing plan (tried_if (is_none given) (cluster_of plan) here a event) → HasGone plan (tried_if (is_none given) (cluster_of plan) here a event) a later
         → (strict_run ≡ true → Stays (tried_if (is_none given) (cluster_of plan) here a event))
-        → IsAt images faults strict armed content synced written strict_run plan a (item_of a event given ∷ items) new_slot later
+        → IsAt port strict_run plan a (item_of a event given ∷ items) new_slot later
     stepped_by None is stands serves gone stayed =
         record { stopped = stops_of a (event ∷ []) ++ without a at.stopped; stands = stands; serving = serves; stops = stops_put a (event ∷ []) at.stopped at.stops; gone = gone; stayed = stayed }
     stepped_by (Some emitted) is stands serves gone stayed =
         let e : alone (item_of a event (Some emitted) ∷ items) at.stopped ≡ tried_if false (cluster_of plan) here a event = ap (λ (item : Item). alone (item ∷ items) at.stopped) (emitted_is emitted is) in
         record {
           stopped = at.stopped;
-          stands = subst (λ (s : Situation). SlotStands images faults plan s a new_slot) (sym e) stands;
+          stands = subst (λ (s : Situation). SlotStands port plan s a new_slot) (sym e) stands;
           serving = subst (IsServing plan) (sym e) serves;
           stops = at.stops;
           gone = subst (λ (s : Situation). HasGone plan s a later) (sym e) gone;
@@ -169,5 +169,5 @@ module _ {D : Type 0} (images : D → List ℕ → Type 0) (faults : D → ℕ) 
         }
 
     -- the actor stands behind its item
-    pub stepped : IsAt images faults strict armed content synced written strict_run plan a (item_of a event given ∷ items) new_slot later
+    pub stepped : IsAt port strict_run plan a (item_of a event given ∷ items) new_slot later
     stepped = stepped_by given tried.emitted tried.stands serving (went (is_none given) may.turn at.gone) stays

@@ -2,7 +2,7 @@
 use Rattle.std.specs.Prelude.{◌≡◌, ◌≢◌, ◌⊎◌, ℕ, ◌≤◌, ◌==◌, Bool, true, false, List, [], ◌∷◌, length, reverse, sum_by, drop, All, Option, None, Some, Contains}
 use Rattle.acc_stamp.specs.declared.stamps.TxnId.{TxnId}
 use Rattle.acc_stamp.specs.declared.actors.Actor.{Actor}
-use Rattle.acc_ports.specs.Strict.{Ranges}
+use Rattle.acc_ports.specs.declared.disk.Disk.{Ghosts}
 use Rattle.acc_message.specs.declared.item.Item.{Item}
 use Rattle.acc_message.specs.declared.item.Item.TheVariants.{Step as StepItem, Down}
 use Rattle.acc_message.specs.declared.entry.Event.{Event}
@@ -61,31 +61,31 @@ pub record IsSeated (tape : TapeName) (a : Actor) (held : Hold) (seat : SeatView
 -- ---- the actor
 
 -- Its disk is strict and nothing is armed on it; so the actor never went down, and no step of it was stopped.
-pub record HasStayed {D : Type 0} (strict : D → Bool) (armed : D → Option ℕ) (content synced : D → List ℕ) (written : D → Ranges) (plan : Content) (s : Situation) (a : Actor) (slot : Slot D) : Type 0 where
-  pub unarmed : IsStrictSlot strict armed content synced written plan s fresh_disks a slot
+pub record HasStayed {D : Type 0} (port : Ghosts D) (plan : Content) (s : Situation) (a : Actor) (slot : Slot D) : Type 0 where
+  pub unarmed : IsStrictSlot port plan s fresh_disks a slot
   pub none : s.stopped ≡ []
   pub up : downs_in a s.own ≡ 0
 
 -- The actor stands in its slot for what the items have of it, which are a free run. Of its commands these are left, and the steps that
 -- its disk stopped are its own. Where all disks of the run are strict, it stayed up.
-pub record IsAt {D : Type 0} (images : D → List ℕ → Type 0) (faults : D → ℕ) (strict : D → Bool) (armed : D → Option ℕ) (content synced : D → List ℕ) (written : D → Ranges) (strict_run : Bool) (plan : Content) (a : Actor) (items : List Item) (slot : Slot D) (left : List Step) : Type 0 where
+pub record IsAt {D : Type 0} (port : Ghosts D) (strict_run : Bool) (plan : Content) (a : Actor) (items : List Item) (slot : Slot D) (left : List Step) : Type 0 where
   pub stopped : List Stopped
-  pub stands : SlotStands images faults plan (alone items stopped) a slot
+  pub stands : SlotStands port plan (alone items stopped) a slot
   pub serving : IsServing plan (alone items stopped)
   pub stops : AreStopsOf a stopped
   pub gone : HasGone plan (alone items stopped) a left
-  pub stayed : strict_run ≡ true → HasStayed strict armed content synced written plan (alone items stopped) a slot
+  pub stayed : strict_run ≡ true → HasStayed port plan (alone items stopped) a slot
 
 -- The desk of an actor of the plan that holds so much reserved: so many of its commands went by.
-pub record IsDesk {D : Type 0} (images : D → List ℕ → Type 0) (faults : D → ℕ) (strict : D → Bool) (armed : D → Option ℕ) (content synced : D → List ℕ) (written : D → Ranges) (strict_run : Bool) (plan : Content) (tape : TapeName) (held : Hold) (a : Actor) (seat : SeatView Item) (slot : Slot D) (commands : List Step) (gone : ℕ) : Type 0 where
+pub record IsDesk {D : Type 0} (port : Ghosts D) (strict_run : Bool) (plan : Content) (tape : TapeName) (held : Hold) (a : Actor) (seat : SeatView Item) (slot : Slot D) (commands : List Step) (gone : ℕ) : Type 0 where
   pub known : Contains (actors plan.topology) a
   pub all : commands ≡ commands_of plan a
   pub seated : IsSeated tape a held seat
-  pub at : IsAt images faults strict armed content synced written strict_run plan a (newest seat) slot (drop gone commands)
+  pub at : IsAt port strict_run plan a (newest seat) slot (drop gone commands)
 
 -- The seat belongs to the tape, and holds nothing that is reserved; and its actor stands for what it has seen.
-abbrev pub IsSound : {D : Type 0} → (D → List ℕ → Type 0) → (D → ℕ) → (D → Bool) → (D → Option ℕ) → (D → List ℕ) → (D → List ℕ) → (D → Ranges) → Bool → Content → TapeName → Actor → SeatView Item → Slot D → List Step → ℕ → Type 0
-IsSound images faults strict armed content synced written strict_run plan tape a seat slot commands gone = IsDesk images faults strict armed content synced written strict_run plan tape no_hold a seat slot commands gone
+abbrev pub IsSound : {D : Type 0} → Ghosts D → Bool → Content → TapeName → Actor → SeatView Item → Slot D → List Step → ℕ → Type 0
+IsSound port strict_run plan tape a seat slot commands gone = IsDesk port strict_run plan tape no_hold a seat slot commands gone
 
 -- ---- what may be taken
 
@@ -114,15 +114,15 @@ abbrev pub BeginsAs : ℕ → TxnId → Item → Type 0
 BeginsAs txn id item = (begins_txn txn item ≡ true) × (id_begun txn item ≡ Some id)
 
 -- It opened its disk again and kept nothing, or its disk failed.
-abbrev pub HasReopened : {D : Type 0} → (D → List ℕ → Type 0) → (D → ℕ) → Content → Situation → Actor → Option Emitted → Slot D → Type 0
-HasReopened images faults plan s a None slot = SlotStands images faults plan (with_item (Down a) s) a slot
-HasReopened images faults plan s a (Some emitted) slot = (emitted ≡ silence) × SlotStands images faults plan (reopened (cluster_of plan) s a []) a slot
+abbrev pub HasReopened : {D : Type 0} → Ghosts D → Content → Situation → Actor → Option Emitted → Slot D → Type 0
+HasReopened port plan s a None slot = SlotStands port plan (with_item (Down a) s) a slot
+HasReopened port plan s a (Some emitted) slot = (emitted ≡ silence) × SlotStands port plan (reopened (cluster_of plan) s a []) a slot
 
 -- Over a strict disk, where no step was stopped, it opened.
-abbrev pub HasReopenedStrictly : {D : Type 0} → (D → Bool) → (D → Option ℕ) → (D → List ℕ) → (D → List ℕ) → (D → Ranges) → Content → Situation → Disks → Actor → Option Emitted → Slot D → Type 0
-HasReopenedStrictly strict armed content synced written plan s disks a None slot = ⊥
-HasReopenedStrictly strict armed content synced written plan s disks a (Some emitted) slot =
-    IsStrictSlot strict armed content synced written plan (reopened (cluster_of plan) s a []) (after_restart a disks) a slot
+abbrev pub HasReopenedStrictly : {D : Type 0} → Ghosts D → Content → Situation → Disks → Actor → Option Emitted → Slot D → Type 0
+HasReopenedStrictly port plan s disks a None slot = ⊥
+HasReopenedStrictly port plan s disks a (Some emitted) slot =
+    IsStrictSlot port plan (reopened (cluster_of plan) s a []) (after_restart a disks) a slot
 
 -- the item that is entered: what the actor did, or that it went down
 abbrev pub item_of : Actor → Event → Option Emitted → Item
@@ -131,8 +131,8 @@ item_of a event (Some emitted) = StepItem (record { actor = a; event = event; em
 
 -- ---- desks together
 
-abbrev pub AreSound : {D J : Type 0} → (D → List ℕ → Type 0) → (D → ℕ) → (D → Bool) → (D → Option ℕ) → (D → List ℕ) → (D → List ℕ) → (D → Ranges) → Bool → Content → TapeName → List (Desk D J) → Type 0
-AreSound {D} {J} images faults strict armed content synced written strict_run plan tape desks = All (λ (desk : Desk D J). IsSound images faults strict armed content synced written strict_run plan tape desk.actor desk.seat desk.slot desk.commands desk.gone) desks
+abbrev pub AreSound : {D J : Type 0} → Ghosts D → Bool → Content → TapeName → List (Desk D J) → Type 0
+AreSound {D} {J} port strict_run plan tape desks = All (λ (desk : Desk D J). IsSound port strict_run plan tape desk.actor desk.seat desk.slot desk.commands desk.gone) desks
 
 abbrev pub AreSeated : {D J : Type 0} → TapeName → List (Desk D J) → Type 0
 AreSeated {D} {J} tape desks = All (λ (desk : Desk D J). IsSeated tape desk.actor no_hold desk.seat) desks

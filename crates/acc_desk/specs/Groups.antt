@@ -2,7 +2,7 @@
 use Rattle.std.specs.Prelude.{◌≡◌, ◌≢◌, ℕ, ◌<◌, ◌≤◌, Bool, true, false, List, [], ◌∷◌, length, map, drop, sum, Option, None, Some, Contains}
 use Rattle.std.specs.List.{AllByRecursion}
 use Rattle.acc_stamp.specs.declared.actors.Actor.{Actor}
-use Rattle.acc_ports.specs.Strict.{Ranges}
+use Rattle.acc_ports.specs.declared.disk.Disk.{Ghosts}
 use Rattle.acc_message.specs.declared.item.Item.{Item}
 use Rattle.acc_message.specs.declared.entry.Event.{Event}
 use Rattle.acc_message.specs.declared.entry.Event.TheVariants.{Message as MessageEvent}
@@ -44,10 +44,10 @@ abbrev pub events_of : List Joining → List Event
 events_of joinings = map (λ (j : Joining). j.event) joinings
 
 -- The actor in the slot, before it took any of these messages: it is up, and may take each of them.
-pub record IsReady {D : Type 0} (images : D → List ℕ → Type 0) (faults : D → ℕ) (plan : Content) (s : Situation) (a : Actor) (joinings : List Joining) (slot : Slot D) : Type 0 where
+pub record IsReady {D : Type 0} (port : Ghosts D) (plan : Content) (s : Situation) (a : Actor) (joinings : List Joining) (slot : Slot D) : Type 0 where
   pub sound : IsSoundPast (cluster_of plan) s
   pub few : IsFewBehind s (events_of joinings)
-  pub stands : SlotStands images faults plan s a slot
+  pub stands : SlotStands port plan s a slot
   pub up : is_down a (whole s) ≡ false
   pub each : AllByRecursion (λ (j : Joining). MayTake (cluster_of plan) (whole s) a (event_in s j.event) j.act × (is_journalled a j.event ≡ true)) joinings
 
@@ -59,20 +59,20 @@ AreWeighed cluster s a (event ∷ events) (weight ∷ weights) =
     (weight ≡ weight_of (entry_of cluster s a event false)) × AreWeighed cluster (entered cluster s a event false) a events weights
 
 -- The second slot is the first one with these messages staged, in whatever situation they may be taken.
-pub record HasStaged {D : Type 0} (images : D → List ℕ → Type 0) (faults : D → ℕ) (strict : D → Bool) (armed : D → Option ℕ) (content synced : D → List ℕ) (written : D → Ranges) (plan : Content) (a : Actor) (first slot : Slot D) (joinings : List Joining) (weights : List ℕ) : Type 0 where
-  pub stages : (s : Situation) → IsReady images faults plan s a joinings first → SlotStages images faults plan s a (events_of joinings) slot
-  pub weighed : (s : Situation) → IsReady images faults plan s a joinings first → AreWeighed (cluster_of plan) s a (events_of joinings) weights
-  pub strictly : (s : Situation) (disks : Disks) → IsStrictSlot strict armed content synced written plan s disks a first → IsStrictSlot strict armed content synced written plan s disks a slot
+pub record HasStaged {D : Type 0} (port : Ghosts D) (plan : Content) (a : Actor) (first slot : Slot D) (joinings : List Joining) (weights : List ℕ) : Type 0 where
+  pub stages : (s : Situation) → IsReady port plan s a joinings first → SlotStages port plan s a (events_of joinings) slot
+  pub weighed : (s : Situation) → IsReady port plan s a joinings first → AreWeighed (cluster_of plan) s a (events_of joinings) weights
+  pub strictly : (s : Situation) (disks : Disks) → IsStrictSlot port plan s disks a first → IsStrictSlot port plan s disks a slot
 
 -- It settled what was staged, in whatever situation they may be taken.
-abbrev pub Settles : {D : Type 0} → (D → List ℕ → Type 0) → (D → ℕ) → Content → Actor → Slot D → List Joining → Slot D → Option (List Unsent) → Type 0
-Settles images faults plan a first joinings slot given =
-    (s : Situation) → IsReady images faults plan s a joinings first → HasSettled images faults plan s a (events_of joinings) slot given
+abbrev pub Settles : {D : Type 0} → Ghosts D → Content → Actor → Slot D → List Joining → Slot D → Option (List Unsent) → Type 0
+Settles port plan a first joinings slot given =
+    (s : Situation) → IsReady port plan s a joinings first → HasSettled port plan s a (events_of joinings) slot given
 
-abbrev pub SettlesStrictly : {D : Type 0} → (D → List ℕ → Type 0) → (D → ℕ) → (D → Bool) → (D → Option ℕ) → (D → List ℕ) → (D → List ℕ) → (D → Ranges) → Content → Actor → Slot D → List Joining → Slot D → Option (List Unsent) → Type 0
-SettlesStrictly images faults strict armed content synced written plan a first joinings slot given =
-    (s : Situation) (disks : Disks) → IsReady images faults plan s a joinings first → IsStrictSlot strict armed content synced written plan s disks a first
-    → HasSettledStrictly strict armed content synced written plan s disks a (events_of joinings) slot given
+abbrev pub SettlesStrictly : {D : Type 0} → Ghosts D → Content → Actor → Slot D → List Joining → Slot D → Option (List Unsent) → Type 0
+SettlesStrictly port plan a first joinings slot given =
+    (s : Situation) (disks : Disks) → IsReady port plan s a joinings first → IsStrictSlot port plan s disks a first
+    → HasSettledStrictly port plan s disks a (events_of joinings) slot given
 
 -- behind the items the store may take the message, whatever commands are left
 pub record CanJoin (plan : Content) (items : List Item) (a : Actor) (left : List Step) (j : Joining) : Type 0 where
@@ -88,21 +88,21 @@ pub record CanAllJoin (plan : Content) (items : List Item) (a : Actor) (left : L
 
 -- The desk of an actor that stood in the first slot, with these messages staged. What is entered for them weighs so much, which is within what
 -- the desk holds.
-pub record IsGathering {D : Type 0} (images : D → List ℕ → Type 0) (faults : D → ℕ) (strict : D → Bool) (armed : D → Option ℕ) (content synced : D → List ℕ) (written : D → Ranges) (strict_run : Bool) (plan : Content) (tape : TapeName) (a : Actor) (seat : SeatView Item) (first slot : Slot D) (commands : List Step) (gone : ℕ) (joinings : List Joining) (used : ℕ) (held : Hold) : Type 0 where
+pub record IsGathering {D : Type 0} (port : Ghosts D) (strict_run : Bool) (plan : Content) (tape : TapeName) (a : Actor) (seat : SeatView Item) (first slot : Slot D) (commands : List Step) (gone : ℕ) (joinings : List Joining) (used : ℕ) (held : Hold) : Type 0 where
   pub kind : is_node a ≡ false
-  pub desk : IsDesk images faults strict armed content synced written strict_run plan tape held a seat first commands gone
+  pub desk : IsDesk port strict_run plan tape held a seat first commands gone
   pub up : is_down a (newest seat) ≡ false
   pub joined : CanAllJoin plan (newest seat) a (drop gone commands) joinings
   pub weights : List ℕ
   pub long : length weights ≡ length joinings
-  pub staged : HasStaged images faults strict armed content synced written plan a first slot joinings weights
+  pub staged : HasStaged port plan a first slot joinings weights
   pub used_is : sum weights ≡ used
   pub within : used ≤ held.weight
   pub few : length joinings ≤ held.items
 
 -- One message more can join, if it weighs no more than is left: it is none of them, and they are fewer than the desk holds items.
-pub record CanGather {D : Type 0} (images : D → List ℕ → Type 0) (faults : D → ℕ) (strict : D → Bool) (armed : D → Option ℕ) (content synced : D → List ℕ) (written : D → Ranges) (strict_run : Bool) (plan : Content) (tape : TapeName) (a : Actor) (seat : SeatView Item) (first slot : Slot D) (commands : List Step) (gone : ℕ) (joinings : List Joining) (used : ℕ) (held : Hold) (j : Joining) : Type 0 where
-  pub gathering : IsGathering images faults strict armed content synced written strict_run plan tape a seat first slot commands gone joinings used held
+pub record CanGather {D : Type 0} (port : Ghosts D) (strict_run : Bool) (plan : Content) (tape : TapeName) (a : Actor) (seat : SeatView Item) (first slot : Slot D) (commands : List Step) (gone : ℕ) (joinings : List Joining) (used : ℕ) (held : Hold) (j : Joining) : Type 0 where
+  pub gathering : IsGathering port strict_run plan tape a seat first slot commands gone joinings used held
   pub can : CanJoin plan (newest seat) a (drop gone commands) j
   pub another : AllByRecursion (λ (other : Event). other ≢ j.event) (events_of joinings)
   pub few : length joinings < 16
@@ -113,12 +113,12 @@ abbrev pub joining_of : Post × Message → Joining
 joining_of found = record { event = MessageEvent found.0.number; act = Takes found.1 }
 
 -- The disk failed when what was staged was settled: the desk of the actor, which stood in the first slot before and is down now.
-pub record IsStopping {D : Type 0} (images : D → List ℕ → Type 0) (faults : D → ℕ) (strict : D → Bool) (armed : D → Option ℕ) (content synced : D → List ℕ) (written : D → Ranges) (strict_run : Bool) (plan : Content) (tape : TapeName) (a : Actor) (seat : SeatView Item) (first slot : Slot D) (commands : List Step) (gone : ℕ) (joinings : List Joining) (held : Hold) : Type 0 where
-  pub desk : IsDesk images faults strict armed content synced written strict_run plan tape held a seat first commands gone
+pub record IsStopping {D : Type 0} (port : Ghosts D) (strict_run : Bool) (plan : Content) (tape : TapeName) (a : Actor) (seat : SeatView Item) (first slot : Slot D) (commands : List Step) (gone : ℕ) (joinings : List Joining) (held : Hold) : Type 0 where
+  pub desk : IsDesk port strict_run plan tape held a seat first commands gone
   pub up : is_down a (newest seat) ≡ false
   pub joined : CanAllJoin plan (newest seat) a (drop gone commands) joinings
-  pub settles : Settles images faults plan a first joinings slot None
-  pub strictly : SettlesStrictly images faults strict armed content synced written plan a first joinings slot None
+  pub settles : Settles port plan a first joinings slot None
+  pub strictly : SettlesStrictly port plan a first joinings slot None
   pub some : 0 < held.items
 
 -- ---- what is entered
@@ -135,12 +135,12 @@ pub record AreJoined (plan : Content) (items : List Item) (a : Actor) (left : Li
 
 -- The actor settled the messages of the events, of which these are still to be entered. Its slot stands behind all of them, as they come
 -- behind what it had done, which others' items don't change.
-pub record IsEntering {D : Type 0} (images : D → List ℕ → Type 0) (faults : D → ℕ) (strict : D → Bool) (armed : D → Option ℕ) (content synced : D → List ℕ) (written : D → Ranges) (strict_run : Bool) (plan : Content) (a : Actor) (items : List Item) (slot : Slot D) (left : List Step) (events : List Event) (unsent : List Unsent) (weights : List ℕ) : Type 0 where
+pub record IsEntering {D : Type 0} (port : Ghosts D) (strict_run : Bool) (plan : Content) (a : Actor) (items : List Item) (slot : Slot D) (left : List Step) (events : List Event) (unsent : List Unsent) (weights : List ℕ) : Type 0 where
   pub stopped : List Stopped
   pub before : List Item
   pub untouched : IsUntouched (cluster_of plan) before items a
   pub none : stopped_at a stopped ≡ []
-  pub stands : SlotStands images faults plan (entered_all (cluster_of plan) (alone before stopped) a events false) a slot
+  pub stands : SlotStands port plan (entered_all (cluster_of plan) (alone before stopped) a events false) a slot
   pub steps : AreSteps (cluster_of plan) (alone before stopped) a events false unsent
   pub weighed : AreWeighed (cluster_of plan) (alone before stopped) a events weights
   pub could : AllByRecursion (λ (event : Event). (act : Act) × MayTake (cluster_of plan) before a event act × MayTake (cluster_of plan) items a event act) events
@@ -148,19 +148,19 @@ pub record IsEntering {D : Type 0} (images : D → List ℕ → Type 0) (faults 
   pub serving : IsServing plan (alone items stopped)
   pub stops : AreStopsOf a stopped
   pub gone : HasGone plan (alone items stopped) a left
-  pub stayed : strict_run ≡ true → IsStrictSlot strict armed content synced written plan (entered_all (cluster_of plan) (alone before stopped) a events false) fresh_disks a slot × (stopped ≡ []) × (downs_in a items ≡ 0)
+  pub stayed : strict_run ≡ true → IsStrictSlot port plan (entered_all (cluster_of plan) (alone before stopped) a events false) fresh_disks a slot × (stopped ≡ []) × (downs_in a items ≡ 0)
 
 -- the item of what is unsent
 abbrev pub item_of_unsent : Actor → Unsent → Item
 item_of_unsent a one = item_of a one.event (Some one.emitted)
 
 -- the desk of such an actor, which holds enough for what is still to be entered, sixteen items at most
-pub record IsEnteringDesk {D : Type 0} (images : D → List ℕ → Type 0) (faults : D → ℕ) (strict : D → Bool) (armed : D → Option ℕ) (content synced : D → List ℕ) (written : D → Ranges) (strict_run : Bool) (plan : Content) (tape : TapeName) (held : Hold) (a : Actor) (seat : SeatView Item) (slot : Slot D) (commands : List Step) (gone : ℕ) (events : List Event) (unsent : List Unsent) : Type 0 where
+pub record IsEnteringDesk {D : Type 0} (port : Ghosts D) (strict_run : Bool) (plan : Content) (tape : TapeName) (held : Hold) (a : Actor) (seat : SeatView Item) (slot : Slot D) (commands : List Step) (gone : ℕ) (events : List Event) (unsent : List Unsent) : Type 0 where
   pub known : Contains (actors plan.topology) a
   pub all : commands ≡ commands_of plan a
   pub seated : IsSeated tape a held seat
   pub weights : List ℕ
-  pub entering : IsEntering images faults strict armed content synced written strict_run plan a (newest seat) slot (drop gone commands) events unsent weights
+  pub entering : IsEntering port strict_run plan a (newest seat) slot (drop gone commands) events unsent weights
   pub light : sum weights ≤ held.weight
   pub few : length unsent ≤ held.items
   pub most : length unsent ≤ 16

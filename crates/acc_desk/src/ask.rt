@@ -53,8 +53,8 @@ pub(crate) fn weigh<D: Rig>(
     actor: Actor,
     ask: Ask,
 ) -> Result<u64, OutOfMemory>
-    requires { MayAsk D.is_image D.faults plan.now actor (event_of ask) (act_of_ask ask) slot.now }
-    ensures { IfOk result (λ weight. (s : Situation) → IsAsked D.is_image D.faults plan.now s actor (event_of ask.entry) (act_of_ask ask.entry) slot.now
+    requires { MayAsk D.Disk plan.now actor (event_of ask) (act_of_ask ask) slot.now }
+    ensures { IfOk result (λ weight. (s : Situation) → IsAsked D.Disk plan.now s actor (event_of ask.entry) (act_of_ask ask.entry) slot.now
         → weight ≡ weight_of (entry_of (cluster_of plan.now) s actor (event_of ask.entry) false)) }
 {
     match ask {
@@ -71,12 +71,12 @@ pub(crate) fn step<D: Rig>(
     actor: Actor,
     ask: Ask,
 ) -> Result<Option<Emitted>, OutOfMemory>
-    requires { MayAsk D.is_image D.faults plan.now actor (event_of ask) (act_of_ask ask) slot.old }
-    ensures ok { IfOk result (λ given. (s : Situation) → IsAsked D.is_image D.faults plan.now s actor (event_of ask.entry) (act_of_ask ask.entry) slot.old
-        → HasTried D.is_image D.faults plan.now s actor (event_of ask.entry) slot.new given) }
-    ensures strict { IfOk result (λ given. (s : Situation) (disks : Disks) → IsAsked D.is_image D.faults plan.now s actor (event_of ask.entry) (act_of_ask ask.entry) slot.old
-        → IsStrictSlot D.strict D.armed D.content D.synced D.written plan.now s disks actor slot.old
-        → HasTriedStrictly D.strict D.armed D.content D.synced D.written plan.now s disks actor (event_of ask.entry) slot.new given) }
+    requires { MayAsk D.Disk plan.now actor (event_of ask) (act_of_ask ask) slot.old }
+    ensures ok { IfOk result (λ given. (s : Situation) → IsAsked D.Disk plan.now s actor (event_of ask.entry) (act_of_ask ask.entry) slot.old
+        → HasTried D.Disk plan.now s actor (event_of ask.entry) slot.new given) }
+    ensures strict { IfOk result (λ given. (s : Situation) (disks : Disks) → IsAsked D.Disk plan.now s actor (event_of ask.entry) (act_of_ask ask.entry) slot.old
+        → IsStrictSlot D.Disk plan.now s disks actor slot.old
+        → HasTriedStrictly D.Disk plan.now s disks actor (event_of ask.entry) slot.new given) }
 {
     match ask {
         Ask::Begin { txn, body } => slot.begin(plan, actor, txn, body),

@@ -74,11 +74,11 @@ impl<D: Rig + Drop, J: Planned> Desk<D, J> {
         requires known { Contains (actors plan.now.topology) actor }
         requires seat { (seat.tape ≡ tape.now) × (seat.actor ≡ actor.0) × (seat.actor ≢ 0) × (seat.mine ≡ []) × (seat.held_items ≡ 0) × (seat.held_weight ≡ 0) }
         requires serving { IsServing plan.now (alone [] []) }
-        requires slot { SlotStands D.is_image D.faults plan.now (alone [] []) actor slot }
-        requires strict { J.strict ≡ true → IsStrictSlot D.strict D.armed D.content D.synced D.written plan.now (alone [] []) fresh_disks actor slot }
+        requires slot { SlotStands D.Disk plan.now (alone [] []) actor slot }
+        requires strict { J.strict ≡ true → IsStrictSlot D.Disk plan.now (alone [] []) fresh_disks actor slot }
         requires commands { commands ≡ commands_of plan.now actor }
         ensures same { (result.actor ≡ actor) × (result.commands ≡ commands) × (result.gone ≡ 0) }
-        ensures sound { IsSound D.is_image D.faults D.strict D.armed D.content D.synced D.written J.strict plan.now tape.now result.actor result.seat result.slot result.commands result.gone }
+        ensures sound { IsSound D.Disk J.strict plan.now tape.now result.actor result.seat result.slot result.commands result.gone }
     {
         let _plan = plan;
         let mut seat = seat;

@@ -35,9 +35,9 @@ impl<D: Rig + Drop, J: Planned> Desk<D, J> {
         requires plan { plan.now ≡ J.plan }
         requires limits { tape.now.limits.items ≤ most_items }
         requires group { (first : ASlot D) × (joinings : List Joining) × (used : ℕ) × (joinings ≢ [])
-            × IsGathering D.is_image D.faults D.strict D.armed D.content D.synced D.written J.strict plan.now tape.now self.old.actor self.old.seat first self.old.slot self.old.commands self.old.gone joinings used hold }
+            × IsGathering D.Disk J.strict plan.now tape.now self.old.actor self.old.seat first self.old.slot self.old.commands self.old.gone joinings used hold }
         ensures same { (self.new.actor ≡ self.old.actor) × (self.new.commands ≡ self.old.commands) }
-        ensures ok { OnOk result (IsSound D.is_image D.faults D.strict D.armed D.content D.synced D.written J.strict plan.now tape.now self.new.actor self.new.seat self.new.slot self.new.commands self.new.gone) }
+        ensures ok { OnOk result (IsSound D.Disk J.strict plan.now tape.now self.new.actor self.new.seat self.new.slot self.new.commands self.new.gone) }
         ensures err { OnErr result (IsSeated tape.now self.new.actor no_hold self.new.seat) }
         ensures entered { OnOk result (length self.old.seat.mine < length self.new.seat.mine) }
     {
@@ -64,9 +64,9 @@ impl<D: Rig + Drop, J: Planned> Desk<D, J> {
         requires plan { plan.now ≡ J.plan }
         requires limits { tape.now.limits.items ≤ most_items }
         requires group { (events : List AnEvent)
-            × IsEnteringDesk D.is_image D.faults D.strict D.armed D.content D.synced D.written J.strict plan.now tape.now hold self.old.actor self.old.seat self.old.slot self.old.commands self.old.gone events unsent }
+            × IsEnteringDesk D.Disk J.strict plan.now tape.now hold self.old.actor self.old.seat self.old.slot self.old.commands self.old.gone events unsent }
         ensures same { (self.new.actor ≡ self.old.actor) × (self.new.commands ≡ self.old.commands) }
-        ensures ok { OnOk result (IsSound D.is_image D.faults D.strict D.armed D.content D.synced D.written J.strict plan.now tape.now self.new.actor self.new.seat self.new.slot self.new.commands self.new.gone) }
+        ensures ok { OnOk result (IsSound D.Disk J.strict plan.now tape.now self.new.actor self.new.seat self.new.slot self.new.commands self.new.gone) }
         ensures err { OnErr result (IsSeated tape.now self.new.actor no_hold self.new.seat) }
         ensures entered { OnOk result (unsent ≢ [] → length self.old.seat.mine < length self.new.seat.mine) }
     {
@@ -105,9 +105,9 @@ impl<D: Rig + Drop, J: Planned> Desk<D, J> {
         requires plan { plan.now ≡ J.plan }
         requires limits { tape.now.limits.items ≤ most_items }
         requires group { (first : ASlot D) × (joinings : List Joining)
-            × IsStopping D.is_image D.faults D.strict D.armed D.content D.synced D.written J.strict plan.now tape.now self.old.actor self.old.seat first self.old.slot self.old.commands self.old.gone joinings hold }
+            × IsStopping D.Disk J.strict plan.now tape.now self.old.actor self.old.seat first self.old.slot self.old.commands self.old.gone joinings hold }
         ensures same { (self.new.actor ≡ self.old.actor) × (self.new.commands ≡ self.old.commands) }
-        ensures ok { OnOk result (IsSound D.is_image D.faults D.strict D.armed D.content D.synced D.written J.strict plan.now tape.now self.new.actor self.new.seat self.new.slot self.new.commands self.new.gone) }
+        ensures ok { OnOk result (IsSound D.Disk J.strict plan.now tape.now self.new.actor self.new.seat self.new.slot self.new.commands self.new.gone) }
         ensures err { OnErr result (IsSeated tape.now self.new.actor no_hold self.new.seat) }
         ensures entered { OnOk result (length self.old.seat.mine < length self.new.seat.mine) }
     {
@@ -126,8 +126,8 @@ impl<D: Rig + Drop, J: Planned> Desk<D, J> {
         ensures still { hold ≡ no_hold → self.new.seat ≡ self.old.seat }
         ensures seated { IsSeated tape.now self.new.actor no_hold self.new.seat }
         ensures on { hold ≡ no_hold ⊎ Turns actor_of_item weight_of (fits_plan J.plan) self.old.seat self.new.seat }
-        ensures sound { IsDesk D.is_image D.faults D.strict D.armed D.content D.synced D.written J.strict plan.now tape.now hold self.old.actor self.old.seat self.old.slot self.old.commands self.old.gone
-            → IsSound D.is_image D.faults D.strict D.armed D.content D.synced D.written J.strict plan.now tape.now self.new.actor self.new.seat self.new.slot self.new.commands self.new.gone }
+        ensures sound { IsDesk D.Disk J.strict plan.now tape.now hold self.old.actor self.old.seat self.old.slot self.old.commands self.old.gone
+            → IsSound D.Disk J.strict plan.now tape.now self.new.actor self.new.seat self.new.slot self.new.commands self.new.gone }
     {
         let _plan = plan;
         if hold.items > 0 || hold.weight > 0 {

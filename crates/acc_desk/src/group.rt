@@ -103,11 +103,11 @@ impl<D: Rig + Drop, J: Planned> Desk<D, J> {
     ) -> Result<Turned, OutOfMemory>
         requires plan { plan.now ≡ J.plan }
         requires limits { tape.now.limits.items ≤ most_items }
-        requires desk { IsSound D.is_image D.faults D.strict D.armed D.content D.synced D.written J.strict plan.now tape.now self.old.actor self.old.seat self.old.slot self.old.commands self.old.gone }
+        requires desk { IsSound D.Disk J.strict plan.now tape.now self.old.actor self.old.seat self.old.slot self.old.commands self.old.gone }
         requires kind { is_node self.old.actor ≡ false }
         requires up { is_down self.old.actor (newest self.old.seat) ≡ false }
         ensures same { (self.new.actor ≡ self.old.actor) × (self.new.commands ≡ self.old.commands) }
-        ensures ok { OnOk result (IsSound D.is_image D.faults D.strict D.armed D.content D.synced D.written J.strict plan.now tape.now self.new.actor self.new.seat self.new.slot self.new.commands self.new.gone) }
+        ensures ok { OnOk result (IsSound D.Disk J.strict plan.now tape.now self.new.actor self.new.seat self.new.slot self.new.commands self.new.gone) }
         ensures err { OnErr result (IsSeated tape.now self.new.actor no_hold self.new.seat) }
         ensures came { IfOk result (λ turned. CameTo plan.now tape.now self.old.actor self.old.commands turned self.old.seat.mine self.old.gone self.new.seat self.new.gone) }
     {
@@ -139,9 +139,9 @@ impl<D: Rig + Drop, J: Planned> Desk<D, J> {
         requires plan { plan.now ≡ J.plan }
         requires limits { tape.now.limits.items ≤ most_items }
         requires group { (first : ASlot D) × (joinings : List Joining) × (used : ℕ) × (length joinings ≡ staged)
-            × IsGathering D.is_image D.faults D.strict D.armed D.content D.synced D.written J.strict plan.now tape.now self.old.actor self.old.seat first self.old.slot self.old.commands self.old.gone joinings used hold }
+            × IsGathering D.Disk J.strict plan.now tape.now self.old.actor self.old.seat first self.old.slot self.old.commands self.old.gone joinings used hold }
         ensures same { (self.new.actor ≡ self.old.actor) × (self.new.commands ≡ self.old.commands) }
-        ensures ok { OnOk result (IsSound D.is_image D.faults D.strict D.armed D.content D.synced D.written J.strict plan.now tape.now self.new.actor self.new.seat self.new.slot self.new.commands self.new.gone) }
+        ensures ok { OnOk result (IsSound D.Disk J.strict plan.now tape.now self.new.actor self.new.seat self.new.slot self.new.commands self.new.gone) }
         ensures err { OnErr result (IsSeated tape.now self.new.actor no_hold self.new.seat) }
         ensures some { OnOk result (staged ≢ 0 → length self.old.seat.mine < length self.new.seat.mine) }
         ensures none { staged ≡ 0 → hold ≡ no_hold → (self.new.seat ≡ self.old.seat) × (self.new.gone ≡ self.old.gone) }
@@ -167,7 +167,7 @@ impl<D: Rig + Drop, J: Planned> Desk<D, J> {
     ) -> (usize, Hold, Ended)
         requires plan { plan.now ≡ J.plan }
         requires limits { tape.now.limits.items ≤ most_items }
-        requires desk { IsSound D.is_image D.faults D.strict D.armed D.content D.synced D.written J.strict plan.now tape.now self.old.actor self.old.seat self.old.slot self.old.commands self.old.gone }
+        requires desk { IsSound D.Disk J.strict plan.now tape.now self.old.actor self.old.seat self.old.slot self.old.commands self.old.gone }
         requires kind { is_node self.old.actor ≡ false }
         requires up { is_down self.old.actor (newest self.old.seat) ≡ false }
         requires found { CanAllJoin plan.now (newest self.old.seat) self.old.actor (drop self.old.gone self.old.commands) (map joining_of found.now) }
@@ -175,7 +175,7 @@ impl<D: Rig + Drop, J: Planned> Desk<D, J> {
         ensures mine { self.new.seat.mine ≡ self.old.seat.mine }
         ensures full { result.2 ≡ AnEnd.Full → (result.0 ≡ 0) × (result.1 ≡ no_hold) × HasNoRoom plan.now tape.now self.new.actor (drop self.new.gone self.new.commands) self.new.seat }
         ensures gathering { (used : ℕ) × (length (take result.0 (map joining_of found.now)) ≡ result.0)
-            × IsGathering D.is_image D.faults D.strict D.armed D.content D.synced D.written J.strict plan.now tape.now self.new.actor self.new.seat self.old.slot self.new.slot self.new.commands self.new.gone (take result.0 (map joining_of found.now)) used result.1 }
+            × IsGathering D.Disk J.strict plan.now tape.now self.new.actor self.new.seat self.old.slot self.new.slot self.new.commands self.new.gone (take result.0 (map joining_of found.now)) used result.1 }
     {
         let Some((post, message)) = found.first() else {
             return (0, NOTHING, Ended::Dry);
@@ -205,14 +205,14 @@ impl<D: Rig + Drop, J: Planned> Desk<D, J> {
         requires limits { tape.now.limits.items ≤ most_items }
         requires some { 0 < count }
         requires group { CanJoin plan.now (newest self.old.seat) self.old.actor (drop self.old.gone self.old.commands) (record { event = AnEvent.Message number; act = Takes message.now })
-            × IsGathering D.is_image D.faults D.strict D.armed D.content D.synced D.written J.strict plan.now tape.now self.old.actor self.old.seat self.old.slot self.old.slot self.old.commands self.old.gone [] 0 no_hold }
+            × IsGathering D.Disk J.strict plan.now tape.now self.old.actor self.old.seat self.old.slot self.old.slot self.old.commands self.old.gone [] 0 no_hold }
         ensures same { (self.new.actor ≡ self.old.actor) × (self.new.commands ≡ self.old.commands) × (self.new.gone ≡ self.old.gone) }
         ensures mine { self.new.seat.mine ≡ self.old.seat.mine }
         ensures on { OnOk result (Turns actor_of_item weight_of (fits_plan J.plan) self.old.seat self.new.seat) }
         ensures ok { IfOk result (λ joined. MatchOption joined
-            (IsGathering D.is_image D.faults D.strict D.armed D.content D.synced D.written J.strict plan.now tape.now self.new.actor self.new.seat self.old.slot self.new.slot self.new.commands self.new.gone [] 0 no_hold × HasNoRoom plan.now tape.now self.new.actor (drop self.new.gone self.new.commands) self.new.seat)
-            (λ pair. IsGathering D.is_image D.faults D.strict D.armed D.content D.synced D.written J.strict plan.now tape.now self.new.actor self.new.seat self.old.slot self.new.slot self.new.commands self.new.gone (record { event = AnEvent.Message number; act = Takes message.now } ∷ []) pair.0 pair.1)) }
-        ensures err { OnErr result (IsGathering D.is_image D.faults D.strict D.armed D.content D.synced D.written J.strict plan.now tape.now self.new.actor self.new.seat self.old.slot self.new.slot self.new.commands self.new.gone [] 0 no_hold) }
+            (IsGathering D.Disk J.strict plan.now tape.now self.new.actor self.new.seat self.old.slot self.new.slot self.new.commands self.new.gone [] 0 no_hold × HasNoRoom plan.now tape.now self.new.actor (drop self.new.gone self.new.commands) self.new.seat)
+            (λ pair. IsGathering D.Disk J.strict plan.now tape.now self.new.actor self.new.seat self.old.slot self.new.slot self.new.commands self.new.gone (record { event = AnEvent.Message number; act = Takes message.now } ∷ []) pair.0 pair.1)) }
+        ensures err { OnErr result (IsGathering D.Disk J.strict plan.now tape.now self.new.actor self.new.seat self.old.slot self.new.slot self.new.commands self.new.gone [] 0 no_hold) }
     {
         let (weight, prepared) = self.slot.prepare(plan, self.actor, number, message)?;
         let Some(hold) = reserve(rt, tape, &mut self.seat, count, weight, self.usual)? else {
@@ -239,12 +239,12 @@ impl<D: Rig + Drop, J: Planned> Desk<D, J> {
         requires limits { tape.now.limits.items ≤ most_items }
         requires some { 0 < length found.now }
         requires found { CanAllJoin plan.now (newest self.old.seat) self.old.actor (drop self.old.gone self.old.commands) (map joining_of found.now) }
-        requires group { (first : ASlot D) × IsGathering D.is_image D.faults D.strict D.armed D.content D.synced D.written J.strict plan.now tape.now self.old.actor self.old.seat first self.old.slot self.old.commands self.old.gone (take 1 (map joining_of found.now)) used hold }
+        requires group { (first : ASlot D) × IsGathering D.Disk J.strict plan.now tape.now self.old.actor self.old.seat first self.old.slot self.old.commands self.old.gone (take 1 (map joining_of found.now)) used hold }
         ensures same { (self.new.actor ≡ self.old.actor) × (self.new.seat ≡ self.old.seat) × (self.new.commands ≡ self.old.commands) × (self.new.gone ≡ self.old.gone) }
         ensures ended { result.1 ≢ AnEnd.Full }
         ensures count { (0 < result.0) × (result.0 ≤ length found.now) }
-        ensures gathering { (first : ASlot D) → IsGathering D.is_image D.faults D.strict D.armed D.content D.synced D.written J.strict plan.now tape.now self.old.actor self.old.seat first self.old.slot self.old.commands self.old.gone (take 1 (map joining_of found.now)) used hold
-            → (now : ℕ) × IsGathering D.is_image D.faults D.strict D.armed D.content D.synced D.written J.strict plan.now tape.now self.new.actor self.new.seat first self.new.slot self.new.commands self.new.gone (take result.0 (map joining_of found.now)) now hold }
+        ensures gathering { (first : ASlot D) → IsGathering D.Disk J.strict plan.now tape.now self.old.actor self.old.seat first self.old.slot self.old.commands self.old.gone (take 1 (map joining_of found.now)) used hold
+            → (now : ℕ) × IsGathering D.Disk J.strict plan.now tape.now self.new.actor self.new.seat first self.new.slot self.new.commands self.new.gone (take result.0 (map joining_of found.now)) now hold }
     {
         let _tape = tape;
         let mut used = used;
@@ -276,13 +276,13 @@ impl<D: Rig + Drop, J: Planned> Desk<D, J> {
     ) -> Result<Option<u64>, OutOfMemory>
         requires plan { plan.now ≡ J.plan }
         requires limits { tape.now.limits.items ≤ most_items }
-        requires group { (first : ASlot D) × (joinings : List Joining) × CanGather D.is_image D.faults D.strict D.armed D.content D.synced D.written J.strict plan.now tape.now self.old.actor self.old.seat first self.old.slot self.old.commands self.old.gone joinings used hold (record { event = AnEvent.Message number; act = Takes message.now }) }
+        requires group { (first : ASlot D) × (joinings : List Joining) × CanGather D.Disk J.strict plan.now tape.now self.old.actor self.old.seat first self.old.slot self.old.commands self.old.gone joinings used hold (record { event = AnEvent.Message number; act = Takes message.now }) }
         ensures same { (self.new.actor ≡ self.old.actor) × (self.new.seat ≡ self.old.seat) × (self.new.commands ≡ self.old.commands) × (self.new.gone ≡ self.old.gone) }
-        ensures ok { IfOk result (λ joined. (first : ASlot D) (joinings : List Joining) → CanGather D.is_image D.faults D.strict D.armed D.content D.synced D.written J.strict plan.now tape.now self.old.actor self.old.seat first self.old.slot self.old.commands self.old.gone joinings used hold (record { event = AnEvent.Message number; act = Takes message.now })
-            → MatchOption joined (IsGathering D.is_image D.faults D.strict D.armed D.content D.synced D.written J.strict plan.now tape.now self.new.actor self.new.seat first self.new.slot self.new.commands self.new.gone joinings used hold)
-            (λ more. IsGathering D.is_image D.faults D.strict D.armed D.content D.synced D.written J.strict plan.now tape.now self.new.actor self.new.seat first self.new.slot self.new.commands self.new.gone (joinings ++ record { event = AnEvent.Message number; act = Takes message.now } ∷ []) more hold)) }
-        ensures err { OnErr result ((first : ASlot D) (joinings : List Joining) → CanGather D.is_image D.faults D.strict D.armed D.content D.synced D.written J.strict plan.now tape.now self.old.actor self.old.seat first self.old.slot self.old.commands self.old.gone joinings used hold (record { event = AnEvent.Message number; act = Takes message.now })
-            → IsGathering D.is_image D.faults D.strict D.armed D.content D.synced D.written J.strict plan.now tape.now self.new.actor self.new.seat first self.new.slot self.new.commands self.new.gone joinings used hold) }
+        ensures ok { IfOk result (λ joined. (first : ASlot D) (joinings : List Joining) → CanGather D.Disk J.strict plan.now tape.now self.old.actor self.old.seat first self.old.slot self.old.commands self.old.gone joinings used hold (record { event = AnEvent.Message number; act = Takes message.now })
+            → MatchOption joined (IsGathering D.Disk J.strict plan.now tape.now self.new.actor self.new.seat first self.new.slot self.new.commands self.new.gone joinings used hold)
+            (λ more. IsGathering D.Disk J.strict plan.now tape.now self.new.actor self.new.seat first self.new.slot self.new.commands self.new.gone (joinings ++ record { event = AnEvent.Message number; act = Takes message.now } ∷ []) more hold)) }
+        ensures err { OnErr result ((first : ASlot D) (joinings : List Joining) → CanGather D.Disk J.strict plan.now tape.now self.old.actor self.old.seat first self.old.slot self.old.commands self.old.gone joinings used hold (record { event = AnEvent.Message number; act = Takes message.now })
+            → IsGathering D.Disk J.strict plan.now tape.now self.new.actor self.new.seat first self.new.slot self.new.commands self.new.gone joinings used hold) }
     {
         let _tape = tape;
         let (weight, prepared) = self.slot.prepare(plan, self.actor, number, message)?;

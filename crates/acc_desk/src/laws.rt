@@ -22,9 +22,9 @@ use acc_ports::Rig;
 /// Once the tape is closed, the actor of a sound desk stands for the whole list.
 pub fn desks_stand_at_the_end<D: Rig>()
     ensures { (strict_run : Bool) (plan : Content) (tape : TapeName) (a : Actor) (seat : SeatView Item) (slot : Slot D) (commands : List Step) (gone : ℕ) →
-        tape.limits.items ≤ most_items → IsSound D.is_image D.faults D.strict D.armed D.content D.synced D.written strict_run plan tape a seat slot commands gone → (items : List Item) →
+        tape.limits.items ≤ most_items → IsSound D.Disk strict_run plan tape a seat slot commands gone → (items : List Item) →
         IsPrefix seat.seen items → items_of actor_of_item seat.actor items ≡ seat.mine → fits_plan plan items →
-        IsAt D.is_image D.faults D.strict D.armed D.content D.synced D.written strict_run plan a (reverse items) slot (drop gone commands) }
+        IsAt D.Disk strict_run plan a (reverse items) slot (drop gone commands) }
 {}
 
 /// Where no actor of the plan went down, nobody did.

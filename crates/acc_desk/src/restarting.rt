@@ -49,12 +49,12 @@ fn reopen<D: Rig + Drop>(
     actor: Actor,
     choice: u8,
 ) -> Result<Option<Emitted>, OutOfMemory>
-    requires { (s : Situation) × SlotStands D.is_image D.faults plan.now s actor slot.old × Contains (actors plan.now.topology) actor }
-    ensures ok { IfOk result (λ given. (s : Situation) → IsEnteringSound (cluster_of plan.now) s → IsFew s → SlotStands D.is_image D.faults plan.now s actor slot.old
-        → HasReopened D.is_image D.faults plan.now s actor given slot.new) }
-    ensures strict { IfOk result (λ given. (s : Situation) (disks : Disks) → IsEnteringSound (cluster_of plan.now) s → SlotStands D.is_image D.faults plan.now s actor slot.old
-        → IsStrictSlot D.strict D.armed D.content D.synced D.written plan.now s disks actor slot.old
-        → HasReopenedStrictly D.strict D.armed D.content D.synced D.written plan.now s disks actor given slot.new) }
+    requires { (s : Situation) × SlotStands D.Disk plan.now s actor slot.old × Contains (actors plan.now.topology) actor }
+    ensures ok { IfOk result (λ given. (s : Situation) → IsEnteringSound (cluster_of plan.now) s → IsFew s → SlotStands D.Disk plan.now s actor slot.old
+        → HasReopened D.Disk plan.now s actor given slot.new) }
+    ensures strict { IfOk result (λ given. (s : Situation) (disks : Disks) → IsEnteringSound (cluster_of plan.now) s → SlotStands D.Disk plan.now s actor slot.old
+        → IsStrictSlot D.Disk plan.now s disks actor slot.old
+        → HasReopenedStrictly D.Disk plan.now s disks actor given slot.new) }
 {
     let (reopened, found) = mem::replace(slot, Slot::Empty).restart(plan, actor, choice);
     *slot = reopened;
@@ -82,10 +82,10 @@ impl<D: Rig + Drop, J: Planned> Desk<D, J> {
     ) -> Result<Turned, OutOfMemory>
         requires plan { plan.now ≡ J.plan }
         requires limits { tape.now.limits.items ≤ most_items }
-        requires desk { IsSound D.is_image D.faults D.strict D.armed D.content D.synced D.written J.strict plan.now tape.now self.old.actor self.old.seat self.old.slot self.old.commands self.old.gone }
+        requires desk { IsSound D.Disk J.strict plan.now tape.now self.old.actor self.old.seat self.old.slot self.old.commands self.old.gone }
         requires next { (command : Step) × (drop self.old.gone self.old.commands ≡ command ∷ drop (self.old.gone + 1) self.old.commands) × (is_restart command ≡ true) }
         ensures same { (self.new.actor ≡ self.old.actor) × (self.new.commands ≡ self.old.commands) }
-        ensures ok { OnOk result (IsSound D.is_image D.faults D.strict D.armed D.content D.synced D.written J.strict plan.now tape.now self.new.actor self.new.seat self.new.slot self.new.commands self.new.gone) }
+        ensures ok { OnOk result (IsSound D.Disk J.strict plan.now tape.now self.new.actor self.new.seat self.new.slot self.new.commands self.new.gone) }
         ensures err { OnErr result (IsSeated tape.now self.new.actor no_hold self.new.seat) }
         ensures came { IfOk result (λ turned. CameTo plan.now tape.now self.old.actor self.old.commands turned self.old.seat.mine self.old.gone self.new.seat self.new.gone) }
         ensures told { result ≢ Ok Answer.Idle }

@@ -42,9 +42,9 @@ fn round<W: Wait, G: Gate, D: Rig + Drop, J: Planned>(
 ) -> Result<Turned, OutOfMemory>
     requires plan { plan.now ≡ J.plan }
     requires limits { tape.now.limits.items ≤ most_items }
-    requires desks { AreSound D.is_image D.faults D.strict D.armed D.content D.synced D.written J.strict plan.now tape.now desks.old.items }
+    requires desks { AreSound D.Disk J.strict plan.now tape.now desks.old.items }
     ensures same { map name_of desks.new.items ≡ map name_of desks.old.items }
-    ensures ok { OnOk result (AreSound D.is_image D.faults D.strict D.armed D.content D.synced D.written J.strict plan.now tape.now desks.new.items) }
+    ensures ok { OnOk result (AreSound D.Disk J.strict plan.now tape.now desks.new.items) }
     ensures err { OnErr result (AreSeated tape.now desks.new.items) }
     ensures came { IfOk result (λ turned. HaveComeTo plan.now tape.now turned desks.old.items desks.new.items) }
 {
@@ -74,9 +74,9 @@ fn rounds<W: Wait, G: Gate, D: Rig + Drop, J: Planned>(
 ) -> Result<(), OutOfMemory>
     requires plan { plan.now ≡ J.plan }
     requires limits { tape.now.limits.items ≤ most_items }
-    requires desks { AreSound D.is_image D.faults D.strict D.armed D.content D.synced D.written J.strict plan.now tape.now desks.old.items }
+    requires desks { AreSound D.Disk J.strict plan.now tape.now desks.old.items }
     ensures same { map name_of desks.new.items ≡ map name_of desks.old.items }
-    ensures ok { OnOk result (AreSound D.is_image D.faults D.strict D.armed D.content D.synced D.written J.strict plan.now tape.now desks.new.items) }
+    ensures ok { OnOk result (AreSound D.Disk J.strict plan.now tape.now desks.new.items) }
     ensures err { OnErr result (AreSeated tape.now desks.new.items) }
 {
     let mut turns = 0;
@@ -106,9 +106,9 @@ pub fn serve<W: Wait, G: Gate, D: Rig + Drop, J: Planned>(
 ) -> Served<D, J>
     requires plan { plan.now ≡ J.plan }
     requires limits { tape.now.limits.items ≤ most_items }
-    requires desks { AreSound D.is_image D.faults D.strict D.armed D.content D.synced D.written J.strict plan.now tape.now desks.items }
+    requires desks { AreSound D.Disk J.strict plan.now tape.now desks.items }
     ensures same { map name_of result.desks.items ≡ map name_of desks.items }
-    ensures sound { result.refused ≡ false → AreSound D.is_image D.faults D.strict D.armed D.content D.synced D.written J.strict plan.now tape.now result.desks.items }
+    ensures sound { result.refused ≡ false → AreSound D.Disk J.strict plan.now tape.now result.desks.items }
     ensures seated { AreSeated tape.now result.desks.items }
 {
     keep(&desks, worker, floor);

@@ -82,8 +82,8 @@ fn body_of(plan: &Plan, txn: u32) -> Option<&Body>
 
 // Whether a store stands in the slot.
 fn is_store<D: Rig>(slot: &Slot<D>) -> bool
-    ensures store { result ≡ true → (plan : Content) (s : Situation) (a : AnActor) → SlotStands D.is_image D.faults plan s a slot.now → is_node a ≡ false }
-    ensures node { result ≡ false → (plan : Content) (s : Situation) (a : AnActor) → SlotStands D.is_image D.faults plan s a slot.now → is_node a ≡ true }
+    ensures store { result ≡ true → (plan : Content) (s : Situation) (a : AnActor) → SlotStands D.Disk plan s a slot.now → is_node a ≡ false }
+    ensures node { result ≡ false → (plan : Content) (s : Situation) (a : AnActor) → SlotStands D.Disk plan s a slot.now → is_node a ≡ true }
 {
     match slot {
         Slot::Store(_) => true,
@@ -105,9 +105,9 @@ impl<D: Rig + Drop, J: Planned> Desk<D, J> {
     ) -> Result<Turned, OutOfMemory>
         requires plan { plan.now ≡ J.plan }
         requires limits { tape.now.limits.items ≤ most_items }
-        requires desk { IsSound D.is_image D.faults D.strict D.armed D.content D.synced D.written J.strict plan.now tape.now self.old.actor self.old.seat self.old.slot self.old.commands self.old.gone }
+        requires desk { IsSound D.Disk J.strict plan.now tape.now self.old.actor self.old.seat self.old.slot self.old.commands self.old.gone }
         ensures same { (self.new.actor ≡ self.old.actor) × (self.new.commands ≡ self.old.commands) }
-        ensures ok { OnOk result (IsSound D.is_image D.faults D.strict D.armed D.content D.synced D.written J.strict plan.now tape.now self.new.actor self.new.seat self.new.slot self.new.commands self.new.gone) }
+        ensures ok { OnOk result (IsSound D.Disk J.strict plan.now tape.now self.new.actor self.new.seat self.new.slot self.new.commands self.new.gone) }
         ensures err { OnErr result (IsSeated tape.now self.new.actor no_hold self.new.seat) }
         ensures came { IfOk result (λ turned. CameTo plan.now tape.now self.old.actor self.old.commands turned self.old.seat.mine self.old.gone self.new.seat self.new.gone) }
         ensures waits { result ≡ Ok Answer.Idle → is_down self.old.actor (newest self.old.seat) ≡ false → (command : AStep) → slice_get self.old.commands self.old.gone ≡ Some command → ¬ IsTakenAtOnce plan.now (take self.old.gone self.old.commands) command }
@@ -121,7 +121,7 @@ impl<D: Rig + Drop, J: Planned> Desk<D, J> {
 
     // Whether the actor is down.
     fn is_down(&self) -> bool
-        ensures { (plan : Content) (tape : TapeName) → IsSound D.is_image D.faults D.strict D.armed D.content D.synced D.written J.strict plan tape self.now.actor self.now.seat self.now.slot self.now.commands self.now.gone
+        ensures { (plan : Content) (tape : TapeName) → IsSound D.Disk J.strict plan tape self.now.actor self.now.seat self.now.slot self.now.commands self.now.gone
             → result ≡ is_down self.now.actor (newest self.now.seat) }
     {
         self.slot.is_down()
@@ -154,9 +154,9 @@ impl<D: Rig + Drop, J: Planned> Desk<D, J> {
     ) -> Result<Turned, OutOfMemory>
         requires plan { plan.now ≡ J.plan }
         requires limits { tape.now.limits.items ≤ most_items }
-        requires desk { IsSound D.is_image D.faults D.strict D.armed D.content D.synced D.written J.strict plan.now tape.now self.old.actor self.old.seat self.old.slot self.old.commands self.old.gone }
+        requires desk { IsSound D.Disk J.strict plan.now tape.now self.old.actor self.old.seat self.old.slot self.old.commands self.old.gone }
         ensures same { (self.new.actor ≡ self.old.actor) × (self.new.commands ≡ self.old.commands) }
-        ensures ok { OnOk result (IsSound D.is_image D.faults D.strict D.armed D.content D.synced D.written J.strict plan.now tape.now self.new.actor self.new.seat self.new.slot self.new.commands self.new.gone) }
+        ensures ok { OnOk result (IsSound D.Disk J.strict plan.now tape.now self.new.actor self.new.seat self.new.slot self.new.commands self.new.gone) }
         ensures err { OnErr result (IsSeated tape.now self.new.actor no_hold self.new.seat) }
         ensures came { IfOk result (λ turned. CameTo plan.now tape.now self.old.actor self.old.commands turned self.old.seat.mine self.old.gone self.new.seat self.new.gone) }
         ensures waits { result ≡ Ok Answer.Idle → is_down self.old.actor (newest self.old.seat) ≡ false → (command : AStep) → slice_get self.old.commands self.old.gone ≡ Some command → ¬ IsTakenAtOnce plan.now (take self.old.gone self.old.commands) command }
@@ -189,11 +189,11 @@ impl<D: Rig + Drop, J: Planned> Desk<D, J> {
     ) -> Result<Turned, OutOfMemory>
         requires plan { plan.now ≡ J.plan }
         requires limits { tape.now.limits.items ≤ most_items }
-        requires desk { IsSound D.is_image D.faults D.strict D.armed D.content D.synced D.written J.strict plan.now tape.now self.old.actor self.old.seat self.old.slot self.old.commands self.old.gone }
+        requires desk { IsSound D.Disk J.strict plan.now tape.now self.old.actor self.old.seat self.old.slot self.old.commands self.old.gone }
         requires up { is_down self.old.actor (newest self.old.seat) ≡ false }
         requires next { slice_get self.old.commands self.old.gone ≡ Some (AStep.Begin txn) }
         ensures same { (self.new.actor ≡ self.old.actor) × (self.new.commands ≡ self.old.commands) }
-        ensures ok { OnOk result (IsSound D.is_image D.faults D.strict D.armed D.content D.synced D.written J.strict plan.now tape.now self.new.actor self.new.seat self.new.slot self.new.commands self.new.gone) }
+        ensures ok { OnOk result (IsSound D.Disk J.strict plan.now tape.now self.new.actor self.new.seat self.new.slot self.new.commands self.new.gone) }
         ensures err { OnErr result (IsSeated tape.now self.new.actor no_hold self.new.seat) }
         ensures came { IfOk result (λ turned. CameTo plan.now tape.now self.old.actor self.old.commands turned self.old.seat.mine self.old.gone self.new.seat self.new.gone) }
         ensures waits { result ≡ Ok Answer.Idle → ¬ IsTakenAtOnce plan.now (take self.old.gone self.old.commands) (AStep.Begin txn) }
@@ -226,10 +226,10 @@ impl<D: Rig + Drop, J: Planned> Desk<D, J> {
     ) -> Result<Turned, OutOfMemory>
         requires plan { plan.now ≡ J.plan }
         requires limits { tape.now.limits.items ≤ most_items }
-        requires desk { IsSound D.is_image D.faults D.strict D.armed D.content D.synced D.written J.strict plan.now tape.now self.old.actor self.old.seat self.old.slot self.old.commands self.old.gone }
+        requires desk { IsSound D.Disk J.strict plan.now tape.now self.old.actor self.old.seat self.old.slot self.old.commands self.old.gone }
         requires next { slice_get self.old.commands self.old.gone ≡ Some (AStep.Recover txn node) }
         ensures same { (self.new.actor ≡ self.old.actor) × (self.new.commands ≡ self.old.commands) }
-        ensures ok { OnOk result (IsSound D.is_image D.faults D.strict D.armed D.content D.synced D.written J.strict plan.now tape.now self.new.actor self.new.seat self.new.slot self.new.commands self.new.gone) }
+        ensures ok { OnOk result (IsSound D.Disk J.strict plan.now tape.now self.new.actor self.new.seat self.new.slot self.new.commands self.new.gone) }
         ensures err { OnErr result (IsSeated tape.now self.new.actor no_hold self.new.seat) }
         ensures came { IfOk result (λ turned. CameTo plan.now tape.now self.old.actor self.old.commands turned self.old.seat.mine self.old.gone self.new.seat self.new.gone) }
     {
@@ -265,9 +265,9 @@ impl<D: Rig + Drop, J: Planned> Desk<D, J> {
     ) -> Result<Turned, OutOfMemory>
         requires plan { plan.now ≡ J.plan }
         requires limits { tape.now.limits.items ≤ most_items }
-        requires desk { IsSound D.is_image D.faults D.strict D.armed D.content D.synced D.written J.strict plan.now tape.now self.old.actor self.old.seat self.old.slot self.old.commands self.old.gone }
+        requires desk { IsSound D.Disk J.strict plan.now tape.now self.old.actor self.old.seat self.old.slot self.old.commands self.old.gone }
         ensures same { (self.new.actor ≡ self.old.actor) × (self.new.commands ≡ self.old.commands) }
-        ensures ok { OnOk result (IsSound D.is_image D.faults D.strict D.armed D.content D.synced D.written J.strict plan.now tape.now self.new.actor self.new.seat self.new.slot self.new.commands self.new.gone) }
+        ensures ok { OnOk result (IsSound D.Disk J.strict plan.now tape.now self.new.actor self.new.seat self.new.slot self.new.commands self.new.gone) }
         ensures err { OnErr result (IsSeated tape.now self.new.actor no_hold self.new.seat) }
         ensures came { IfOk result (λ turned. CameTo plan.now tape.now self.old.actor self.old.commands turned self.old.seat.mine self.old.gone self.new.seat self.new.gone) }
     {
@@ -296,9 +296,9 @@ impl<D: Rig + Drop, J: Planned> Desk<D, J> {
     ) -> Result<Turned, OutOfMemory>
         requires plan { plan.now ≡ J.plan }
         requires limits { tape.now.limits.items ≤ most_items }
-        requires desk { IsSound D.is_image D.faults D.strict D.armed D.content D.synced D.written J.strict plan.now tape.now self.old.actor self.old.seat self.old.slot self.old.commands self.old.gone }
+        requires desk { IsSound D.Disk J.strict plan.now tape.now self.old.actor self.old.seat self.old.slot self.old.commands self.old.gone }
         ensures same { (self.new.actor ≡ self.old.actor) × (self.new.commands ≡ self.old.commands) }
-        ensures ok { OnOk result (IsSound D.is_image D.faults D.strict D.armed D.content D.synced D.written J.strict plan.now tape.now self.new.actor self.new.seat self.new.slot self.new.commands self.new.gone) }
+        ensures ok { OnOk result (IsSound D.Disk J.strict plan.now tape.now self.new.actor self.new.seat self.new.slot self.new.commands self.new.gone) }
         ensures err { OnErr result (IsSeated tape.now self.new.actor no_hold self.new.seat) }
         ensures came { IfOk result (λ turned. CameTo plan.now tape.now self.old.actor self.old.commands turned self.old.seat.mine self.old.gone self.new.seat self.new.gone) }
     {

@@ -1,3 +1,4 @@
+pub mod Appended
 pub mod Journals
 pub mod Keeping
 pub mod NodeRestarts

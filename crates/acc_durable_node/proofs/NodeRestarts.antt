@@ -4,7 +4,8 @@ use Rattle.std.specs.Prelude.{IsTrue, IfOk, OnOk}
 use Rattle.std.specs.declared.alloc.Global.{Global}
 use Rattle.acc_base.specs.declared.memory.OutOfMemory.{OutOfMemory as NoMemory}
 use Rattle.acc_topology.specs.Layout.{Layout}
-use Rattle.acc_ports.specs.Strict.{Ranges, LeftByChoice}
+use Rattle.acc_ports.specs.Disk.{CrashLeaves}
+use Rattle.acc_ports.specs.declared.disk.Disk.{Ghosts}
 use Rattle.acc_message.specs.NodeRules.{Act, Restarts}
 use Rattle.acc_journal.specs.Layout.{Reads}
 use Rattle.acc_journal.specs.Journal.{keeps_group}
@@ -25,7 +26,7 @@ use Rattle.acc_durable_node.proofs.Nodes.{by_own, journal_up, kept_up}
 
 -- ---- the reopened node
 
-module _ {D : Type 0} (images : D → List ℕ → Type 0) (layout : Layout) (number start version : ℕ) (past : Past Act) (content : List ℕ) (n : DurableNode D) (kept : ℕ)
+module _ {D : Type 0} (port : Ghosts D) (layout : Layout) (number start version : ℕ) (past : Past Act) (content : List ℕ) (n : DurableNode D) (kept : ℕ)
     (reads : Reads content n.journal.payloads) (given : (n.number ≡ number) × (n.start ≡ start) × (n.version ≡ version))
     (restarts : (acts : List Act) (payloads : List (List ℕ)) → Reads content payloads → IsJournal layout number start version payloads acts → durable.StandsFor layout n (Restarts ∷ acts))
     (count : kept ≡ count_of past) (small : kept < 2 ^ 64 - 1) where
@@ -46,7 +47,7 @@ module _ {D : Type 0} (images : D → List ℕ → Type 0) (layout : Layout) (nu
     many : n.kept ≡ count_of (kept_if keeps past)
     many = kept_up layout number start version now n up
 
-    found_if : ((image : List ℕ) → images n.journal.disk image → Reads image n.journal.payloads) → IsFound images layout number start version past (Some (ltb kept n.kept)) (Open n)
+    found_if : ((image : List ℕ) → port.is_image n.journal.disk image → Reads image n.journal.payloads) → IsFound port layout number start version past (Some (ltb kept n.kept)) (Open n)
     found_if lasts =
         let same : kept_if keeps past ≡ kept_if (ltb kept n.kept) past = sym (more_is keeps past kept n.kept count small many) in
         record {
@@ -58,14 +59,14 @@ module _ {D : Type 0} (images : D → List ℕ → Type 0) (layout : Layout) (nu
     pub tells_if : TellsByChoice keeps past.stopped (Some (ltb kept n.kept))
     tells_if = tells keeps past kept n.kept count small many
 
-  pub found_up : IsLeft (IsJournal layout number start version) past content → ((image : List ℕ) → images n.journal.disk image → Reads image n.journal.payloads)
-      → IsFound images layout number start version past (Some (ltb kept n.kept)) (Open n)
+  pub found_up : IsLeft (IsJournal layout number start version) past content → ((image : List ℕ) → port.is_image n.journal.disk image → Reads image n.journal.payloads)
+      → IsFound port layout number start version past (Some (ltb kept n.kept)) (Open n)
   found_up (inl r) lasts = found_if false r lasts
   found_up (inr r) lasts = found_if true r lasts
 
-pub found_down : {D : Type 0} (images : D → List ℕ → Type 0) (layout : Layout) (number start version : ℕ) (past : Past Act) (content : List ℕ) (disk : D)
-    → IsLeft (IsJournal layout number start version) past content → ((image : List ℕ) → images disk image → image ≡ content) → IsFound images layout number start version past None (Shut disk)
-found_down images layout number start version past content disk left only = record {
+pub found_down : {D : Type 0} (port : Ghosts D) (layout : Layout) (number start version : ℕ) (past : Past Act) (content : List ℕ) (disk : D)
+    → IsLeft (IsJournal layout number start version) past content → ((image : List ℕ) → port.is_image disk image → image ≡ content) → IsFound port layout number start version past None (Shut disk)
+found_down port layout number start version past content disk left only = record {
   left = λ image i. subst (IsLeft (IsJournal layout number start version) past) (sym (only image i)) left;
   up = λ sound. absurd (let e : true ≡ false = sound in cc);
 }
@@ -76,13 +77,13 @@ none_up : {D : Type 0} (layout : Layout) (number start version : ℕ) (past : Pa
 none_up layout number start version past (Open n) is_up = is_up.none_stopped
 none_up layout number start version past (Shut disk) is_up = absurd is_up
 
-module _ {D : Type 0} (images : D → List ℕ → Type 0) (layout : Layout) (old : NodeActor D) (number start version : ℕ) (past : Past Act) (stands : StandsFor images layout number start version past old) (state : NodeState D) (kept : ℕ) where
+module _ {D : Type 0} (port : Ghosts D) (layout : Layout) (old : NodeActor D) (number start version : ℕ) (past : Past Act) (stands : StandsFor port layout number start version past old) (state : NodeState D) (kept : ℕ) where
   abbrev new : Vec Unsent Global → NodeActor D
   new items = record old { state = state; stopped = items; kept = kept }
 
   module _ (p : Past Act) (none : p.stopped ≡ []) (shut : is_shut state ≡ false) (v : Vec Unsent Global) (empty : v.items ≡ [])
-      (left : (image : List ℕ) → images (disk_in state) image → IsLeft (IsJournal layout number start version) p image) (up : is_shut state ≡ false → IsUpIn layout number start version p state) where
-    up_stands : StandsFor images layout number start version p (new v)
+      (left : (image : List ℕ) → port.is_image (disk_in state) image → IsLeft (IsJournal layout number start version) p image) (up : is_shut state ≡ false → IsUpIn layout number start version p state) where
+    up_stands : StandsFor port layout number start version p (new v)
     up_stands = record {
       number_is = stands.number_is;
       start_is = stands.start_is;
@@ -93,15 +94,15 @@ module _ {D : Type 0} (images : D → List ℕ → Type 0) (layout : Layout) (ol
       kept_is = λ broken. absurd (not_both (is_shut state) broken shut);
     }
 
-  found_stands : (more : Bool) → is_shut state ≡ false → IsFound images layout number start version past (Some more) state → (v : Vec Unsent Global) → v.items ≡ []
-      → StandsFor images layout number start version (with_act Restarts (kept_if more past)) (new v)
+  found_stands : (more : Bool) → is_shut state ≡ false → IsFound port layout number start version past (Some more) state → (v : Vec Unsent Global) → v.items ≡ []
+      → StandsFor port layout number start version (with_act Restarts (kept_if more past)) (new v)
   found_stands more shut f v empty = up_stands (with_act Restarts (kept_if more past)) (none_after more past) shut v empty f.left f.up
 
-  pub restarts_ok : (found : Result (Option Bool) NoMemory) (v : Vec Unsent Global) → v.items ≡ (told found old.stopped.items).1 → IfOk found (λ f. is_shut state ≡ is_none f) → IfOk found (λ f. IsFound images layout number start version past f state) → kept ≡ count_of past
-      → IfOk (told found old.stopped.items).0 (λ q. KeptIn layout number start past q × StandsFor images layout number start version (past_after q past) (new v))
+  pub restarts_ok : (found : Result (Option Bool) NoMemory) (v : Vec Unsent Global) → v.items ≡ (told found old.stopped.items).1 → IfOk found (λ f. is_shut state ≡ is_none f) → IfOk found (λ f. IsFound port layout number start version past f state) → kept ≡ count_of past
+      → IfOk (told found old.stopped.items).0 (λ q. KeptIn layout number start past q × StandsFor port layout number start version (past_after q past) (new v))
   restarts_ok (Ok (Some true)) v v_is shut f count = (
     kept_is (emits_next layout number start) past old.stopped.items stands.unsent,
-    subst (λ (p : Past Act). StandsFor images layout number start version (with_act Restarts p) (new v)) (told_past (emits_next layout number start) past old.stopped.items stands.unsent) (found_stands true shut f v v_is),
+    subst (λ (p : Past Act). StandsFor port layout number start version (with_act Restarts p) (new v)) (told_past (emits_next layout number start) past old.stopped.items stands.unsent) (found_stands true shut f v v_is),
   )
   restarts_ok (Ok (Some false)) v v_is shut f count = (tt, found_stands false shut f v v_is)
   restarts_ok (Ok None) v v_is shut f count = (
@@ -120,19 +121,19 @@ module _ {D : Type 0} (images : D → List ℕ → Type 0) (layout : Layout) (ol
 
   -- with what the reopening tells
   pub restarted : (found : Result (Option Bool) NoMemory) (v : Vec Unsent Global) (disk : D) → v.items ≡ (told found old.stopped.items).1 → disk ≡ disk_of old → kept ≡ count_of past → IfOk found (λ f. is_shut state ≡ is_none f)
-      → IfOk found (λ f. (l : Layout) (p : Past Act) → ((image : List ℕ) → images disk image → IsLeft (IsJournal l old.name.number old.name.start old.name.version) p image) → kept ≡ count_of p → IsFound images l old.name.number old.name.start old.name.version p f state)
-      → IfOk (told found old.stopped.items).0 (λ q. KeptIn layout number start past q × StandsFor images layout number start version (past_after q past) (new v))
+      → IfOk found (λ f. (l : Layout) (p : Past Act) → ((image : List ℕ) → port.is_image disk image → IsLeft (IsJournal l old.name.number old.name.start old.name.version) p image) → kept ≡ count_of p → IsFound port l old.name.number old.name.start old.name.version p f state)
+      → IfOk (told found old.stopped.items).0 (λ q. KeptIn layout number start past q × StandsFor port layout number start version (past_after q past) (new v))
   restarted found v disk v_is same count shut finds =
-      let left : (image : List ℕ) → images disk image → IsLeft (IsJournal layout old.name.number old.name.start old.name.version) past image = λ image i.
-      by_own (λ a b c. IsLeft (IsJournal layout a b c) past image) number start version old.name.number old.name.start old.name.version (sym stands.number_is) (sym stands.start_is) (sym stands.version_is) (stands.left image (subst (λ (d : D). images d image) same i)) in
+      let left : (image : List ℕ) → port.is_image disk image → IsLeft (IsJournal layout old.name.number old.name.start old.name.version) past image = λ image i.
+      by_own (λ a b c. IsLeft (IsJournal layout a b c) past image) number start version old.name.number old.name.start old.name.version (sym stands.number_is) (sym stands.start_is) (sym stands.version_is) (stands.left image (subst (λ (d : D). port.is_image d image) same i)) in
       restarts_ok found v v_is shut
-      (if_all found _ _ (λ f found_by. by_own (λ a b c. IsFound images layout a b c past f state) old.name.number old.name.start old.name.version number start version stands.number_is stands.start_is stands.version_is (found_by layout past left count)) finds) count
+      (if_all found _ _ (λ f found_by. by_own (λ a b c. IsFound port layout a b c past f state) old.name.number old.name.start old.name.version number start version stands.number_is stands.start_is stands.version_is (found_by layout past left count)) finds) count
 
   -- over a strict disk
-  module _ (strict : D → Bool) (armed_of : D → Option ℕ) (content synced : D → List ℕ) (written : D → Ranges) (armed passed : Option ℕ)
-      (at : IsStrictAt strict armed_of content synced written layout number start version armed passed past old) (choice : ℕ) where
+  module _ (armed passed : Option ℕ)
+      (at : IsStrictAt port layout number start version armed passed past old) (choice : ℕ) where
     -- what the choice leaves
-    pub by_choice : (bytes : List ℕ) → images (disk_of old) bytes → LeftByChoice choice (content (disk_of old)) (synced (disk_of old)) (written (disk_of old)) bytes
+    pub by_choice : (bytes : List ℕ) → port.is_image (disk_of old) bytes → CrashLeaves choice (port.state (disk_of old)) bytes
         → ReadsIf (IsJournal layout number start version) past (keeps_group passed choice) bytes
     by_choice bytes i by = of (is_down old) refl
       where
@@ -144,40 +145,40 @@ module _ {D : Type 0} (images : D → List ℕ → Type 0) (layout : Layout) (ol
         of true e = at.left e choice bytes by
         of false e = same (none_up layout number start version past old.state (stands.up e)) (stands.left bytes i)
 
-    strict_now : (v : Vec Unsent Global) (p : Past Act) → is_shut state ≡ false → strict (disk_in state) ≡ strict (disk_of old) → armed_of (disk_in state) ≡ None
-        → IsStrictAt strict armed_of content synced written layout number start version None None p (new v)
+    strict_now : (v : Vec Unsent Global) (p : Past Act) → is_shut state ≡ false → (port.state (disk_in state)).strict ≡ (port.state (disk_of old)).strict → (port.state (disk_in state)).armed ≡ None
+        → IsStrictAt port layout number start version None None p (new v)
     strict_now v p shut kind unarmed = record {
       is_strict = subst IsTrue (sym kind) at.is_strict;
       armed_is = λ _. unarmed;
       left = λ broken. absurd (not_both (is_shut state) broken shut);
     }
 
-    pub restarts_strictly : (found : Result (Option Bool) NoMemory) (v : Vec Unsent Global) → IfOk found (λ f. is_shut state ≡ is_none f) → strict (disk_in state) ≡ strict (disk_of old)
-        → OnOk found (armed_of (disk_in state) ≡ None) → IfOk found (TellsByChoice (keeps_group passed choice) past.stopped)
+    pub restarts_strictly : (found : Result (Option Bool) NoMemory) (v : Vec Unsent Global) → IfOk found (λ f. is_shut state ≡ is_none f) → (port.state (disk_in state)).strict ≡ (port.state (disk_of old)).strict
+        → OnOk found ((port.state (disk_in state)).armed ≡ None) → IfOk found (TellsByChoice (keeps_group passed choice) past.stopped)
         → IfOk (told found old.stopped.items).0 (λ q. KeepsByChoice passed choice past.stopped q
-        × IsStrictAt strict armed_of content synced written layout number start version None None (past_after q past) (new v))
+        × IsStrictAt port layout number start version None None (past_after q past) (new v))
     restarts_strictly (Ok (Some true)) v shut kind unarmed by = (told_some (emits_next layout number start) past past.stopped old.stopped.items stands.unsent ∙ by, strict_now v (past_after (Up old.stopped.items) past) shut kind unarmed)
     restarts_strictly (Ok (Some false)) v shut kind unarmed by = (by, strict_now v (past_after (Up []) past) shut kind unarmed)
     restarts_strictly (Ok None) v shut kind unarmed by = absurd by
     restarts_strictly (Err e) v shut kind unarmed by = tt
 
     -- with what the reopening tells
-    pub restarted_strictly : (found : Result (Option Bool) NoMemory) (v : Vec Unsent Global) (disk : D) → disk ≡ disk_of old → kept ≡ count_of past → IfOk found (λ f. is_shut state ≡ is_none f) → strict (disk_in state) ≡ strict disk
-        → (IsTrue (strict disk) → OnOk found (armed_of (disk_in state) ≡ None))
-        → (IsTrue (strict disk) → (l : Layout) (p : Past Act) (keeps : Bool) → ((bytes : List ℕ) → images disk bytes → LeftByChoice choice (content disk) (synced disk) (written disk) bytes
+    pub restarted_strictly : (found : Result (Option Bool) NoMemory) (v : Vec Unsent Global) (disk : D) → disk ≡ disk_of old → kept ≡ count_of past → IfOk found (λ f. is_shut state ≡ is_none f) → (port.state (disk_in state)).strict ≡ (port.state disk).strict
+        → (IsTrue (port.state disk).strict → OnOk found ((port.state (disk_in state)).armed ≡ None))
+        → (IsTrue (port.state disk).strict → (l : Layout) (p : Past Act) (keeps : Bool) → ((bytes : List ℕ) → port.is_image disk bytes → CrashLeaves choice (port.state disk) bytes
         → ReadsIf (IsJournal l old.name.number old.name.start old.name.version) p keeps bytes) → kept ≡ count_of p → IfOk found (TellsByChoice keeps p.stopped))
         → IfOk (told found old.stopped.items).0 (λ q. KeepsByChoice passed choice past.stopped q
-        × IsStrictAt strict armed_of content synced written layout number start version None None (past_after q past) (new v))
+        × IsStrictAt port layout number start version None None (past_after q past) (new v))
     restarted_strictly found v disk same count shut kind unarmed tells_by =
-        let is_strict : IsTrue (strict disk) = subst (λ (d : D). IsTrue (strict d)) (sym same) at.is_strict in
-        let by : (bytes : List ℕ) → images disk bytes → LeftByChoice choice (content disk) (synced disk) (written disk) bytes → ReadsIf (IsJournal layout old.name.number old.name.start old.name.version) past (keeps_group passed choice) bytes = λ bytes i chosen.
+        let is_strict : IsTrue (port.state disk).strict = subst (λ (d : D). IsTrue (port.state d).strict) (sym same) at.is_strict in
+        let by : (bytes : List ℕ) → port.is_image disk bytes → CrashLeaves choice (port.state disk) bytes → ReadsIf (IsJournal layout old.name.number old.name.start old.name.version) past (keeps_group passed choice) bytes = λ bytes i chosen.
         by_own (λ a b c. ReadsIf (IsJournal layout a b c) past (keeps_group passed choice) bytes) number start version old.name.number old.name.start old.name.version (sym stands.number_is) (sym stands.start_is) (sym stands.version_is)
-        (by_choice bytes (subst (λ (d : D). images d bytes) same i) (subst (λ (d : D). LeftByChoice choice (content d) (synced d) (written d) bytes) same chosen)) in
-        restarts_strictly found v shut (kind ∙ ap strict same) (unarmed is_strict) (tells_by is_strict layout past (keeps_group passed choice) by count)
+        (by_choice bytes (subst (λ (d : D). port.is_image d bytes) same i) (subst (λ (d : D). CrashLeaves choice (port.state d) bytes) same chosen)) in
+        restarts_strictly found v shut (kind ∙ ap (λ (d : D). (port.state d).strict) same) (unarmed is_strict) (tells_by is_strict layout past (keeps_group passed choice) by count)
 
 -- for every past
-pub for_all : {D : Type 0} (images : D → List ℕ → Type 0) (old new : NodeActor D) (result : Result Restarted NoMemory)
-    → ((layout : Layout) (number start version : ℕ) (past : Past Act) → StandsFor images layout number start version past old → IfOk result (λ q. KeptIn layout number start past q × StandsFor images layout number start version (past_after q past) new))
-    → IfOk result (λ q. (layout : Layout) (number start version : ℕ) (past : Past Act) → StandsFor images layout number start version past old → KeptIn layout number start past q × StandsFor images layout number start version (past_after q past) new)
-for_all images old new (Ok q) all = all
-for_all images old new (Err e) all = tt
+pub for_all : {D : Type 0} (port : Ghosts D) (old new : NodeActor D) (result : Result Restarted NoMemory)
+    → ((layout : Layout) (number start version : ℕ) (past : Past Act) → StandsFor port layout number start version past old → IfOk result (λ q. KeptIn layout number start past q × StandsFor port layout number start version (past_after q past) new))
+    → IfOk result (λ q. (layout : Layout) (number start version : ℕ) (past : Past Act) → StandsFor port layout number start version past old → KeptIn layout number start past q × StandsFor port layout number start version (past_after q past) new)
+for_all port old new (Ok q) all = all
+for_all port old new (Err e) all = tt

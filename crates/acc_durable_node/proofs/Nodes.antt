@@ -7,6 +7,7 @@ use Rattle.acc_stamp.specs.declared.stamps.TxnId.{TxnId}
 use Rattle.acc_stamp.specs.Clock.{ClockState}
 use Rattle.acc_topology.specs.Layout.{Layout}
 use Rattle.acc_txn.specs.declared.parts.BodyParts.{BodyParts}
+use Rattle.acc_ports.specs.declared.disk.Disk.{Ghosts}
 use Rattle.acc_message.specs.declared.entry.Emitted.{Emitted}
 use Rattle.acc_message.specs.declared.message.Message.{Message}
 use Rattle.acc_message.specs.NodeRules.{Act, Begins, Recovers, Slows, Takes as TakesMessage, Restarts, Deed, clock_of, begun_id, attempt_of, node_emits, node_replay}
@@ -87,8 +88,8 @@ undrawn layout number start version (Slows x) acts payloads nothing j = record {
 undrawn layout number start version (TakesMessage m) acts payloads nothing j = record { items = j.items; journal = j.journal; drawn = j.drawn }
 undrawn layout number start version Restarts acts payloads nothing j = record { items = j.items; journal = j.journal; drawn = j.drawn }
 
-module _ {D : Type 0} (images : D → List ℕ → Type 0) (layout : Layout) (old : NodeActor D) (n after : DurableNode D) (is : old.state ≡ Open n) (sound : is_down old ≡ false) (number start version : ℕ) (past : Past Act)
-    (stands : StandsFor images layout number start version past old) (same : durable.IsSameActor n after) (journal_is : after.journal ≡ n.journal) where
+module _ {D : Type 0} (port : Ghosts D) (layout : Layout) (old : NodeActor D) (n after : DurableNode D) (is : old.state ≡ Open n) (sound : is_down old ≡ false) (number start version : ℕ) (past : Past Act)
+    (stands : StandsFor port layout number start version past old) (same : durable.IsSameActor n after) (journal_is : after.journal ≡ n.journal) where
   up_now : IsUp layout number start version past n
   up_now = up_in layout number start version past old.state n is (stands.up sound)
 
@@ -98,14 +99,14 @@ module _ {D : Type 0} (images : D → List ℕ → Type 0) (layout : Layout) (ol
   abbrev later : NodeActor D
   later = record old { state = Open after }
 
-  module _ (p : Past Act) (none : p.stopped ≡ []) (held : p.held ≡ past.held) (left : (image : List ℕ) → images (disk_of old) image → IsLeft (IsJournal layout number start version) p image)
+  module _ (p : Past Act) (none : p.stopped ≡ []) (held : p.held ≡ past.held) (left : (image : List ℕ) → port.is_image (disk_of old) image → IsLeft (IsJournal layout number start version) p image)
       (d : durable.StandsFor layout after p.acts) where
-    pub later_stands : StandsFor images layout number start version p later
+    pub later_stands : StandsFor port layout number start version p later
     later_stands = record {
       number_is = stands.number_is;
       start_is = stands.start_is;
       version_is = stands.version_is;
-      left = λ image i. left image (subst (λ (disk : D). images disk image) disk_is i);
+      left = λ image i. left image (subst (λ (disk : D). port.is_image disk image) disk_is i);
       unsent = none_unsent (emits_next layout number start) p p.stopped old.stopped.items none
           (none_items (emits_next layout number start) past past.stopped old.stopped.items up_now.none_stopped stands.unsent);
       up = λ _. record {
@@ -120,7 +121,7 @@ module _ {D : Type 0} (images : D → List ℕ → Type 0) (layout : Layout) (ol
     }
 
   -- it took an act
-  pub takes_on : (act : Act) (emitted : Emitted) → DrawsNothing act → durable.Takes layout n after past.acts act emitted → Takes images layout number start version past act later emitted
+  pub takes_on : (act : Act) (emitted : Emitted) → DrawsNothing act → durable.Takes layout n after past.acts act emitted → Takes port layout number start version past act later emitted
   takes_on act emitted nothing takes = record {
     emits = by_own (λ a b c. emitted ≡ node_emits layout a b (node_replay layout a b past.acts) act) n.number n.start n.version number start version up_now.number_is up_now.start_is up_now.version_is takes.emits;
     stands = later_stands (with_act act past) up_now.none_stopped refl
@@ -128,7 +129,7 @@ module _ {D : Type 0} (images : D → List ℕ → Type 0) (layout : Layout) (ol
   }
 
   -- it is as before
-  pub as_before : durable.StandsFor layout after past.acts → StandsFor images layout number start version past later
+  pub as_before : durable.StandsFor layout after past.acts → StandsFor port layout number start version past later
   as_before d = later_stands past up_now.none_stopped refl stands.left d
 
 -- ---- what a call needs
@@ -146,16 +147,16 @@ pub record CanBegin {D : Type 0} (n : DurableNode D) (txn : ℕ) : Type 0 where
   pub low : durable.IsLow n.node.clock
   pub fresh : get nat_cmp n.node.begun txn ≡ None
 
-module _ {D : Type 0} (images : D → List ℕ → Type 0) (layout : Layout) (old : NodeActor D) (n : DurableNode D) (is : old.state ≡ Open n) (sound : is_down old ≡ false) where
-  pub can_begin : (txn : ℕ) → MayBegin images layout old txn → CanBegin n txn
+module _ {D : Type 0} (port : Ghosts D) (layout : Layout) (old : NodeActor D) (n : DurableNode D) (is : old.state ≡ Open n) (sound : is_down old ≡ false) where
+  pub can_begin : (txn : ℕ) → MayBegin port layout old txn → CanBegin n txn
   can_begin txn may =
       let up : IsUp layout may.number may.start may.version may.past n = up_in layout may.number may.start may.version may.past old.state n is (may.stands.up sound) in
       record { low = low_now layout may.number may.start may.version may.past n up may.low; fresh = begun_up layout may.number may.start may.version may.past n up txn ∙ may.fresh }
 
-  pub can_recover : MayRecover images layout old → durable.IsLow n.node.clock
+  pub can_recover : MayRecover port layout old → durable.IsLow n.node.clock
   can_recover may = low_now layout may.number may.start may.version may.past n (up_in layout may.number may.start may.version may.past old.state n is (may.stands.up sound)) may.low
 
-  module _ (txn : ℕ) (small : txn < 2 ^ 32) (number start version : ℕ) (past : Past Act) (stands : StandsFor images layout number start version past old) where
+  module _ (txn : ℕ) (small : txn < 2 ^ 32) (number start version : ℕ) (past : Past Act) (stands : StandsFor port layout number start version past old) where
     up_here : IsUp layout number start version past n
     up_here = up_in layout number start version past old.state n is (stands.up sound)
 
@@ -174,15 +175,15 @@ module _ {D : Type 0} (images : D → List ℕ → Type 0) (layout : Layout) (ol
 
 -- ---- steps that aren't journalled, for every past
 
-module _ {D E : Type 0} (images : D → List ℕ → Type 0) (layout : Layout) (old : NodeActor D) (n after : DurableNode D) (is : old.state ≡ Open n) (sound : is_down old ≡ false) (same : durable.IsSameActor n after) (journal_is : after.journal ≡ n.journal) where
+module _ {D E : Type 0} (port : Ghosts D) (layout : Layout) (old : NodeActor D) (n after : DurableNode D) (is : old.state ≡ Open n) (sound : is_down old ≡ false) (same : durable.IsSameActor n after) (journal_is : after.journal ≡ n.journal) where
   pub take_all : (m : Message) (r : Result Emitted E) → IfOk r (λ emitted. (acts : List Act) → durable.StandsFor layout n acts → durable.Takes layout n after acts (TakesMessage m) emitted)
-      → IfOk r (λ emitted. (number start version : ℕ) (past : Past Act) → StandsFor images layout number start version past old → Takes images layout number start version past (TakesMessage m) (record old { state = Open after }) emitted)
+      → IfOk r (λ emitted. (number start version : ℕ) (past : Past Act) → StandsFor port layout number start version past old → Takes port layout number start version past (TakesMessage m) (record old { state = Open after }) emitted)
   take_all m (Ok emitted) ok = λ number start version past stands.
-      takes_on images layout old n after is sound number start version past stands same journal_is (TakesMessage m) emitted tt (ok past.acts (up_in layout number start version past old.state n is (stands.up sound)).stands)
+      takes_on port layout old n after is sound number start version past stands same journal_is (TakesMessage m) emitted tt (ok past.acts (up_in layout number start version past old.state n is (stands.up sound)).stands)
   take_all m (Err e) ok = tt
 
   pub slow_all : (txn : ℕ) (r : Result Emitted E) → IfOk r (λ emitted. (acts : List Act) → durable.StandsFor layout n acts → durable.HasSlowed layout n after acts txn emitted)
-      → IfOk r (λ emitted. (number start version : ℕ) (past : Past Act) → StandsFor images layout number start version past old → HasSlowed images layout number start version past txn (record old { state = Open after }) emitted)
+      → IfOk r (λ emitted. (number start version : ℕ) (past : Past Act) → StandsFor port layout number start version past old → HasSlowed port layout number start version past txn (record old { state = Open after }) emitted)
   slow_all txn (Ok emitted) ok = λ number start version past stands.
       let up : IsUp layout number start version past n = up_in layout number start version past old.state n is (stands.up sound) in
       let slowed : durable.HasSlowed layout n after past.acts txn emitted = ok past.acts up.stands in
@@ -191,6 +192,6 @@ module _ {D E : Type 0} (images : D → List ℕ → Type 0) (layout : Layout) (
         begun = own_fact layout number start version past n (λ a b p. begun_id a b txn p ≡ Some slowed.id) up slowed.begun;
         waits = own_fact layout number start version past n (λ a b p. is_first_voting (attempt_of layout a b slowed.id p) ≡ true) up slowed.waits;
         majority = own_fact layout number start version past n (λ a b p. has_majority layout slowed.id (attempt_of layout a b slowed.id p) ≡ true) up slowed.majority;
-        takes = takes_on images layout old n after is sound number start version past stands same journal_is (Slows slowed.id) emitted tt slowed.takes;
+        takes = takes_on port layout old n after is sound number start version past stands same journal_is (Slows slowed.id) emitted tt slowed.takes;
       }
   slow_all txn (Err e) ok = tt

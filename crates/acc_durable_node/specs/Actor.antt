@@ -6,7 +6,8 @@ use Rattle.acc_stamp.specs.declared.stamps.TxnId.{TxnId}
 use Rattle.acc_base.specs.declared.memory.OutOfMemory.{OutOfMemory}
 use Rattle.acc_topology.specs.Layout.{Layout}
 use Rattle.acc_txn.specs.declared.parts.BodyParts.{BodyParts}
-use Rattle.acc_ports.specs.Strict.{Ranges, LeftByChoice}
+use Rattle.acc_ports.specs.Disk.{CrashLeaves}
+use Rattle.acc_ports.specs.declared.disk.Disk.{Ghosts}
 use Rattle.acc_message.specs.declared.entry.Event.{Event}
 use Rattle.acc_message.specs.declared.entry.Event.TheVariants.{Begin as BeginEvent, Recover as RecoverEvent}
 use Rattle.acc_message.specs.declared.entry.Emitted.{Emitted}
@@ -90,11 +91,11 @@ abbrev pub IsUpIn : {D : Type 0} → Layout → ℕ → ℕ → ℕ → Past Act
 IsUpIn layout number start version past (Open n) = IsUp layout number start version past n
 IsUpIn layout number start version past (Shut disk) = ⊥
 
-pub record StandsFor {D : Type 0} (images : D → List ℕ → Type 0) (layout : Layout) (number start version : ℕ) (past : Past Act) (actor : NodeActor D) : Type 0 where
+pub record StandsFor {D : Type 0} (port : Ghosts D) (layout : Layout) (number start version : ℕ) (past : Past Act) (actor : NodeActor D) : Type 0 where
   pub number_is : actor.name.number ≡ number
   pub start_is : actor.name.start ≡ start
   pub version_is : actor.name.version ≡ version
-  pub left : (image : List ℕ) → images (disk_of actor) image → IsLeft (IsJournal layout number start version) past image
+  pub left : (image : List ℕ) → port.is_image (disk_of actor) image → IsLeft (IsJournal layout number start version) past image
   pub unsent : IsUnsent (emits_next layout number start) past past.stopped actor.stopped.items
   pub up : is_down actor ≡ false → IsUpIn layout number start version past actor.state
   pub kept_is : is_down actor ≡ true → actor.kept ≡ count_of past
@@ -102,51 +103,51 @@ pub record StandsFor {D : Type 0} (images : D → List ℕ → Type 0) (layout :
 -- ---- what calls need
 
 -- it may draw
-pub record MayRecover {D : Type 0} (images : D → List ℕ → Type 0) (layout : Layout) (actor : NodeActor D) : Type 0 where
+pub record MayRecover {D : Type 0} (port : Ghosts D) (layout : Layout) (actor : NodeActor D) : Type 0 where
   pub number : ℕ
   pub start : ℕ
   pub version : ℕ
   pub past : Past Act
-  pub stands : StandsFor images layout number start version past actor
+  pub stands : StandsFor port layout number start version past actor
   pub low : MayDraw number start (done layout number start past)
 
 -- it may draw, and hasn't begun the transaction
-pub record MayBegin {D : Type 0} (images : D → List ℕ → Type 0) (layout : Layout) (actor : NodeActor D) (txn : ℕ) : Type 0 where
+pub record MayBegin {D : Type 0} (port : Ghosts D) (layout : Layout) (actor : NodeActor D) (txn : ℕ) : Type 0 where
   pub number : ℕ
   pub start : ℕ
   pub version : ℕ
   pub past : Past Act
-  pub stands : StandsFor images layout number start version past actor
+  pub stands : StandsFor port layout number start version past actor
   pub low : MayDraw number start (done layout number start past)
   pub fresh : begun_id number start txn (done layout number start past) ≡ None
 
 -- ---- what calls leave
 
 -- A step that is journalled: what is given is what the rules say, and the actor has then taken it, or a fault has stopped it.
-pub record Steps {D : Type 0} (images : D → List ℕ → Type 0) (layout : Layout) (number start version : ℕ) (past : Past Act) (stop : Stop Act) (new : NodeActor D) (given : Option Emitted) : Type 0 where
+pub record Steps {D : Type 0} (port : Ghosts D) (layout : Layout) (number start version : ℕ) (past : Past Act) (stop : Stop Act) (new : NodeActor D) (given : Option Emitted) : Type 0 where
   pub emits : IfSome given (λ emitted. emitted ≡ emits_next layout number start past stop.act)
-  pub stands : StandsFor images layout number start version (after_step given past stop) new
+  pub stands : StandsFor port layout number start version (after_step given past stop) new
 
 -- it gives what the rules say, and has then taken the act, which isn't journalled
-pub record Takes {D : Type 0} (images : D → List ℕ → Type 0) (layout : Layout) (number start version : ℕ) (past : Past Act) (act : Act) (new : NodeActor D) (emitted : Emitted) : Type 0 where
+pub record Takes {D : Type 0} (port : Ghosts D) (layout : Layout) (number start version : ℕ) (past : Past Act) (act : Act) (new : NodeActor D) (emitted : Emitted) : Type 0 where
   pub emits : emitted ≡ emits_next layout number start past act
-  pub stands : StandsFor images layout number start version (with_act act past) new
+  pub stands : StandsFor port layout number start version (with_act act past) new
 
 -- it gives the fast path of the first attempt at a transaction up that it has begun
-pub record HasSlowed {D : Type 0} (images : D → List ℕ → Type 0) (layout : Layout) (number start version : ℕ) (past : Past Act) (txn : ℕ) (new : NodeActor D) (emitted : Emitted) : Type 0 where
+pub record HasSlowed {D : Type 0} (port : Ghosts D) (layout : Layout) (number start version : ℕ) (past : Past Act) (txn : ℕ) (new : NodeActor D) (emitted : Emitted) : Type 0 where
   pub id : TxnId
   pub begun : begun_id number start txn (done layout number start past) ≡ Some id
   pub waits : is_first_voting (attempt_of layout number start id (done layout number start past)) ≡ true
   pub majority : has_majority layout id (attempt_of layout number start id (done layout number start past)) ≡ true
-  pub takes : Takes images layout number start version past (Slows id) new emitted
+  pub takes : Takes port layout number start version past (Slows id) new emitted
 
 -- Restarted: the journal has more payloads than were held, or not; or the disk failed.
 abbrev pub past_found : Option Bool → Past Act → Past Act
 past_found (Some more) past = with_act Restarts (kept_if more past)
 past_found None past = past
 
-pub record IsFound {D : Type 0} (images : D → List ℕ → Type 0) (layout : Layout) (number start version : ℕ) (past : Past Act) (found : Option Bool) (state : NodeState D) : Type 0 where
-  pub left : (image : List ℕ) → images (disk_in state) image → IsLeft (IsJournal layout number start version) (past_found found past) image
+pub record IsFound {D : Type 0} (port : Ghosts D) (layout : Layout) (number start version : ℕ) (past : Past Act) (found : Option Bool) (state : NodeState D) : Type 0 where
+  pub left : (image : List ℕ) → port.is_image (disk_in state) image → IsLeft (IsJournal layout number start version) (past_found found past) image
   pub up : is_shut state ≡ false → IsUpIn layout number start version (past_found found past) state
 
 -- with what was kept; or down as before
@@ -171,8 +172,8 @@ IsSettled event kept (Err errors.OutOfMemory) old new result = IsErr result × (
 
 -- The disk is strict. Where the actor is up, this call is armed; where it is down, so many calls of the append that failed passed, and
 -- what a crash by choice leaves follows from that.
-pub record IsStrictAt {D : Type 0} (strict : D → Bool) (armed_of : D → Option ℕ) (content synced : D → List ℕ) (written : D → Ranges) (layout : Layout) (number start version : ℕ) (armed passed : Option ℕ) (past : Past Act) (actor : NodeActor D) : Type 0 where
-  pub is_strict : IsTrue (strict (disk_of actor))
-  pub armed_is : is_down actor ≡ false → armed_of (disk_of actor) ≡ armed
-  pub left : is_down actor ≡ true → (choice : ℕ) (bytes : List ℕ) → LeftByChoice choice (content (disk_of actor)) (synced (disk_of actor)) (written (disk_of actor)) bytes
+pub record IsStrictAt {D : Type 0} (port : Ghosts D) (layout : Layout) (number start version : ℕ) (armed passed : Option ℕ) (past : Past Act) (actor : NodeActor D) : Type 0 where
+  pub is_strict : IsTrue (port.state (disk_of actor)).strict
+  pub armed_is : is_down actor ≡ false → (port.state (disk_of actor)).armed ≡ armed
+  pub left : is_down actor ≡ true → (choice : ℕ) (bytes : List ℕ) → CrashLeaves choice (port.state (disk_of actor)) bytes
       → ReadsIf (IsJournal layout number start version) past (keeps_group passed choice) bytes

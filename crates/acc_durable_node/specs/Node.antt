@@ -1,8 +1,9 @@
 -- When a durable node stands for what it did.
-use Rattle.std.specs.Prelude.{◌≡◌, ◌⊎◌, ℕ, ◌+◌, ◌-◌, ◌^◌, ◌<◌, min, Bool, true, false, List, ◌∷◌, ◌++◌, Some, length}
+use Rattle.std.specs.Prelude.{◌≡◌, ◌⊎◌, ℕ, ◌+◌, ◌-◌, ◌^◌, ◌<◌, min, Bool, true, false, List, ◌∷◌, ◌++◌, Some, Result, Ok, Err, length}
 use Rattle.acc_stamp.specs.declared.stamps.TxnId.{TxnId}
 use Rattle.acc_stamp.specs.Clock.{ClockState}
 use Rattle.acc_topology.specs.Layout.{Layout}
+use Rattle.acc_ports.specs.declared.error.PortError.TheVariants as port
 use Rattle.acc_message.specs.declared.entry.Emitted.{Emitted}
 use Rattle.acc_message.specs.NodeRules.{Act, Slows, Restarts, begun_id, attempt_of, node_emits, node_replay}
 use Rattle.acc_node.specs.declared.node.Node.{Node}
@@ -11,6 +12,7 @@ use Rattle.acc_journal.specs.declared.error.JournalError.{JournalError}
 use Rattle.acc_journal.specs.declared.error.JournalError.TheVariants as journal
 use Rattle.acc_journal.specs.Layout.{Reads, IsForeign, IsCut}
 use Rattle.acc_journal.specs.Journal.{JournalState}
+use Rattle.acc_journal.specs.Calls.{Answer}
 use Rattle.acc_payloads.specs.declared.draw.Purpose.{Purpose}
 use Rattle.acc_payloads.specs.declared.draw.Draw.{Draw}
 use Rattle.acc_payloads.specs.declared.node.NodePayload.{NodePayload}
@@ -128,6 +130,13 @@ Refuses layout old new act (DiskFault unsent) =
     (new.journal.broken ≡ true)
     × ((acts : List Act) → StandsFor layout old acts → unsent ≡ node_emits layout old.number old.start (node_replay layout old.number old.start acts) act)
 Refuses layout old new act OutOfMemory = (new.journal.broken ≡ true) ⊎ (IsAsBefore layout old new × KeepsJournal old new)
+
+-- what the disk answered, where a step answered this; what came before any call of it counts as want of memory
+abbrev pub answer_of : {T : Type 0} → Result T DurableError → Answer
+answer_of (Ok value) = Ok tt
+answer_of (Err Begun) = Err port.OutOfMemory
+answer_of (Err (DiskFault unsent)) = Err port.Failed
+answer_of (Err OutOfMemory) = Err port.OutOfMemory
 
 -- an append failed, and with it a step that would have emitted this
 abbrev pub FailsToAppend : Emitted → Bool → DurableError → Type 0

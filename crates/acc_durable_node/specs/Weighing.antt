@@ -2,6 +2,7 @@
 -- of 64 bits counts.
 use Rattle.std.specs.Prelude.{ℕ, ◌<◌, ◌^◌, List, All}
 use Rattle.acc_topology.specs.Layout.{Layout}
+use Rattle.acc_ports.specs.declared.disk.Disk.{Ghosts}
 use Rattle.acc_message.specs.declared.message.Message.{Message}
 use Rattle.acc_message.specs.NodeRules.{Act, Takes}
 use Rattle.acc_message_code.specs.Short.{IsShortMessage}
@@ -10,11 +11,11 @@ use Rattle.acc_durable_node.specs.declared.actor.NodeActor.{NodeActor}
 use Rattle.acc_payloads.specs.Stops.{Past}
 use Rattle.acc_durable_node.specs.Actor as node
 
-pub record NodeMayWeigh {D : Type 0} (images : D → List ℕ → Type 0) (layout : Layout) (actor : NodeActor D) (m : Message) : Type 0 where
+pub record NodeMayWeigh {D : Type 0} (port : Ghosts D) (layout : Layout) (actor : NodeActor D) (m : Message) : Type 0 where
   pub number : ℕ
   pub start : ℕ
   pub version : ℕ
   pub past : Past Act
-  pub stands : node.StandsFor images layout number start version past actor
+  pub stands : node.StandsFor port layout number start version past actor
   pub short : All IsShortMessage (node.emits_next layout number start past (Takes m)).out
   pub fits : weight_of_all (node.emits_next layout number start past (Takes m)).out < 2 ^ 64

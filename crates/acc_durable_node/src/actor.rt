@@ -1,13 +1,13 @@
 //! A node with its disk.
 ghost use Rattle.std.specs.Prelude.{◌≡◌, ◌≢◌, ◌^◌, ◌<◌, ◌≤◌, ◌↔◌, IsTrue, vec_len, vec_capacity, Bool, true, false, not, List, [], ℕ, Option as Maybe, None, Some, Ok, Err, IfOk, IfErr, OnOk, OnErr, is_none};
 ghost use Rattle.acc_topology.specs.Layout.{Layout};
-ghost use Rattle.acc_ports.specs.Faults.{Rose};
+ghost use Rattle.acc_ports.specs.Disk.{CrashLeaves};
+ghost use Rattle.acc_ports.specs.Faults.{CountsFaults};
 ghost use Rattle.acc_message.specs.Fields.{top_of};
 ghost use Rattle.acc_message.specs.NodeRules.{Act, Takes as TakesMessage};
 ghost use Rattle.acc_node.specs.declared.error.NodeError.{NodeError as Refused};
 ghost use Rattle.acc_node.specs.Stands.{may_slow, is_answered};
 ghost use Rattle.acc_payloads.specs.Appends.{fails_append, after_append, passed_in};
-ghost use Rattle.acc_ports.specs.Strict.{LeftByChoice};
 ghost use Rattle.acc_payloads.specs.Stops.{Past, count_of, IsLeft, ReadsIf, TellsByChoice};
 ghost use Rattle.acc_durable_node.specs.Actor.{IsJournal, IsFound, disk_in, node_in, is_shut};
 
@@ -65,11 +65,11 @@ impl<D: Rig> NodeActor<D> {
         requires sound { node.journal.broken ≡ false }
         requires given { (node.number ≡ number) × (node.start ≡ start) × (node.version ≡ version) }
         ensures stands { (layout : Layout) (acts : List Act) → Durable layout node acts
-            → StandsFor D.is_image layout number start version (record { acts = acts; held = without_marks node.journal.payloads; stopped = [] }) result }
+            → StandsFor D.Disk layout number start version (record { acts = acts; held = without_marks node.journal.payloads; stopped = [] }) result }
         ensures up { is_down result ≡ false }
         ensures disk { disk_of result ≡ node.journal.disk }
-        ensures strict { IsTrue (D.strict node.journal.disk) → (layout : Layout) (passed : Maybe ℕ) (past : Past Act)
-            → IsStrictAt D.strict D.armed D.content D.synced D.written layout number start version (D.armed node.journal.disk) passed past result }
+        ensures strict { IsTrue (D.state node.journal.disk).strict → (layout : Layout) (passed : Maybe ℕ) (past : Past Act)
+            → IsStrictAt D.Disk layout number start version (D.state node.journal.disk).armed passed past result }
     {
         let _sound = node.is_broken();
         NodeActor {
@@ -93,19 +93,17 @@ impl<D: Rig> NodeActor<D> {
         body: &Body,
     ) -> Result<Option<Emitted>, OutOfMemory>
         requires up { is_down self.old ≡ false }
-        requires may { MayBegin D.is_image topology.now self.old txn }
+        requires may { MayBegin D.Disk topology.now self.old txn }
 
-        ensures ok { IfOk result (λ given. (number start version : ℕ) (past : Past Act) → StandsFor D.is_image topology.now number start version past self.old
-            → Steps D.is_image topology.now number start version past (begin_stop topology.now number start past txn body.now) self.new given) }
+        ensures ok { IfOk result (λ given. (number start version : ℕ) (past : Past Act) → StandsFor D.Disk topology.now number start version past self.old
+            → Steps D.Disk topology.now number start version past (begin_stop topology.now number start past txn body.now) self.new given) }
         ensures down { IfOk result (λ given. is_down self.new ≡ is_none given) }
-        ensures counted { D.faults (disk_of self.old) ≤ D.faults (disk_of self.new) }
-        ensures cause { result ≡ Ok None → Rose (D.faults (disk_of self.old)) (D.faults (disk_of self.new)) }
-        ensures unfailed { OnErr result (D.faults (disk_of self.new) ≡ D.faults (disk_of self.old)) }
+        ensures faults { CountsFaults (result ≡ Ok None) (D.state (disk_of self.old)).faults (D.state (disk_of self.new)).faults }
 
-        ensures strict { (number start version : ℕ) (armed passed : Maybe ℕ) (past : Past Act) → StandsFor D.is_image topology.now number start version past self.old
-            → IsStrictAt D.strict D.armed D.content D.synced D.written topology.now number start version armed passed past self.old
+        ensures strict { (number start version : ℕ) (armed passed : Maybe ℕ) (past : Past Act) → StandsFor D.Disk topology.now number start version past self.old
+            → IsStrictAt D.Disk topology.now number start version armed passed past self.old
             → IfOk result (λ given. (is_none given ≡ fails_append armed)
-            × IsStrictAt D.strict D.armed D.content D.synced D.written topology.now number start version (after_append armed) (passed_in armed)
+            × IsStrictAt D.Disk topology.now number start version (after_append armed) (passed_in armed)
             (after_step given past (begin_stop topology.now number start past txn body.now)) self.new) }
     {
         self.stopped.reserve(1)?;
@@ -126,19 +124,17 @@ impl<D: Rig> NodeActor<D> {
         body: &Body,
     ) -> Result<Option<Emitted>, OutOfMemory>
         requires up { is_down self.old ≡ false }
-        requires may { MayRecover D.is_image topology.now self.old }
+        requires may { MayRecover D.Disk topology.now self.old }
 
-        ensures ok { IfOk result (λ given. (number start version : ℕ) (past : Past Act) → StandsFor D.is_image topology.now number start version past self.old
-            → Steps D.is_image topology.now number start version past (recover_stop topology.now number start past txn id body.now) self.new given) }
+        ensures ok { IfOk result (λ given. (number start version : ℕ) (past : Past Act) → StandsFor D.Disk topology.now number start version past self.old
+            → Steps D.Disk topology.now number start version past (recover_stop topology.now number start past txn id body.now) self.new given) }
         ensures down { IfOk result (λ given. is_down self.new ≡ is_none given) }
-        ensures counted { D.faults (disk_of self.old) ≤ D.faults (disk_of self.new) }
-        ensures cause { result ≡ Ok None → Rose (D.faults (disk_of self.old)) (D.faults (disk_of self.new)) }
-        ensures unfailed { OnErr result (D.faults (disk_of self.new) ≡ D.faults (disk_of self.old)) }
+        ensures faults { CountsFaults (result ≡ Ok None) (D.state (disk_of self.old)).faults (D.state (disk_of self.new)).faults }
 
-        ensures strict { (number start version : ℕ) (armed passed : Maybe ℕ) (past : Past Act) → StandsFor D.is_image topology.now number start version past self.old
-            → IsStrictAt D.strict D.armed D.content D.synced D.written topology.now number start version armed passed past self.old
+        ensures strict { (number start version : ℕ) (armed passed : Maybe ℕ) (past : Past Act) → StandsFor D.Disk topology.now number start version past self.old
+            → IsStrictAt D.Disk topology.now number start version armed passed past self.old
             → IfOk result (λ given. (is_none given ≡ fails_append armed)
-            × IsStrictAt D.strict D.armed D.content D.synced D.written topology.now number start version (after_append armed) (passed_in armed)
+            × IsStrictAt D.Disk topology.now number start version (after_append armed) (passed_in armed)
             (after_step given past (recover_stop topology.now number start past txn id body.now)) self.new) }
     {
         self.stopped.reserve(1)?;
@@ -154,21 +150,21 @@ impl<D: Rig> NodeActor<D> {
     pub fn slow(&mut self, topology: &Topology, txn: u32) -> Result<Emitted, NodeError>
         requires up { is_down self.old ≡ false }
 
-        ensures ok { IfOk result (λ emitted. (number start version : ℕ) (past : Past Act) → StandsFor D.is_image topology.now number start version past self.old
-            → HasSlowed D.is_image topology.now number start version past txn self.new emitted) }
-        ensures unknown { (number start version : ℕ) (past : Past Act) → StandsFor D.is_image topology.now number start version past self.old
+        ensures ok { IfOk result (λ emitted. (number start version : ℕ) (past : Past Act) → StandsFor D.Disk topology.now number start version past self.old
+            → HasSlowed D.Disk topology.now number start version past txn self.new emitted) }
+        ensures unknown { (number start version : ℕ) (past : Past Act) → StandsFor D.Disk topology.now number start version past self.old
             → (result ≡ Err Refused.Unknown) ↔ (may_slow topology.now number start txn (done topology.now number start past) ≡ false) }
-        ensures no_quorum { IfErr result (λ error. error ≡ Refused.NoQuorum → (number start version : ℕ) (past : Past Act) → StandsFor D.is_image topology.now number start version past self.old
+        ensures no_quorum { IfErr result (λ error. error ≡ Refused.NoQuorum → (number start version : ℕ) (past : Past Act) → StandsFor D.Disk topology.now number start version past self.old
             → (may_slow topology.now number start txn (done topology.now number start past) ≡ true) × (is_answered topology.now number start txn (done topology.now number start past) ≡ false)) }
-        ensures not_begun { IfErr result (λ error. (number start version : ℕ) (past : Past Act) → StandsFor D.is_image topology.now number start version past self.old → error ≢ Refused.Begun) }
-        ensures err { OnErr result ((number start version : ℕ) (past : Past Act) → StandsFor D.is_image topology.now number start version past self.old
-            → StandsFor D.is_image topology.now number start version past self.new) }
+        ensures not_begun { IfErr result (λ error. (number start version : ℕ) (past : Past Act) → StandsFor D.Disk topology.now number start version past self.old → error ≢ Refused.Begun) }
+        ensures err { OnErr result ((number start version : ℕ) (past : Past Act) → StandsFor D.Disk topology.now number start version past self.old
+            → StandsFor D.Disk topology.now number start version past self.new) }
 
         ensures up { is_down self.new ≡ false }
         ensures disk { disk_of self.new ≡ disk_of self.old }
         ensures strict { (number start version : ℕ) (armed passed : Maybe ℕ) (past other : Past Act)
-            → IsStrictAt D.strict D.armed D.content D.synced D.written topology.now number start version armed passed past self.old
-            → IsStrictAt D.strict D.armed D.content D.synced D.written topology.now number start version armed passed other self.new }
+            → IsStrictAt D.Disk topology.now number start version armed passed past self.old
+            → IsStrictAt D.Disk topology.now number start version armed passed other self.new }
     {
         let NodeState::Open(node) = &mut self.state else {
             unreachable!()
@@ -181,16 +177,16 @@ impl<D: Rig> NodeActor<D> {
         requires up { is_down self.old ≡ false }
         requires top_in_range { top_of m.now < 2 ^ 62 }
 
-        ensures ok { IfOk result (λ emitted. (number start version : ℕ) (past : Past Act) → StandsFor D.is_image topology.now number start version past self.old
-            → Takes D.is_image topology.now number start version past (TakesMessage m.now) self.new emitted) }
-        ensures err { OnErr result ((number start version : ℕ) (past : Past Act) → StandsFor D.is_image topology.now number start version past self.old
-            → StandsFor D.is_image topology.now number start version past self.new) }
+        ensures ok { IfOk result (λ emitted. (number start version : ℕ) (past : Past Act) → StandsFor D.Disk topology.now number start version past self.old
+            → Takes D.Disk topology.now number start version past (TakesMessage m.now) self.new emitted) }
+        ensures err { OnErr result ((number start version : ℕ) (past : Past Act) → StandsFor D.Disk topology.now number start version past self.old
+            → StandsFor D.Disk topology.now number start version past self.new) }
 
         ensures up { is_down self.new ≡ false }
         ensures disk { disk_of self.new ≡ disk_of self.old }
         ensures strict { (number start version : ℕ) (armed passed : Maybe ℕ) (past other : Past Act)
-            → IsStrictAt D.strict D.armed D.content D.synced D.written topology.now number start version armed passed past self.old
-            → IsStrictAt D.strict D.armed D.content D.synced D.written topology.now number start version armed passed other self.new }
+            → IsStrictAt D.Disk topology.now number start version armed passed past self.old
+            → IsStrictAt D.Disk topology.now number start version armed passed other self.new }
     {
         let NodeState::Open(node) = &mut self.state else {
             unreachable!()
@@ -200,16 +196,15 @@ impl<D: Rig> NodeActor<D> {
 
     /// Crashes the disk, so that one of its images is left, and reopens the node from it. An honest journal is refused only by the disk.
     pub fn restart(self, choice: u8) -> (NodeActor<D>, Result<Restarted, OutOfMemory>)
-        ensures ok { IfOk result.1 (λ found. (layout : Layout) (number start version : ℕ) (past : Past Act) → StandsFor D.is_image layout number start version past self
-            → KeptIn layout number start past found × StandsFor D.is_image layout number start version (past_after found past) result.0) }
+        ensures ok { IfOk result.1 (λ found. (layout : Layout) (number start version : ℕ) (past : Past Act) → StandsFor D.Disk layout number start version past self
+            → KeptIn layout number start past found × StandsFor D.Disk layout number start version (past_after found past) result.0) }
         ensures up { IfOk result.1 (λ found. is_down result.0 ≡ not (is_up found)) }
-        ensures counted { D.faults (disk_of self) ≤ D.faults (disk_of result.0) }
-        ensures cause { result.1 ≡ Ok Restarted.Down → Rose (D.faults (disk_of self)) (D.faults (disk_of result.0)) }
+        ensures faults { CountsFaults (result.1 ≡ Ok Restarted.Down) (D.state (disk_of self)).faults (D.state (disk_of result.0)).faults }
 
-        ensures strict { (layout : Layout) (number start version : ℕ) (armed passed : Maybe ℕ) (past : Past Act) → StandsFor D.is_image layout number start version past self
-            → IsStrictAt D.strict D.armed D.content D.synced D.written layout number start version armed passed past self
+        ensures strict { (layout : Layout) (number start version : ℕ) (armed passed : Maybe ℕ) (past : Past Act) → StandsFor D.Disk layout number start version past self
+            → IsStrictAt D.Disk layout number start version armed passed past self
             → IfOk result.1 (λ found. KeepsByChoice passed choice past.stopped found
-            × IsStrictAt D.strict D.armed D.content D.synced D.written layout number start version None None (past_after found past) result.0) }
+            × IsStrictAt D.Disk layout number start version None None (past_after found past) result.0) }
     {
         let kept = self.held();
         let NodeActor {
@@ -233,13 +228,13 @@ impl<D: Rig> NodeActor<D> {
 
     /// Arms a call of the disk: so many more pass, and the next one fails.
     pub fn arm(&mut self, calls: u64)
-        ensures stands { (layout : Layout) (number start version : ℕ) (past : Past Act) → StandsFor D.is_image layout number start version past self.old
-            → StandsFor D.is_image layout number start version past self.new }
+        ensures stands { (layout : Layout) (number start version : ℕ) (past : Past Act) → StandsFor D.Disk layout number start version past self.old
+            → StandsFor D.Disk layout number start version past self.new }
         ensures down { is_down self.new ≡ is_down self.old }
-        ensures faults { D.faults (disk_of self.new) ≡ D.faults (disk_of self.old) }
+        ensures faults { (D.state (disk_of self.new)).faults ≡ (D.state (disk_of self.old)).faults }
         ensures strict { (layout : Layout) (number start version : ℕ) (armed passed : Maybe ℕ) (past : Past Act)
-            → IsStrictAt D.strict D.armed D.content D.synced D.written layout number start version armed passed past self.old
-            → IsStrictAt D.strict D.armed D.content D.synced D.written layout number start version (Some calls) passed past self.new }
+            → IsStrictAt D.Disk layout number start version armed passed past self.old
+            → IsStrictAt D.Disk layout number start version (Some calls) passed past self.new }
     {
         match &mut self.state {
             NodeState::Open(node) => node.arm(calls),
@@ -262,7 +257,7 @@ impl<D: Rig> NodeActor<D> {
     pub fn into_parts(self) -> (D, Option<Node>)
         ensures disk { result.0 ≡ disk_of self }
         ensures node { result.1 ≡ node_in self.state }
-        ensures holds { (layout : Layout) (number start version : ℕ) (past : Past Act) → StandsFor D.is_image layout number start version past self
+        ensures holds { (layout : Layout) (number start version : ℕ) (past : Past Act) → StandsFor D.Disk layout number start version past self
             → (image : List ℕ) → D.is_image result.0 image → HoldsPayloads version past image }
     {
         let NodeActor {
@@ -304,7 +299,7 @@ impl<D: Rig> NodeActor<D> {
 
     // How many draws the journal has, without the one of a step that was stopped.
     fn held(&self) -> u64
-        ensures { (layout : Layout) (number start version : ℕ) (past : Past Act) → StandsFor D.is_image layout number start version past self.now
+        ensures { (layout : Layout) (number start version : ℕ) (past : Past Act) → StandsFor D.Disk layout number start version past self.now
             → result ≡ count_of past }
     {
         match &self.state {
@@ -347,16 +342,15 @@ fn reopened<D: Rig>(
     disk: D,
 ) -> (NodeState<D>, Result<Option<bool>, OutOfMemory>)
     ensures ok { IfOk result.1 (λ found. (layout : Layout) (past : Past Act) → ((image : List ℕ) → D.is_image disk image → IsLeft (IsJournal layout name.number name.start name.version) past image) → kept ≡ count_of past
-        → IsFound D.is_image layout name.number name.start name.version past found result.0) }
+        → IsFound D.Disk layout name.number name.start name.version past found result.0) }
     ensures shut { IfOk result.1 (λ found. is_shut result.0 ≡ is_none found) }
-    ensures counted { D.faults disk ≤ D.faults (disk_in result.0) }
-    ensures cause { result.1 ≡ Ok None → Rose (D.faults disk) (D.faults (disk_in result.0)) }
+    ensures faults { CountsFaults (result.1 ≡ Ok None) (D.state disk).faults (D.state (disk_in result.0)).faults }
 
-    ensures kind { D.strict (disk_in result.0) ≡ D.strict disk }
-    ensures strict { IsTrue (D.strict disk) → (layout : Layout) (past : Past Act) (keeps : Bool)
-        → ((bytes : List ℕ) → D.is_image disk bytes → LeftByChoice choice (D.content disk) (D.synced disk) (D.written disk) bytes → ReadsIf (IsJournal layout name.number name.start name.version) past keeps bytes) → kept ≡ count_of past
+    ensures kind { (D.state (disk_in result.0)).strict ≡ (D.state disk).strict }
+    ensures strict { IsTrue (D.state disk).strict → (layout : Layout) (past : Past Act) (keeps : Bool)
+        → ((bytes : List ℕ) → D.is_image disk bytes → CrashLeaves choice (D.state disk) bytes → ReadsIf (IsJournal layout name.number name.start name.version) past keeps bytes) → kept ≡ count_of past
         → IfOk result.1 (TellsByChoice keeps past.stopped) }
-    ensures unarmed { IsTrue (D.strict disk) → OnOk result.1 (D.armed (disk_in result.0) ≡ None) }
+    ensures unarmed { IsTrue (D.state disk).strict → OnOk result.1 ((D.state (disk_in result.0)).armed ≡ None) }
 {
     let mut disk = disk;
     if kept == u64::MAX || disk.crash(choice).is_err() {

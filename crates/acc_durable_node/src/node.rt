@@ -1,9 +1,8 @@
 //! A node over a journal.
-ghost use Rattle.std.specs.Prelude.{◌≡◌, ◌≢◌, ◌^◌, ◌<◌, ◌≤◌, IsTrue, true, false, List, [], ◌∷◌, ◌++◌, ℕ, length, None, Some, Err, IfOk, IfErr, OnOk, OnErr, IsErr, IsSome, ◌↔◌, if◌then◌else◌};
+ghost use Rattle.std.specs.Prelude.{◌≡◌, ◌≢◌, ◌^◌, ◌<◌, ◌≤◌, true, false, List, [], ◌∷◌, ◌++◌, ℕ, length, Ok, Err, IfOk, IfErr, OnOk, OnErr, IsSome, ◌↔◌, if◌then◌else◌};
 ghost use Rattle.acc_topology.specs.Layout.{Layout};
-ghost use Rattle.acc_ports.specs.Disk.{Only, NoFurther, Elapses, LeavesOnly};
-ghost use Rattle.acc_ports.specs.Faults.{Rose};
-ghost use Rattle.acc_ports.specs.Strict.{after_call, LeftByChoice};
+ghost use Rattle.acc_ports.specs.Disk.{IsAtRest};
+ghost use Rattle.acc_ports.specs.Moments.{Arms};
 ghost use Rattle.acc_message.specs.Fields.{top_of};
 ghost use Rattle.acc_message.specs.NodeRules.{Act, Begins, Recovers, Takes as TakesMessage, Restarts, begun_id, node_replay};
 ghost use Rattle.acc_node.specs.declared.error.NodeError.{NodeError as Refused};
@@ -43,8 +42,10 @@ pub struct DurableNode<D: Disk> {
 
 impl<D: Disk> DurableNode<D> {
     ghost use Rattle.acc_journal.specs.Layout.{Reads};
-    ghost use Rattle.acc_journal.specs.Journal.{IsAtRest, ReadsAsEither, IsOfTheDisk, FailsWithin, left_by_choice};
-    ghost use Rattle.acc_durable_node.specs.Node.{StandsFor, Takes, HasSlowed, IsSameActor, IsJournalAfter, IsReopened, IsRefusedBy, Refuses, IsDiskFault, draw_group};
+    ghost use Rattle.acc_journal.specs.Errors.{port_error};
+    ghost use Rattle.acc_journal.specs.Journal.{IsOfTheDisk};
+    ghost use Rattle.acc_journal.specs.Calls.{Appends, ReadsDisk};
+    ghost use Rattle.acc_durable_node.specs.Node.{answer_of, StandsFor, Takes, HasSlowed, IsSameActor, IsJournalAfter, IsReopened, IsRefusedBy, Refuses, draw_group};
 
     /// A node that has done nothing, on a disk that holds the bytes 1 and 0, synced. It draws above `start`, and journals as this
     /// version, 1 or 2. It makes no call of the disk and takes no memory.
@@ -52,8 +53,8 @@ impl<D: Disk> DurableNode<D> {
         requires number_from { 1 ≤ number }
         requires number_to { number ≤ 15 }
         requires start_in_range { start ≤ 10 ^ 12 }
-        requires content { D.content disk ≡ 1 ∷ 0 ∷ [] }
-        requires rest { IsAtRest (D.content disk) (D.is_image disk) (D.strict disk) (D.synced disk) (D.written disk) }
+        requires content { (D.state disk).content ≡ 1 ∷ 0 ∷ [] }
+        requires rest { IsAtRest (D.state disk) (D.is_image disk) }
         ensures stands { (layout : Layout) → StandsFor layout result [] }
         ensures given { (result.number ≡ number) × (result.start ≡ start) × (result.version ≡ version) }
         ensures journal { (result.journal.disk ≡ disk) × (result.journal.payloads ≡ []) }
@@ -84,32 +85,16 @@ impl<D: Disk> DurableNode<D> {
         requires number_from { 1 ≤ number }
         requires number_to { number ≤ 15 }
         requires start_in_range { start ≤ 10 ^ 12 }
-        requires rest { IsAtRest (D.content disk) (D.is_image disk) (D.strict disk) (D.synced disk) (D.written disk) }
+        requires rest { IsAtRest (D.state disk) (D.is_image disk) }
 
         ensures ok { IfOk result IsReopened }
-        ensures reads { IfOk result (λ n. Reads (D.content disk) n.journal.payloads) }
-        ensures restarts { (layout : Layout) (acts : List Act) (payloads : List (List ℕ)) → Reads (D.content disk) payloads → IsJournalAfter layout number start version payloads acts → IfOk result (λ n. StandsFor layout n (Restarts ∷ acts)) }
+        ensures reads { IfOk result (λ n. Reads (D.state disk).content n.journal.payloads) }
+        ensures restarts { (layout : Layout) (acts : List Act) (payloads : List (List ℕ)) → Reads (D.state disk).content payloads → IsJournalAfter layout number start version payloads acts → IfOk result (λ n. StandsFor layout n (Restarts ∷ acts)) }
         ensures given { IfOk result (λ n. (n.number ≡ number) × (n.start ≡ start) × (n.version ≡ version)) }
-        ensures lasts { IfOk result (λ n. (image : List ℕ) → D.is_image n.journal.disk image → Reads image n.journal.payloads) }
-        ensures content { IfOk result (λ n. D.content n.journal.disk ≡ D.content disk) }
-        ensures any_moment { IfOk result (λ n. LeavesOnly D.clock D.was_image disk n.journal.disk (λ image. image ≡ D.content disk)) }
-
-        ensures refused { IfErr result (λ e. IsRefusedBy (D.content disk) version start e.0) }
-        ensures never { (payloads : List (List ℕ)) (items : List Payload) → Reads (D.content disk) payloads → IsNodeJournal version start payloads items → IfErr result (λ e. IsOfTheDisk e.0) }
-        ensures err_content { IfErr result (λ e. D.content e.1 ≡ D.content disk) }
-        ensures err_only { IfErr result (λ e. Only (D.content disk) (D.is_image e.1)) }
-        ensures err_any_moment { IfErr result (λ e. LeavesOnly D.clock D.was_image disk e.1 (λ image. image ≡ D.content disk)) }
-
-        ensures counted { IfOk result (λ n. D.faults disk ≤ D.faults n.journal.disk) }
-        ensures err_counted { IfErr result (λ e. D.faults disk ≤ D.faults e.1) }
-        ensures cause { IfErr result (λ e. e.0 ≡ JournalError.DiskFault → Rose (D.faults disk) (D.faults e.1)) }
-        ensures unfailed { IfErr result (λ e. e.0 ≢ JournalError.DiskFault → D.faults e.1 ≡ D.faults disk) }
-        ensures opened { IfOk result (λ n. D.faults n.journal.disk ≡ D.faults disk) }
-
-        ensures kind { IfOk result (λ n. D.strict n.journal.disk ≡ D.strict disk) }
-        ensures err_kind { IfErr result (λ e. D.strict e.1 ≡ D.strict disk) }
-        ensures passes { IsTrue (D.strict disk) → D.armed disk ≡ None → IfErr result (λ e. e.0 ≢ JournalError.DiskFault) }
-        ensures unarmed { IsTrue (D.strict disk) → D.armed disk ≡ None → IfOk result (λ n. (D.armed n.journal.disk ≡ None) × (D.faults n.journal.disk ≡ D.faults disk)) }
+        ensures disk { IfOk result (λ n. ReadsDisk D.Disk disk n.journal.disk (Ok tt)) }
+        ensures err_disk { IfErr result (λ e. ReadsDisk D.Disk disk e.1 (Err (port_error e.0))) }
+        ensures refused { IfErr result (λ e. IsRefusedBy (D.state disk).content version start e.0) }
+        ensures never { (payloads : List (List ℕ)) (items : List Payload) → Reads (D.state disk).content payloads → IsNodeJournal version start payloads items → IfErr result (λ e. IsOfTheDisk e.0) }
     {
         let (journal, payloads) = match Journal::reopen(alloc, disk) {
             Ok(opened) => opened,
@@ -148,24 +133,8 @@ impl<D: Disk> DurableNode<D> {
         ensures err { IfErr result (Refuses topology.now self.old self.new (Begins txn body.now)) }
 
         ensures appended { OnOk result (self.new.journal.payloads ≡ self.old.journal.payloads ++ draw_group self.old For.Begin txn) }
-        ensures lasts { OnOk result ((image : List ℕ) → D.is_image self.new.journal.disk image → Reads image self.new.journal.payloads) }
-        ensures any_moment { LeavesOnly D.clock D.was_image self.old.journal.disk self.new.journal.disk (ReadsAsEither self.old.journal.payloads (draw_group self.old For.Begin txn)) }
-        ensures either { (image : List ℕ) → D.is_image self.new.journal.disk image → ReadsAsEither self.old.journal.payloads (draw_group self.old For.Begin txn) image }
+        ensures appends { Appends D.Disk self.old.journal.disk self.new.journal.disk self.old.journal.payloads (draw_group self.old For.Begin txn) (answer_of result) }
         ensures same { IsSameActor self.old self.new }
-
-        ensures counted { D.faults self.old.journal.disk ≤ D.faults self.new.journal.disk }
-        ensures cause { IfErr result (λ e. IsDiskFault e → Rose (D.faults self.old.journal.disk) (D.faults self.new.journal.disk)) }
-        ensures unfailed { IfErr result (λ e. ¬ IsDiskFault e → D.faults self.new.journal.disk ≡ D.faults self.old.journal.disk) }
-        ensures passed { OnOk result (D.faults self.new.journal.disk ≡ D.faults self.old.journal.disk) }
-
-        // On a strict disk the armed one of the four calls fails, and no other; and what a crash leaves then is known.
-        ensures kind { D.strict self.new.journal.disk ≡ D.strict self.old.journal.disk }
-        ensures counts { IsTrue (D.strict self.old.journal.disk) → OnOk result (D.armed self.new.journal.disk ≡ after_call (after_call (after_call (after_call (D.armed self.old.journal.disk))))) }
-        ensures early { IsTrue (D.strict self.old.journal.disk) → FailsWithin 4 (D.armed self.old.journal.disk) → IsErr result }
-        ensures late { IsTrue (D.strict self.old.journal.disk) → ¬ FailsWithin 4 (D.armed self.old.journal.disk) → IfErr result (λ e. IsDiskFault e → ⊥) }
-        ensures still { IsTrue (D.strict self.old.journal.disk) → ¬ FailsWithin 4 (D.armed self.old.journal.disk) → D.faults self.new.journal.disk ≡ D.faults self.old.journal.disk }
-        ensures failed { IsTrue (D.strict self.old.journal.disk) → IfErr result (λ e. IsDiskFault e → (choice : ℕ) (left : List ℕ) → LeftByChoice choice (D.content self.new.journal.disk) (D.synced self.new.journal.disk) (D.written self.new.journal.disk) left
-            → Reads left (left_by_choice (D.armed self.old.journal.disk) choice self.old.journal.payloads (draw_group self.old For.Begin txn))) }
     {
         let _sound = self.journal.is_broken();
         if self.node.id_of(txn).is_some() {
@@ -197,24 +166,8 @@ impl<D: Disk> DurableNode<D> {
         ensures err { IfErr result (Refuses topology.now self.old self.new (Recovers id body.now)) }
 
         ensures appended { OnOk result (self.new.journal.payloads ≡ self.old.journal.payloads ++ draw_group self.old For.Recover txn) }
-        ensures lasts { OnOk result ((image : List ℕ) → D.is_image self.new.journal.disk image → Reads image self.new.journal.payloads) }
-        ensures any_moment { LeavesOnly D.clock D.was_image self.old.journal.disk self.new.journal.disk (ReadsAsEither self.old.journal.payloads (draw_group self.old For.Recover txn)) }
-        ensures either { (image : List ℕ) → D.is_image self.new.journal.disk image → ReadsAsEither self.old.journal.payloads (draw_group self.old For.Recover txn) image }
+        ensures appends { Appends D.Disk self.old.journal.disk self.new.journal.disk self.old.journal.payloads (draw_group self.old For.Recover txn) (answer_of result) }
         ensures same { IsSameActor self.old self.new }
-
-        ensures counted { D.faults self.old.journal.disk ≤ D.faults self.new.journal.disk }
-        ensures cause { IfErr result (λ e. IsDiskFault e → Rose (D.faults self.old.journal.disk) (D.faults self.new.journal.disk)) }
-        ensures unfailed { IfErr result (λ e. ¬ IsDiskFault e → D.faults self.new.journal.disk ≡ D.faults self.old.journal.disk) }
-        ensures passed { OnOk result (D.faults self.new.journal.disk ≡ D.faults self.old.journal.disk) }
-
-        // On a strict disk the armed one of the four calls fails, and no other; and what a crash leaves then is known.
-        ensures kind { D.strict self.new.journal.disk ≡ D.strict self.old.journal.disk }
-        ensures counts { IsTrue (D.strict self.old.journal.disk) → OnOk result (D.armed self.new.journal.disk ≡ after_call (after_call (after_call (after_call (D.armed self.old.journal.disk))))) }
-        ensures early { IsTrue (D.strict self.old.journal.disk) → FailsWithin 4 (D.armed self.old.journal.disk) → IsErr result }
-        ensures late { IsTrue (D.strict self.old.journal.disk) → ¬ FailsWithin 4 (D.armed self.old.journal.disk) → IfErr result (λ e. IsDiskFault e → ⊥) }
-        ensures still { IsTrue (D.strict self.old.journal.disk) → ¬ FailsWithin 4 (D.armed self.old.journal.disk) → D.faults self.new.journal.disk ≡ D.faults self.old.journal.disk }
-        ensures failed { IsTrue (D.strict self.old.journal.disk) → IfErr result (λ e. IsDiskFault e → (choice : ℕ) (left : List ℕ) → LeftByChoice choice (D.content self.new.journal.disk) (D.synced self.new.journal.disk) (D.written self.new.journal.disk) left
-            → Reads left (left_by_choice (D.armed self.old.journal.disk) choice self.old.journal.payloads (draw_group self.old For.Recover txn))) }
     {
         let _sound = self.journal.is_broken();
         let group = self.group(Purpose::Recover, txn)?;
@@ -300,9 +253,10 @@ impl<D: Disk> DurableNode<D> {
 }
 
 impl<D: Disk> DurableNode<D> {
-    ghost use Rattle.acc_journal.specs.Layout.{Reads, AreShort};
-    ghost use Rattle.acc_journal.specs.Journal.{ReadsAsEither, FailsWithin, left_by_choice, group_room};
-    ghost use Rattle.acc_durable_node.specs.Node.{draw_group, with_spare, with_parts, Drew, FailsToAppend, IsDiskFault};
+    ghost use Rattle.acc_journal.specs.Layout.{AreShort};
+    ghost use Rattle.acc_journal.specs.Journal.{group_room};
+    ghost use Rattle.acc_journal.specs.Calls.{Appends};
+    ghost use Rattle.acc_durable_node.specs.Node.{answer_of, draw_group, with_spare, with_parts, Drew, FailsToAppend};
 
     // What the next draw appends to the journal, which then has room for it.
     #[tactic(auto, using(acc_payloads::proofs::Groups::group_takes, acc_payloads::proofs::Groups::group_is_short, acc_payloads::proofs::Groups::group_has_some))]
@@ -342,23 +296,7 @@ impl<D: Disk> DurableNode<D> {
         ensures drew { OnOk result (Drew self.old self.new.journal self.new.marked self.new.kept group.now) }
         ensures same { self.new ≡ with_parts self.old self.old.node self.new.journal self.new.marked self.new.kept }
         ensures err { IfErr result (FailsToAppend emitted self.new.journal.broken) }
-        ensures lasts { OnOk result ((image : List ℕ) → D.is_image self.new.journal.disk image → Reads image self.new.journal.payloads) }
-        ensures any_moment { LeavesOnly D.clock D.was_image self.old.journal.disk self.new.journal.disk (ReadsAsEither self.old.journal.payloads group.now) }
-        ensures either { (image : List ℕ) → D.is_image self.new.journal.disk image → ReadsAsEither self.old.journal.payloads group.now image }
-
-        ensures counted { D.faults self.old.journal.disk ≤ D.faults self.new.journal.disk }
-        ensures cause { IfErr result (λ e. IsDiskFault e → Rose (D.faults self.old.journal.disk) (D.faults self.new.journal.disk)) }
-        ensures unfailed { IfErr result (λ e. ¬ IsDiskFault e → D.faults self.new.journal.disk ≡ D.faults self.old.journal.disk) }
-        ensures passed { OnOk result (D.faults self.new.journal.disk ≡ D.faults self.old.journal.disk) }
-
-        // On a strict disk the armed one of the four calls fails, and no other; and what a crash leaves then is known.
-        ensures kind { D.strict self.new.journal.disk ≡ D.strict self.old.journal.disk }
-        ensures counts { IsTrue (D.strict self.old.journal.disk) → OnOk result (D.armed self.new.journal.disk ≡ after_call (after_call (after_call (after_call (D.armed self.old.journal.disk))))) }
-        ensures early { IsTrue (D.strict self.old.journal.disk) → FailsWithin 4 (D.armed self.old.journal.disk) → IsErr result }
-        ensures late { IsTrue (D.strict self.old.journal.disk) → ¬ FailsWithin 4 (D.armed self.old.journal.disk) → IfErr result (λ e. IsDiskFault e → ⊥) }
-        ensures still { IsTrue (D.strict self.old.journal.disk) → ¬ FailsWithin 4 (D.armed self.old.journal.disk) → D.faults self.new.journal.disk ≡ D.faults self.old.journal.disk }
-        ensures failed { IsTrue (D.strict self.old.journal.disk) → IfErr result (λ e. IsDiskFault e → (choice : ℕ) (left : List ℕ) → LeftByChoice choice (D.content self.new.journal.disk) (D.synced self.new.journal.disk) (D.written self.new.journal.disk) left
-            → Reads left (left_by_choice (D.armed self.old.journal.disk) choice self.old.journal.payloads group.now)) }
+        ensures appends { Appends D.Disk self.old.journal.disk self.new.journal.disk self.old.journal.payloads group.now (answer_of result) }
     {
         match self.journal.append_group(group) {
             Ok(()) => {
@@ -377,19 +315,11 @@ impl<D: Rig> DurableNode<D> {
 
     /// Arms a call of the disk: so many more pass, and the next one fails. It makes no call of the disk and takes no memory.
     pub fn arm(&mut self, calls: u64)
-        ensures armed { IsTrue (D.strict self.old.journal.disk) → D.armed self.new.journal.disk ≡ Some calls }
+        ensures arms { Arms D.Disk calls self.old.journal.disk self.new.journal.disk }
         ensures stands { (layout : Layout) (acts : List Act) → StandsFor layout self.old acts → StandsFor layout self.new acts }
         ensures same { IsSameActor self.old self.new }
         ensures node { (self.new.node ≡ self.old.node) × (self.new.marked ≡ self.old.marked) × (self.new.kept ≡ self.old.kept) }
-        ensures journal { (self.new.journal.payloads ≡ self.old.journal.payloads) × (self.new.journal.broken ≡ self.old.journal.broken) }
-        ensures content { D.content self.new.journal.disk ≡ D.content self.old.journal.disk }
-        ensures images { NoFurther (D.is_image self.old.journal.disk) (D.is_image self.new.journal.disk) }
-        ensures no_fewer { NoFurther (D.is_image self.new.journal.disk) (D.is_image self.old.journal.disk) }
-        ensures clock { D.clock self.new.journal.disk ≡ D.clock self.old.journal.disk }
-        ensures time { Elapses (D.clock self.old.journal.disk) (D.clock self.new.journal.disk) (D.was_image self.old.journal.disk) (D.was_image self.new.journal.disk) (D.is_image self.new.journal.disk) }
-        ensures faults { D.faults self.new.journal.disk ≡ D.faults self.old.journal.disk }
-        ensures kind { D.strict self.new.journal.disk ≡ D.strict self.old.journal.disk }
-        ensures strict { IsTrue (D.strict self.old.journal.disk) → (D.synced self.new.journal.disk ≡ D.synced self.old.journal.disk) × (D.written self.new.journal.disk ≡ D.written self.old.journal.disk) }
+        ensures journal { self.new.journal ≡ record self.old.journal { disk = self.new.journal.disk } }
     {
         self.journal.arm(calls);
     }

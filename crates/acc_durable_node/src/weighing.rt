@@ -24,8 +24,8 @@ impl<D: Rig> NodeActor<D> {
         body: &Body,
     ) -> Result<u64, OutOfMemory>
         requires up { is_down self.now ≡ false }
-        requires may { MayBegin D.is_image topology.now self.now txn }
-        ensures { IfOk result (λ weight. (number start version : ℕ) (past : Past Act) → StandsFor D.is_image topology.now number start version past self.now
+        requires may { MayBegin D.Disk topology.now self.now txn }
+        ensures { IfOk result (λ weight. (number start version : ℕ) (past : Past Act) → StandsFor D.Disk topology.now number start version past self.now
             → weight ≡ weight_of_all (emits_next topology.now number start past (Begins txn body.now)).out) }
     {
         let NodeState::Open(node) = &self.state else {
@@ -42,8 +42,8 @@ impl<D: Rig> NodeActor<D> {
         body: &Body,
     ) -> Result<u64, OutOfMemory>
         requires up { is_down self.now ≡ false }
-        requires may { MayRecover D.is_image topology.now self.now }
-        ensures { IfOk result (λ weight. (number start version : ℕ) (past : Past Act) → StandsFor D.is_image topology.now number start version past self.now
+        requires may { MayRecover D.Disk topology.now self.now }
+        ensures { IfOk result (λ weight. (number start version : ℕ) (past : Past Act) → StandsFor D.Disk topology.now number start version past self.now
             → weight ≡ weight_of_all (emits_next topology.now number start past (Recovers id body.now)).out) }
     {
         let NodeState::Open(node) = &self.state else {
@@ -55,8 +55,8 @@ impl<D: Rig> NodeActor<D> {
     /// The same of a message.
     pub fn weigh_take(&self, topology: &Topology, m: &Message) -> Result<u64, OutOfMemory>
         requires up { is_down self.now ≡ false }
-        requires may { NodeMayWeigh D.is_image topology.now self.now m.now }
-        ensures { IfOk result (λ weight. (number start version : ℕ) (past : Past Act) → StandsFor D.is_image topology.now number start version past self.now
+        requires may { NodeMayWeigh D.Disk topology.now self.now m.now }
+        ensures { IfOk result (λ weight. (number start version : ℕ) (past : Past Act) → StandsFor D.Disk topology.now number start version past self.now
             → weight ≡ weight_of_all (emits_next topology.now number start past (Takes m.now)).out) }
     {
         let NodeState::Open(node) = &self.state else {

@@ -1,3 +1,4 @@
+pub mod Appended
 pub mod Replaying
 pub mod StoreActors
 pub mod StoreRestarts

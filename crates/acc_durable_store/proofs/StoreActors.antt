@@ -2,6 +2,7 @@
 use Rattle.std.proofs.Common.{◌≡◌, ℕ, ◌-◌, ◌^◌, ◌<◌, min, true, false, List, [], ◌∷◌, ◌++◌, length, append-nil, sym, ap, subst, ◌∙◌}
 use Rattle.acc_stamp.specs.declared.actors.Actor.{Actor}
 use Rattle.acc_topology.specs.Layout.{Layout}
+use Rattle.acc_ports.specs.declared.disk.Disk.{Ghosts}
 use Rattle.acc_message.specs.declared.message.Message.{Message}
 use Rattle.acc_message.specs.Fields.{top_of}
 use Rattle.acc_message.specs.VoteRule.{greatest_h}
@@ -118,8 +119,8 @@ pub record CanTake {D : Type 0} (s : DurableStore D) (m : Message) : Type 0 wher
   pub greatest : store.greatest_in s.store < 2 ^ 62
   pub texts : has_text m ≡ true → s.version ≡ 2
 
-pub can_take : {D : Type 0} (images : D → List ℕ → Type 0) (layout : Layout) (old : StoreActor D) (s : DurableStore D) (m : Message) → old.state ≡ Open s → is_down old ≡ false → MayStage images layout old m → CanTake s m
-can_take images layout old s m is sound may =
+pub can_take : {D : Type 0} (port : Ghosts D) (layout : Layout) (old : StoreActor D) (s : DurableStore D) (m : Message) → old.state ≡ Open s → is_down old ≡ false → MayStage port layout old m → CanTake s m
+can_take port layout old s m is sound may =
     let up : IsUp layout may.1.own may.1.version may.1.past may.0 s = up_in layout may.1.own may.1.version may.1.past may.0 old.state s is (may.1.stands.up sound) in
     record {
       goes_here = subst (λ (a : Actor). IsFor a m) (sym up.own_is) may.1.goes_here;

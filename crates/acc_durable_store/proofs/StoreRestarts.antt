@@ -4,8 +4,9 @@ use Rattle.std.specs.Prelude.{IsTrue, IfOk, OnOk}
 use Rattle.std.specs.declared.alloc.Global.{Global}
 use Rattle.acc_base.specs.declared.memory.OutOfMemory.{OutOfMemory as NoMemory}
 use Rattle.acc_topology.specs.Layout.{Layout}
-use Rattle.acc_ports.specs.Strict.{Ranges, LeftByChoice}
 use Rattle.acc_stamp.specs.declared.actors.Actor.{Actor}
+use Rattle.acc_ports.specs.Disk.{CrashLeaves}
+use Rattle.acc_ports.specs.declared.disk.Disk.{Ghosts}
 use Rattle.acc_message.specs.declared.message.Message.{Message}
 use Rattle.acc_journal.specs.Layout.{Reads}
 use Rattle.acc_journal.specs.Journal.{keeps_group}
@@ -40,7 +41,7 @@ stands_for_read layout own version s messages own_is version_is r journal =
     by_own (λ a b. IsJournal layout a b s.journal.payloads r.messages) (durable.actor_in s) own s.version version own_is version_is (journal_of layout s r.messages r.stands r.none_staged) in
     subst (durable.StandsFor layout s) (one_past layout own version s.journal.payloads r.messages messages read journal) r.stands
 
-module _ {D : Type 0} (images : D → List ℕ → Type 0) (layout : Layout) (own : Actor) (version : ℕ) (past : Past Message) (content : List ℕ) (s : DurableStore D) (kept : ℕ)
+module _ {D : Type 0} (port : Ghosts D) (layout : Layout) (own : Actor) (version : ℕ) (past : Past Message) (content : List ℕ) (s : DurableStore D) (kept : ℕ)
     (reads : Reads content s.journal.payloads) (given : (durable.actor_in s ≡ own) × (s.version ≡ version)) (reopened : durable.IsReopened layout s s.journal.payloads)
     (count : kept ≡ count_of past) (small : kept < 2 ^ 64 - 1) where
   module _ (keeps : Bool) (r : ReadsIf (IsJournal layout own version) past keeps content) where
@@ -65,7 +66,7 @@ module _ {D : Type 0} (images : D → List ℕ → Type 0) (layout : Layout) (ow
     many : s.kept ≡ count_of (kept_if keeps past)
     many = kept_up layout own version now [] s up
 
-    found_if : ((image : List ℕ) → images s.journal.disk image → Reads image s.journal.payloads) → IsFound images layout own version past (Some (ltb kept s.kept)) (Open s)
+    found_if : ((image : List ℕ) → port.is_image s.journal.disk image → Reads image s.journal.payloads) → IsFound port layout own version past (Some (ltb kept s.kept)) (Open s)
     found_if lasts =
         let same : kept_if keeps past ≡ kept_if (ltb kept s.kept) past = sym (more_is keeps past kept s.kept count small many) in
         record {
@@ -77,14 +78,14 @@ module _ {D : Type 0} (images : D → List ℕ → Type 0) (layout : Layout) (ow
     pub tells_if : TellsByChoice keeps past.stopped (Some (ltb kept s.kept))
     tells_if = tells keeps past kept s.kept count small many
 
-  pub found_up : IsLeft (IsJournal layout own version) past content → ((image : List ℕ) → images s.journal.disk image → Reads image s.journal.payloads)
-      → IsFound images layout own version past (Some (ltb kept s.kept)) (Open s)
+  pub found_up : IsLeft (IsJournal layout own version) past content → ((image : List ℕ) → port.is_image s.journal.disk image → Reads image s.journal.payloads)
+      → IsFound port layout own version past (Some (ltb kept s.kept)) (Open s)
   found_up (inl r) lasts = found_if false r lasts
   found_up (inr r) lasts = found_if true r lasts
 
-pub found_down : {D : Type 0} (images : D → List ℕ → Type 0) (layout : Layout) (own : Actor) (version : ℕ) (past : Past Message) (content : List ℕ) (disk : D)
-    → IsLeft (IsJournal layout own version) past content → ((image : List ℕ) → images disk image → image ≡ content) → IsFound images layout own version past None (Shut disk)
-found_down images layout own version past content disk left only = record {
+pub found_down : {D : Type 0} (port : Ghosts D) (layout : Layout) (own : Actor) (version : ℕ) (past : Past Message) (content : List ℕ) (disk : D)
+    → IsLeft (IsJournal layout own version) past content → ((image : List ℕ) → port.is_image disk image → image ≡ content) → IsFound port layout own version past None (Shut disk)
+found_down port layout own version past content disk left only = record {
   left = λ image i. subst (IsLeft (IsJournal layout own version) past) (sym (only image i)) left;
   up = λ sound. absurd (let e : true ≡ false = sound in cc);
 }
@@ -95,13 +96,13 @@ none_up : {D : Type 0} (layout : Layout) (own : Actor) (version : ℕ) (past : P
 none_up layout own version past (Open n) is_up = is_up.none_stopped
 none_up layout own version past (Shut disk) is_up = absurd is_up
 
-module _ {D : Type 0} (images : D → List ℕ → Type 0) (layout : Layout) (old : StoreActor D) (own : Actor) (version : ℕ) (past : Past Message) (stands : StandsFor images layout own version past old) (state : StoreState D) (kept : ℕ) where
+module _ {D : Type 0} (port : Ghosts D) (layout : Layout) (old : StoreActor D) (own : Actor) (version : ℕ) (past : Past Message) (stands : StandsFor port layout own version past old) (state : StoreState D) (kept : ℕ) where
   abbrev new : Vec Unsent Global → StoreActor D
   new items = record old { state = state; unsent = items; kept = kept }
 
   module _ (p : Past Message) (none : p.stopped ≡ []) (shut : is_shut state ≡ false) (v : Vec Unsent Global) (empty : v.items ≡ [])
-      (left : (image : List ℕ) → images (disk_in state) image → IsLeft (IsJournal layout own version) p image) (up : is_shut state ≡ false → IsUpIn layout own version p [] state) where
-    up_stands : StandsFor images layout own version p (new v)
+      (left : (image : List ℕ) → port.is_image (disk_in state) image → IsLeft (IsJournal layout own version) p image) (up : is_shut state ≡ false → IsUpIn layout own version p [] state) where
+    up_stands : StandsFor port layout own version p (new v)
     up_stands = record {
       own_is = stands.own_is;
       version_is = stands.version_is;
@@ -112,14 +113,14 @@ module _ {D : Type 0} (images : D → List ℕ → Type 0) (layout : Layout) (ol
       kept_is = λ broken. absurd (not_both (is_shut state) broken shut);
     }
 
-  found_stands : (more : Bool) → is_shut state ≡ false → IsFound images layout own version past (Some more) state → (v : Vec Unsent Global) → v.items ≡ [] → StandsFor images layout own version (kept_if more past) (new v)
+  found_stands : (more : Bool) → is_shut state ≡ false → IsFound port layout own version past (Some more) state → (v : Vec Unsent Global) → v.items ≡ [] → StandsFor port layout own version (kept_if more past) (new v)
   found_stands more shut f v empty = up_stands (kept_if more past) (none_after more past) shut v empty f.left f.up
 
-  pub restarts_ok : (found : Result (Option Bool) NoMemory) (v : Vec Unsent Global) → v.items ≡ (told found old.unsent.items).1 → IfOk found (λ f. is_shut state ≡ is_none f) → IfOk found (λ f. IsFound images layout own version past f state) → kept ≡ count_of past
-      → IfOk (told found old.unsent.items).0 (λ q. KeptIn layout own past q × StandsFor images layout own version (past_after q past) (new v))
+  pub restarts_ok : (found : Result (Option Bool) NoMemory) (v : Vec Unsent Global) → v.items ≡ (told found old.unsent.items).1 → IfOk found (λ f. is_shut state ≡ is_none f) → IfOk found (λ f. IsFound port layout own version past f state) → kept ≡ count_of past
+      → IfOk (told found old.unsent.items).0 (λ q. KeptIn layout own past q × StandsFor port layout own version (past_after q past) (new v))
   restarts_ok (Ok (Some true)) v v_is shut f count = (
     kept_is (emits_next layout own) past old.unsent.items stands.unsent,
-    subst (λ (p : Past Message). StandsFor images layout own version p (new v)) (told_past (emits_next layout own) past old.unsent.items stands.unsent) (found_stands true shut f v v_is),
+    subst (λ (p : Past Message). StandsFor port layout own version p (new v)) (told_past (emits_next layout own) past old.unsent.items stands.unsent) (found_stands true shut f v v_is),
   )
   restarts_ok (Ok (Some false)) v v_is shut f count = (tt, found_stands false shut f v v_is)
   restarts_ok (Ok None) v v_is shut f count = (
@@ -138,18 +139,18 @@ module _ {D : Type 0} (images : D → List ℕ → Type 0) (layout : Layout) (ol
 
   -- with what the reopening tells
   pub restarted : (found : Result (Option Bool) NoMemory) (v : Vec Unsent Global) (disk : D) → v.items ≡ (told found old.unsent.items).1 → disk ≡ disk_of old → kept ≡ count_of past → IfOk found (λ f. is_shut state ≡ is_none f)
-      → IfOk found (λ f. (p : Past Message) → ((image : List ℕ) → images disk image → IsLeft (IsJournal layout old.actor old.version) p image) → kept ≡ count_of p → IsFound images layout old.actor old.version p f state)
-      → IfOk (told found old.unsent.items).0 (λ q. KeptIn layout own past q × StandsFor images layout own version (past_after q past) (new v))
+      → IfOk found (λ f. (p : Past Message) → ((image : List ℕ) → port.is_image disk image → IsLeft (IsJournal layout old.actor old.version) p image) → kept ≡ count_of p → IsFound port layout old.actor old.version p f state)
+      → IfOk (told found old.unsent.items).0 (λ q. KeptIn layout own past q × StandsFor port layout own version (past_after q past) (new v))
   restarted found v disk v_is same count shut finds =
-      let left : (image : List ℕ) → images disk image → IsLeft (IsJournal layout old.actor old.version) past image = λ image i.
-      by_own (λ a b. IsLeft (IsJournal layout a b) past image) own old.actor version old.version (sym stands.own_is) (sym stands.version_is) (stands.left image (subst (λ (d : D). images d image) same i)) in
-      restarts_ok found v v_is shut (if_all found _ _ (λ f found_by. by_own (λ a b. IsFound images layout a b past f state) old.actor own old.version version stands.own_is stands.version_is (found_by past left count)) finds) count
+      let left : (image : List ℕ) → port.is_image disk image → IsLeft (IsJournal layout old.actor old.version) past image = λ image i.
+      by_own (λ a b. IsLeft (IsJournal layout a b) past image) own old.actor version old.version (sym stands.own_is) (sym stands.version_is) (stands.left image (subst (λ (d : D). port.is_image d image) same i)) in
+      restarts_ok found v v_is shut (if_all found _ _ (λ f found_by. by_own (λ a b. IsFound port layout a b past f state) old.actor own old.version version stands.own_is stands.version_is (found_by past left count)) finds) count
 
   -- over a strict disk
-  module _ (strict : D → Bool) (armed_of : D → Option ℕ) (content synced : D → List ℕ) (written : D → Ranges) (armed passed : Option ℕ)
-      (at : IsStrictAt strict armed_of content synced written layout own version armed passed past old) (choice : ℕ) where
+  module _ (armed passed : Option ℕ)
+      (at : IsStrictAt port layout own version armed passed past old) (choice : ℕ) where
     -- what the choice leaves
-    pub by_choice : (bytes : List ℕ) → images (disk_of old) bytes → LeftByChoice choice (content (disk_of old)) (synced (disk_of old)) (written (disk_of old)) bytes
+    pub by_choice : (bytes : List ℕ) → port.is_image (disk_of old) bytes → CrashLeaves choice (port.state (disk_of old)) bytes
         → ReadsIf (IsJournal layout own version) past (keeps_group passed choice) bytes
     by_choice bytes i by = of (is_down old) refl
       where
@@ -161,40 +162,40 @@ module _ {D : Type 0} (images : D → List ℕ → Type 0) (layout : Layout) (ol
         of true e = at.left e choice bytes by
         of false e = same (none_up layout own version past old.state (stands.up e)) (stands.left bytes i)
 
-    strict_now : (v : Vec Unsent Global) (p : Past Message) → is_shut state ≡ false → strict (disk_in state) ≡ strict (disk_of old) → armed_of (disk_in state) ≡ None
-        → IsStrictAt strict armed_of content synced written layout own version None None p (new v)
+    strict_now : (v : Vec Unsent Global) (p : Past Message) → is_shut state ≡ false → (port.state (disk_in state)).strict ≡ (port.state (disk_of old)).strict → (port.state (disk_in state)).armed ≡ None
+        → IsStrictAt port layout own version None None p (new v)
     strict_now v p shut kind unarmed = record {
       is_strict = subst IsTrue (sym kind) at.is_strict;
       armed_is = λ _. unarmed;
       left = λ broken. absurd (not_both (is_shut state) broken shut);
     }
 
-    pub restarts_strictly : (found : Result (Option Bool) NoMemory) (v : Vec Unsent Global) → IfOk found (λ f. is_shut state ≡ is_none f) → strict (disk_in state) ≡ strict (disk_of old)
-        → OnOk found (armed_of (disk_in state) ≡ None) → IfOk found (TellsByChoice (keeps_group passed choice) past.stopped)
+    pub restarts_strictly : (found : Result (Option Bool) NoMemory) (v : Vec Unsent Global) → IfOk found (λ f. is_shut state ≡ is_none f) → (port.state (disk_in state)).strict ≡ (port.state (disk_of old)).strict
+        → OnOk found ((port.state (disk_in state)).armed ≡ None) → IfOk found (TellsByChoice (keeps_group passed choice) past.stopped)
         → IfOk (told found old.unsent.items).0 (λ q. KeepsByChoice passed choice past.stopped q
-        × IsStrictAt strict armed_of content synced written layout own version None None (past_after q past) (new v))
+        × IsStrictAt port layout own version None None (past_after q past) (new v))
     restarts_strictly (Ok (Some true)) v shut kind unarmed by = (told_some (emits_next layout own) past past.stopped old.unsent.items stands.unsent ∙ by, strict_now v (past_after (Up old.unsent.items) past) shut kind unarmed)
     restarts_strictly (Ok (Some false)) v shut kind unarmed by = (by, strict_now v (past_after (Up []) past) shut kind unarmed)
     restarts_strictly (Ok None) v shut kind unarmed by = absurd by
     restarts_strictly (Err e) v shut kind unarmed by = tt
 
     -- with what the reopening tells
-    pub restarted_strictly : (found : Result (Option Bool) NoMemory) (v : Vec Unsent Global) (disk : D) → disk ≡ disk_of old → kept ≡ count_of past → IfOk found (λ f. is_shut state ≡ is_none f) → strict (disk_in state) ≡ strict disk
-        → (IsTrue (strict disk) → OnOk found (armed_of (disk_in state) ≡ None))
-        → (IsTrue (strict disk) → (p : Past Message) (keeps : Bool) → ((bytes : List ℕ) → images disk bytes → LeftByChoice choice (content disk) (synced disk) (written disk) bytes
+    pub restarted_strictly : (found : Result (Option Bool) NoMemory) (v : Vec Unsent Global) (disk : D) → disk ≡ disk_of old → kept ≡ count_of past → IfOk found (λ f. is_shut state ≡ is_none f) → (port.state (disk_in state)).strict ≡ (port.state disk).strict
+        → (IsTrue (port.state disk).strict → OnOk found ((port.state (disk_in state)).armed ≡ None))
+        → (IsTrue (port.state disk).strict → (p : Past Message) (keeps : Bool) → ((bytes : List ℕ) → port.is_image disk bytes → CrashLeaves choice (port.state disk) bytes
         → ReadsIf (IsJournal layout old.actor old.version) p keeps bytes) → kept ≡ count_of p → IfOk found (TellsByChoice keeps p.stopped))
         → IfOk (told found old.unsent.items).0 (λ q. KeepsByChoice passed choice past.stopped q
-        × IsStrictAt strict armed_of content synced written layout own version None None (past_after q past) (new v))
+        × IsStrictAt port layout own version None None (past_after q past) (new v))
     restarted_strictly found v disk same count shut kind unarmed tells_by =
-        let is_strict : IsTrue (strict disk) = subst (λ (d : D). IsTrue (strict d)) (sym same) at.is_strict in
-        let by : (bytes : List ℕ) → images disk bytes → LeftByChoice choice (content disk) (synced disk) (written disk) bytes → ReadsIf (IsJournal layout old.actor old.version) past (keeps_group passed choice) bytes = λ bytes i chosen.
+        let is_strict : IsTrue (port.state disk).strict = subst (λ (d : D). IsTrue (port.state d).strict) (sym same) at.is_strict in
+        let by : (bytes : List ℕ) → port.is_image disk bytes → CrashLeaves choice (port.state disk) bytes → ReadsIf (IsJournal layout old.actor old.version) past (keeps_group passed choice) bytes = λ bytes i chosen.
         by_own (λ a b. ReadsIf (IsJournal layout a b) past (keeps_group passed choice) bytes) own old.actor version old.version (sym stands.own_is) (sym stands.version_is)
-        (by_choice bytes (subst (λ (d : D). images d bytes) same i) (subst (λ (d : D). LeftByChoice choice (content d) (synced d) (written d) bytes) same chosen)) in
-        restarts_strictly found v shut (kind ∙ ap strict same) (unarmed is_strict) (tells_by is_strict past (keeps_group passed choice) by count)
+        (by_choice bytes (subst (λ (d : D). port.is_image d bytes) same i) (subst (λ (d : D). CrashLeaves choice (port.state d) bytes) same chosen)) in
+        restarts_strictly found v shut (kind ∙ ap (λ (d : D). (port.state d).strict) same) (unarmed is_strict) (tells_by is_strict past (keeps_group passed choice) by count)
 
 -- for every past
-pub for_all : {D : Type 0} (images : D → List ℕ → Type 0) (layout : Layout) (old new : StoreActor D) (result : Result Restarted NoMemory)
-    → ((own : Actor) (version : ℕ) (past : Past Message) → StandsFor images layout own version past old → IfOk result (λ q. KeptIn layout own past q × StandsFor images layout own version (past_after q past) new))
-    → IfOk result (λ q. (own : Actor) (version : ℕ) (past : Past Message) → StandsFor images layout own version past old → KeptIn layout own past q × StandsFor images layout own version (past_after q past) new)
-for_all images layout old new (Ok q) all = all
-for_all images layout old new (Err e) all = tt
+pub for_all : {D : Type 0} (port : Ghosts D) (layout : Layout) (old new : StoreActor D) (result : Result Restarted NoMemory)
+    → ((own : Actor) (version : ℕ) (past : Past Message) → StandsFor port layout own version past old → IfOk result (λ q. KeptIn layout own past q × StandsFor port layout own version (past_after q past) new))
+    → IfOk result (λ q. (own : Actor) (version : ℕ) (past : Past Message) → StandsFor port layout own version past old → KeptIn layout own past q × StandsFor port layout own version (past_after q past) new)
+for_all port layout old new (Ok q) all = all
+for_all port layout old new (Err e) all = tt

@@ -1,17 +1,19 @@
 -- What a store is once it has staged a message, and once it has settled what was staged.
-use Rattle.std.proofs.Common.{◌≡◌, ℕ, Bool, true, false, List, [], ◌∷◌, ◌++◌, Vec, Option, refl, sym, ap, subst, ◌∙◌}
+use Rattle.std.proofs.Common.{◌≡◌, ℕ, Bool, true, false, List, [], ◌∷◌, ◌++◌, Vec, Option, refl, sym, Err, ap, subst, ◌∙◌}
 use Rattle.std.proofs.lemmas.List.{map-append}
 use Rattle.std.specs.Prelude.{IsTrue}
 use Rattle.std.specs.declared.alloc.Global.{Global}
 use Rattle.acc_stamp.specs.declared.actors.Actor.{Actor}
 use Rattle.acc_topology.specs.Layout.{Layout}
-use Rattle.acc_ports.specs.Strict.{Ranges, LeftByChoice}
+use Rattle.acc_ports.specs.declared.disk.Disk.{Ghosts}
+use Rattle.acc_ports.specs.declared.error.PortError.TheVariants.{Failed}
 use Rattle.acc_message.specs.declared.message.Message.{Message}
 use Rattle.acc_message.specs.StoreRules.{store_answer, replay}
 use Rattle.acc_message_code.specs.Fitting.{FitsMessage}
 use Rattle.acc_message_code.specs.MessageSpelling.{message_bytes}
 use Rattle.acc_journal.specs.Layout.{Reads}
-use Rattle.acc_journal.specs.Journal.{ReadsAsEither, FailsWithin, keeps_group, left_by_choice}
+use Rattle.acc_journal.specs.Journal.{ReadsAsEither, keeps_group, left_by_choice}
+use Rattle.acc_journal.specs.Calls.{FailsWithin, Appends}
 use Rattle.acc_payloads.specs.Journals.{appended}
 use Rattle.acc_payloads.specs.Items.{without_marks}
 use Rattle.acc_payloads.specs.Appends.{fails_append, after_append, passed_in}
@@ -27,8 +29,8 @@ use Rattle.acc_payloads.proofs.Left.{not_both, kept_more, none_stopped, reads_if
 use Rattle.acc_payloads.proofs.Marks.{message_no_mark, held_with}
 use Rattle.acc_durable_store.proofs.StoreActors.{by_own, journal_of, journal_up, held_up, kept_up, up_in, not_more, unsent_more, unsent_stopped, unsent_staged, staged_unsent}
 
-module _ {D : Type 0} (images : D → List ℕ → Type 0) (layout : Layout) (old : StoreActor D) (s after : DurableStore D) (is : old.state ≡ Open s) (sound : s.journal.broken ≡ false) (own : Actor) (version : ℕ) (past : Past Message)
-    (staged : List (Stop Message)) (stands : IsStaging images layout own version past staged old) (same : durable.IsTheSame s after) where
+module _ {D : Type 0} (port : Ghosts D) (layout : Layout) (old : StoreActor D) (s after : DurableStore D) (is : old.state ≡ Open s) (sound : s.journal.broken ≡ false) (own : Actor) (version : ℕ) (past : Past Message)
+    (staged : List (Stop Message)) (stands : IsStaging port layout own version past staged old) (same : durable.IsTheSame s after) where
   up : IsUp layout own version past staged s
   up = up_in layout own version past staged old.state s is (stands.up (ap is_shut is ∙ sound))
 
@@ -55,11 +57,11 @@ module _ {D : Type 0} (images : D → List ℕ → Type 0) (layout : Layout) (ol
     now = record old { state = Open after; unsent = room }
 
     still_staging : (stops : List (Stop Message)) → IsUp layout own version past stops after → IsUnsent (emits_next layout own) past stops room.items
-        → IsStaging images layout own version past stops now
+        → IsStaging port layout own version past stops now
     still_staging stops is_up unsent = record {
       own_is = stands.own_is;
       version_is = stands.version_is;
-      left = λ image i. stands.left image (subst (λ (d : D). images d image) (disk_same ∙ sym disk_is) i);
+      left = λ image i. stands.left image (subst (λ (d : D). port.is_image d image) (disk_same ∙ sym disk_is) i);
       unsent = staged_unsent layout own past up.none_stopped stops room.items unsent;
       up = λ _. is_up;
       down = λ broken. absurd (not_both after.journal.broken broken sound_now);
@@ -93,7 +95,7 @@ module _ {D : Type 0} (images : D → List ℕ → Type 0) (layout : Layout) (ol
 
       -- what the durable store answered
       pub stages : (out : List Message) (room : Vec Unsent Global) → room.items ≡ old.unsent.items ++ last out ∷ [] → durable.Takes layout s after past_staged.acts m out
-          → IsStaging images layout own version past (staged ++ stop ∷ []) (record old { state = Open after; unsent = room })
+          → IsStaging port layout own version past (staged ++ stop ∷ []) (record old { state = Open after; unsent = room })
       stages out room room_is takes =
           still_staging room takes.stands.sound (ap (λ (j : StagedState D). j.disk) journal_is) (staged ++ stop ∷ []) (more_up takes.stands)
           (subst (IsUnsent (emits_next layout own) past (staged ++ stop ∷ [])) (sym room_is)
@@ -103,7 +105,7 @@ module _ {D : Type 0} (images : D → List ℕ → Type 0) (layout : Layout) (ol
   -- ---- it is settled
 
   pub given_stands : (room : Vec Unsent Global) → room.items ≡ [] → durable.IsAsBefore s after → after.journal.group ≡ [] → after.journal.payloads ≡ s.journal.payloads ++ s.journal.group
-      → ((image : List ℕ) → images after.journal.disk image → Reads image after.journal.payloads) → StandsFor images layout own version past_staged (record old { state = Open after; unsent = room })
+      → ((image : List ℕ) → port.is_image after.journal.disk image → Reads image after.journal.payloads) → StandsFor port layout own version past_staged (record old { state = Open after; unsent = room })
   given_stands room empty as_before none_staged appends lasts =
       let d : durable.StandsFor layout after past_staged.acts = as_before layout past_staged.acts up.stands in
       let journal : IsJournal layout own version after.journal.payloads past_staged.acts =
@@ -132,8 +134,8 @@ module _ {D : Type 0} (images : D → List ℕ → Type 0) (layout : Layout) (ol
   pub gives : (given : List Unsent) → given ≡ old.unsent.items → IsUnsent (emits_next layout own) past staged given
   gives given e = subst (IsUnsent (emits_next layout own) past staged) (sym e) waiting
 
-  pub stopped_stands : (kept : ℕ) → kept ≡ s.kept → after.journal.broken ≡ true → ((image : List ℕ) → images after.journal.disk image → ReadsAsEither s.journal.payloads s.journal.group image)
-      → StandsFor images layout own version (with_stops past staged) (record old { state = Open after; kept = kept })
+  pub stopped_stands : (kept : ℕ) → kept ≡ s.kept → after.journal.broken ≡ true → ((image : List ℕ) → port.is_image after.journal.disk image → ReadsAsEither s.journal.payloads s.journal.group image)
+      → StandsFor port layout own version (with_stops past staged) (record old { state = Open after; kept = kept })
   stopped_stands kept k broken either = record {
     own_is = stands.own_is;
     version_is = stands.version_is;
@@ -146,26 +148,24 @@ module _ {D : Type 0} (images : D → List ℕ → Type 0) (layout : Layout) (ol
   }
 
   -- over a strict disk
-  module _ (strict : D → Bool) (armed_of : D → Option ℕ) (content synced : D → List ℕ) (written : D → Ranges) (armed passed : Option ℕ)
-      (at : IsStrictAt strict armed_of content synced written layout own version armed passed past old) (kind : strict after.journal.disk ≡ strict s.journal.disk) where
+  module _ (armed passed : Option ℕ)
+      (at : IsStrictAt port layout own version armed passed past old) (kind : (port.state after.journal.disk).strict ≡ (port.state s.journal.disk).strict) where
     abbrev IsStrictNow : Past Message → StoreActor D → Type 0
-    IsStrictNow now new = IsStrictAt strict armed_of content synced written layout own version (after_append armed) (passed_in armed) now new
+    IsStrictNow now new = IsStrictAt port layout own version (after_append armed) (passed_in armed) now new
 
-    is_strict : IsTrue (strict s.journal.disk)
-    is_strict = subst (λ (d : D). IsTrue (strict d)) disk_is at.is_strict
+    is_strict : IsTrue (port.state s.journal.disk).strict
+    is_strict = subst (λ (d : D). IsTrue (port.state d).strict) disk_is at.is_strict
 
-    armed_is : armed_of s.journal.disk ≡ armed
-    armed_is = ap armed_of (sym disk_is) ∙ at.armed_is (ap is_shut is ∙ sound)
+    armed_is : (port.state s.journal.disk).armed ≡ armed
+    armed_is = ap (λ (d : D). (port.state d).armed) (sym disk_is) ∙ at.armed_is (ap is_shut is ∙ sound)
 
-    still_strict : IsTrue (strict after.journal.disk)
+    still_strict : IsTrue (port.state after.journal.disk).strict
     still_strict = subst IsTrue (sym kind) is_strict
 
-    pub stopped_strictly : (kept : ℕ) → after.journal.broken ≡ true → (IsTrue (strict s.journal.disk) → (FailsWithin 4 (armed_of s.journal.disk) → ⊥) → ⊥)
-        → (IsTrue (strict s.journal.disk) → (choice : ℕ) (left : List ℕ) → LeftByChoice choice (content after.journal.disk) (synced after.journal.disk) (written after.journal.disk) left
-        → Reads left (left_by_choice (armed_of s.journal.disk) choice s.journal.payloads s.journal.group))
+    pub stopped_strictly : (kept : ℕ) → after.journal.broken ≡ true → Appends port s.journal.disk after.journal.disk s.journal.payloads s.journal.group (Err Failed)
         → (true ≡ fails_append armed) × IsStrictNow (with_stops past staged) (record old { state = Open after; kept = kept })
-    stopped_strictly kept broken late failed =
-        let never : (FailsWithin 4 armed → ⊥) → ⊥ = λ not. late is_strict (λ within. not (subst (FailsWithin 4) armed_is within)) in (
+    stopped_strictly kept broken appends =
+        let never : (FailsWithin 4 armed → ⊥) → ⊥ = λ not. (appends.calls.strict is_strict).late (λ within. not (subst (FailsWithin 4) armed_is within)) refl in (
           fails armed never,
           record {
             is_strict = still_strict;
@@ -173,6 +173,6 @@ module _ {D : Type 0} (images : D → List ℕ → Type 0) (layout : Layout) (ol
             left = λ _ choice bytes by.
                 reads_if (IsJournal layout own version) past staged s.journal.payloads s.journal.group up.journal up.held_are (journal_up layout own version past staged s up) (held_up layout own version past staged s up)
                 (keeps_group (passed_in armed) choice) bytes
-                (subst (λ (o : Option ℕ). Reads bytes (left_by_choice o choice s.journal.payloads s.journal.group)) (armed_is ∙ sym (passed_is armed never)) (failed is_strict choice bytes by));
+                (subst (λ (o : Option ℕ). Reads bytes (left_by_choice o choice s.journal.payloads s.journal.group)) (armed_is ∙ sym (passed_is armed never)) (appends.failed is_strict refl choice bytes by));
           },
         )

@@ -3,7 +3,7 @@ use Rattle.std.proofs.Common.{◌≡◌, ℕ, ◌-◌, Bool, List, [], ◌∷◌
 use Rattle.std.specs.declared.alloc.Global.{Global}
 use Rattle.acc_stamp.specs.declared.actors.Actor.{Actor}
 use Rattle.acc_topology.specs.Layout.{Layout}
-use Rattle.acc_ports.specs.Strict.{Ranges}
+use Rattle.acc_ports.specs.declared.disk.Disk.{Ghosts}
 use Rattle.acc_message.specs.declared.message.Message.{Message}
 use Rattle.acc_payloads.specs.declared.stops.Unsent.{Unsent}
 use Rattle.acc_durable_store.specs.declared.actor.StoreActor.{StoreActor}
@@ -46,11 +46,11 @@ module _ (layout : Layout) (own : Actor) (past : Past Message) (number : ℕ) (m
 
   -- ---- what the store is
 
-  module _ {D : Type 0} (images : D → List ℕ → Type 0) (version : ℕ) (new : StoreActor D) (given : List Unsent) (settles : Settles images layout own version past (stop ∷ []) new (Some given)) where
-    pub took : (room : Vec Unsent Global) (last : Unsent) → given ≡ room.items ++ last ∷ [] → Steps images layout own version past stop (record new { unsent = room }) (Some last.emitted)
+  module _ {D : Type 0} (port : Ghosts D) (version : ℕ) (new : StoreActor D) (given : List Unsent) (settles : Settles port layout own version past (stop ∷ []) new (Some given)) where
+    pub took : (room : Vec Unsent Global) (last : Unsent) → given ≡ room.items ++ last ∷ [] → Steps port layout own version past stop (record new { unsent = room }) (Some last.emitted)
     took room last e =
         let one = only_given given room.items last settles.emits e in
-        let stands : StandsFor images layout own version (with_step past stop) new = settles.stands in
+        let stands : StandsFor port layout own version (with_step past stop) new = settles.stands in
         record {
           emits = one.1;
           stands = record {
@@ -65,7 +65,7 @@ module _ (layout : Layout) (own : Actor) (past : Past Message) (number : ℕ) (m
         }
 
 -- over a strict disk: what isn't sent yet makes no difference
-pub took_strictly : {D : Type 0} (strict : D → Bool) (armed_of : D → Option ℕ) (content synced : D → List ℕ) (written : D → Ranges) (layout : Layout) (own : Actor) (version : ℕ) (armed passed : Option ℕ) (past : Past Message)
-    (actor : StoreActor D) (room : Vec Unsent Global) → IsStrictAt strict armed_of content synced written layout own version armed passed past actor
-    → IsStrictAt strict armed_of content synced written layout own version armed passed past (record actor { unsent = room })
-took_strictly strict armed_of content synced written layout own version armed passed past actor room at = record { is_strict = at.is_strict; armed_is = at.armed_is; left = at.left }
+pub took_strictly : {D : Type 0} (port : Ghosts D) (layout : Layout) (own : Actor) (version : ℕ) (armed passed : Option ℕ) (past : Past Message)
+    (actor : StoreActor D) (room : Vec Unsent Global) → IsStrictAt port layout own version armed passed past actor
+    → IsStrictAt port layout own version armed passed past (record actor { unsent = room })
+took_strictly port layout own version armed passed past actor room at = record { is_strict = at.is_strict; armed_is = at.armed_is; left = at.left }

@@ -6,7 +6,8 @@
 use Rattle.std.specs.Prelude.{◌≡◌, ℕ, ◌^◌, ◌<◌, Bool, true, false, IsTrue, List, [], ◌++◌, Option, None, Some, IfSome}
 use Rattle.acc_stamp.specs.declared.actors.Actor.{Actor}
 use Rattle.acc_topology.specs.Layout.{Layout}
-use Rattle.acc_ports.specs.Strict.{Ranges, LeftByChoice}
+use Rattle.acc_ports.specs.Disk.{CrashLeaves}
+use Rattle.acc_ports.specs.declared.disk.Disk.{Ghosts}
 use Rattle.acc_message.specs.declared.message.Message.{Message}
 use Rattle.acc_message.specs.declared.entry.Event.TheVariants.{Message as MessageEvent}
 use Rattle.acc_message.specs.declared.entry.Emitted.{Emitted}
@@ -92,65 +93,65 @@ IsUpIn layout own version past staged (Shut disk) = ⊥
 
 -- What didn't go out is what is staged, or what was stopped: nothing is staged where the actor is down, and nothing was stopped where it
 -- is up.
-pub record IsStaging {D : Type 0} (images : D → List ℕ → Type 0) (layout : Layout) (own : Actor) (version : ℕ) (past : Past Message) (staged : List (Stop Message)) (actor : StoreActor D) : Type 0 where
+pub record IsStaging {D : Type 0} (port : Ghosts D) (layout : Layout) (own : Actor) (version : ℕ) (past : Past Message) (staged : List (Stop Message)) (actor : StoreActor D) : Type 0 where
   pub own_is : actor.actor ≡ own
   pub version_is : actor.version ≡ version
-  pub left : (image : List ℕ) → images (disk_of actor) image → IsLeft (IsJournal layout own version) past image
+  pub left : (image : List ℕ) → port.is_image (disk_of actor) image → IsLeft (IsJournal layout own version) past image
   pub unsent : IsUnsent (emits_next layout own) past (staged ++ past.stopped) actor.unsent.items
   pub up : is_down actor ≡ false → IsUpIn layout own version past staged actor.state
   pub down : is_down actor ≡ true → staged ≡ []
   pub kept_is : is_down actor ≡ true → actor.kept ≡ count_of past
 
 -- nothing is staged
-abbrev pub StandsFor : {D : Type 0} → (D → List ℕ → Type 0) → Layout → Actor → ℕ → Past Message → StoreActor D → Type 0
-StandsFor images layout own version past actor = IsStaging images layout own version past [] actor
+abbrev pub StandsFor : {D : Type 0} → Ghosts D → Layout → Actor → ℕ → Past Message → StoreActor D → Type 0
+StandsFor port layout own version past actor = IsStaging port layout own version past [] actor
 
 -- ---- what calls need
 
 -- it may take the message behind what is staged
-pub record MayTake {D : Type 0} (images : D → List ℕ → Type 0) (layout : Layout) (actor : StoreActor D) (staged : List (Stop Message)) (m : Message) : Type 0 where
+pub record MayTake {D : Type 0} (port : Ghosts D) (layout : Layout) (actor : StoreActor D) (staged : List (Stop Message)) (m : Message) : Type 0 where
   pub own : Actor
   pub version : ℕ
   pub past : Past Message
-  pub stands : IsStaging images layout own version past staged actor
+  pub stands : IsStaging port layout own version past staged actor
   pub short : IsShortMessage m
   pub goes_here : IsFor own m
   pub top : top_of m < 2 ^ 62
   pub greatest : greatest_h own (replay layout own (kept_with staged past).acts) < 2 ^ 62
   pub texts : has_text m ≡ true → version ≡ 2
 
-abbrev pub MayStage : {D : Type 0} → (D → List ℕ → Type 0) → Layout → StoreActor D → Message → Type 0
-MayStage images layout actor m = (staged : List (Stop Message)) × MayTake images layout actor staged m
+abbrev pub MayStage : {D : Type 0} → Ghosts D → Layout → StoreActor D → Message → Type 0
+MayStage port layout actor m = (staged : List (Stop Message)) × MayTake port layout actor staged m
 
 -- it stands for some past, with something staged or not
-pub record MaySettle {D : Type 0} (images : D → List ℕ → Type 0) (actor : StoreActor D) : Type 0 where
+pub record MaySettle {D : Type 0} (port : Ghosts D) (actor : StoreActor D) : Type 0 where
   pub layout : Layout
   pub own : Actor
   pub version : ℕ
   pub past : Past Message
   pub staged : List (Stop Message)
-  pub stands : IsStaging images layout own version past staged actor
+  pub stands : IsStaging port layout own version past staged actor
 
 -- ---- what calls leave
 
 -- What is given is what the rules say, and the actor has then taken the message, or a fault has stopped it.
-pub record Steps {D : Type 0} (images : D → List ℕ → Type 0) (layout : Layout) (own : Actor) (version : ℕ) (past : Past Message) (stop : Stop Message) (new : StoreActor D) (given : Option Emitted) : Type 0 where
+pub record Steps {D : Type 0} (port : Ghosts D) (layout : Layout) (own : Actor) (version : ℕ) (past : Past Message) (stop : Stop Message) (new : StoreActor D) (given : Option Emitted) : Type 0 where
   pub emits : IfSome given (λ emitted. emitted ≡ emits_next layout own past stop.act)
-  pub stands : StandsFor images layout own version (after_step given past stop) new
+  pub stands : StandsFor port layout own version (after_step given past stop) new
 
 -- What is given is all that was staged, in its order, each with what the rules say behind those before it; the actor has then taken all
 -- of it, or a fault has stopped all of it.
-pub record Settles {D : Type 0} (images : D → List ℕ → Type 0) (layout : Layout) (own : Actor) (version : ℕ) (past : Past Message) (staged : List (Stop Message)) (new : StoreActor D) (given : Option (List Unsent)) : Type 0 where
+pub record Settles {D : Type 0} (port : Ghosts D) (layout : Layout) (own : Actor) (version : ℕ) (past : Past Message) (staged : List (Stop Message)) (new : StoreActor D) (given : Option (List Unsent)) : Type 0 where
   pub emits : IfSome given (IsUnsent (emits_next layout own) past staged)
-  pub stands : StandsFor images layout own version (after_group given past staged) new
+  pub stands : StandsFor port layout own version (after_group given past staged) new
 
 -- Restarted: the journal has more payloads than were held, or not; or the disk failed.
 abbrev pub past_found : Option Bool → Past Message → Past Message
 past_found (Some more) past = kept_if more past
 past_found None past = past
 
-pub record IsFound {D : Type 0} (images : D → List ℕ → Type 0) (layout : Layout) (own : Actor) (version : ℕ) (past : Past Message) (found : Option Bool) (state : StoreState D) : Type 0 where
-  pub left : (image : List ℕ) → images (disk_in state) image → IsLeft (IsJournal layout own version) (past_found found past) image
+pub record IsFound {D : Type 0} (port : Ghosts D) (layout : Layout) (own : Actor) (version : ℕ) (past : Past Message) (found : Option Bool) (state : StoreState D) : Type 0 where
+  pub left : (image : List ℕ) → port.is_image (disk_in state) image → IsLeft (IsJournal layout own version) (past_found found past) image
   pub up : is_shut state ≡ false → IsUpIn layout own version (past_found found past) [] state
 
 -- with what was kept; or down as before
@@ -166,8 +167,8 @@ KeptIn layout own past Down = Unit {0}
 
 -- The disk is strict. Where the actor is up, this call is armed; where it is down, so many calls of the append that failed passed, and
 -- what a crash by choice leaves follows from that.
-pub record IsStrictAt {D : Type 0} (strict : D → Bool) (armed_of : D → Option ℕ) (content synced : D → List ℕ) (written : D → Ranges) (layout : Layout) (own : Actor) (version : ℕ) (armed passed : Option ℕ) (past : Past Message) (actor : StoreActor D) : Type 0 where
-  pub is_strict : IsTrue (strict (disk_of actor))
-  pub armed_is : is_down actor ≡ false → armed_of (disk_of actor) ≡ armed
-  pub left : is_down actor ≡ true → (choice : ℕ) (bytes : List ℕ) → LeftByChoice choice (content (disk_of actor)) (synced (disk_of actor)) (written (disk_of actor)) bytes
+pub record IsStrictAt {D : Type 0} (port : Ghosts D) (layout : Layout) (own : Actor) (version : ℕ) (armed passed : Option ℕ) (past : Past Message) (actor : StoreActor D) : Type 0 where
+  pub is_strict : IsTrue (port.state (disk_of actor)).strict
+  pub armed_is : is_down actor ≡ false → (port.state (disk_of actor)).armed ≡ armed
+  pub left : is_down actor ≡ true → (choice : ℕ) (bytes : List ℕ) → CrashLeaves choice (port.state (disk_of actor)) bytes
       → ReadsIf (IsJournal layout own version) past (keeps_group passed choice) bytes

@@ -1,12 +1,14 @@
 -- When a durable store stands for the messages that it took.
-use Rattle.std.specs.Prelude.{◌≡◌, ◌⊎◌, ℕ, ◌-◌, ◌^◌, min, true, false, List, [], ◌∷◌, ◌++◌, length}
+use Rattle.std.specs.Prelude.{◌≡◌, ◌⊎◌, ℕ, ◌-◌, ◌^◌, min, true, false, List, [], ◌∷◌, ◌++◌, length, Result, Ok, Err}
 use Rattle.acc_stamp.specs.declared.actors.Actor.{Actor}
 use Rattle.acc_topology.specs.Layout.{Layout}
+use Rattle.acc_ports.specs.declared.error.PortError.TheVariants as port
 use Rattle.acc_message.specs.declared.message.Message.{Message}
 use Rattle.acc_message.specs.StoreRules.{store_answer, replay}
 use Rattle.acc_journal.specs.declared.error.JournalError.{JournalError}
 use Rattle.acc_journal.specs.declared.error.JournalError.TheVariants as journal
 use Rattle.acc_journal.specs.Layout.{Reads, IsForeign, IsCut}
+use Rattle.acc_journal.specs.Calls.{Answer}
 use Rattle.acc_store.specs.Stands as store
 use Rattle.acc_payloads.specs.declared.store.StorePayload.{StorePayload}
 use Rattle.acc_payloads.specs.Journals.{IsBadRecord}
@@ -100,3 +102,9 @@ pub record IsStillStaged {D : Type 0} (old new : DurableStore D) : Type 0 where
 abbrev pub IsDiskFault : StepError → Type 0
 IsDiskFault (DiskFault unsent) = Unit {0}
 IsDiskFault OutOfMemory = ⊥
+
+-- what the disk answered, where a step answered this; what came before any call of it counts as want of memory
+abbrev pub answer_of : {T : Type 0} → Result T StepError → Answer
+answer_of (Ok value) = Ok tt
+answer_of (Err (DiskFault unsent)) = Err port.Failed
+answer_of (Err OutOfMemory) = Err port.OutOfMemory

@@ -3,6 +3,7 @@
 use Rattle.std.specs.Prelude.{ℕ, ◌<◌, ◌^◌, List, All}
 use Rattle.acc_stamp.specs.declared.actors.Actor.{Actor}
 use Rattle.acc_topology.specs.Layout.{Layout}
+use Rattle.acc_ports.specs.declared.disk.Disk.{Ghosts}
 use Rattle.acc_message.specs.declared.message.Message.{Message}
 use Rattle.acc_message_code.specs.Short.{IsShortMessage}
 use Rattle.acc_message_code.specs.Weight.{weight_of_all}
@@ -14,13 +15,13 @@ use Rattle.acc_store.specs.Prepared.{IsPrepared}
 use Rattle.acc_payloads.specs.Stops.{Stop, Past, kept_with}
 use Rattle.acc_durable_store.specs.Actor as store
 
-pub record StoreMayWeigh {D : Type 0} (images : D → List ℕ → Type 0) (layout : Layout) (actor : StoreActor D) (m : Message) : Type 0 where
-  pub may : store.MayStage images layout actor m
+pub record StoreMayWeigh {D : Type 0} (port : Ghosts D) (layout : Layout) (actor : StoreActor D) (m : Message) : Type 0 where
+  pub may : store.MayStage port layout actor m
   pub own : Actor
   pub version : ℕ
   pub past : Past Message
   pub staged : List (Stop Message)
-  pub stands : store.IsStaging images layout own version past staged actor
+  pub stands : store.IsStaging port layout own version past staged actor
   pub short : All IsShortMessage (store.emits_next layout own (kept_with staged past) m).out
   pub fits : weight_of_all (store.emits_next layout own (kept_with staged past) m).out < 2 ^ 64
 

@@ -2,8 +2,8 @@
 ghost use Rattle.std.specs.Prelude.{◌≡◌, ◌≤◌, IsTrue, Bool, true, false, not, List, [], ◌∷◌, ◌++◌, ◌≢◌, ℕ, Option as Maybe, None, Some, Ok, IfOk, OnOk, OnErr, IfSome, is_none};
 ghost use Rattle.acc_topology.specs.Layout.{Layout};
 ghost use Rattle.acc_stamp.specs.declared.actors.Actor.{Actor as Name};
-ghost use Rattle.acc_ports.specs.Faults.{Rose};
-ghost use Rattle.acc_ports.specs.Strict.{LeftByChoice};
+ghost use Rattle.acc_ports.specs.Disk.{CrashLeaves};
+ghost use Rattle.acc_ports.specs.Faults.{CountsFaults};
 ghost use Rattle.acc_message.specs.declared.message.Message.{Message as Told};
 ghost use Rattle.acc_payloads.specs.Appends.{fails_append, after_append, passed_in};
 ghost use Rattle.acc_payloads.specs.Stops.{Stop, Past, count_of, IsLeft, ReadsIf, TellsByChoice};
@@ -57,11 +57,11 @@ impl<D: Rig> StoreActor<D> {
         requires sound { store.journal.broken ≡ false }
         requires given { (actor_in store ≡ actor) × (store.version ≡ version) × (store.journal.group ≡ []) }
         ensures stands { (layout : Layout) (messages : List Told) → Durable layout store messages
-            → StandsFor D.is_image layout actor version (record { acts = messages; held = without_marks store.journal.payloads; stopped = [] }) result }
+            → StandsFor D.Disk layout actor version (record { acts = messages; held = without_marks store.journal.payloads; stopped = [] }) result }
         ensures up { is_down result ≡ false }
         ensures disk { disk_of result ≡ store.journal.disk }
-        ensures strict { IsTrue (D.strict store.journal.disk) → (layout : Layout) (passed : Maybe ℕ) (past : Past Told)
-            → IsStrictAt D.strict D.armed D.content D.synced D.written layout actor version (D.armed store.journal.disk) passed past result }
+        ensures strict { IsTrue (D.state store.journal.disk).strict → (layout : Layout) (passed : Maybe ℕ) (past : Past Told)
+            → IsStrictAt D.Disk layout actor version (D.state store.journal.disk).armed passed past result }
     {
         let _sound = store.is_broken();
         StoreActor {
@@ -82,19 +82,17 @@ impl<D: Rig> StoreActor<D> {
         m: &Message,
     ) -> Result<Option<Emitted>, OutOfMemory>
         requires up { is_down self.old ≡ false }
-        requires may { MayTake D.is_image topology.now self.old [] m.now }
+        requires may { MayTake D.Disk topology.now self.old [] m.now }
 
-        ensures ok { IfOk result (λ given. (own : Name) (version : ℕ) (past : Past Told) → StandsFor D.is_image topology.now own version past self.old
-            → Steps D.is_image topology.now own version past (message_stop number m.now) self.new given) }
+        ensures ok { IfOk result (λ given. (own : Name) (version : ℕ) (past : Past Told) → StandsFor D.Disk topology.now own version past self.old
+            → Steps D.Disk topology.now own version past (message_stop number m.now) self.new given) }
         ensures down { IfOk result (λ given. is_down self.new ≡ is_none given) }
-        ensures counted { D.faults (disk_of self.old) ≤ D.faults (disk_of self.new) }
-        ensures cause { result ≡ Ok None → Rose (D.faults (disk_of self.old)) (D.faults (disk_of self.new)) }
-        ensures unfailed { OnErr result (D.faults (disk_of self.new) ≡ D.faults (disk_of self.old)) }
+        ensures faults { CountsFaults (result ≡ Ok None) (D.state (disk_of self.old)).faults (D.state (disk_of self.new)).faults }
 
-        ensures strict { (own : Name) (version : ℕ) (armed passed : Maybe ℕ) (past : Past Told) → StandsFor D.is_image topology.now own version past self.old
-            → IsStrictAt D.strict D.armed D.content D.synced D.written topology.now own version armed passed past self.old
+        ensures strict { (own : Name) (version : ℕ) (armed passed : Maybe ℕ) (past : Past Told) → StandsFor D.Disk topology.now own version past self.old
+            → IsStrictAt D.Disk topology.now own version armed passed past self.old
             → IfOk result (λ given. (is_none given ≡ fails_append armed)
-            × IsStrictAt D.strict D.armed D.content D.synced D.written topology.now own version (after_append armed) (passed_in armed)
+            × IsStrictAt D.Disk topology.now own version (after_append armed) (passed_in armed)
             (after_step given past (message_stop number m.now)) self.new) }
     {
         let prepared = self.prepare(topology, m)?;
@@ -113,7 +111,7 @@ impl<D: Rig> StoreActor<D> {
     /// makes no call of the disk.
     pub fn prepare(&self, topology: &Topology, m: &Message) -> Result<Prepared, OutOfMemory>
         requires up { is_down self.now ≡ false }
-        requires may { MayStage D.is_image topology.now self.now m.now }
+        requires may { MayStage D.Disk topology.now self.now m.now }
         ensures { IfOk result (IsPreparedBy topology.now self.now m.now) }
     {
         let StoreState::Open(store) = &self.state else {
@@ -133,19 +131,19 @@ impl<D: Rig> StoreActor<D> {
         prepared: Prepared,
     ) -> Result<(), OutOfMemory>
         requires up { is_down self.old ≡ false }
-        requires may { MayStage D.is_image topology.now self.old m.now }
+        requires may { MayStage D.Disk topology.now self.old m.now }
         requires prepared { IsPreparedBy topology.now self.old m.now prepared }
 
-        ensures ok { OnOk result ((own : Name) (version : ℕ) (past : Past Told) (staged : List (Stop Told)) → IsStaging D.is_image topology.now own version past staged self.old
-            → IsStaging D.is_image topology.now own version past (staged ++ message_stop number m.now ∷ []) self.new) }
-        ensures err { OnErr result ((own : Name) (version : ℕ) (past : Past Told) (staged : List (Stop Told)) → IsStaging D.is_image topology.now own version past staged self.old
-            → IsStaging D.is_image topology.now own version past staged self.new) }
+        ensures ok { OnOk result ((own : Name) (version : ℕ) (past : Past Told) (staged : List (Stop Told)) → IsStaging D.Disk topology.now own version past staged self.old
+            → IsStaging D.Disk topology.now own version past (staged ++ message_stop number m.now ∷ []) self.new) }
+        ensures err { OnErr result ((own : Name) (version : ℕ) (past : Past Told) (staged : List (Stop Told)) → IsStaging D.Disk topology.now own version past staged self.old
+            → IsStaging D.Disk topology.now own version past staged self.new) }
 
         ensures up { is_down self.new ≡ false }
         ensures disk { disk_of self.new ≡ disk_of self.old }
         ensures strict { (own : Name) (version : ℕ) (armed passed : Maybe ℕ) (past other : Past Told)
-            → IsStrictAt D.strict D.armed D.content D.synced D.written topology.now own version armed passed past self.old
-            → IsStrictAt D.strict D.armed D.content D.synced D.written topology.now own version armed passed other self.new }
+            → IsStrictAt D.Disk topology.now own version armed passed past self.old
+            → IsStrictAt D.Disk topology.now own version armed passed other self.new }
     {
         self.unsent.reserve(1)?;
         let StoreState::Open(store) = &mut self.state else {
@@ -163,20 +161,18 @@ impl<D: Rig> StoreActor<D> {
     #[inline(always)]
     pub fn settle(&mut self) -> Result<Option<Unsents>, OutOfMemory>
         requires up { is_down self.old ≡ false }
-        requires may { MaySettle D.is_image self.old }
+        requires may { MaySettle D.Disk self.old }
 
-        ensures ok { IfOk result (λ given. (layout : Layout) (own : Name) (version : ℕ) (past : Past Told) (staged : List (Stop Told)) → IsStaging D.is_image layout own version past staged self.old
-            → Settles D.is_image layout own version past staged self.new given) }
+        ensures ok { IfOk result (λ given. (layout : Layout) (own : Name) (version : ℕ) (past : Past Told) (staged : List (Stop Told)) → IsStaging D.Disk layout own version past staged self.old
+            → Settles D.Disk layout own version past staged self.new given) }
         ensures down { IfOk result (λ given. is_down self.new ≡ is_none given) }
-        ensures counted { D.faults (disk_of self.old) ≤ D.faults (disk_of self.new) }
-        ensures cause { result ≡ Ok None → Rose (D.faults (disk_of self.old)) (D.faults (disk_of self.new)) }
-        ensures unfailed { OnErr result (D.faults (disk_of self.new) ≡ D.faults (disk_of self.old)) }
+        ensures faults { CountsFaults (result ≡ Ok None) (D.state (disk_of self.old)).faults (D.state (disk_of self.new)).faults }
 
         // However much is staged, it is one append.
-        ensures strict { (layout : Layout) (own : Name) (version : ℕ) (armed passed : Maybe ℕ) (past : Past Told) (staged : List (Stop Told)) → IsStaging D.is_image layout own version past staged self.old
-            → IsStrictAt D.strict D.armed D.content D.synced D.written layout own version armed passed past self.old → staged ≢ []
+        ensures strict { (layout : Layout) (own : Name) (version : ℕ) (armed passed : Maybe ℕ) (past : Past Told) (staged : List (Stop Told)) → IsStaging D.Disk layout own version past staged self.old
+            → IsStrictAt D.Disk layout own version armed passed past self.old → staged ≢ []
             → IfOk result (λ given. (is_none given ≡ fails_append armed)
-            × IsStrictAt D.strict D.armed D.content D.synced D.written layout own version (after_append armed) (passed_in armed)
+            × IsStrictAt D.Disk layout own version (after_append armed) (passed_in armed)
             (after_group given past staged) self.new) }
     {
         let StoreState::Open(store) = &mut self.state else {
@@ -199,16 +195,15 @@ impl<D: Rig> StoreActor<D> {
         topology: &Topology,
         choice: u8,
     ) -> (StoreActor<D>, Result<Restarted, OutOfMemory>)
-        ensures ok { IfOk result.1 (λ found. (own : Name) (version : ℕ) (past : Past Told) → StandsFor D.is_image topology.now own version past self
-            → KeptIn topology.now own past found × StandsFor D.is_image topology.now own version (past_after found past) result.0) }
+        ensures ok { IfOk result.1 (λ found. (own : Name) (version : ℕ) (past : Past Told) → StandsFor D.Disk topology.now own version past self
+            → KeptIn topology.now own past found × StandsFor D.Disk topology.now own version (past_after found past) result.0) }
         ensures up { IfOk result.1 (λ found. is_down result.0 ≡ not (is_up found)) }
-        ensures counted { D.faults (disk_of self) ≤ D.faults (disk_of result.0) }
-        ensures cause { result.1 ≡ Ok Restarted.Down → Rose (D.faults (disk_of self)) (D.faults (disk_of result.0)) }
+        ensures faults { CountsFaults (result.1 ≡ Ok Restarted.Down) (D.state (disk_of self)).faults (D.state (disk_of result.0)).faults }
 
-        ensures strict { (own : Name) (version : ℕ) (armed passed : Maybe ℕ) (past : Past Told) → StandsFor D.is_image topology.now own version past self
-            → IsStrictAt D.strict D.armed D.content D.synced D.written topology.now own version armed passed past self
+        ensures strict { (own : Name) (version : ℕ) (armed passed : Maybe ℕ) (past : Past Told) → StandsFor D.Disk topology.now own version past self
+            → IsStrictAt D.Disk topology.now own version armed passed past self
             → IfOk result.1 (λ found. KeepsByChoice passed choice past.stopped found
-            × IsStrictAt D.strict D.armed D.content D.synced D.written topology.now own version None None (past_after found past) result.0) }
+            × IsStrictAt D.Disk topology.now own version None None (past_after found past) result.0) }
     {
         let kept = self.held();
         let StoreActor {
@@ -242,13 +237,13 @@ impl<D: Rig> StoreActor<D> {
 
     /// Arms a call of the disk: so many more pass, and the next one fails.
     pub fn arm(&mut self, calls: u64)
-        ensures stands { (layout : Layout) (own : Name) (version : ℕ) (past : Past Told) (staged : List (Stop Told)) → IsStaging D.is_image layout own version past staged self.old
-            → IsStaging D.is_image layout own version past staged self.new }
+        ensures stands { (layout : Layout) (own : Name) (version : ℕ) (past : Past Told) (staged : List (Stop Told)) → IsStaging D.Disk layout own version past staged self.old
+            → IsStaging D.Disk layout own version past staged self.new }
         ensures down { is_down self.new ≡ is_down self.old }
-        ensures faults { D.faults (disk_of self.new) ≡ D.faults (disk_of self.old) }
+        ensures faults { (D.state (disk_of self.new)).faults ≡ (D.state (disk_of self.old)).faults }
         ensures strict { (layout : Layout) (own : Name) (version : ℕ) (armed passed : Maybe ℕ) (past : Past Told)
-            → IsStrictAt D.strict D.armed D.content D.synced D.written layout own version armed passed past self.old
-            → IsStrictAt D.strict D.armed D.content D.synced D.written layout own version (Some calls) passed past self.new }
+            → IsStrictAt D.Disk layout own version armed passed past self.old
+            → IsStrictAt D.Disk layout own version (Some calls) passed past self.new }
     {
         match &mut self.state {
             StoreState::Open(store) => store.arm(calls),
@@ -269,7 +264,7 @@ impl<D: Rig> StoreActor<D> {
     /// The store, where it is up: it has taken what is staged too.
     pub fn store(&self) -> Option<&Store>
         ensures some { is_none result ≡ is_down self.now }
-        ensures stands { IfSome result (λ store. (layout : Layout) (own : Name) (version : ℕ) (past : Past Told) (staged : List (Stop Told)) → IsStaging D.is_image layout own version past staged self.now
+        ensures stands { IfSome result (λ store. (layout : Layout) (own : Name) (version : ℕ) (past : Past Told) (staged : List (Stop Told)) → IsStaging D.Disk layout own version past staged self.now
             → (actor_of store.now ≡ own) × Stands layout store.now (replay layout own (kept_with staged past).acts)) }
     {
         match &self.state {
@@ -283,7 +278,7 @@ impl<D: Rig> StoreActor<D> {
     pub fn into_parts(self) -> (D, Option<Store>)
         ensures disk { result.0 ≡ disk_of self }
         ensures store { result.1 ≡ store_in self.state }
-        ensures holds { (layout : Layout) (own : Name) (version : ℕ) (past : Past Told) (staged : List (Stop Told)) → IsStaging D.is_image layout own version past staged self
+        ensures holds { (layout : Layout) (own : Name) (version : ℕ) (past : Past Told) (staged : List (Stop Told)) → IsStaging D.Disk layout own version past staged self
             → (image : List ℕ) → D.is_image result.0 image → HoldsPayloads version past image }
     {
         let StoreActor {
@@ -313,7 +308,7 @@ impl<D: Rig> StoreActor<D> {
 
     // How many messages the journal has, without one that was stopped.
     fn held(&self) -> u64
-        ensures { (layout : Layout) (own : Name) (version : ℕ) (past : Past Told) → StandsFor D.is_image layout own version past self.now
+        ensures { (layout : Layout) (own : Name) (version : ℕ) (past : Past Told) → StandsFor D.Disk layout own version past self.now
             → result ≡ count_of past }
     {
         match &self.state {
@@ -358,16 +353,15 @@ fn reopened<D: Rig>(
     disk: D,
 ) -> (StoreState<D>, Result<Option<bool>, OutOfMemory>)
     ensures ok { IfOk result.1 (λ found. (past : Past Told) → ((image : List ℕ) → D.is_image disk image → IsLeft (IsJournal topology.now actor version) past image) → kept ≡ count_of past
-        → IsFound D.is_image topology.now actor version past found result.0) }
+        → IsFound D.Disk topology.now actor version past found result.0) }
     ensures shut { IfOk result.1 (λ found. is_shut result.0 ≡ is_none found) }
-    ensures counted { D.faults disk ≤ D.faults (disk_in result.0) }
-    ensures cause { result.1 ≡ Ok None → Rose (D.faults disk) (D.faults (disk_in result.0)) }
+    ensures faults { CountsFaults (result.1 ≡ Ok None) (D.state disk).faults (D.state (disk_in result.0)).faults }
 
-    ensures kind { D.strict (disk_in result.0) ≡ D.strict disk }
-    ensures strict { IsTrue (D.strict disk) → (past : Past Told) (keeps : Bool)
-        → ((bytes : List ℕ) → D.is_image disk bytes → LeftByChoice choice (D.content disk) (D.synced disk) (D.written disk) bytes → ReadsIf (IsJournal topology.now actor version) past keeps bytes) → kept ≡ count_of past
+    ensures kind { (D.state (disk_in result.0)).strict ≡ (D.state disk).strict }
+    ensures strict { IsTrue (D.state disk).strict → (past : Past Told) (keeps : Bool)
+        → ((bytes : List ℕ) → D.is_image disk bytes → CrashLeaves choice (D.state disk) bytes → ReadsIf (IsJournal topology.now actor version) past keeps bytes) → kept ≡ count_of past
         → IfOk result.1 (TellsByChoice keeps past.stopped) }
-    ensures unarmed { IsTrue (D.strict disk) → OnOk result.1 (D.armed (disk_in result.0) ≡ None) }
+    ensures unarmed { IsTrue (D.state disk).strict → OnOk result.1 ((D.state (disk_in result.0)).armed ≡ None) }
 {
     let mut disk = disk;
     if kept == u64::MAX || disk.crash(choice).is_err() {

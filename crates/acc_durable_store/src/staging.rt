@@ -1,8 +1,6 @@
 //! A journal with payloads that wait for it.
-ghost use Rattle.std.specs.Prelude.{◌≡◌, ◌≢◌, ◌^◌, ◌<◌, ◌≤◌, IsTrue, true, false, List, [], ◌++◌, ℕ, length, take, Some, Err, IfOk, IfErr, OnOk, OnErr, IsErr};
-ghost use Rattle.acc_ports.specs.Disk.{NoFurther, Elapses, LeavesOnly};
-ghost use Rattle.acc_ports.specs.Faults.{Rose};
-ghost use Rattle.acc_ports.specs.Strict.{after_call, LeftByChoice};
+ghost use Rattle.std.specs.Prelude.{◌≡◌, ◌^◌, ◌<◌, true, false, List, [], ◌++◌, ℕ, length, take, IfErr, OnOk, OnErr};
+ghost use Rattle.acc_ports.specs.Moments.{LeavesOnly, Arms};
 ghost use Rattle.acc_payloads.specs.Journals.{appended};
 
 use acc_base::OutOfMemory;
@@ -29,7 +27,8 @@ impl<D: Disk> Model for StagedJournal<D> {
 
 impl<D: Disk> StagedJournal<D> {
     ghost use Rattle.acc_journal.specs.Layout.{Reads};
-    ghost use Rattle.acc_journal.specs.Journal.{ReadsAsEither, IsOfTheDisk, FailsWithin, left_by_choice};
+    ghost use Rattle.acc_journal.specs.Journal.{IsOfTheDisk};
+    ghost use Rattle.acc_journal.specs.Calls.{Appends, answer_of};
 
     /// A journal with nothing staged.
     pub(crate) fn new(alloc: Global, journal: Journal<D>) -> StagedJournal<D>
@@ -81,24 +80,10 @@ impl<D: Disk> StagedJournal<D> {
         requires some { 0 < length self.old.group }
 
         ensures ok { OnOk result (self.new ≡ record { disk = self.new.disk; payloads = self.old.payloads ++ self.old.group; group = []; broken = false }) }
-        ensures lasts { OnOk result ((image : List ℕ) → D.is_image self.new.disk image → Reads image (self.old.payloads ++ self.old.group)) }
         ensures broken { OnErr result (self.new.broken ≡ true) }
         ensures err_group { OnErr result (self.new.group ≡ self.old.group) }
         ensures error { IfErr result IsOfTheDisk }
-        ensures any_moment { LeavesOnly D.clock D.was_image self.old.disk self.new.disk (ReadsAsEither self.old.payloads self.old.group) }
-
-        ensures counted { D.faults self.old.disk ≤ D.faults self.new.disk }
-        ensures cause { result ≡ Err JournalError.DiskFault → Rose (D.faults self.old.disk) (D.faults self.new.disk) }
-        ensures unfailed { result ≢ Err JournalError.DiskFault → D.faults self.new.disk ≡ D.faults self.old.disk }
-
-        // On a strict disk the armed one of the four calls fails, and no other; and what a crash leaves then is known.
-        ensures kind { D.strict self.new.disk ≡ D.strict self.old.disk }
-        ensures counts { IsTrue (D.strict self.old.disk) → OnOk result (D.armed self.new.disk ≡ after_call (after_call (after_call (after_call (D.armed self.old.disk))))) }
-        ensures early { IsTrue (D.strict self.old.disk) → FailsWithin 4 (D.armed self.old.disk) → IsErr result }
-        ensures late { IsTrue (D.strict self.old.disk) → ¬ FailsWithin 4 (D.armed self.old.disk) → result ≢ Err JournalError.DiskFault }
-        ensures still { IsTrue (D.strict self.old.disk) → ¬ FailsWithin 4 (D.armed self.old.disk) → D.faults self.new.disk ≡ D.faults self.old.disk }
-        ensures failed { IsTrue (D.strict self.old.disk) → result ≡ Err JournalError.DiskFault → (choice : ℕ) (left : List ℕ) → LeftByChoice choice (D.content self.new.disk) (D.synced self.new.disk) (D.written self.new.disk) left
-            → Reads left (left_by_choice (D.armed self.old.disk) choice self.old.payloads self.old.group) }
+        ensures appends { Appends D.Disk self.old.disk self.new.disk self.old.payloads self.old.group (answer_of result) }
     {
         self.journal.append_records(&mut self.group)?;
         self.group.truncate(0);
@@ -109,7 +94,7 @@ impl<D: Disk> StagedJournal<D> {
     pub(crate) fn is_broken(&self) -> bool
         ensures value { result ≡ self.now.broken }
         ensures sound { self.now.broken ≡ false → (image : List ℕ) → D.is_image self.now.disk image → Reads image self.now.payloads }
-        ensures rests { self.now.broken ≡ false → LeavesOnly D.clock D.was_image self.now.disk self.now.disk (λ image. Reads image self.now.payloads) }
+        ensures rests { self.now.broken ≡ false → LeavesOnly D.Disk self.now.disk self.now.disk (λ image. Reads image self.now.payloads) }
     {
         self.journal.is_broken()
     }
@@ -126,17 +111,8 @@ impl<D: Disk> StagedJournal<D> {
 impl<D: Rig> StagedJournal<D> {
     /// Arms a call of the disk: so many more pass, and the next one fails.
     pub(crate) fn arm(&mut self, calls: u64)
-        ensures armed { IsTrue (D.strict self.old.disk) → D.armed self.new.disk ≡ Some calls }
+        ensures arms { Arms D.Disk calls self.old.disk self.new.disk }
         ensures same { self.new ≡ record self.old { disk = self.new.disk } }
-
-        ensures content { D.content self.new.disk ≡ D.content self.old.disk }
-        ensures images { NoFurther (D.is_image self.old.disk) (D.is_image self.new.disk) }
-        ensures no_fewer { NoFurther (D.is_image self.new.disk) (D.is_image self.old.disk) }
-        ensures clock { D.clock self.new.disk ≡ D.clock self.old.disk }
-        ensures time { Elapses (D.clock self.old.disk) (D.clock self.new.disk) (D.was_image self.old.disk) (D.was_image self.new.disk) (D.is_image self.new.disk) }
-        ensures faults { D.faults self.new.disk ≡ D.faults self.old.disk }
-        ensures kind { D.strict self.new.disk ≡ D.strict self.old.disk }
-        ensures strict { IsTrue (D.strict self.old.disk) → (D.synced self.new.disk ≡ D.synced self.old.disk) × (D.written self.new.disk ≡ D.written self.old.disk) }
     {
         self.journal.arm(calls);
     }

@@ -1,9 +1,8 @@
 //! A store over a journal.
-ghost use Rattle.std.specs.Prelude.{◌≡◌, ◌≢◌, ◌^◌, ◌<◌, ◌≤◌, IsTrue, true, false, List, [], ◌∷◌, ◌++◌, ℕ, length, None, Some, Ok, IfOk, IfErr, OnOk, OnErr, IsErr};
+ghost use Rattle.std.specs.Prelude.{◌≡◌, ◌≢◌, ◌^◌, ◌<◌, ◌≤◌, true, false, List, [], ◌∷◌, ◌++◌, ℕ, length, Ok, Err, IfOk, IfErr, OnOk, OnErr};
 ghost use Rattle.acc_topology.specs.Layout.{Layout};
-ghost use Rattle.acc_ports.specs.Disk.{Only, NoFurther, Elapses, LeavesOnly};
-ghost use Rattle.acc_ports.specs.Faults.{Rose};
-ghost use Rattle.acc_ports.specs.Strict.{after_call, LeftByChoice};
+ghost use Rattle.acc_ports.specs.Disk.{IsAtRest};
+ghost use Rattle.acc_ports.specs.Moments.{Arms};
 ghost use Rattle.acc_message.specs.declared.message.Message.{Message as Told};
 ghost use Rattle.acc_message.specs.Fields.{top_of};
 ghost use Rattle.acc_message.specs.StoreRules.{store_answer, replay as replayed};
@@ -21,8 +20,10 @@ ghost use Rattle.acc_payloads.specs.Store.{IsStoreJournal};
 ghost use Rattle.acc_payloads.specs.Texts.{has_text};
 ghost use Rattle.acc_payloads.specs.Items.{without_marks};
 ghost use Rattle.acc_journal.specs.Layout.{Reads};
-ghost use Rattle.acc_journal.specs.Journal.{IsAtRest, ReadsAsEither, IsOfTheDisk, FailsWithin, left_by_choice};
-ghost use Rattle.acc_durable_store.specs.Store.{actor_in, StandsFor, Takes, IsAsBefore, IsUntouched, IsTheSame, IsReopened, IsRefusedBy, Refuses, FailsToSettle, IsStillStaged, IsDiskFault};
+ghost use Rattle.acc_journal.specs.Errors.{port_error};
+ghost use Rattle.acc_journal.specs.Journal.{IsOfTheDisk};
+ghost use Rattle.acc_journal.specs.Calls.{Appends, ReadsDisk};
+ghost use Rattle.acc_durable_store.specs.Store.{answer_of, actor_in, StandsFor, Takes, IsAsBefore, IsUntouched, IsTheSame, IsReopened, IsRefusedBy, Refuses, FailsToSettle, IsStillStaged, IsDiskFault};
 
 use crate::StepError;
 use crate::replay::replay;
@@ -58,8 +59,8 @@ impl<D: Disk> DurableStore<D> {
     /// A store that has taken no message, on a disk that holds the bytes 1 and 0, synced. It journals as this version, 1 or 2. It
     /// makes no call of the disk and takes no memory.
     pub fn fresh(alloc: Global, actor: Actor, version: u8, disk: D) -> DurableStore<D>
-        requires content { D.content disk ≡ 1 ∷ 0 ∷ [] }
-        requires rest { IsAtRest (D.content disk) (D.is_image disk) (D.strict disk) (D.synced disk) (D.written disk) }
+        requires content { (D.state disk).content ≡ 1 ∷ 0 ∷ [] }
+        requires rest { IsAtRest (D.state disk) (D.is_image disk) }
         ensures stands { (layout : Layout) → StandsFor layout result [] }
         ensures given { (actor_in result ≡ actor) × (result.version ≡ version) }
         ensures journal { (result.journal.disk ≡ disk) × (result.journal.payloads ≡ []) × (result.journal.group ≡ []) }
@@ -87,32 +88,17 @@ impl<D: Disk> DurableStore<D> {
         version: u8,
         disk: D,
     ) -> Result<DurableStore<D>, (JournalError, D)>
-        requires rest { IsAtRest (D.content disk) (D.is_image disk) (D.strict disk) (D.synced disk) (D.written disk) }
+        requires { IsAtRest (D.state disk) (D.is_image disk) }
 
         ensures ok { IfOk result (λ s. IsReopened topology.now s s.journal.payloads) }
-        ensures reads { IfOk result (λ s. Reads (D.content disk) s.journal.payloads) }
+        ensures reads { IfOk result (λ s. Reads (D.state disk).content s.journal.payloads) }
         ensures given { IfOk result (λ s. (actor_in s ≡ actor) × (s.version ≡ version)) }
         ensures kept { IfOk result (λ s. s.kept ≡ length (without_marks s.journal.payloads)) }
-        ensures lasts { IfOk result (λ s. (image : List ℕ) → D.is_image s.journal.disk image → Reads image s.journal.payloads) }
-        ensures content { IfOk result (λ s. D.content s.journal.disk ≡ D.content disk) }
-        ensures any_moment { IfOk result (λ s. LeavesOnly D.clock D.was_image disk s.journal.disk (λ image. image ≡ D.content disk)) }
-
-        ensures refused { IfErr result (λ e. IsRefusedBy topology.now (D.content disk) version actor e.0) }
-        ensures never { (payloads : List (List ℕ)) (items : List Payload) → Reads (D.content disk) payloads → IsStoreJournal topology.now version actor payloads items → IfErr result (λ e. IsOfTheDisk e.0) }
-        ensures err_content { IfErr result (λ e. D.content e.1 ≡ D.content disk) }
-        ensures err_only { IfErr result (λ e. Only (D.content disk) (D.is_image e.1)) }
-        ensures err_any_moment { IfErr result (λ e. LeavesOnly D.clock D.was_image disk e.1 (λ image. image ≡ D.content disk)) }
-
-        ensures counted { IfOk result (λ s. D.faults disk ≤ D.faults s.journal.disk) }
-        ensures err_counted { IfErr result (λ e. D.faults disk ≤ D.faults e.1) }
-        ensures cause { IfErr result (λ e. e.0 ≡ JournalError.DiskFault → Rose (D.faults disk) (D.faults e.1)) }
-        ensures unfailed { IfErr result (λ e. e.0 ≢ JournalError.DiskFault → D.faults e.1 ≡ D.faults disk) }
-        ensures opened { IfOk result (λ s. D.faults s.journal.disk ≡ D.faults disk) }
-
-        ensures kind { IfOk result (λ s. D.strict s.journal.disk ≡ D.strict disk) }
-        ensures err_kind { IfErr result (λ e. D.strict e.1 ≡ D.strict disk) }
-        ensures passes { IsTrue (D.strict disk) → D.armed disk ≡ None → IfErr result (λ e. e.0 ≢ JournalError.DiskFault) }
-        ensures unarmed { IsTrue (D.strict disk) → D.armed disk ≡ None → IfOk result (λ s. (D.armed s.journal.disk ≡ None) × (D.faults s.journal.disk ≡ D.faults disk)) }
+        ensures disk { IfOk result (λ s. ReadsDisk D.Disk disk s.journal.disk (Ok tt)) }
+        ensures err_disk { IfErr result (λ e. ReadsDisk D.Disk disk e.1 (Err (port_error e.0))) }
+        ensures refused { IfErr result (λ e. IsRefusedBy topology.now (D.state disk).content version actor e.0) }
+        ensures never { (payloads : List (List ℕ)) (items : List Payload) → Reads (D.state disk).content payloads → IsStoreJournal topology.now version actor payloads items
+            → IfErr result (λ e. IsOfTheDisk e.0) }
     {
         let (journal, payloads) = match Journal::reopen(alloc, disk) {
             Ok(opened) => opened,
@@ -151,22 +137,7 @@ impl<D: Disk> DurableStore<D> {
         ensures same { IsTheSame self.old self.new }
 
         ensures appended { OnOk result (self.new.journal.payloads ≡ self.old.journal.payloads ++ appended self.old.version self.old.marked (message_bytes m.now)) }
-        ensures lasts { OnOk result ((image : List ℕ) → D.is_image self.new.journal.disk image → Reads image self.new.journal.payloads) }
-        ensures either { (image : List ℕ) → D.is_image self.new.journal.disk image → ReadsAsEither self.old.journal.payloads (appended self.old.version self.old.marked (message_bytes m.now)) image }
-        ensures any_moment { LeavesOnly D.clock D.was_image self.old.journal.disk self.new.journal.disk (ReadsAsEither self.old.journal.payloads (appended self.old.version self.old.marked (message_bytes m.now))) }
-
-        ensures counted { D.faults self.old.journal.disk ≤ D.faults self.new.journal.disk }
-        ensures cause { IfErr result (λ e. IsDiskFault e → Rose (D.faults self.old.journal.disk) (D.faults self.new.journal.disk)) }
-        ensures unfailed { IfErr result (λ e. IsDiskFault e → ⊥) → D.faults self.new.journal.disk ≡ D.faults self.old.journal.disk }
-
-        // On a strict disk the armed one of the four calls fails, and no other; and what a crash leaves then is known.
-        ensures kind { D.strict self.new.journal.disk ≡ D.strict self.old.journal.disk }
-        ensures counts { IsTrue (D.strict self.old.journal.disk) → OnOk result (D.armed self.new.journal.disk ≡ after_call (after_call (after_call (after_call (D.armed self.old.journal.disk))))) }
-        ensures early { IsTrue (D.strict self.old.journal.disk) → FailsWithin 4 (D.armed self.old.journal.disk) → IsErr result }
-        ensures late { IsTrue (D.strict self.old.journal.disk) → ¬ FailsWithin 4 (D.armed self.old.journal.disk) → IfErr result (λ e. IsDiskFault e → ⊥) }
-        ensures still { IsTrue (D.strict self.old.journal.disk) → ¬ FailsWithin 4 (D.armed self.old.journal.disk) → D.faults self.new.journal.disk ≡ D.faults self.old.journal.disk }
-        ensures failed { IsTrue (D.strict self.old.journal.disk) → IfErr result (λ e. IsDiskFault e → (choice : ℕ) (left : List ℕ) → LeftByChoice choice (D.content self.new.journal.disk) (D.synced self.new.journal.disk) (D.written self.new.journal.disk) left
-            → Reads left (left_by_choice (D.armed self.old.journal.disk) choice self.old.journal.payloads (appended self.old.version self.old.marked (message_bytes m.now)))) }
+        ensures appends { Appends D.Disk self.old.journal.disk self.new.journal.disk self.old.journal.payloads (appended self.old.version self.old.marked (message_bytes m.now)) (answer_of result) }
     {
         let _sound = self.journal.is_broken();
         let prepared = self.prepare(topology, m)?;
@@ -240,21 +211,7 @@ impl<D: Disk> DurableStore<D> {
 
         ensures appended { OnOk result (self.new.journal.payloads ≡ self.old.journal.payloads ++ self.old.journal.group) }
         ensures lasts { OnOk result ((image : List ℕ) → D.is_image self.new.journal.disk image → Reads image self.new.journal.payloads) }
-        ensures either { (image : List ℕ) → D.is_image self.new.journal.disk image → ReadsAsEither self.old.journal.payloads self.old.journal.group image }
-        ensures any_moment { LeavesOnly D.clock D.was_image self.old.journal.disk self.new.journal.disk (ReadsAsEither self.old.journal.payloads self.old.journal.group) }
-
-        ensures counted { D.faults self.old.journal.disk ≤ D.faults self.new.journal.disk }
-        ensures cause { IfErr result (λ e. IsDiskFault e → Rose (D.faults self.old.journal.disk) (D.faults self.new.journal.disk)) }
-        ensures unfailed { IfErr result (λ e. IsDiskFault e → ⊥) → D.faults self.new.journal.disk ≡ D.faults self.old.journal.disk }
-
-        // On a strict disk the armed one of the four calls fails, and no other; and what a crash leaves then is known.
-        ensures kind { D.strict self.new.journal.disk ≡ D.strict self.old.journal.disk }
-        ensures counts { IsTrue (D.strict self.old.journal.disk) → self.old.journal.group ≢ [] → OnOk result (D.armed self.new.journal.disk ≡ after_call (after_call (after_call (after_call (D.armed self.old.journal.disk))))) }
-        ensures early { IsTrue (D.strict self.old.journal.disk) → self.old.journal.group ≢ [] → FailsWithin 4 (D.armed self.old.journal.disk) → IsErr result }
-        ensures late { IsTrue (D.strict self.old.journal.disk) → ¬ FailsWithin 4 (D.armed self.old.journal.disk) → IfErr result (λ e. IsDiskFault e → ⊥) }
-        ensures still { IsTrue (D.strict self.old.journal.disk) → ¬ FailsWithin 4 (D.armed self.old.journal.disk) → D.faults self.new.journal.disk ≡ D.faults self.old.journal.disk }
-        ensures failed { IsTrue (D.strict self.old.journal.disk) → IfErr result (λ e. IsDiskFault e → (choice : ℕ) (left : List ℕ) → LeftByChoice choice (D.content self.new.journal.disk) (D.synced self.new.journal.disk) (D.written self.new.journal.disk) left
-            → Reads left (left_by_choice (D.armed self.old.journal.disk) choice self.old.journal.payloads self.old.journal.group)) }
+        ensures appends { self.old.journal.group ≢ [] → Appends D.Disk self.old.journal.disk self.new.journal.disk self.old.journal.payloads self.old.journal.group (answer_of result) }
     {
         let _sound = self.journal.is_broken();
         if self.journal.count() == 0 {
@@ -348,20 +305,11 @@ impl<D: Disk> DurableStore<D> {
 impl<D: Rig> DurableStore<D> {
     /// Arms a call of the disk: so many more pass, and the next one fails. It makes no call of the disk and takes no memory.
     pub fn arm(&mut self, calls: u64)
-        ensures armed { IsTrue (D.strict self.old.journal.disk) → D.armed self.new.journal.disk ≡ Some calls }
+        ensures arms { Arms D.Disk calls self.old.journal.disk self.new.journal.disk }
         ensures as_before { IsAsBefore self.old self.new }
         ensures same { IsTheSame self.old self.new }
         ensures store { self.new.store ≡ self.old.store }
         ensures journal { self.new.journal ≡ record self.old.journal { disk = self.new.journal.disk } }
-
-        ensures content { D.content self.new.journal.disk ≡ D.content self.old.journal.disk }
-        ensures images { NoFurther (D.is_image self.old.journal.disk) (D.is_image self.new.journal.disk) }
-        ensures no_fewer { NoFurther (D.is_image self.new.journal.disk) (D.is_image self.old.journal.disk) }
-        ensures clock { D.clock self.new.journal.disk ≡ D.clock self.old.journal.disk }
-        ensures time { Elapses (D.clock self.old.journal.disk) (D.clock self.new.journal.disk) (D.was_image self.old.journal.disk) (D.was_image self.new.journal.disk) (D.is_image self.new.journal.disk) }
-        ensures faults { D.faults self.new.journal.disk ≡ D.faults self.old.journal.disk }
-        ensures kind { D.strict self.new.journal.disk ≡ D.strict self.old.journal.disk }
-        ensures strict { IsTrue (D.strict self.old.journal.disk) → (D.synced self.new.journal.disk ≡ D.synced self.old.journal.disk) × (D.written self.new.journal.disk ≡ D.written self.old.journal.disk) }
     {
         self.journal.arm(calls);
     }

@@ -24,9 +24,9 @@ impl<D: Rig> StoreActor<D> {
         prepared: &Prepared,
     ) -> Result<u64, OutOfMemory>
         requires up { is_down self.now ≡ false }
-        requires may { StoreMayWeigh D.is_image topology.now self.now m.now }
+        requires may { StoreMayWeigh D.Disk topology.now self.now m.now }
         requires prepared { IsPreparedBy topology.now self.now m.now prepared.now }
-        ensures { IfOk result (λ weight. (own : Name) (version : ℕ) (past : Past Told) (staged : List (Stop Told)) → IsStaging D.is_image topology.now own version past staged self.now
+        ensures { IfOk result (λ weight. (own : Name) (version : ℕ) (past : Past Told) (staged : List (Stop Told)) → IsStaging D.Disk topology.now own version past staged self.now
             → weight ≡ weight_of_all (emits_next topology.now own (kept_with staged past) m.now).out) }
     {
         let StoreState::Open(store) = &self.state else {

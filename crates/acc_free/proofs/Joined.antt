@@ -5,7 +5,7 @@ use Rattle.std.specs.List.{filter}
 use Rattle.std.proofs.lemmas.List.{append-nil, map-append}
 use Rattle.std.proofs.lemmas.List.Elements.{filter-append}
 use Rattle.acc_stamp.specs.declared.actors.Actor.{Actor}
-use Rattle.acc_ports.specs.Strict.{Ranges}
+use Rattle.acc_ports.specs.declared.disk.Disk.{Ghosts}
 use Rattle.acc_message.specs.declared.entry.Event.{Event}
 use Rattle.acc_message.specs.declared.item.Item.{Item}
 use Rattle.acc_message.specs.Items.{same_actor}
@@ -49,12 +49,12 @@ second_none a xs ys none = both_stopped a xs ys ∙ ap (λ events. stopped_at a 
 
 -- ---- all actors
 
-module _ {D : Type 0} (images : D → List ℕ → Type 0) (faults : D → ℕ) (strict : D → Bool) (armed : D → Option ℕ) (content synced : D → List ℕ) (written : D → Ranges) (strict_run : Bool) (plan : Content) (items : List Item) where
+module _ {D : Type 0} (port : Ghosts D) (strict_run : Bool) (plan : Content) (items : List Item) where
   -- the actor stands for its part in the items, and its commands but these went by
   abbrev pub IsEnd : Rest D → Type 0
-  IsEnd rest = IsAt images faults strict armed content synced written strict_run plan rest.actor items rest.slot (left_in (queue_in rest))
+  IsEnd rest = IsAt port strict_run plan rest.actor items rest.slot (left_in (queue_in rest))
 
-  -- what faults stopped of each
+  -- what port stopped of each
   stops_of : (rests : List (Rest D)) → AllByRecursion IsEnd rests → List Stopped
   stops_of [] all = []
   stops_of (rest ∷ rests) all = all.0.stopped ++ stops_of rests all.1
@@ -100,9 +100,9 @@ module _ {D : Type 0} (images : D → List ℕ → Type 0) (faults : D → ℕ) 
 
   module _ (stopped : List Stopped) where
     record StandsBy (rest : Rest D) : Type 0 where
-      stands : SlotStands images faults plan (alone items stopped) rest.actor rest.slot
+      stands : SlotStands port plan (alone items stopped) rest.actor rest.slot
       gone : HasGone plan (alone items stopped) rest.actor (left_in (queue_in rest))
-      strictly : strict_run ≡ true → IsStrictSlot strict armed content synced written plan (alone items stopped) fresh_disks rest.actor rest.slot
+      strictly : strict_run ≡ true → IsStrictSlot port plan (alone items stopped) fresh_disks rest.actor rest.slot
       up : strict_run ≡ true → downs_in rest.actor items ≡ 0
 
     abbrev GoneLaw : Type 0
@@ -115,9 +115,9 @@ module _ {D : Type 0} (images : D → List ℕ → Type 0) (faults : D → ℕ) 
         let before = alone items at.stopped in
         let apart : IsApart (cluster_of plan) before (alone items stopped) rest.actor = apart_stopped (cluster_of plan) before stopped rest.actor is in
         record {
-          stands = slot_apart plan before (alone items stopped) rest.actor apart images faults rest.slot at.stands;
+          stands = slot_apart plan before (alone items stopped) rest.actor apart port rest.slot at.stands;
           gone = law plan items at.stopped stopped rest.actor (left_in (queue_in rest)) is at.gone;
-          strictly = λ s. strict_apart plan before (alone items stopped) rest.actor apart strict armed content synced written fresh_disks fresh_disks rest.slot refl refl (at.stayed s).unarmed;
+          strictly = λ s. strict_apart plan before (alone items stopped) rest.actor apart port fresh_disks fresh_disks rest.slot refl refl (at.stayed s).unarmed;
           up = λ s. (at.stayed s).up;
         }
 
@@ -145,12 +145,12 @@ module _ {D : Type 0} (images : D → List ℕ → Type 0) (faults : D → ℕ) 
     itself (rest ∷ rests) = (refl, itself rests)
 
     slots_stand : (rests : List (Rest D)) → AllByRecursion StandsBy rests
-        → AllByRecursion (λ (one : Actor × _). SlotStands images faults plan (alone items stopped) one.0 one.1) (map placed_in rests)
+        → AllByRecursion (λ (one : Actor × _). SlotStands port plan (alone items stopped) one.0 one.1) (map placed_in rests)
     slots_stand [] all = tt
     slots_stand (rest ∷ rests) all = (all.0.stands, slots_stand rests all.1)
 
     slots_strict : (rests : List (Rest D)) → AllByRecursion StandsBy rests → strict_run ≡ true
-        → AreStrictSlots strict armed content synced written plan (alone items stopped) fresh_disks (map placed_in rests)
+        → AreStrictSlots port plan (alone items stopped) fresh_disks (map placed_in rests)
     slots_strict [] all is = tt
     slots_strict (rest ∷ rests) all is = (all.0.strictly is, slots_strict rests all.1 is)
 
@@ -180,17 +180,17 @@ EachLaw =
 abbrev pub UpLaw : Type 0
 UpLaw = (plan : Content) (items : List Item) → IsFreeRun plan items → ((a : Actor) → Contains (actors plan.topology) a → downs_in a items ≡ 0) → NobodyIsDown items
 
-pub rested : {D : Type 0} (images : D → List ℕ → Type 0) (faults : D → ℕ) (strict : D → Bool) (armed : D → Option ℕ) (content synced : D → List ℕ) (written : D → Ranges) (strict_run : Bool) (plan : Content)
+pub rested : {D : Type 0} (port : Ghosts D) (strict_run : Bool) (plan : Content)
     → IsPlan plan → TogetherLaw → EachLaw → UpLaw → (entered : List Item) → IsFreeRun plan (reverse entered) → IsWithin (reverse entered)
     → (rests : List (Rest D)) → AreAllActors plan (map rest_actor rests)
-    → AllByRecursion (IsEnd images faults strict armed content synced written strict_run plan (reverse entered)) rests
-    → HaveRested images faults strict armed content synced written strict_run plan rests entered
-rested images faults strict armed content synced written strict_run plan valid together each nobody entered free within rests are all =
+    → AllByRecursion (IsEnd port strict_run plan (reverse entered)) rests
+    → HaveRested port strict_run plan rests entered
+rested port strict_run plan valid together each nobody entered free within rests are all =
     let items = reverse entered in
-    let stopped = stops_of images faults strict armed content synced written strict_run plan items rests all in
-    let serving = together plan items stopped valid free (whose images faults strict armed content synced written strict_run plan items rests all are.apart) in
-    let stand = each_stands images faults strict armed content synced written strict_run plan items stopped each rests all are.apart
-    (itself images faults strict armed content synced written strict_run plan items stopped rests) in
+    let stopped = stops_of port strict_run plan items rests all in
+    let serving = together plan items stopped valid free (whose port strict_run plan items rests all are.apart) in
+    let stand = each_stands port strict_run plan items stopped each rests all are.apart
+    (itself port strict_run plan items stopped rests) in
     record {
       stopped = stopped;
       resting =
@@ -199,15 +199,15 @@ rested images faults strict armed content synced written strict_run plan valid t
                 record {
                   sound = serving.sound;
                   within = within;
-                  stand = slots_stand images faults strict armed content synced written strict_run plan items stopped rests stand;
+                  stand = slots_stand port strict_run plan items stopped rests stand;
                 };
             serving = serving;
-            gone = each_gone images faults strict armed content synced written strict_run plan items stopped rests stand;
+            gone = each_gone port strict_run plan items stopped rests stand;
           };
-      strictly = slots_strict images faults strict armed content synced written strict_run plan items stopped rests stand;
+      strictly = slots_strict port strict_run plan items stopped rests stand;
       up = λ is.
           nobody plan items free
           (λ a member.
-          each_at (λ (b : Actor). downs_in b items ≡ 0) a (map rest_actor rests) (each_up images faults strict armed content synced written strict_run plan items stopped rests stand is)
+          each_at (λ (b : Actor). downs_in b items ≡ 0) a (map rest_actor rests) (each_up port strict_run plan items stopped rests stand is)
           (Contains-IsIn a (map rest_actor rests) (are.each a member)));
     }

@@ -7,7 +7,7 @@ use Rattle.std.proofs.lemmas.List.Elements.{All-nil, All-push}
 use Rattle.acc_stamp.specs.declared.actors.Actor.{Actor}
 use Rattle.acc_stamp.specs.Actor.{actor_of}
 use Rattle.acc_stamp.proofs.Rising.{each_append, each_weaker}
-use Rattle.acc_ports.specs.Strict.{Ranges}
+use Rattle.acc_ports.specs.declared.disk.Disk.{Ghosts}
 use Rattle.acc_message.specs.declared.item.Item.{Item}
 use Rattle.acc_message.specs.Items.{same_actor}
 use Rattle.acc_safety.proofs.Bridge.{same}
@@ -85,12 +85,12 @@ not_made names made a is before there =
 
 -- ---- desks
 
-module _ {D J : Type 0} (images : D → List ℕ → Type 0) (faults : D → ℕ) (strict : D → Bool) (armed : D → Option ℕ) (content synced : D → List ℕ) (written : D → Ranges) (strict_run : Bool) (plan : Content) (tape : TapeName) where
+module _ {D J : Type 0} (port : Ghosts D) (strict_run : Bool) (plan : Content) (tape : TapeName) where
   abbrev Opened : List Actor → ℕ → SeatView Item → List (Desk D J) → Type 0
-  Opened names rank first desks = AreOpened images faults strict armed content synced written strict_run plan tape names rank first desks
+  Opened names rank first desks = AreOpened port strict_run plan tape names rank first desks
 
   abbrev Sound : Desk D J → Type 0
-  Sound desk = IsSound images faults strict armed content synced written strict_run plan tape desk.actor desk.seat desk.slot desk.commands desk.gone
+  Sound desk = IsSound port strict_run plan tape desk.actor desk.seat desk.slot desk.commands desk.gone
 
   pub none_opened : (first : SeatView Item) (desks : List (Desk D J)) → first.tape ≡ tape → first.actor ≡ 0 → first.made ≡ [] → desks ≡ [] → Opened [] 0 first desks
   none_opened first desks tape_is actor_is made none = record {

@@ -10,7 +10,7 @@ use Rattle.std.proofs.lemmas.Map.Keys.{IsDistinct-IsPermutation}
 use Rattle.std.proofs.lemmas.Bool.{eq-eqb, eqb-true}
 use mathlib.Core.List.{IsPrefix}
 use Rattle.acc_stamp.specs.declared.actors.Actor.{Actor}
-use Rattle.acc_ports.specs.Strict.{Ranges}
+use Rattle.acc_ports.specs.declared.disk.Disk.{Ghosts}
 use Rattle.acc_message.specs.declared.item.Item.{Item}
 use Rattle.acc_message.specs.Items.{same_actor}
 use Rattle.acc_schedule.specs.Actors.{actors}
@@ -41,16 +41,16 @@ abbrev pub HasComeTo : List ℕ → List Item → SeatView Item → Type 0
 HasComeTo made items seat = IsPrefix seat.seen items × (items_of actor_of_item seat.actor items ≡ seat.mine) × Contains made seat.actor
 
 -- the law of desks at the end
-abbrev pub EndLaw : {D : Type 0} → (D → List ℕ → Type 0) → (D → ℕ) → (D → Bool) → (D → Option ℕ) → (D → List ℕ) → (D → List ℕ) → (D → Ranges) → Type 0
-EndLaw {D} images faults strict armed content synced written =
+abbrev pub EndLaw : {D : Type 0} → Ghosts D → Type 0
+EndLaw {D} port =
     (strict_run : Bool) (plan : Content) (tape : TapeName) (a : Actor) (seat : SeatView Item) (slot : Slot D) (commands : List Step) (gone : ℕ) → tape.limits.items ≤ most_items
-    → IsSound images faults strict armed content synced written strict_run plan tape a seat slot commands gone → (items : List Item) → IsPrefix seat.seen items
+    → IsSound port strict_run plan tape a seat slot commands gone → (items : List Item) → IsPrefix seat.seen items
     → items_of actor_of_item seat.actor items ≡ seat.mine → fits_plan plan items
-    → IsAt images faults strict armed content synced written strict_run plan a (reverse items) slot (drop gone commands)
+    → IsAt port strict_run plan a (reverse items) slot (drop gone commands)
 
-module _ {D J : Type 0} (images : D → List ℕ → Type 0) (faults : D → ℕ) (strict : D → Bool) (armed : D → Option ℕ) (content synced : D → List ℕ) (written : D → Ranges) (strict_run : Bool) (plan : Content) (tape : TapeName) where
+module _ {D J : Type 0} (port : Ghosts D) (strict_run : Bool) (plan : Content) (tape : TapeName) where
   abbrev Sound : Desk D J → Type 0
-  Sound desk = IsSound images faults strict armed content synced written strict_run plan tape desk.actor desk.seat desk.slot desk.commands desk.gone
+  Sound desk = IsSound port strict_run plan tape desk.actor desk.seat desk.slot desk.commands desk.gone
 
   -- as the closing of the tape asks
   pub seats_ready : (desks : List (Desk D J)) (seats : List (SeatView Item)) → seats ≡ map seat_in desks → All Sound desks
@@ -67,9 +67,9 @@ module _ {D J : Type 0} (images : D → List ℕ → Type 0) (faults : D → ℕ
       (All-map (λ (seat : SeatView Item). (a : Actor) × IsSeated tape a no_hold seat) seat_in desks
       (All-weaker Sound (λ (desk : Desk D J). (a : Actor) × IsSeated tape a no_hold desk.seat) (λ desk s. (desk.actor, s.seated)) desks all))
 
-  pub each_ends : EndLaw images faults strict armed content synced written → tape.limits.items ≤ most_items → (made : List ℕ) (items : List Item) → fits_plan plan items → (desks : List (Desk D J)) → All Sound desks
+  pub each_ends : EndLaw port → tape.limits.items ≤ most_items → (made : List ℕ) (items : List Item) → fits_plan plan items → (desks : List (Desk D J)) → All Sound desks
       → All (HasComeTo made items) (map seat_in desks)
-      → AllByRecursion (IsEnd images faults strict armed content synced written strict_run plan (reverse items)) (map rest_in desks)
+      → AllByRecursion (IsEnd port strict_run plan (reverse items)) (map rest_in desks)
   each_ends law few made items fits [] all come = tt
   each_ends law few made items fits (desk ∷ desks) all come =
       let own = All-head Sound desk desks all in
@@ -104,10 +104,10 @@ flips a b = by (same_actor b a) refl
 
 module _ {D J : Type 0} (plan : Content) where
   -- the desks that were opened have all actors
-  pub are_all : (images : D → List ℕ → Type 0) (faults : D → ℕ) (strict : D → Bool) (armed : D → Option ℕ) (content synced : D → List ℕ) (written : D → Ranges) (strict_run : Bool) (tape : TapeName)
+  pub are_all : (port : Ghosts D) (strict_run : Bool) (tape : TapeName)
       (rank : ℕ) (first : SeatView Item) (desks : List (Desk D J))
-      → AreOpened images faults strict armed content synced written strict_run plan tape (actors plan.topology) rank first desks → AreAllActors plan (map desk_actor desks)
-  are_all images faults strict armed content synced written strict_run tape rank first desks h =
+      → AreOpened port strict_run plan tape (actors plan.topology) rank first desks → AreAllActors plan (map desk_actor desks)
+  are_all port strict_run tape rank first desks h =
       subst (AreAllActors plan) (sym h.named)
       (record {
         known = recursion_from_All (λ (a : Actor). Contains (actors plan.topology) a) (actors plan.topology) (All-contains_itself (actors plan.topology));
@@ -134,11 +134,11 @@ module _ {D J : Type 0} (plan : Content) where
       subst (AreAllActors plan) (sym (same_actors served dealt same)) known
 
   -- each is sound there too
-  pub sound_dealt : (images : D → List ℕ → Type 0) (faults : D → ℕ) (strict : D → Bool) (armed : D → Option ℕ) (content synced : D → List ℕ) (written : D → Ranges) (strict_run : Bool) (tape : TapeName)
-      (desks dealt : List (Desk D J)) → IsPermutation desks dealt → AreSound images faults strict armed content synced written strict_run plan tape desks
-      → AreSound images faults strict armed content synced written strict_run plan tape dealt
-  sound_dealt images faults strict armed content synced written strict_run tape desks dealt moved all =
-      All-permutation (λ (desk : Desk D J). IsSound images faults strict armed content synced written strict_run plan tape desk.actor desk.seat desk.slot desk.commands desk.gone) desks dealt moved all
+  pub sound_dealt : (port : Ghosts D) (strict_run : Bool) (tape : TapeName)
+      (desks dealt : List (Desk D J)) → IsPermutation desks dealt → AreSound port strict_run plan tape desks
+      → AreSound port strict_run plan tape dealt
+  sound_dealt port strict_run tape desks dealt moved all =
+      All-permutation (λ (desk : Desk D J). IsSound port strict_run plan tape desk.actor desk.seat desk.slot desk.commands desk.gone) desks dealt moved all
 
   -- as many as seats were made
   pub as_many : (made : List ℕ) (names : List Actor) (desks dealt served : List (Desk D J)) → made ≡ map number_of names → map desk_actor desks ≡ names → IsPermutation desks dealt
@@ -163,17 +163,17 @@ pub record IsClosed (plan : Content) (made : List ℕ) (seats : List (SeatView I
   pub owned : All (λ (item : Item). Any (λ (seat : SeatView Item). seat.actor ≡ actor_of_item item) seats) items
   pub fits : fits_plan plan items
 
-module _ {D J : Type 0} (images : D → List ℕ → Type 0) (faults : D → ℕ) (strict : D → Bool) (armed : D → Option ℕ) (content synced : D → List ℕ) (written : D → Ranges) (strict_run : Bool) (plan : Content) (tape : TapeName) where
-  pub closes : IsPlan plan → TogetherLaw → EachLaw → UpLaw → WithinLaw → EndLaw images faults strict armed content synced written
+module _ {D J : Type 0} (port : Ghosts D) (strict_run : Bool) (plan : Content) (tape : TapeName) where
+  pub closes : IsPlan plan → TogetherLaw → EachLaw → UpLaw → WithinLaw → EndLaw port
       → tape.limits.items ≤ most_items → tape.limits.weight ≤ most_bytes → (desks : List (Desk D J)) → AreAllActors plan (map desk_actor desks)
-      → All (λ (desk : Desk D J). IsSound images faults strict armed content synced written strict_run plan tape desk.actor desk.seat desk.slot desk.commands desk.gone) desks
+      → All (λ (desk : Desk D J). IsSound port strict_run plan tape desk.actor desk.seat desk.slot desk.commands desk.gone) desks
       → (made : List ℕ) (seats : List (SeatView Item)) (items entered : List Item) (rests : List (Rest D)) → seats ≡ map seat_in desks → rests ≡ map rest_in desks → entered ≡ items
-      → IsClosed plan made seats items → HaveRested images faults strict armed content synced written strict_run plan rests entered
+      → IsClosed plan made seats items → HaveRested port strict_run plan rests entered
   closes valid together each nobody bounds ends few light desks are all made seats items entered rests seats_are rests_are same closed =
-      subst (HaveRested images faults strict armed content synced written strict_run plan rests) (sym same)
-      (subst (λ (l : List (Rest D)). HaveRested images faults strict armed content synced written strict_run plan l items) (sym rests_are)
-      (rested images faults strict armed content synced written strict_run plan valid together each nobody items closed.fits
-      (bounds tape made seats items few light (seats_seated images faults strict armed content synced written strict_run plan tape desks seats seats_are all) closed.come closed.owned)
+      subst (HaveRested port strict_run plan rests) (sym same)
+      (subst (λ (l : List (Rest D)). HaveRested port strict_run plan l items) (sym rests_are)
+      (rested port strict_run plan valid together each nobody items closed.fits
+      (bounds tape made seats items few light (seats_seated port strict_run plan tape desks seats seats_are all) closed.come closed.owned)
       (map rest_in desks) (subst (AreAllActors plan) (sym (actors_of_rests desks)) are)
-      (each_ends images faults strict armed content synced written strict_run plan tape ends few made items closed.fits desks all
+      (each_ends port strict_run plan tape ends few made items closed.fits desks all
       (subst (All (HasComeTo made items)) seats_are closed.come))))

@@ -5,7 +5,7 @@ use Rattle.std.specs.List.{AllByRecursion}
 use Rattle.std.proofs.lemmas.Bool.{true≢false}
 use Rattle.std.proofs.lemmas.List.{map-append}
 use Rattle.std.proofs.lemmas.List.Elements.{All-append, All-from_recursion, recursion_from_All}
-use Rattle.acc_ports.specs.Strict.{Ranges}
+use Rattle.acc_ports.specs.declared.disk.Disk.{Ghosts}
 use Rattle.acc_schedule.specs.Content.{Content}
 use Rattle.acc_tape.specs.Seats.{TapeName}
 use Rattle.acc_desk.specs.declared.desk.Desk.{Desk}
@@ -58,12 +58,12 @@ both_ok (Err e) served Q P R joined ok p f = tt
 
 -- ---- sound desks
 
-module _ {D J : Type 0} (images : D → List ℕ → Type 0) (faults : D → ℕ) (strict : D → Bool) (armed : D → Option ℕ) (content synced : D → List ℕ) (written : D → Ranges) (strict_run : Bool) (plan : Content) (tape : TapeName) where
+module _ {D J : Type 0} (port : Ghosts D) (strict_run : Bool) (plan : Content) (tape : TapeName) where
   abbrev pub Sound : Desk D J → Type 0
-  Sound desk = IsSound images faults strict armed content synced written strict_run plan tape desk.actor desk.seat desk.slot desk.commands desk.gone
+  Sound desk = IsSound port strict_run plan tape desk.actor desk.seat desk.slot desk.commands desk.gone
 
   abbrev AllSound : List (Desk D J) → Type 0
-  AllSound desks = AreSound images faults strict armed content synced written strict_run plan tape desks
+  AllSound desks = AreSound port strict_run plan tape desks
 
   module _ {A : Type 0} (hands others : List (Vec (Desk D J) A)) (hand : Vec (Desk D J) A) (is : hands ≡ others ++ hand ∷ []) where
     pub others_sound : AllSound (all_in hands) → AllSound (all_in others)
@@ -72,7 +72,7 @@ module _ {D J : Type 0} (images : D → List ℕ → Type 0) (faults : D → ℕ
     pub last_sound : AllSound (all_in hands) → AllSound hand.items
     last_sound all = last_all Sound hands others hand is all
 
-    module _ {E : Type 0} (result served : Result (Vec (Desk D J) A) E) (more : Served D J) (kept : KeepsSound images faults strict armed content synced written strict_run plan tape hand.items more)
+    module _ {E : Type 0} (result served : Result (Vec (Desk D J) A) E) (more : Served D J) (kept : KeepsSound port strict_run plan tape hand.items more)
         (joined : IfOk result (λ all. IfOk served (λ first. (more.refused ≡ false) × (all.items ≡ first.items ++ more.desks.items)))) (both : IfOk result (λ all. IsOk served)) where
       pub same_back : IfOk served (λ first. map name_of first.items ≡ map name_of (all_in others)) → IfOk result (λ all. map name_of all.items ≡ map name_of (all_in hands))
       same_back before =

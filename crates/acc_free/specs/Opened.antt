@@ -3,7 +3,7 @@ use Rattle.std.specs.Prelude.{◌≡◌, ℕ, ◌+◌, ◌*◌, ◌<◌, Bool, L
 use Rattle.std.specs.List.{AllByRecursion, IsDistinct}
 use Rattle.acc_stamp.specs.declared.actors.Actor.{Actor}
 use Rattle.acc_stamp.specs.Actor.{node_of, shard_of}
-use Rattle.acc_ports.specs.Strict.{Ranges}
+use Rattle.acc_ports.specs.declared.disk.Disk.{Ghosts}
 use Rattle.acc_message.specs.declared.item.Item.{Item}
 use Rattle.acc_message.specs.Items.{same_actor}
 use Rattle.acc_schedule.specs.Content.{Content}
@@ -28,9 +28,9 @@ pub record AreBefore (rank : ℕ) (names : List Actor) : Type 0 where
 
 -- The desks are those of these actors, which come before this rank. Each is sound, and has a seat for which the first one was split, as it
 -- was for no other.
-pub record AreOpened {D J : Type 0} (images : D → List ℕ → Type 0) (faults : D → ℕ) (strict : D → Bool) (armed : D → Option ℕ) (content synced : D → List ℕ) (written : D → Ranges) (strict_run : Bool) (plan : Content) (tape : TapeName) (names : List Actor) (rank : ℕ) (first : SeatView Item) (desks : List (Desk D J)) : Type 0 where
+pub record AreOpened {D J : Type 0} (port : Ghosts D) (strict_run : Bool) (plan : Content) (tape : TapeName) (names : List Actor) (rank : ℕ) (first : SeatView Item) (desks : List (Desk D J)) : Type 0 where
   pub named : map desk_actor desks ≡ names
-  pub sound : AreSound images faults strict armed content synced written strict_run plan tape desks
+  pub sound : AreSound port strict_run plan tape desks
   pub tape_is : first.tape ≡ tape
   pub actor_is : first.actor ≡ 0
   pub made : first.made ≡ map number_of names

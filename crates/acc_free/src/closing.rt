@@ -34,9 +34,9 @@ pub(crate) fn closed<D: Rig + Drop, J: Planned>(
     requires first { (first.tape ≡ tape) × (first.actor ≡ 0) }
     requires all { length first.made ≡ length desks.items }
     requires actors { AreAllActors plan.now (map desk_actor desks.items) }
-    requires sound { AreSound D.is_image D.faults D.strict D.armed D.content D.synced D.written J.strict plan.now tape desks.items }
+    requires sound { AreSound D.Disk J.strict plan.now tape desks.items }
     ensures actors { IfOk result (λ parts. AreAllActors plan.now (map rest_actor parts.0.items)) }
-    ensures rested { IfOk result (λ parts. HaveRested D.is_image D.faults D.strict D.armed D.content D.synced D.written J.strict plan.now parts.0.items parts.1.items) }
+    ensures rested { IfOk result (λ parts. HaveRested D.Disk J.strict plan.now parts.0.items parts.1.items) }
 {
     desks_stand_at_the_end::<D>();
     nobody_goes_down();

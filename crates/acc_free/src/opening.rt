@@ -46,7 +46,7 @@ where
     requires strict { J.strict ≡ M.strict disks.old }
     requires limits { tape.now.limits.items ≤ most_items }
     requires first { (first.old.tape ≡ tape.now) × (first.old.actor ≡ 0) × (first.old.made ≡ []) }
-    ensures ok { IfOk result (λ desks. AreOpened M.D.is_image M.D.faults M.D.strict M.D.armed M.D.content M.D.synced M.D.written J.strict plan.now tape.now
+    ensures ok { IfOk result (λ desks. AreOpened M.D.Disk J.strict plan.now tape.now
         (actors plan.now.topology) ((length plan.now.topology.shards + 1) * 16) first.new desks.items) }
     ensures given { M.given disks.new ≡ M.given disks.old }
     ensures kind { M.strict disks.new ≡ M.strict disks.old }
@@ -73,9 +73,9 @@ where
     requires is_plan { IsPlan plan.now }
     requires strict { J.strict ≡ M.strict disks.old }
     requires limits { tape.now.limits.items ≤ most_items }
-    requires opened { AreOpened M.D.is_image M.D.faults M.D.strict M.D.armed M.D.content M.D.synced M.D.written J.strict plan.now tape.now
+    requires opened { AreOpened M.D.Disk J.strict plan.now tape.now
         [] 0 first.old desks.old.items }
-    ensures ok { OnOk result (AreOpened M.D.is_image M.D.faults M.D.strict M.D.armed M.D.content M.D.synced M.D.written J.strict plan.now tape.now
+    ensures ok { OnOk result (AreOpened M.D.Disk J.strict plan.now tape.now
         (map (λ node. actor_of node 0) plan.now.topology.nodes) 16 first.new desks.new.items) }
     ensures given { M.given disks.new ≡ M.given disks.old }
     ensures kind { M.strict disks.new ≡ M.strict disks.old }
@@ -107,9 +107,9 @@ where
     requires strict { J.strict ≡ M.strict disks.old }
     requires limits { tape.now.limits.items ≤ most_items }
     requires known { IsTrue (is_among plan.now.topology.nodes number) }
-    requires opened { AreOpened M.D.is_image M.D.faults M.D.strict M.D.armed M.D.content M.D.synced M.D.written J.strict plan.now tape.now
+    requires opened { AreOpened M.D.Disk J.strict plan.now tape.now
         (map desk_actor desks.old.items) number first.old desks.old.items }
-    ensures ok { OnOk result (AreOpened M.D.is_image M.D.faults M.D.strict M.D.armed M.D.content M.D.synced M.D.written J.strict plan.now tape.now
+    ensures ok { OnOk result (AreOpened M.D.Disk J.strict plan.now tape.now
         (map desk_actor desks.old.items ++ actor_of number 0 ∷ []) (number + 1) first.new desks.new.items) }
     ensures given { M.given disks.new ≡ M.given disks.old }
     ensures kind { M.strict disks.new ≡ M.strict disks.old }
@@ -136,9 +136,9 @@ where
     requires is_plan { IsPlan plan.now }
     requires strict { J.strict ≡ M.strict disks.old }
     requires limits { tape.now.limits.items ≤ most_items }
-    requires opened { AreOpened M.D.is_image M.D.faults M.D.strict M.D.armed M.D.content M.D.synced M.D.written J.strict plan.now tape.now
+    requires opened { AreOpened M.D.Disk J.strict plan.now tape.now
         (map (λ node. actor_of node 0) plan.now.topology.nodes) 16 first.old desks.old.items }
-    ensures ok { OnOk result (AreOpened M.D.is_image M.D.faults M.D.strict M.D.armed M.D.content M.D.synced M.D.written J.strict plan.now tape.now
+    ensures ok { OnOk result (AreOpened M.D.Disk J.strict plan.now tape.now
         (actors plan.now.topology) ((length plan.now.topology.shards + 1) * 16) first.new desks.new.items) }
     ensures given { M.given disks.new ≡ M.given disks.old }
     ensures kind { M.strict disks.new ≡ M.strict disks.old }
@@ -167,9 +167,9 @@ where
     requires strict { J.strict ≡ M.strict disks.old }
     requires limits { tape.now.limits.items ≤ most_items }
     requires shard { HasShard plan.now.topology shard }
-    requires opened { AreOpened M.D.is_image M.D.faults M.D.strict M.D.armed M.D.content M.D.synced M.D.written J.strict plan.now tape.now
+    requires opened { AreOpened M.D.Disk J.strict plan.now tape.now
         (map desk_actor desks.old.items) (shard * 16) first.old desks.old.items }
-    ensures ok { OnOk result (AreOpened M.D.is_image M.D.faults M.D.strict M.D.armed M.D.content M.D.synced M.D.written J.strict plan.now tape.now
+    ensures ok { OnOk result (AreOpened M.D.Disk J.strict plan.now tape.now
         (map desk_actor desks.old.items ++ map (λ node. actor_of node shard) (shard_at plan.now.topology shard).replicas) ((shard + 1) * 16) first.new desks.new.items) }
     ensures given { M.given disks.new ≡ M.given disks.old }
     ensures kind { M.strict disks.new ≡ M.strict disks.old }
@@ -211,9 +211,9 @@ where
     requires limits { tape.now.limits.items ≤ most_items }
     requires known { Contains (actors plan.now.topology) own }
     requires kind { is_node own ≡ false }
-    requires opened { AreOpened M.D.is_image M.D.faults M.D.strict M.D.armed M.D.content M.D.synced M.D.written J.strict plan.now tape.now
+    requires opened { AreOpened M.D.Disk J.strict plan.now tape.now
         (map desk_actor desks.old.items) (rank_of own) first.old desks.old.items }
-    ensures ok { OnOk result (AreOpened M.D.is_image M.D.faults M.D.strict M.D.armed M.D.content M.D.synced M.D.written J.strict plan.now tape.now
+    ensures ok { OnOk result (AreOpened M.D.Disk J.strict plan.now tape.now
         (map desk_actor desks.old.items ++ own ∷ []) (rank_of own + 1) first.new desks.new.items) }
     ensures given { M.given disks.new ≡ M.given disks.old }
     ensures kind { M.strict disks.new ≡ M.strict disks.old }
@@ -239,11 +239,11 @@ fn put<W: Wait, D: Rig + Drop, J: Planned>(
     requires limits { tape.now.limits.items ≤ most_items }
     requires known { Contains (actors plan.now.topology) own }
     requires some { own.0 ≢ 0 }
-    requires opened { AreOpened D.is_image D.faults D.strict D.armed D.content D.synced D.written J.strict plan.now tape.now
+    requires opened { AreOpened D.Disk J.strict plan.now tape.now
         (map desk_actor desks.old.items) (rank_of own) first.old desks.old.items }
-    requires slot { SlotStands D.is_image D.faults plan.now (alone [] []) own slot }
-    requires strict { J.strict ≡ true → IsStrictSlot D.strict D.armed D.content D.synced D.written plan.now (alone [] []) fresh_disks own slot }
-    ensures ok { OnOk result (AreOpened D.is_image D.faults D.strict D.armed D.content D.synced D.written J.strict plan.now tape.now
+    requires slot { SlotStands D.Disk plan.now (alone [] []) own slot }
+    requires strict { J.strict ≡ true → IsStrictSlot D.Disk plan.now (alone [] []) fresh_disks own slot }
+    ensures ok { OnOk result (AreOpened D.Disk J.strict plan.now tape.now
         (map desk_actor desks.old.items ++ own ∷ []) (rank_of own + 1) first.new desks.new.items) }
 {
     free_runs_begin();

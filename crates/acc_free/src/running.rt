@@ -58,7 +58,7 @@ where
     ensures limit { IfErr result (λ e. (which : Which) (number : ℕ) → e ≡ Why.Limit which number → EndsFreely (M.strict disks.old) plan.now [] which number) }
     ensures stayed { IsTrue (M.strict disks.old) → IfOk result (λ items. NobodyIsDown (reverse items)) }
 
-    ensures given { IfOk result (λ items. GivesBack M.D.faults M.D.is_image plan.now (reverse items) (M.given disks.old) (M.given disks.new)) }
+    ensures given { IfOk result (λ items. GivesBack M.D.Disk plan.now (reverse items) (M.given disks.old) (M.given disks.new)) }
     ensures kind { M.strict disks.new ≡ M.strict disks.old }
 {
     run_on::<R, M, G, Brand>(rt, alloc, plan, workers, disks, gate, remains)
@@ -84,7 +84,7 @@ where
     ensures within { IfOk result (λ items. IsWithin (reverse items)) }
     ensures limit { IfErr result (λ e. (which : Which) (number : ℕ) → e ≡ Why.Limit which number → EndsFreely J.strict plan.now [] which number) }
     ensures stayed { J.strict ≡ true → IfOk result (λ items. NobodyIsDown (reverse items)) }
-    ensures given { IfOk result (λ items. GivesBack M.D.faults M.D.is_image plan.now (reverse items) (M.given disks.old) (M.given disks.new)) }
+    ensures given { IfOk result (λ items. GivesBack M.D.Disk plan.now (reverse items) (M.given disks.old) (M.given disks.new)) }
     ensures kind { M.strict disks.new ≡ M.strict disks.old }
 {
     let (rests, entered) = entered_by::<R, M, G, J>(rt, alloc, plan, workers, disks, gate)?;
@@ -114,7 +114,7 @@ where
     requires workers { (1 ≤ workers) × (workers ≤ 16) }
     requires is_plan { IsPlan plan.now }
     ensures actors { IfOk result (λ parts. AreAllActors plan.now (map rest_actor parts.0.items)) }
-    ensures rested { IfOk result (λ parts. HaveRested M.D.is_image M.D.faults M.D.strict M.D.armed M.D.content M.D.synced M.D.written J.strict plan.now parts.0.items parts.1.items) }
+    ensures rested { IfOk result (λ parts. HaveRested M.D.Disk J.strict plan.now parts.0.items parts.1.items) }
     ensures given { M.given disks.new ≡ M.given disks.old }
     ensures kind { M.strict disks.new ≡ M.strict disks.old }
 {

@@ -36,7 +36,7 @@ struct Keeps<'e, D: Rig, J: Planned> {
 impl<'e, D: Rig, J: Planned> Promise<Served<D, J>> for Keeps<'e, D, J> {
     ghost use Rattle.acc_free.specs.Workers.{KeepsSound};
 
-    ghost kept_by = { λ p served. KeepsSound D.is_image D.faults D.strict D.armed D.content D.synced D.written J.strict p.plan.now p.tape.now p.desks.value.items served };
+    ghost kept_by = { λ p served. KeepsSound D.Disk J.strict p.plan.now p.tape.now p.desks.value.items served };
 }
 
 /// Serves the desks of the first hand here, and those of each other hand on a thread of its own, from the last hand on, and gives them all
@@ -55,9 +55,9 @@ pub(crate) fn serve_all<
 ) -> Result<Desks<D, J>, OutOfMemory>
     requires plan { on.now.plan.now ≡ J.plan }
     requires limits { on.now.tape.now.limits.items ≤ most_items }
-    requires sound { AreSound D.is_image D.faults D.strict D.armed D.content D.synced D.written J.strict on.now.plan.now on.now.tape.now (all_in hands.items) }
+    requires sound { AreSound D.Disk J.strict on.now.plan.now on.now.tape.now (all_in hands.items) }
     ensures same { IfOk result (λ desks. map name_of desks.items ≡ map name_of (all_in hands.items)) }
-    ensures sound { IfOk result (λ desks. AreSound D.is_image D.faults D.strict D.armed D.content D.synced D.written J.strict on.entry.now.plan.now on.entry.now.tape.now desks.items) }
+    ensures sound { IfOk result (λ desks. AreSound D.Disk J.strict on.entry.now.plan.now on.entry.now.tape.now desks.items) }
 {
     thread::scope(
         thread::scope_env(),
@@ -65,9 +65,9 @@ pub(crate) fn serve_all<
         |scope| -> Result<Desks<D, J>, OutOfMemory>
             requires plan { on.now.plan.now ≡ J.plan }
             requires limits { on.now.tape.now.limits.items ≤ most_items }
-            requires sound { AreSound D.is_image D.faults D.strict D.armed D.content D.synced D.written J.strict on.now.plan.now on.now.tape.now (all_in hands.items) }
+            requires sound { AreSound D.Disk J.strict on.now.plan.now on.now.tape.now (all_in hands.items) }
             ensures same { IfOk result (λ desks. map name_of desks.items ≡ map name_of (all_in hands.items)) }
-            ensures sound { IfOk result (λ desks. AreSound D.is_image D.faults D.strict D.armed D.content D.synced D.written J.strict on.entry.now.plan.now on.entry.now.tape.now desks.items) }
+            ensures sound { IfOk result (λ desks. AreSound D.Disk J.strict on.entry.now.plan.now on.entry.now.tape.now desks.items) }
         { serve_each(alloc, scope, on, hands) },
     )
 }
@@ -88,9 +88,9 @@ fn serve_each<
 ) -> Result<Desks<D, J>, OutOfMemory>
     requires plan { on.now.plan.now ≡ J.plan }
     requires limits { on.now.tape.now.limits.items ≤ most_items }
-    requires sound { AreSound D.is_image D.faults D.strict D.armed D.content D.synced D.written J.strict on.now.plan.now on.now.tape.now (all_in hands.items) }
+    requires sound { AreSound D.Disk J.strict on.now.plan.now on.now.tape.now (all_in hands.items) }
     ensures same { IfOk result (λ desks. map name_of desks.items ≡ map name_of (all_in hands.items)) }
-    ensures sound { IfOk result (λ desks. AreSound D.is_image D.faults D.strict D.armed D.content D.synced D.written J.strict on.entry.now.plan.now on.entry.now.tape.now desks.items) }
+    ensures sound { IfOk result (λ desks. AreSound D.Disk J.strict on.entry.now.plan.now on.entry.now.tape.now desks.items) }
 {
     let mut others = hands;
     let Some(desks) = others.pop() else {
@@ -118,8 +118,8 @@ fn serve_each<
         move || -> Served<D, J>
             requires plan { plan.now ≡ J.plan }
             requires limits { tape.now.limits.items ≤ most_items }
-            requires sound { AreSound D.is_image D.faults D.strict D.armed D.content D.synced D.written J.strict plan.now tape.now desks.items }
-            ensures { KeepsSound D.is_image D.faults D.strict D.armed D.content D.synced D.written J.strict plan.entry.now tape.entry.now desks.items result }
+            requires sound { AreSound D.Disk J.strict plan.now tape.now desks.items }
+            ensures { KeepsSound D.Disk J.strict plan.entry.now tape.entry.now desks.items result }
         { serve(rt, plan, desks, worker, floor, tape, gate) },
     ) {
         Ok(child) => {

@@ -3,7 +3,7 @@ use Rattle.std.proofs.Common.{◌≡◌, ℕ, Bool, true, List, [], ◌∷◌, �
 use Rattle.std.specs.List.{AllByRecursion}
 use Rattle.std.proofs.lemmas.List.{reverse-append, reverse-reverse}
 use Rattle.acc_stamp.specs.declared.actors.Actor.{Actor}
-use Rattle.acc_ports.specs.Strict.{Ranges}
+use Rattle.acc_ports.specs.declared.disk.Disk.{Ghosts}
 use Rattle.acc_message.specs.declared.item.Item.{Item}
 use Rattle.acc_payloads.specs.Items.{Keeps}
 use Rattle.acc_schedule.specs.Actors.{actors}
@@ -70,17 +70,17 @@ turned_back : (entered later own items : List Item) → own ≡ later ++ reverse
 turned_back entered later own items behind are =
     are ∙ ap reverse behind ∙ reverse-append later (reverse entered) ∙ ap (λ (l : List Item). l ++ reverse later) (reverse-reverse entered)
 
-module _ {D : Type 0} (images : D → List ℕ → Type 0) (faults : D → ℕ) (strict : D → Bool) (armed : D → Option ℕ) (content synced : D → List ℕ) (written : D → Ranges) (strict_run : Bool) (plan : Content) (entered : List Item) (stopped : List Stopped) (queues : List Queue) (names : List Actor)
-    (named : map actor_in queues ≡ names) (are : AreAllActors plan names) (cluster : Cluster D) (h : HasEnded images faults strict armed content synced written strict_run plan queues cluster (behind_items entered stopped)) where
+module _ {D : Type 0} (port : Ghosts D) (strict_run : Bool) (plan : Content) (entered : List Item) (stopped : List Stopped) (queues : List Queue) (names : List Actor)
+    (named : map actor_in queues ≡ names) (are : AreAllActors plan names) (cluster : Cluster D) (h : HasEnded port strict_run plan queues cluster (behind_items entered stopped)) where
   each_held : (a : Actor) → Contains (actors plan.topology) a → (left : List Step) × HasGone plan h.last a left × IsHeld h.last.own left
   each_held a member =
       let q = queue_of plan queues names named are a member in
       (left_in q.1, subst (λ (b : Actor). HasGone plan h.last b (left_in q.1)) q.3 (h.gone q.0 q.1 q.2), h.held q.0 q.1 q.2)
 
-  pub has_finished : EndLaw → (ended : Ended D) → ((plan : Content) (s : Situation) → StandsFor images faults plan cluster s → IsEndOf images faults plan s ended)
-      → HasFinished images faults plan entered ended
+  pub has_finished : EndLaw → (ended : Ended D) → ((plan : Content) (s : Situation) → StandsFor port plan cluster s → IsEndOf port plan s ended)
+      → HasFinished port plan entered ended
   has_finished law ended ends =
-      let e : IsEndOf images faults plan h.last ended = ends plan h.last h.serves.stands in
+      let e : IsEndOf port plan h.last ended = ends plan h.last h.serves.stands in
       let own_is : reverse ended.items ≡ h.last.own = ap reverse e.items_are ∙ reverse-reverse h.last.own in
       record {
         later = reverse h.behind.later;
@@ -89,12 +89,12 @@ module _ {D : Type 0} (images : D → List ℕ → Type 0) (faults : D → ℕ) 
         within = subst IsWithin (sym own_is) h.serves.stands.past.within;
         disks_are = e.disks_are;
         kept =
-            subst (λ (items : List Item). AllByRecursion (λ (entry : Actor × D). Keeps plan.version entry.0 items (faults entry.1) (images entry.1)) ended.disks.items) (sym own_is)
+            subst (λ (items : List Item). AllByRecursion (λ (entry : Actor × D). Keeps plan.version entry.0 items (port.state entry.1).faults (port.is_image entry.1)) ended.disks.items) (sym own_is)
             (e.kept h.serves.serving.earlier);
       }
 
   -- in a strict run
-  pub nobody_down : (ended : Ended D) → ((plan : Content) (s : Situation) → StandsFor images faults plan cluster s → IsEndOf images faults plan s ended)
+  pub nobody_down : (ended : Ended D) → ((plan : Content) (s : Situation) → StandsFor port plan cluster s → IsEndOf port plan s ended)
       → strict_run ≡ true → NobodyIsDown (reverse ended.items)
   nobody_down ended ends on =
       let e = ends plan h.last h.serves.stands in

@@ -2,7 +2,7 @@
 use Rattle.std.proofs.Common.{◌≡◌, ℕ, ◌<◌, ◌≤◌, Bool, true, false, List, length, Option, refl, sym, ◌∙◌, subst, arith}
 use Rattle.std.proofs.lemmas.Bool.{true≢false}
 use Rattle.acc_stamp.specs.declared.actors.Actor.{Actor}
-use Rattle.acc_ports.specs.Strict.{Ranges}
+use Rattle.acc_ports.specs.declared.disk.Disk.{Ghosts}
 use Rattle.acc_message.specs.declared.error.Which.{Which}
 use Rattle.acc_message.specs.Items.{same_actor}
 use Rattle.acc_schedule.specs.Content.{Content}
@@ -17,9 +17,9 @@ use Rattle.acc_free_ending.specs.Moves.{Serves, HasMoved, EachWent, EndsFreely}
 use Rattle.acc_free_ending.proofs.Steps.{ends_later, each_goes_on}
 
 -- some commands went by so far
-pub record IsMoving {D : Type 0} (images : D → List ℕ → Type 0) (faults : D → ℕ) (strict : D → Bool) (armed : D → Option ℕ) (content synced : D → List ℕ) (written : D → Ranges) (strict_run : Bool) (plan : Content) (a : Actor) (before now : List Step) (went : Bool) (cluster : Cluster D) (s : Situation) : Type 0 where
+pub record IsMoving {D : Type 0} (port : Ghosts D) (strict_run : Bool) (plan : Content) (a : Actor) (before now : List Step) (went : Bool) (cluster : Cluster D) (s : Situation) : Type 0 where
   pub reached : Situation
-  pub serves : Serves images faults strict armed content synced written strict_run plan cluster reached
+  pub serves : Serves port strict_run plan cluster reached
   pub gone : HasGone plan reached a now
   pub others : (b : Actor) (left : List Step) → same_actor a b ≡ false → HasGone plan s b left → HasGone plan reached b left
   pub behind : Begins s.own reached.own
@@ -36,8 +36,8 @@ lt_chain a b c p q = omega (arith, p, q)
 le_lt_chain : (a b c : ℕ) → a ≤ b → b < c → a < c
 le_lt_chain a b c p q = omega (arith, p, q)
 
-module _ {D : Type 0} (images : D → List ℕ → Type 0) (faults : D → ℕ) (strict : D → Bool) (armed : D → Option ℕ) (content synced : D → List ℕ) (written : D → Ranges) (strict_run : Bool) (plan : Content) (a : Actor) (s : Situation) where
-  pub moving_none : (before : List Step) (cluster : Cluster D) → Serves images faults strict armed content synced written strict_run plan cluster s → HasGone plan s a before → IsMoving images faults strict armed content synced written strict_run plan a before before false cluster s
+module _ {D : Type 0} (port : Ghosts D) (strict_run : Bool) (plan : Content) (a : Actor) (s : Situation) where
+  pub moving_none : (before : List Step) (cluster : Cluster D) → Serves port strict_run plan cluster s → HasGone plan s a before → IsMoving port strict_run plan a before before false cluster s
   moving_none before cluster serves gone = record {
     reached = s;
     serves = serves;
@@ -50,25 +50,25 @@ module _ {D : Type 0} (images : D → List ℕ → Type 0) (faults : D → ℕ) 
   }
 
   -- the same actor, by another name
-  module _ (before mid : List Step) (went : Bool) (cluster : Cluster D) (m : IsMoving images faults strict armed content synced written strict_run plan a before mid went cluster s) (b : Actor) (is : b ≡ a) where
+  module _ (before mid : List Step) (went : Bool) (cluster : Cluster D) (m : IsMoving port strict_run plan a before mid went cluster s) (b : Actor) (is : b ≡ a) where
     pub gone_so_far : HasGone plan m.reached b mid
     gone_so_far = subst (λ (c : Actor). HasGone plan m.reached c mid) (sym is) m.gone
 
     -- a limit of what follows
     pub moved_limit : (which : Which) (number : ℕ)
-        → ((t : Situation) → Serves images faults strict armed content synced written strict_run plan cluster t → HasGone plan t b mid → EachWent plan t → EndsFreely strict_run plan t.own which number) → EachWent plan s
+        → ((t : Situation) → Serves port strict_run plan cluster t → HasGone plan t b mid → EachWent plan t → EndsFreely strict_run plan t.own which number) → EachWent plan s
         → EndsFreely strict_run plan s.own which number
     moved_limit which number ends each =
         ends_later strict_run plan s.own m.reached.own which number m.behind (ends m.reached m.serves gone_so_far (each_goes_on plan a s m.reached mid m.gone m.others each))
 
-    module _ (now : List Step) (moved : Bool) (new : Cluster D) (told : HasMoved images faults strict armed content synced written strict_run plan b mid now moved new m.reached) where
-      move : HasMoved images faults strict armed content synced written strict_run plan a mid now moved new m.reached
-      move = subst (λ (c : Actor). HasMoved images faults strict armed content synced written strict_run plan c mid now moved new m.reached) is told
+    module _ (now : List Step) (moved : Bool) (new : Cluster D) (told : HasMoved port strict_run plan b mid now moved new m.reached) where
+      move : HasMoved port strict_run plan a mid now moved new m.reached
+      move = subst (λ (c : Actor). HasMoved port strict_run plan c mid now moved new m.reached) is told
 
       pub fewer_left : moved ≡ true → length now < length mid
       fewer_left = told.fewer
 
-      pub moving_on : moved ≡ true → IsMoving images faults strict armed content synced written strict_run plan a before now true new s
+      pub moving_on : moved ≡ true → IsMoving port strict_run plan a before now true new s
       moving_on is_true =
           let fewer = lt_chain (length now) (length mid) (length before) (move.fewer is_true) m.less in
           record {
@@ -82,7 +82,7 @@ module _ {D : Type 0} (images : D → List ℕ → Type 0) (faults : D → ℕ) 
             still = λ e. absurd (true≢false e);
           }
 
-      pub moving_ended : moved ≡ false → HasMoved images faults strict armed content synced written strict_run plan a before now went new s
+      pub moving_ended : moved ≡ false → HasMoved port strict_run plan a before now went new s
       moving_ended is_false =
           let kept = move.held is_false in
           record {

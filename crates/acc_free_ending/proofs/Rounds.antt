@@ -7,7 +7,7 @@ use native.Mathlib.Decide.{dec_lt}
 use Rattle.std.proofs.lemmas.List.Sums.{sum_by-set}
 use Rattle.std.proofs.lemmas.Option.{same_Some, slice_get_within, get_or_from_slice_get}
 use Rattle.acc_stamp.specs.declared.actors.Actor.{Actor}
-use Rattle.acc_ports.specs.Strict.{Ranges}
+use Rattle.acc_ports.specs.declared.disk.Disk.{Ghosts}
 use Rattle.acc_message.specs.declared.error.Which.{Which}
 use Rattle.acc_message.specs.Items.{same_actor}
 use Rattle.acc_message.specs.declared.entry.Event.TheVariants.{Message as MessageEvent}
@@ -55,13 +55,13 @@ module _ (plan : Content) (valid : IsPlan plan) where
       let more = part_serves law answers reached (tried (cluster_of plan) answers s (receiver_in s n) (MessageEvent n)) rest one.0 in
       (more.0, λ a left gone. more.1 a left (one.1 a left gone))
 
-  module _ {D : Type 0} (images : D → List ℕ → Type 0) (faults : D → ℕ) (strict : D → Bool) (armed : D → Option ℕ) (content synced : D → List ℕ) (written : D → Ranges) (strict_run : Bool) (s : Situation) (cluster : Cluster D)
-      (serves : Serves images faults strict armed content synced written strict_run plan cluster s) where
+  module _ {D : Type 0} (port : Ghosts D) (strict_run : Bool) (s : Situation) (cluster : Cluster D)
+      (serves : Serves port strict_run plan cluster s) where
     abbrev Strictly : (StrictSituation → Type 0) → Type 0
-    Strictly P = (t : StrictSituation) → StandsStrictly images faults strict armed content synced written plan cluster t → P t
+    Strictly P = (t : StrictSituation) → StandsStrictly port plan cluster t → P t
 
     -- over strict disks
-    abbrev there : StaysUp strict armed content synced written plan cluster s → StrictSituation
+    abbrev there : StaysUp port plan cluster s → StrictSituation
     there up = record { found = s; disks = up.disks }
 
     pub drain_limit : DeliveryLaw → (answers : Answers) (which : Which) (number : ℕ) → EndsIn plan answers 0 Drain s which number
@@ -114,14 +114,14 @@ module _ (plan : Content) (valid : IsPlan plan) where
                   };
             }
 
-    pub drained : DrainLaw → (answers : Answers) (new : Cluster D) → StepsTo images faults plan answers 0 Drain cluster new s
-        → Strictly (λ t. StepsStrictly images faults strict armed content synced written plan 0 Drain new t)
-        → IsEmptied images faults strict armed content synced written strict_run plan new s
+    pub drained : DrainLaw → (answers : Answers) (new : Cluster D) → StepsTo port plan answers 0 Drain cluster new s
+        → Strictly (λ t. StepsStrictly port plan 0 Drain new t)
+        → IsEmptied port strict_run plan new s
     drained law answers new steps strictly = by strict_run refl
       where
-        emptied : (other : Answers) (next : Situation) → Drains (cluster_of plan) other next s → StandsFor images faults plan new next
-            → (strict_run ≡ true → StaysUp strict armed content synced written plan new next)
-            → IsEmptied images faults strict armed content synced written strict_run plan new s
+        emptied : (other : Answers) (next : Situation) → Drains (cluster_of plan) other next s → StandsFor port plan new next
+            → (strict_run ≡ true → StaysUp port plan new next)
+            → IsEmptied port strict_run plan new s
         emptied other next is stands stayed =
             let goes = law plan other s next valid is serves.serving in
             record {
@@ -132,7 +132,7 @@ module _ (plan : Content) (valid : IsPlan plan) where
               nothing = goes.1;
             }
 
-        by : (test : Bool) → strict_run ≡ test → IsEmptied images faults strict armed content synced written strict_run plan new s
+        by : (test : Bool) → strict_run ≡ test → IsEmptied port strict_run plan new s
         by false off = emptied steps.other steps.next steps.next_is steps.stands (λ on. absurd (true≢false (sym on ∙ off)))
         by true on =
             let up = serves.stayed on in
@@ -168,9 +168,9 @@ module _ (plan : Content) (queues : List Queue) (names : List Actor) (named : ma
 -- ---- a round
 
 -- of the queues before this place all commands went by that can, and nothing else went by
-pub record IsUnder {D : Type 0} (images : D → List ℕ → Type 0) (faults : D → ℕ) (strict : D → Bool) (armed : D → Option ℕ) (content synced : D → List ℕ) (written : D → Ranges) (strict_run : Bool) (plan : Content) (before now : List Queue) (place : ℕ) (went : Bool) (cluster : Cluster D) (s : Situation) : Type 0 where
+pub record IsUnder {D : Type 0} (port : Ghosts D) (strict_run : Bool) (plan : Content) (before now : List Queue) (place : ℕ) (went : Bool) (cluster : Cluster D) (s : Situation) : Type 0 where
   pub reached : Situation
-  pub serves : Serves images faults strict armed content synced written strict_run plan cluster reached
+  pub serves : Serves port strict_run plan cluster reached
   pub gone : HaveGone plan reached now
   pub behind : Begins s.own reached.own
   pub less : count_left now ≤ count_left before
@@ -198,8 +198,8 @@ lt_right a b c p q = omega (arith, p, q)
 at_or_before : (j place : ℕ) → j < place + 1 → (j ≡ place → ⊥) → j < place
 at_or_before j place lt other = dite (dec_lt j place) (λ less. less) (λ not. absurd (other (omega (arith, lt, not))))
 
-module _ {D : Type 0} (images : D → List ℕ → Type 0) (faults : D → ℕ) (strict : D → Bool) (armed : D → Option ℕ) (content synced : D → List ℕ) (written : D → Ranges) (strict_run : Bool) (plan : Content) (s : Situation) where
-  pub under_none : (queues : List Queue) (cluster : Cluster D) → Serves images faults strict armed content synced written strict_run plan cluster s → HaveGone plan s queues → IsUnder images faults strict armed content synced written strict_run plan queues queues 0 false cluster s
+module _ {D : Type 0} (port : Ghosts D) (strict_run : Bool) (plan : Content) (s : Situation) where
+  pub under_none : (queues : List Queue) (cluster : Cluster D) → Serves port strict_run plan cluster s → HaveGone plan s queues → IsUnder port strict_run plan queues queues 0 false cluster s
   under_none queues cluster serves gone = record {
     reached = s;
     serves = serves;
@@ -233,8 +233,8 @@ module _ {D : Type 0} (images : D → List ℕ → Type 0) (faults : D → ℕ) 
         set_named (x ∷ xs) zero e = ap (λ (a : Actor). a ∷ map actor_in xs) (same ∙ ap actor_in (sym (same_Some x queue e)))
         set_named (x ∷ xs) (suc i) e = ap (λ (l : List Actor). x.actor ∷ l) (set_named xs i e)
 
-    module _ (went moved : Bool) (old new : Cluster D) (under : IsUnder images faults strict armed content synced written strict_run plan before now place went old s)
-        (move : HasMoved images faults strict armed content synced written strict_run plan queue.actor (left_in queue) (left_in turned) moved new under.reached) where
+    module _ (went moved : Bool) (old new : Cluster D) (under : IsUnder port strict_run plan before now place went old s)
+        (move : HasMoved port strict_run plan queue.actor (left_in queue) (left_in turned) moved new under.reached) where
       gone_now : HaveGone plan move.next (slice_set now place turned)
       gone_now j other is =
           ⊎_elim
@@ -248,7 +248,7 @@ module _ {D : Type 0} (images : D → List ℕ → Type 0) (faults : D → ℕ) 
           (set_cases now place turned j other is)
 
       -- something went by
-      pub under_went : moved ≡ true → IsUnder images faults strict armed content synced written strict_run plan before (slice_set now place turned) (place + 1) true new s
+      pub under_went : moved ≡ true → IsUnder port strict_run plan before (slice_set now place turned) (place + 1) true new s
       under_went is =
           let fewer = lt_left (count_left (slice_set now place turned)) (count_left now) (count_left before) (fewer_left (move.fewer is)) under.less in
           record {
@@ -262,7 +262,7 @@ module _ {D : Type 0} (images : D → List ℕ → Type 0) (faults : D → ℕ) 
           }
 
       -- nothing went by
-      pub under_stayed : moved ≡ false → IsUnder images faults strict armed content synced written strict_run plan before (slice_set now place turned) (place + 1) went new s
+      pub under_stayed : moved ≡ false → IsUnder port strict_run plan before (slice_set now place turned) (place + 1) went new s
       under_stayed is = record {
         reached = move.next;
         serves = move.serves;
@@ -283,8 +283,8 @@ module _ {D : Type 0} (images : D → List ℕ → Type 0) (faults : D → ℕ) 
             );
       }
 
-  pub round_ended : (before now : List Queue) (place : ℕ) (went : Bool) (cluster : Cluster D) → IsUnder images faults strict armed content synced written strict_run plan before now place went cluster s → length now ≤ place
-      → HasGoneRound images faults strict armed content synced written strict_run plan before now went cluster s
+  pub round_ended : (before now : List Queue) (place : ℕ) (went : Bool) (cluster : Cluster D) → IsUnder port strict_run plan before now place went cluster s → length now ≤ place
+      → HasGoneRound port strict_run plan before now went cluster s
   round_ended before now place went cluster under all = record {
     next = under.reached;
     serves = under.serves;
@@ -300,15 +300,15 @@ module _ {D : Type 0} (images : D → List ℕ → Type 0) (faults : D → ℕ) 
 -- ---- all rounds
 
 -- behind a drain
-pub record HasCome {D : Type 0} (images : D → List ℕ → Type 0) (faults : D → ℕ) (strict : D → Bool) (armed : D → Option ℕ) (content synced : D → List ℕ) (written : D → Ranges) (strict_run : Bool) (plan : Content) (now : List Queue) (cluster : Cluster D) (s : Situation) : Type 0 where
+pub record HasCome {D : Type 0} (port : Ghosts D) (strict_run : Bool) (plan : Content) (now : List Queue) (cluster : Cluster D) (s : Situation) : Type 0 where
   pub reached : Situation
-  pub serves : Serves images faults strict armed content synced written strict_run plan cluster reached
+  pub serves : Serves port strict_run plan cluster reached
   pub gone : HaveGone plan reached now
   pub behind : Begins s.own reached.own
   pub nothing : NothingWaits reached
 
-module _ {D : Type 0} (images : D → List ℕ → Type 0) (faults : D → ℕ) (strict : D → Bool) (armed : D → Option ℕ) (content synced : D → List ℕ) (written : D → Ranges) (strict_run : Bool) (plan : Content) (s : Situation) where
-  pub come_first : (queues : List Queue) (cluster : Cluster D) → HaveGone plan s queues → IsEmptied images faults strict armed content synced written strict_run plan cluster s → HasCome images faults strict armed content synced written strict_run plan queues cluster s
+module _ {D : Type 0} (port : Ghosts D) (strict_run : Bool) (plan : Content) (s : Situation) where
+  pub come_first : (queues : List Queue) (cluster : Cluster D) → HaveGone plan s queues → IsEmptied port strict_run plan cluster s → HasCome port strict_run plan queues cluster s
   come_first queues cluster gone e = record {
     reached = e.next;
     serves = e.serves;
@@ -317,8 +317,8 @@ module _ {D : Type 0} (images : D → List ℕ → Type 0) (faults : D → ℕ) 
     nothing = e.nothing;
   }
 
-  pub come_on : (before now : List Queue) (old between new : Cluster D) (come : HasCome images faults strict armed content synced written strict_run plan before old s)
-      → (turned : HasGoneRound images faults strict armed content synced written strict_run plan before now true between come.reached) → IsEmptied images faults strict armed content synced written strict_run plan new turned.next → HasCome images faults strict armed content synced written strict_run plan now new s
+  pub come_on : (before now : List Queue) (old between new : Cluster D) (come : HasCome port strict_run plan before old s)
+      → (turned : HasGoneRound port strict_run plan before now true between come.reached) → IsEmptied port strict_run plan new turned.next → HasCome port strict_run plan now new s
   come_on before now old between new come turned e = record {
     reached = e.next;
     serves = e.serves;
@@ -327,8 +327,8 @@ module _ {D : Type 0} (images : D → List ℕ → Type 0) (faults : D → ℕ) 
     nothing = e.nothing;
   }
 
-  pub come_to_end : (before now : List Queue) (old new : Cluster D) (come : HasCome images faults strict armed content synced written strict_run plan before old s) → HasGoneRound images faults strict armed content synced written strict_run plan before now false new come.reached
-      → HasEnded images faults strict armed content synced written strict_run plan now new s
+  pub come_to_end : (before now : List Queue) (old new : Cluster D) (come : HasCome port strict_run plan before old s) → HasGoneRound port strict_run plan before now false new come.reached
+      → HasEnded port strict_run plan now new s
   come_to_end before now old new come turned =
       let held = turned.held refl in
       record {

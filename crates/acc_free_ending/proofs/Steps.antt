@@ -4,7 +4,7 @@ use Rattle.std.specs.Result.{IsErrAnd}
 use Rattle.std.proofs.lemmas.Bool.{true≢false}
 use Rattle.std.proofs.lemmas.Result.{err_from_is_err_and}
 use Rattle.acc_stamp.specs.declared.actors.Actor.{Actor}
-use Rattle.acc_ports.specs.Strict.{Ranges}
+use Rattle.acc_ports.specs.declared.disk.Disk.{Ghosts}
 use Rattle.acc_message.specs.declared.item.Item.{Item}
 use Rattle.acc_message.specs.declared.error.Which.{Which}
 use Rattle.acc_message.specs.declared.error.RunError.{RunError}
@@ -165,10 +165,10 @@ less_or n m lt = omega (arith, lt)
 not_less : (n : ℕ) → n ≤ n
 not_less n = omega arith
 
-module _ {D : Type 0} (images : D → List ℕ → Type 0) (faults : D → ℕ) (strict : D → Bool) (armed : D → Option ℕ) (content synced : D → List ℕ) (written : D → Ranges) (strict_run : Bool) (plan : Content) (a : Actor) (s : Situation) where
+module _ {D : Type 0} (port : Ghosts D) (strict_run : Bool) (plan : Content) (a : Actor) (s : Situation) where
   -- nothing went by
-  pub stays : (cluster : Cluster D) (before : List Step) → Serves images faults strict armed content synced written strict_run plan cluster s → HasGone plan s a before → IsHeld s.own before
-      → HasMoved images faults strict armed content synced written strict_run plan a before before false cluster s
+  pub stays : (cluster : Cluster D) (before : List Step) → Serves port strict_run plan cluster s → HasGone plan s a before → IsHeld s.own before
+      → HasMoved port strict_run plan a before before false cluster s
   stays cluster before serves gone held = record {
     next = s;
     serves = serves;
@@ -181,21 +181,21 @@ module _ {D : Type 0} (images : D → List ℕ → Type 0) (faults : D → ℕ) 
   }
 
   -- none is left
-  pub nothing_left : (cluster : Cluster D) (before : List Step) → Serves images faults strict armed content synced written strict_run plan cluster s → HasGone plan s a before → before ≡ []
-      → HasMoved images faults strict armed content synced written strict_run plan a before before false cluster s
+  pub nothing_left : (cluster : Cluster D) (before : List Step) → Serves port strict_run plan cluster s → HasGone plan s a before → before ≡ []
+      → HasMoved port strict_run plan a before before false cluster s
   nothing_left cluster before serves gone none = stays cluster before serves gone (subst (IsHeld s.own) (sym none) tt)
 
   module _ (before now : List Step) (command : Step) (is : before ≡ command ∷ now) (gone : HasGone plan s a before) where
     pub gone_on : HasGone plan s a (command ∷ now)
     gone_on = subst (HasGone plan s a) is gone
 
-    pub waits_still : (cluster : Cluster D) → Serves images faults strict armed content synced written strict_run plan cluster s → IsTurn Waits a (whole s) command → HasMoved images faults strict armed content synced written strict_run plan a before before false cluster s
+    pub waits_still : (cluster : Cluster D) → Serves port strict_run plan cluster s → IsTurn Waits a (whole s) command → HasMoved port strict_run plan a before before false cluster s
     waits_still cluster serves turn =
         stays cluster before serves gone
         (subst (IsHeld s.own) (sym is) (subst (λ (items : List Item). IsHeld items (command ∷ now)) (whole_alone s serves.serving.earlier) (turn now)))
 
-    pub passes_on : PassedLaw → (cluster : Cluster D) → Serves images faults strict armed content synced written strict_run plan cluster s → IsTurn Passes a (whole s) command
-        → HasMoved images faults strict armed content synced written strict_run plan a before now true cluster s
+    pub passes_on : PassedLaw → (cluster : Cluster D) → Serves port strict_run plan cluster s → IsTurn Passes a (whole s) command
+        → HasMoved port strict_run plan a before now true cluster s
     passes_on law cluster serves turn =
         let less : length now < length before = one_less before now command is in
         record {
@@ -211,9 +211,9 @@ module _ {D : Type 0} (images : D → List ℕ → Type 0) (faults : D → ℕ) 
 
     -- the command's next situation
     taken_to : CommandLaw → IsPlan plan → Contains (actors plan.topology) a → (new : Cluster D) → IsServing plan s → IsTurn Takes a (whole s) command
-        → (answers : Answers) (next : Situation) → IsNext (cluster_of plan) answers 0 command s next → StandsFor images faults plan new next
-        → (strict_run ≡ true → StaysUp strict armed content synced written plan new next)
-        → HasMoved images faults strict armed content synced written strict_run plan a before now true new s
+        → (answers : Answers) (next : Situation) → IsNext (cluster_of plan) answers 0 command s next → StandsFor port plan new next
+        → (strict_run ≡ true → StaysUp port plan new next)
+        → HasMoved port strict_run plan a before now true new s
     taken_to law valid there new serving turn answers next is_next stands stayed =
         let less : length now < length before = one_less before now command is in
         let goes = law plan answers 0 s next a command now valid there turn is_next serving gone_on in
@@ -229,14 +229,14 @@ module _ {D : Type 0} (images : D → List ℕ → Type 0) (faults : D → ℕ) 
         }
 
     pub goes_on : CommandLaw → IsPlan plan → Contains (actors plan.topology) a → (answers : Answers) (old new : Cluster D)
-        → Serves images faults strict armed content synced written strict_run plan old s → IsTurn Takes a (whole s) command
-        → StepsTo images faults plan answers 0 command old new s
-        → ((t : StrictSituation) → StandsStrictly images faults strict armed content synced written plan old t
-        → StepsStrictly images faults strict armed content synced written plan 0 command new t)
-        → HasMoved images faults strict armed content synced written strict_run plan a before now true new s
+        → Serves port strict_run plan old s → IsTurn Takes a (whole s) command
+        → StepsTo port plan answers 0 command old new s
+        → ((t : StrictSituation) → StandsStrictly port plan old t
+        → StepsStrictly port plan 0 command new t)
+        → HasMoved port strict_run plan a before now true new s
     goes_on law valid there answers old new serves turn steps strictly = by strict_run refl
       where
-        by : (test : Bool) → strict_run ≡ test → HasMoved images faults strict armed content synced written strict_run plan a before now true new s
+        by : (test : Bool) → strict_run ≡ test → HasMoved port strict_run plan a before now true new s
         by false off =
             taken_to law valid there new serves.serving turn steps.other steps.next steps.next_is steps.stands
             (λ on. absurd (true≢false (sym on ∙ off)))
@@ -299,9 +299,9 @@ module _ {D : Type 0} (images : D → List ℕ → Type 0) (faults : D → ℕ) 
         }
 
     pub limit_in : CommandLaw → IsPlan plan → Contains (actors plan.topology) a → (answers : Answers) (which : Which) (number : ℕ) (cluster : Cluster D)
-        → Serves images faults strict armed content synced written strict_run plan cluster s → IsTurn Takes a (whole s) command
+        → Serves port strict_run plan cluster s → IsTurn Takes a (whole s) command
         → EndsIn plan answers 0 command s which number
-        → ((t : StrictSituation) → StandsStrictly images faults strict armed content synced written plan cluster t
+        → ((t : StrictSituation) → StandsStrictly port plan cluster t
         → EndsStrictlyIn plan 0 command t which number) → EachWent plan s → EndsFreely strict_run plan s.own which number
     limit_in law valid there answers which number cluster serves turn e strictly each = by strict_run refl
       where

@@ -2,8 +2,8 @@
 use Rattle.std.specs.Prelude.{◌≡◌, ℕ, Bool, true, List, ◌++◌, reverse, map, Option}
 use Rattle.std.specs.List.{AllByRecursion}
 use Rattle.acc_stamp.specs.declared.actors.Actor.{Actor}
+use Rattle.acc_ports.specs.declared.disk.Disk.{Ghosts}
 use Rattle.acc_message.specs.declared.item.Item.{Item}
-use Rattle.acc_ports.specs.Strict.{Ranges}
 use Rattle.acc_payloads.specs.Items.{Keeps}
 use Rattle.acc_schedule.specs.Content.{Content}
 use Rattle.acc_schedule_runs.specs.Situations.{Stopped}
@@ -20,25 +20,25 @@ use Rattle.acc_free_ending.specs.Queues.{placed_in, queue_in, left_in}
 
 -- Each actor stands in its slot for its part in the items, the oldest first, which are a free run within the limits, and all its commands
 -- but those that are left went by.
-pub record AreResting {D : Type 0} (images : D → List ℕ → Type 0) (faults : D → ℕ) (plan : Content) (rests : List (Rest D)) (entered : List Item) (stopped : List Stopped) : Type 0 where
-  pub over : IsOver images faults plan (map placed_in rests) entered stopped
+pub record AreResting {D : Type 0} (port : Ghosts D) (plan : Content) (rests : List (Rest D)) (entered : List Item) (stopped : List Stopped) : Type 0 where
+  pub over : IsOver port plan (map placed_in rests) entered stopped
   pub serving : IsServing plan (behind_items entered stopped)
   pub gone : AllByRecursion (λ (rest : Rest D). HasGone plan (behind_items entered stopped) rest.actor (left_in (queue_in rest))) rests
 
 -- The items begin with those that were entered, are served, and are within the limits; the disks are those of the actors, rising, and
 -- each keeps its actor in the items.
-pub record HasFinished {D : Type 0} (images : D → List ℕ → Type 0) (faults : D → ℕ) (plan : Content) (entered : List Item) (ended : Ended D) : Type 0 where
+pub record HasFinished {D : Type 0} (port : Ghosts D) (plan : Content) (entered : List Item) (ended : Ended D) : Type 0 where
   pub later : List Item
   pub items_are : ended.items ≡ entered ++ later
   pub served : IsServed plan (reverse ended.items)
   pub within : IsWithin (reverse ended.items)
   pub disks_are : AreDisksOf plan ended.disks.items
-  pub kept : AllByRecursion (λ (entry : Actor × D). Keeps plan.version entry.0 (reverse ended.items) (faults entry.1) (images entry.1)) ended.disks.items
+  pub kept : AllByRecursion (λ (entry : Actor × D). Keeps plan.version entry.0 (reverse ended.items) (port.state entry.1).faults (port.is_image entry.1)) ended.disks.items
 
 -- Such actors, after turns that they took by themselves. Where all their disks are strict and nothing was armed on any, nobody went down.
-pub record HaveRested {D : Type 0} (images : D → List ℕ → Type 0) (faults : D → ℕ) (strict : D → Bool) (armed : D → Option ℕ) (content synced : D → List ℕ) (written : D → Ranges) (strict_run : Bool) (plan : Content) (rests : List (Rest D)) (entered : List Item) : Type 0 where
+pub record HaveRested {D : Type 0} (port : Ghosts D) (strict_run : Bool) (plan : Content) (rests : List (Rest D)) (entered : List Item) : Type 0 where
   pub stopped : List Stopped
-  pub resting : AreResting images faults plan rests entered stopped
+  pub resting : AreResting port plan rests entered stopped
   pub strictly : strict_run ≡ true
-      → AreStrictSlots strict armed content synced written plan (behind_items entered stopped) fresh_disks (map placed_in rests)
+      → AreStrictSlots port plan (behind_items entered stopped) fresh_disks (map placed_in rests)
   pub up : strict_run ≡ true → NobodyIsDown (reverse entered)

@@ -1,10 +1,10 @@
 -- What the turns of a cluster lead to that finishes.
 use Rattle.std.specs.Prelude.{◌≡◌, ℕ, ◌<◌, ◌≤◌, Bool, true, false, List, ◌∷◌, length, Contains, Option, None, IsTrue}
 use Rattle.acc_stamp.specs.declared.actors.Actor.{Actor}
+use Rattle.acc_ports.specs.declared.disk.Disk.{Ghosts}
 use Rattle.acc_message.specs.declared.item.Item.{Item}
 use Rattle.acc_message.specs.declared.error.Which.{Which}
 use Rattle.acc_message.specs.Items.{same_actor}
-use Rattle.acc_ports.specs.Strict.{Ranges}
 use Rattle.acc_schedule.specs.Actors.{actors}
 use Rattle.acc_schedule.specs.Content.{Content}
 use Rattle.acc_schedule.specs.declared.plan.Step.{Step}
@@ -23,17 +23,17 @@ use Rattle.acc_free_ending.specs.declared.rest.Queue.{Queue}
 use Rattle.acc_free_ending.specs.Queues.{HaveGone, AreHeld, count_left}
 
 -- over strict disks with nothing armed on any, and nobody was ever down
-pub record StaysUp {D : Type 0} (strict : D → Bool) (armed : D → Option ℕ) (content synced : D → List ℕ) (written : D → Ranges) (plan : Content) (cluster : Cluster D) (s : Situation) : Type 0 where
+pub record StaysUp {D : Type 0} (port : Ghosts D) (plan : Content) (cluster : Cluster D) (s : Situation) : Type 0 where
   pub disks : Disks
-  pub strictly : AreStrict strict armed content synced written plan cluster.slots.items s disks
+  pub strictly : AreStrict port plan cluster.slots.items s disks
   pub unarmed : (a : Actor) → disks.armed a ≡ None
   pub up : NobodyIsDown s.own
 
 -- The cluster stands for the situation, whose items are a free run. In a strict run nobody was ever down.
-pub record Serves {D : Type 0} (images : D → List ℕ → Type 0) (faults : D → ℕ) (strict : D → Bool) (armed : D → Option ℕ) (content synced : D → List ℕ) (written : D → Ranges) (strict_run : Bool) (plan : Content) (cluster : Cluster D) (s : Situation) : Type 0 where
-  pub stands : StandsFor images faults plan cluster s
+pub record Serves {D : Type 0} (port : Ghosts D) (strict_run : Bool) (plan : Content) (cluster : Cluster D) (s : Situation) : Type 0 where
+  pub stands : StandsFor port plan cluster s
   pub serving : IsServing plan s
-  pub stayed : strict_run ≡ true → StaysUp strict armed content synced written plan cluster s
+  pub stayed : strict_run ≡ true → StaysUp port plan cluster s
 
 -- what is to be done with a command that is the next one of its actor
 abbrev pub IsTurn : Turn → Actor → List Item → Step → Type 0
@@ -44,9 +44,9 @@ IsTurn Waits a items command = (left : List Step) → IsHeld items (command ∷ 
 -- ---- the commands of an actor
 
 -- commands went by, or the first one is held
-pub record HasMoved {D : Type 0} (images : D → List ℕ → Type 0) (faults : D → ℕ) (strict : D → Bool) (armed : D → Option ℕ) (content synced : D → List ℕ) (written : D → Ranges) (strict_run : Bool) (plan : Content) (a : Actor) (before now : List Step) (went : Bool) (cluster : Cluster D) (s : Situation) : Type 0 where
+pub record HasMoved {D : Type 0} (port : Ghosts D) (strict_run : Bool) (plan : Content) (a : Actor) (before now : List Step) (went : Bool) (cluster : Cluster D) (s : Situation) : Type 0 where
   pub next : Situation
-  pub serves : Serves images faults strict armed content synced written strict_run plan cluster next
+  pub serves : Serves port strict_run plan cluster next
   pub gone : HasGone plan next a now
   pub others : (b : Actor) (left : List Step) → same_actor a b ≡ false → HasGone plan s b left → HasGone plan next b left
   pub behind : Begins s.own next.own
@@ -56,9 +56,9 @@ pub record HasMoved {D : Type 0} (images : D → List ℕ → Type 0) (faults : 
 
 -- ---- rounds
 
-pub record HasGoneRound {D : Type 0} (images : D → List ℕ → Type 0) (faults : D → ℕ) (strict : D → Bool) (armed : D → Option ℕ) (content synced : D → List ℕ) (written : D → Ranges) (strict_run : Bool) (plan : Content) (before now : List Queue) (went : Bool) (cluster : Cluster D) (s : Situation) : Type 0 where
+pub record HasGoneRound {D : Type 0} (port : Ghosts D) (strict_run : Bool) (plan : Content) (before now : List Queue) (went : Bool) (cluster : Cluster D) (s : Situation) : Type 0 where
   pub next : Situation
-  pub serves : Serves images faults strict armed content synced written strict_run plan cluster next
+  pub serves : Serves port strict_run plan cluster next
   pub gone : HaveGone plan next now
   pub behind : Begins s.own next.own
   pub less : count_left now ≤ count_left before
@@ -66,17 +66,17 @@ pub record HasGoneRound {D : Type 0} (images : D → List ℕ → Type 0) (fault
   pub held : went ≡ false → (next ≡ s) × AreHeld s.own now
 
 -- every message that waited was taken
-pub record IsEmptied {D : Type 0} (images : D → List ℕ → Type 0) (faults : D → ℕ) (strict : D → Bool) (armed : D → Option ℕ) (content synced : D → List ℕ) (written : D → Ranges) (strict_run : Bool) (plan : Content) (cluster : Cluster D) (s : Situation) : Type 0 where
+pub record IsEmptied {D : Type 0} (port : Ghosts D) (strict_run : Bool) (plan : Content) (cluster : Cluster D) (s : Situation) : Type 0 where
   pub next : Situation
-  pub serves : Serves images faults strict armed content synced written strict_run plan cluster next
+  pub serves : Serves port strict_run plan cluster next
   pub gone : (a : Actor) (left : List Step) → HasGone plan s a left → HasGone plan next a left
   pub behind : Begins s.own next.own
   pub nothing : NothingWaits next
 
 -- nothing is left that could be taken
-pub record HasEnded {D : Type 0} (images : D → List ℕ → Type 0) (faults : D → ℕ) (strict : D → Bool) (armed : D → Option ℕ) (content synced : D → List ℕ) (written : D → Ranges) (strict_run : Bool) (plan : Content) (now : List Queue) (cluster : Cluster D) (s : Situation) : Type 0 where
+pub record HasEnded {D : Type 0} (port : Ghosts D) (strict_run : Bool) (plan : Content) (now : List Queue) (cluster : Cluster D) (s : Situation) : Type 0 where
   pub last : Situation
-  pub serves : Serves images faults strict armed content synced written strict_run plan cluster last
+  pub serves : Serves port strict_run plan cluster last
   pub gone : HaveGone plan last now
   pub behind : Begins s.own last.own
   pub nothing : NothingWaits last

@@ -34,7 +34,7 @@ pub(crate) enum Turn {
 
 // What is to be done with a begin.
 fn begin_turn<D: Rig + Drop>(cluster: &Cluster<D>, actor: Actor, txn: u32) -> Turn
-    ensures { (plan : Content) (s : Situation) → StandsFor D.is_image D.faults plan cluster.now s → IsTurn result actor (whole s) (Command.Begin txn) }
+    ensures { (plan : Content) (s : Situation) → StandsFor D.Disk plan cluster.now s → IsTurn result actor (whole s) (Command.Begin txn) }
 {
     if cluster.is_down(actor) {
         return Turn::Passes;
@@ -47,7 +47,7 @@ fn begin_turn<D: Rig + Drop>(cluster: &Cluster<D>, actor: Actor, txn: u32) -> Tu
 
 // What is to be done with a recover.
 fn recover_turn<D: Rig + Drop>(cluster: &Cluster<D>, actor: Actor, txn: u32, node: u32) -> Turn
-    ensures { (plan : Content) (s : Situation) → StandsFor D.is_image D.faults plan cluster.now s → IsTurn result actor (whole s) (Command.Recover txn node) }
+    ensures { (plan : Content) (s : Situation) → StandsFor D.Disk plan cluster.now s → IsTurn result actor (whole s) (Command.Recover txn node) }
 {
     let _node = node;
     if cluster.is_down(actor) {
@@ -62,7 +62,7 @@ fn recover_turn<D: Rig + Drop>(cluster: &Cluster<D>, actor: Actor, txn: u32, nod
 // What is to be done with a command of an actor.
 fn turn_of<D: Rig + Drop>(cluster: &Cluster<D>, actor: Actor, command: &Step) -> Turn
     requires { (plan : Content) × (is_command_of (cluster_of plan) actor command.now ≡ true) }
-    ensures { (plan : Content) (s : Situation) → StandsFor D.is_image D.faults plan cluster.now s → IsTurn result actor (whole s) command.now }
+    ensures { (plan : Content) (s : Situation) → StandsFor D.Disk plan cluster.now s → IsTurn result actor (whole s) command.now }
 {
     match *command {
         Step::Begin { txn } => begin_turn(cluster, actor, txn),
@@ -84,11 +84,11 @@ fn take_command<D: Rig + Drop>(
 ) -> Result<bool, RunError>
     requires is_plan { IsPlan plan.now }
     requires known { Contains (actors plan.now.topology) queue.old.actor }
-    requires standing { (s : Situation) × Serves D.is_image D.faults D.strict D.armed D.content D.synced D.written false plan.now cluster.old s × HasGone plan.now s queue.old.actor (left_in queue.old) }
+    requires standing { (s : Situation) × Serves D.Disk false plan.now cluster.old s × HasGone plan.now s queue.old.actor (left_in queue.old) }
     ensures same { queue.new.actor ≡ queue.old.actor }
-    ensures ok { IfOk result (λ went. (strict_run : Bool) (s : Situation) → Serves D.is_image D.faults D.strict D.armed D.content D.synced D.written strict_run plan.now cluster.old s → HasGone plan.now s queue.old.actor (left_in queue.old)
-        → HasMoved D.is_image D.faults D.strict D.armed D.content D.synced D.written strict_run plan.now queue.old.actor (left_in queue.old) (left_in queue.new) went cluster.new s) }
-    ensures limit { IfErr result (IfLimit (λ which most. (strict_run : Bool) (s : Situation) → Serves D.is_image D.faults D.strict D.armed D.content D.synced D.written strict_run plan.now cluster.old s → HasGone plan.now s queue.old.actor (left_in queue.old)
+    ensures ok { IfOk result (λ went. (strict_run : Bool) (s : Situation) → Serves D.Disk strict_run plan.now cluster.old s → HasGone plan.now s queue.old.actor (left_in queue.old)
+        → HasMoved D.Disk strict_run plan.now queue.old.actor (left_in queue.old) (left_in queue.new) went cluster.new s) }
+    ensures limit { IfErr result (IfLimit (λ which most. (strict_run : Bool) (s : Situation) → Serves D.Disk strict_run plan.now cluster.old s → HasGone plan.now s queue.old.actor (left_in queue.old)
         → EachWent plan.now s → EndsFreely strict_run plan.now s.own which most)) }
 {
     schedule_steps_serve();
@@ -119,11 +119,11 @@ pub(crate) fn take_commands<D: Rig + Drop>(
 ) -> Result<bool, RunError>
     requires is_plan { IsPlan plan.now }
     requires known { Contains (actors plan.now.topology) queue.old.actor }
-    requires standing { (s : Situation) × Serves D.is_image D.faults D.strict D.armed D.content D.synced D.written false plan.now cluster.old s × HasGone plan.now s queue.old.actor (left_in queue.old) }
+    requires standing { (s : Situation) × Serves D.Disk false plan.now cluster.old s × HasGone plan.now s queue.old.actor (left_in queue.old) }
     ensures same { queue.new.actor ≡ queue.old.actor }
-    ensures ok { IfOk result (λ went. (strict_run : Bool) (s : Situation) → Serves D.is_image D.faults D.strict D.armed D.content D.synced D.written strict_run plan.now cluster.old s → HasGone plan.now s queue.old.actor (left_in queue.old)
-        → HasMoved D.is_image D.faults D.strict D.armed D.content D.synced D.written strict_run plan.now queue.old.actor (left_in queue.old) (left_in queue.new) went cluster.new s) }
-    ensures limit { IfErr result (IfLimit (λ which most. (strict_run : Bool) (s : Situation) → Serves D.is_image D.faults D.strict D.armed D.content D.synced D.written strict_run plan.now cluster.old s → HasGone plan.now s queue.old.actor (left_in queue.old)
+    ensures ok { IfOk result (λ went. (strict_run : Bool) (s : Situation) → Serves D.Disk strict_run plan.now cluster.old s → HasGone plan.now s queue.old.actor (left_in queue.old)
+        → HasMoved D.Disk strict_run plan.now queue.old.actor (left_in queue.old) (left_in queue.new) went cluster.new s) }
+    ensures limit { IfErr result (IfLimit (λ which most. (strict_run : Bool) (s : Situation) → Serves D.Disk strict_run plan.now cluster.old s → HasGone plan.now s queue.old.actor (left_in queue.old)
         → EachWent plan.now s → EndsFreely strict_run plan.now s.own which most)) }
 {
     let mut went = false;

@@ -33,14 +33,14 @@ pub fn finish<D: Rig + Drop>(
 ) -> Result<Ended<D>, RunError>
     requires is_plan { IsPlan plan.now }
     requires actors { AreAllActors plan.now (map rest_actor rests.items) }
-    requires standing { (stopped : List Stopped) × AreResting D.is_image D.faults plan.now rests.items entered.items stopped }
-    ensures ok { IfOk result (HasFinished D.is_image D.faults plan.now entered.items) }
+    requires standing { (stopped : List Stopped) × AreResting D.Disk plan.now rests.items entered.items stopped }
+    ensures ok { IfOk result (HasFinished D.Disk plan.now entered.items) }
     ensures limit { IfErr result (IfLimit (EndsFreely false plan.now (reverse entered.items))) }
-    ensures strict_limit { (stopped : List Stopped) (disks : StrictDisks) → AreResting D.is_image D.faults plan.now rests.items entered.items stopped
-        → AreStrictSlots D.strict D.armed D.content D.synced D.written plan.now (behind_items entered.items stopped) disks (map placed_in rests.items)
+    ensures strict_limit { (stopped : List Stopped) (disks : StrictDisks) → AreResting D.Disk plan.now rests.items entered.items stopped
+        → AreStrictSlots D.Disk plan.now (behind_items entered.items stopped) disks (map placed_in rests.items)
         → ((a : Actor) → disks.armed a ≡ None) → NobodyIsDown (reverse entered.items) → IfErr result (IfLimit (EndsFreely true plan.now (reverse entered.items))) }
-    ensures strict { (stopped : List Stopped) (disks : StrictDisks) → AreResting D.is_image D.faults plan.now rests.items entered.items stopped
-        → AreStrictSlots D.strict D.armed D.content D.synced D.written plan.now (behind_items entered.items stopped) disks (map placed_in rests.items)
+    ensures strict { (stopped : List Stopped) (disks : StrictDisks) → AreResting D.Disk plan.now rests.items entered.items stopped
+        → AreStrictSlots D.Disk plan.now (behind_items entered.items stopped) disks (map placed_in rests.items)
         → ((a : Actor) → disks.armed a ≡ None) → NobodyIsDown (reverse entered.items) → IfOk result (λ ended. NobodyIsDown (reverse ended.items)) }
 {
     served_at_the_end();

@@ -17,9 +17,9 @@ use acc_schedule::{Plan, Step};
 // Delivers all messages that wait, and those that come meanwhile.
 fn drain<D: Rig + Drop>(cluster: &mut Cluster<D>, plan: &Plan) -> Result<(), RunError>
     requires is_plan { IsPlan plan.now }
-    requires standing { (s : Situation) × Serves D.is_image D.faults D.strict D.armed D.content D.synced D.written false plan.now cluster.old s }
-    ensures ok { OnOk result ((strict_run : Bool) (s : Situation) → Serves D.is_image D.faults D.strict D.armed D.content D.synced D.written strict_run plan.now cluster.old s → IsEmptied D.is_image D.faults D.strict D.armed D.content D.synced D.written strict_run plan.now cluster.new s) }
-    ensures limit { IfErr result (IfLimit (λ which most. (strict_run : Bool) (s : Situation) → Serves D.is_image D.faults D.strict D.armed D.content D.synced D.written strict_run plan.now cluster.old s → EachWent plan.now s → EndsFreely strict_run plan.now s.own which most)) }
+    requires standing { (s : Situation) × Serves D.Disk false plan.now cluster.old s }
+    ensures ok { OnOk result ((strict_run : Bool) (s : Situation) → Serves D.Disk strict_run plan.now cluster.old s → IsEmptied D.Disk strict_run plan.now cluster.new s) }
+    ensures limit { IfErr result (IfLimit (λ which most. (strict_run : Bool) (s : Situation) → Serves D.Disk strict_run plan.now cluster.old s → EachWent plan.now s → EndsFreely strict_run plan.now s.own which most)) }
 {
     schedule_steps_serve();
     cluster.step(plan, 0, &Step::Drain)
@@ -33,11 +33,11 @@ fn round<D: Rig + Drop>(
 ) -> Result<bool, RunError>
     requires is_plan { IsPlan plan.now }
     requires actors { AreAllActors plan.now (map actor_in queues.old.items) }
-    requires standing { (s : Situation) × Serves D.is_image D.faults D.strict D.armed D.content D.synced D.written false plan.now cluster.old s × HaveGone plan.now s queues.old.items }
+    requires standing { (s : Situation) × Serves D.Disk false plan.now cluster.old s × HaveGone plan.now s queues.old.items }
     ensures same { OnOk result (map actor_in queues.new.items ≡ map actor_in queues.old.items) }
-    ensures ok { IfOk result (λ went. (strict_run : Bool) (s : Situation) → Serves D.is_image D.faults D.strict D.armed D.content D.synced D.written strict_run plan.now cluster.old s → HaveGone plan.now s queues.old.items
-        → HasGoneRound D.is_image D.faults D.strict D.armed D.content D.synced D.written strict_run plan.now queues.old.items queues.new.items went cluster.new s) }
-    ensures limit { IfErr result (IfLimit (λ which most. (strict_run : Bool) (s : Situation) → Serves D.is_image D.faults D.strict D.armed D.content D.synced D.written strict_run plan.now cluster.old s → HaveGone plan.now s queues.old.items
+    ensures ok { IfOk result (λ went. (strict_run : Bool) (s : Situation) → Serves D.Disk strict_run plan.now cluster.old s → HaveGone plan.now s queues.old.items
+        → HasGoneRound D.Disk strict_run plan.now queues.old.items queues.new.items went cluster.new s) }
+    ensures limit { IfErr result (IfLimit (λ which most. (strict_run : Bool) (s : Situation) → Serves D.Disk strict_run plan.now cluster.old s → HaveGone plan.now s queues.old.items
         → EndsFreely strict_run plan.now s.own which most)) }
 {
     let mut went = false;
@@ -57,11 +57,11 @@ pub(crate) fn rounds<D: Rig + Drop>(
 ) -> Result<(), RunError>
     requires is_plan { IsPlan plan.now }
     requires actors { AreAllActors plan.now (map actor_in queues.old.items) }
-    requires standing { (s : Situation) × Serves D.is_image D.faults D.strict D.armed D.content D.synced D.written false plan.now cluster.old s × HaveGone plan.now s queues.old.items }
+    requires standing { (s : Situation) × Serves D.Disk false plan.now cluster.old s × HaveGone plan.now s queues.old.items }
     ensures same { OnOk result (map actor_in queues.new.items ≡ map actor_in queues.old.items) }
-    ensures ok { OnOk result ((strict_run : Bool) (s : Situation) → Serves D.is_image D.faults D.strict D.armed D.content D.synced D.written strict_run plan.now cluster.old s → HaveGone plan.now s queues.old.items
-        → HasEnded D.is_image D.faults D.strict D.armed D.content D.synced D.written strict_run plan.now queues.new.items cluster.new s) }
-    ensures limit { IfErr result (IfLimit (λ which most. (strict_run : Bool) (s : Situation) → Serves D.is_image D.faults D.strict D.armed D.content D.synced D.written strict_run plan.now cluster.old s → HaveGone plan.now s queues.old.items
+    ensures ok { OnOk result ((strict_run : Bool) (s : Situation) → Serves D.Disk strict_run plan.now cluster.old s → HaveGone plan.now s queues.old.items
+        → HasEnded D.Disk strict_run plan.now queues.new.items cluster.new s) }
+    ensures limit { IfErr result (IfLimit (λ which most. (strict_run : Bool) (s : Situation) → Serves D.Disk strict_run plan.now cluster.old s → HaveGone plan.now s queues.old.items
         → EndsFreely strict_run plan.now s.own which most)) }
 {
     drain(cluster, plan)?;

@@ -1,6 +1,8 @@
 -- The two writes of an append, and what a crash leaves of each.
 use Rattle.std.proofs.Common.{◌≡◌, ◌⊎◌, inl, inr, ℕ, ◌+◌, List, [], ◌∷◌, ◌++◌, length, drop, refl, sym, ◌∙◌, ap, subst, arith, append_assoc, length-append}
-use Rattle.acc_ports.specs.Disk.{overwritten, Torn, LeavesOnly}
+use Rattle.acc_ports.specs.declared.disk.Disk.{Ghosts}
+use Rattle.acc_ports.specs.Disk.{overwritten, Torn}
+use Rattle.acc_ports.specs.Moments.{LeavesOnly}
 use Rattle.acc_journal.specs.Layout.{records, Reads}
 use Rattle.acc_journal.specs.Journal.{ReadsAsEither, HasGateAt, IsGroup}
 use Rattle.acc_journal.proofs.Gates.{written_at, torn_at, torn_byte}
@@ -60,12 +62,12 @@ module _ (content : List ℕ) (before : List (List ℕ)) (place : ℕ) (has : Ha
       at = omega (arith, has.at, ap length (records-append before group), length-append (records before) (records group), ap length is.spelled, length-append (records group) (0 ∷ []));
     }
 
-    module _ {D : Type 0} (clock : D → ℕ) (was_image : D → ℕ → List ℕ → Type 0) where
-      pub after_first : (old new : D) → LeavesOnly clock was_image old new (λ image. (image ≡ content) ⊎ Torn (place + 1) (length bytes) content image) → LeavesOnly clock was_image old new (ReadsAsEither before group)
-      after_first old new leaves = weaker clock was_image old new _ _ leaves (λ image torn. inl (first_write image torn))
+    module _ {D : Type 0} (port : Ghosts D) where
+      pub after_first : (old new : D) → LeavesOnly port old new (λ image. (image ≡ content) ⊎ Torn (place + 1) (length bytes) content image) → LeavesOnly port old new (ReadsAsEither before group)
+      after_first old new leaves = weaker port old new _ _ leaves (λ image torn. inl (first_write image torn))
 
-      pub after_second : (old mid new : D) (middle : List ℕ) → middle ≡ staged → LeavesOnly clock was_image old mid (λ image. (image ≡ content) ⊎ Torn (place + 1) (length bytes) content image)
-          → LeavesOnly clock was_image mid new (λ image. (image ≡ middle) ⊎ Torn place 1 middle image) → LeavesOnly clock was_image old new (ReadsAsEither before group)
+      pub after_second : (old mid new : D) (middle : List ℕ) → middle ≡ staged → LeavesOnly port old mid (λ image. (image ≡ content) ⊎ Torn (place + 1) (length bytes) content image)
+          → LeavesOnly port mid new (λ image. (image ≡ middle) ⊎ Torn place 1 middle image) → LeavesOnly port old new (ReadsAsEither before group)
       after_second old mid new middle same leaves more =
-          joins clock was_image old mid new _ _ (after_first old mid leaves) more
+          joins port old mid new _ _ (after_first old mid leaves) more
           (λ image torn. second_write image (subst (λ (l : List ℕ). (image ≡ l) ⊎ Torn place 1 l image) same torn))

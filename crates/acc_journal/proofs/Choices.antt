@@ -4,9 +4,11 @@ use Rattle.std.specs.Prelude.{◌==◌, MatchBool}
 use Rattle.std.proofs.lemmas.Bool.{cases_eq}
 use Rattle.std.proofs.lemmas.Bool.Decides.{nat_tests}
 use Rattle.std.proofs.lemmas.List.{get_or-append-add}
-use Rattle.acc_ports.specs.Disk.{overwritten, Torn}
-use Rattle.acc_ports.specs.Strict.{Ranges, is_within, IsFilled, LeftByChoice, after_call}
+use Rattle.acc_ports.specs.Disk.{overwritten, Torn, CrashLeaves}
+use Rattle.acc_ports.specs.State.{Ranges, DiskState}
+use Rattle.acc_ports.specs.Strict.{is_within, IsFilled, LeftByChoice, after_call}
 use Rattle.acc_journal.specs.Layout.{Reads}
+use Rattle.acc_journal.specs.Calls.{after_calls}
 use Rattle.acc_journal.specs.Journal.{HasGateAt, IsGroup, FailedHalfWay, left_by_choice}
 use Rattle.acc_journal.proofs.Gates.{written_at, torn_at, torn_byte}
 use Rattle.acc_journal.proofs.Layouts.{reads_closed}
@@ -125,14 +127,14 @@ module _ (content : List ℕ) (before : List (List ℕ)) (place : ℕ) (has : Ha
   ]
 
   -- The write behind the gate failed, or the sync behind it.
-  pub first_failed : (armed : Option ℕ) (now synced : List ℕ) (written : Ranges) → FailedHalfWay (place + 1) bytes armed content now synced written → (choice : ℕ) (left : List ℕ) → LeftByChoice choice now synced written left → Reads left (left_by_choice armed choice before group)
-  first_failed armed now synced written failed choice left by =
-      let synced_by : LeftByChoice choice now content ((place + 1, length bytes) ∷ []) left =
-      subst (λ (s : List ℕ). LeftByChoice choice now s ((place + 1, length bytes) ∷ []) left) failed.all_synced (subst (λ (w : Ranges). LeftByChoice choice now synced w left) failed.one_written by) in
+  pub first_failed : (old new : DiskState) → old.content ≡ content → FailedHalfWay (place + 1) bytes old new → (choice : ℕ) (left : List ℕ) → CrashLeaves choice new left → Reads left (left_by_choice old.armed choice before group)
+  first_failed old new is failed choice left by =
+      let synced_by : LeftByChoice choice new.content content ((place + 1, length bytes) ∷ []) left =
+      subst (λ (s : List ℕ). LeftByChoice choice new.content s ((place + 1, length bytes) ∷ []) left) (failed.all_synced ∙ is) (subst (λ (w : Ranges). LeftByChoice choice new.content new.synced w left) failed.one_written by) in
       elim failed.which [
-        | inl first ↦ none_left armed 0 choice left first.0 refl (write_failed choice left (subst (λ (n : List ℕ). LeftByChoice choice n content ((place + 1, length bytes) ∷ []) left) first.1 synced_by))
+        | inl first ↦ none_left old.armed 0 choice left first.0 refl (write_failed choice left (subst (λ (n : List ℕ). LeftByChoice choice n content ((place + 1, length bytes) ∷ []) left) (first.1 ∙ is) synced_by))
         | inr second ↦
-            none_left armed 1 choice left second.0 refl (sync_failed choice left (subst (λ (n : List ℕ). LeftByChoice choice n content ((place + 1, length bytes) ∷ []) left) (second.1 ∙ is_staged content before place has bytes) synced_by))
+            none_left old.armed 1 choice left second.0 refl (sync_failed choice left (subst (λ (n : List ℕ). LeftByChoice choice n content ((place + 1, length bytes) ∷ []) left) (second.1 ∙ ap (λ (l : List ℕ). overwritten (place + 1) bytes l) is ∙ is_staged content before place has bytes) synced_by))
       ]
 
   module _ (is : IsGroup group bytes) where
@@ -149,13 +151,13 @@ module _ (content : List ℕ) (before : List (List ℕ)) (place : ℕ) (has : Ha
     ]
 
     -- The write to the gate failed, or the sync behind it.
-    pub second_failed : (armed : Option ℕ) (middle now synced : List ℕ) (written : Ranges) → middle ≡ laid → FailedHalfWay place (1 ∷ []) (after_call (after_call armed)) middle now synced written → (choice : ℕ) (left : List ℕ) → LeftByChoice choice now synced written left → Reads left (left_by_choice armed choice before group)
-    second_failed armed middle now synced written is_laid failed choice left by =
-        let synced_by : LeftByChoice choice now laid ((place, 1) ∷ []) left =
-        subst (λ (s : List ℕ). LeftByChoice choice now s ((place, 1) ∷ []) left) (failed.all_synced ∙ is_laid) (subst (λ (w : Ranges). LeftByChoice choice now synced w left) failed.one_written by) in
+    pub second_failed : (armed : Option ℕ) (mid new : DiskState) → mid.armed ≡ after_calls 2 armed → mid.content ≡ laid → FailedHalfWay place (1 ∷ []) mid new → (choice : ℕ) (left : List ℕ) → CrashLeaves choice new left → Reads left (left_by_choice armed choice before group)
+    second_failed armed mid new counts is_laid failed choice left by =
+        let synced_by : LeftByChoice choice new.content laid ((place, 1) ∷ []) left =
+        subst (λ (s : List ℕ). LeftByChoice choice new.content s ((place, 1) ∷ []) left) (failed.all_synced ∙ is_laid) (subst (λ (w : Ranges). LeftByChoice choice new.content new.synced w left) failed.one_written by) in
         elim failed.which [
-          | inl first ↦ none_left armed 2 choice left (two_calls armed 0 first.0) refl (gate_failed choice left (subst (λ (n : List ℕ). LeftByChoice choice n laid ((place, 1) ∷ []) left) (first.1 ∙ is_laid) synced_by))
+          | inl first ↦ none_left armed 2 choice left (two_calls armed 0 (sym counts ∙ first.0)) refl (gate_failed choice left (subst (λ (n : List ℕ). LeftByChoice choice n laid ((place, 1) ∷ []) left) (first.1 ∙ is_laid) synced_by))
           | inr second ↦
-              subst (λ (a : Option ℕ). Reads left (left_by_choice a choice before group)) (sym (two_calls armed 1 second.0))
+              subst (λ (a : Option ℕ). Reads left (left_by_choice a choice before group)) (sym (two_calls armed 1 (sym counts ∙ second.0)))
               (last_failed choice left (subst (λ (n : List ℕ). LeftByChoice choice n laid ((place, 1) ∷ []) left) (second.1 ∙ ap (λ (l : List ℕ). overwritten place (1 ∷ []) l) is_laid) synced_by))
         ]

@@ -1,9 +1,12 @@
 pub mod Appending
+pub mod Appends
 pub mod Choices
+pub mod DiskReads
 pub mod Gates
 pub mod Groups
 pub mod Layouts
 pub mod Moments
 pub mod Readings
+pub mod Rows
 pub mod Unique
 pub mod Waiting

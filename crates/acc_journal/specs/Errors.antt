@@ -7,3 +7,10 @@ use Rattle.acc_journal.specs.declared.error.JournalError.TheVariants as errors
 abbrev pub journal_error : PortError → JournalError
 journal_error port.Failed = errors.DiskFault
 journal_error port.OutOfMemory = errors.OutOfMemory
+
+-- the other way round: what is no fault of the disk counts as want of memory
+abbrev pub port_error : JournalError → PortError
+port_error errors.DiskFault = port.Failed
+port_error (errors.BadVersion version) = port.OutOfMemory
+port_error (errors.BadRecord place) = port.OutOfMemory
+port_error errors.OutOfMemory = port.OutOfMemory

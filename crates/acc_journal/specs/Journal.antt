@@ -1,7 +1,7 @@
 -- A journal, as contracts see it.
-use Rattle.std.specs.Prelude.{◌≡◌, ◌⊎◌, ℕ, ◌+◌, ◌-◌, ◌*◌, ◌^◌, ◌<◌, Bool, false, IsTrue, List, [], ◌∷◌, ◌++◌, length, sum_by, Option, None, Some, ◌==◌, ◌&&◌, if◌then◌else◌}
-use Rattle.acc_ports.specs.Disk.{overwritten, Only}
-use Rattle.acc_ports.specs.Strict.{Ranges}
+use Rattle.std.specs.Prelude.{◌≡◌, ◌⊎◌, ℕ, ◌+◌, ◌-◌, ◌*◌, ◌^◌, ◌<◌, Bool, false, List, [], ◌∷◌, ◌++◌, length, sum_by, Option, None, Some, ◌==◌, ◌&&◌, if◌then◌else◌}
+use Rattle.acc_ports.specs.State.{DiskState}
+use Rattle.acc_ports.specs.Disk.{overwritten, IsAtRest}
 use Rattle.acc_journal.specs.declared.error.JournalError.{JournalError}
 use Rattle.acc_journal.specs.declared.error.JournalError.TheVariants as errors
 use Rattle.acc_journal.specs.Layout.{records, AreShort, Reads, IsForeign, IsCut, payloads_of}
@@ -34,22 +34,11 @@ pub record IsGroup (group : List (List ℕ)) (bytes : List ℕ) : Type 0 where
   pub short : AreShort group
   pub spelled : 1 ∷ bytes ≡ records group ++ 0 ∷ []
 
--- A disk is at rest: what a read gives is the only image.
-pub record IsAtRest (content : List ℕ) (images : List ℕ → Type 0) (strict : Bool) (synced : List ℕ) (written : Ranges) : Type 0 where
-  pub only : Only content images
-  pub all_synced : IsTrue strict → synced ≡ content
-  pub none_written : IsTrue strict → written ≡ []
-
 -- A journal that isn't broken: its disk is at rest, and reads as payloads whose closed gate is at this place.
-pub record IsSettled (content : List ℕ) (images : List ℕ → Type 0) (strict : Bool) (synced : List ℕ) (written : Ranges) (gate : ℕ) : Type 0 where
-  pub fits : length content < 2 ^ 64
-  pub has_gate : HasGateAt content (payloads_of content) gate
-  pub rest : IsAtRest content images strict synced written
-
--- The armed call is one of the next calls.
-abbrev pub FailsWithin : ℕ → Option ℕ → Type 0
-FailsWithin calls None = ⊥
-FailsWithin calls (Some passed) = passed < calls
+pub record IsSettled (disk : DiskState) (images : List ℕ → Type 0) (gate : ℕ) : Type 0 where
+  pub fits : length disk.content < 2 ^ 64
+  pub has_gate : HasGateAt disk.content (payloads_of disk.content) gate
+  pub rest : IsAtRest disk images
 
 -- whether a crash by choice keeps the group of an append whose armed call failed: only where the last of its four calls
 -- did, the second sync, and the crash leaves what a read gives
@@ -62,10 +51,10 @@ abbrev pub left_by_choice : Option ℕ → ℕ → List (List ℕ) → List (Lis
 left_by_choice armed choice before group = if keeps_group armed choice then before ++ group else before
 
 -- Of a write and its sync on a strict disk at rest, one failed: the write, or the sync behind it.
-pub record FailedHalfWay (at : ℕ) (bytes : List ℕ) (armed : Option ℕ) (before after synced : List ℕ) (written : Ranges) : Type 0 where
-  pub all_synced : synced ≡ before
-  pub one_written : written ≡ (at, length bytes) ∷ []
-  pub which : ((armed ≡ Some 0) × (after ≡ before)) ⊎ ((armed ≡ Some 1) × (after ≡ overwritten at bytes before))
+pub record FailedHalfWay (at : ℕ) (bytes : List ℕ) (before after : DiskState) : Type 0 where
+  pub all_synced : after.synced ≡ before.content
+  pub one_written : after.written ≡ (at, length bytes) ∷ []
+  pub which : ((before.armed ≡ Some 0) × (after.content ≡ before.content)) ⊎ ((before.armed ≡ Some 1) × (after.content ≡ overwritten at bytes before.content))
 
 -- Bytes are refused with this error.
 abbrev pub IsRefused : List ℕ → JournalError → Type 0

@@ -1,9 +1,9 @@
 //! Reading the bytes of a journal.
-ghost use Rattle.std.specs.Prelude.{◌≡◌, ◌≢◌, ◌+◌, ◌^◌, ◌<◌, ◌≤◌, ◌++◌, length, IsTrue, None, Err, OnOk, IfOk, IfErr, IfSome, IfNone};
+ghost use Rattle.std.specs.Prelude.{◌≡◌, ◌≢◌, ◌+◌, ◌^◌, ◌<◌, ◌≤◌, ◌++◌, length, Err, OnOk, IfOk, IfErr, IfSome, IfNone};
+ghost use Rattle.acc_ports.specs.Disk.{IsAtRest};
 ghost use Rattle.acc_journal.specs.Layout.{sized, NoRecord};
-ghost use Rattle.acc_journal.specs.Journal.{HasGateAt, IsAtRest, IsRefused};
-ghost use Rattle.acc_ports.specs.Disk.{Only, LeavesOnly};
-ghost use Rattle.acc_ports.specs.Faults.{Rose};
+ghost use Rattle.acc_journal.specs.Journal.{HasGateAt, IsRefused};
+ghost use Rattle.acc_journal.specs.Calls.{ReadsDisk, answer_of};
 
 use crate::{JournalError, Payloads};
 use acc_base::{Bytes, Sequence};
@@ -68,25 +68,12 @@ pub(crate) fn read_payloads(alloc: Global, bytes: &[u8]) -> Result<Told, Journal
 
 /// Reads the journal on a disk at rest, in two calls. It writes nothing.
 pub(crate) fn read_disk<D: Disk>(alloc: Global, disk: &mut D) -> Result<Told, JournalError>
-    requires { IsAtRest (D.content disk.old) (D.is_image disk.old) (D.strict disk.old) (D.synced disk.old) (D.written disk.old) }
-
-    ensures told { IfOk result (λ told. HasGateAt (D.content disk.old) told.payloads told.gate) }
-    ensures refused { IfErr result (IsRefused (D.content disk.old)) }
-    ensures rest { OnOk result (IsAtRest (D.content disk.new) (D.is_image disk.new) (D.strict disk.new) (D.synced disk.new) (D.written disk.new)) }
-    ensures content { D.content disk.new ≡ D.content disk.old }
-    ensures only { Only (D.content disk.old) (D.is_image disk.new) }
-    ensures any_moment { LeavesOnly D.clock D.was_image disk.old disk.new (λ image. image ≡ D.content disk.old) }
-
-    ensures fits { length (D.content disk.new) < 2 ^ 64 }
-    ensures counted { D.faults disk.old ≤ D.faults disk.new }
-    ensures cause { result ≡ Err JournalError.DiskFault → Rose (D.faults disk.old) (D.faults disk.new) }
-    ensures unfailed { result ≢ Err JournalError.DiskFault → D.faults disk.new ≡ D.faults disk.old }
-    ensures kind { D.strict disk.new ≡ D.strict disk.old }
-
-    // On a strict disk where nothing is armed no call fails.
-    ensures passes { IsTrue (D.strict disk.old) → D.armed disk.old ≡ None → result ≢ Err JournalError.DiskFault }
-    ensures unarmed { IsTrue (D.strict disk.old) → D.armed disk.old ≡ None → OnOk result (D.armed disk.new ≡ None) }
-    ensures still { IsTrue (D.strict disk.old) → D.armed disk.old ≡ None → D.faults disk.new ≡ D.faults disk.old }
+    requires { IsAtRest (D.state disk.old) (D.is_image disk.old) }
+    ensures told { IfOk result (λ told. HasGateAt (D.state disk.old).content told.payloads told.gate) }
+    ensures refused { IfErr result (IsRefused (D.state disk.old).content) }
+    ensures rest { OnOk result (IsAtRest (D.state disk.new) (D.is_image disk.new)) }
+    ensures fits { length (D.state disk.new).content < 2 ^ 64 }
+    ensures reads { ReadsDisk D.Disk disk.old disk.new (answer_of result) }
 {
     let count = disk.len()?;
     let mut bytes = Vec::new(alloc);

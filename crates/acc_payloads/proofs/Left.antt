@@ -5,7 +5,8 @@ use Rattle.std.proofs.lemmas.Bool.Decides.{nat_tests}
 use Rattle.std.proofs.lemmas.Bool.{lt-ltb}
 use Rattle.acc_message.specs.declared.entry.Emitted.{Emitted}
 use Rattle.acc_journal.specs.Layout.{Reads}
-use Rattle.acc_journal.specs.Journal.{ReadsAsEither, FailsWithin}
+use Rattle.acc_journal.specs.Calls.{FailsWithin}
+use Rattle.acc_journal.specs.Journal.{ReadsAsEither}
 use Rattle.acc_payloads.specs.Items.{AreMarked, AreKept, without_marks}
 use Rattle.acc_payloads.specs.Appends.{fails_append, passed_in}
 use Rattle.acc_payloads.specs.declared.stops.Unsent.{Unsent}
@@ -17,6 +18,10 @@ if_err (Err x) P e = tt
 
 pub not_err : {A : Type 0} (E : Type 0) (x : A) → IsErr {T = A} {E = E} (Ok x) → ⊥
 not_err E x e = cc
+
+pub not_ok : {A E : Type 0} (r : Result A E) (x : A) → IsErr r → r ≡ Ok x → ⊥
+not_ok (Ok y) x e is = cc e
+not_ok (Err y) x e is = cc is
 
 pub if_all : {A E : Type 0} (r : Result A E) (P Q : A → Type 0) → ((x : A) → P x → Q x) → IfOk r P → IfOk r Q
 if_all (Ok x) P Q f p = f x p

@@ -4,7 +4,8 @@ use Rattle.std.specs.Prelude.{min}
 use Rattle.std.proofs.lemmas.List.{map-append}
 use Rattle.acc_ports.specs.declared.surface.Write.{Write}
 use Rattle.acc_ports.specs.Disk.{overwritten}
-use Rattle.acc_ports.specs.Strict.{Ranges, IsImage}
+use Rattle.acc_ports.specs.State.{Ranges}
+use Rattle.acc_ports.specs.Strict.{IsImage}
 use Rattle.acc_ports.specs.Undo.{synced_of, ranges_of, CanCrash}
 use Rattle.acc_ports.proofs.Undoing.{one_write_more, one_failed_write_more}
 use Rattle.acc_ports.proofs.Images.{image_torn, image_more, written_torn}

@@ -10,7 +10,8 @@ use Rattle.std.proofs.lemmas.Bool.{cases_lt}
 use Rattle.std.proofs.lemmas.Bool.Decides.{nat_tests}
 use Rattle.acc_ports.specs.Disk.{overwritten, Torn}
 use Rattle.acc_ports.proofs.Undoing.{length_written}
-use Rattle.acc_ports.specs.Strict.{Ranges, is_within, extent, IsImage}
+use Rattle.acc_ports.specs.State.{Ranges}
+use Rattle.acc_ports.specs.Strict.{is_within, extent, IsImage}
 
 -- a place lies in one range
 abbrev pub in_range : ℕ → ℕ → ℕ → Bool

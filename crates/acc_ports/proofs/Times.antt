@@ -1,7 +1,8 @@
 -- How the images of a disk in memory go on.
 use Rattle.std.proofs.Common.{◌≡◌, ◌⊎◌, inl, inr, ⊎_elim, ℕ, zero, suc, ◌≤◌, List, [], ◌∷◌, ◌++◌, length, drop, refl, sym, subst, arith, length-append}
 use Rattle.acc_ports.specs.Disk.{Torn, NoFurther, Only, Stands, Elapses}
-use Rattle.acc_ports.specs.Strict.{Ranges, IsImage}
+use Rattle.acc_ports.specs.State.{Ranges}
+use Rattle.acc_ports.specs.Strict.{IsImage}
 use Rattle.acc_ports.specs.MemoryDisk.{DiskBytes, IsImageOf, WereImage, settled_on}
 use Rattle.acc_ports.proofs.Images.{from_before, only_synced}
 

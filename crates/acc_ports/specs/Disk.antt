@@ -1,5 +1,10 @@
 -- What the calls of a disk do to its content, and what a crash may leave of it.
-use Rattle.std.specs.Prelude.{◌≡◌, ◌⊎◌, ℕ, ◌+◌, ◌^◌, ◌<◌, ◌≤◌, max, List, ◌++◌, length, take, drop, slice_index}
+use Rattle.std.specs.Prelude.{◌≡◌, ◌⊎◌, ℕ, ◌+◌, ◌^◌, ◌<◌, ◌≤◌, max, IsTrue, List, [], ◌∷◌, ◌++◌, length, take, drop, slice_index, Result, OnOk, IsErrOf}
+use Rattle.acc_ports.specs.declared.error.PortError.{PortError}
+use Rattle.acc_ports.specs.declared.error.PortError.TheVariants as port
+use Rattle.acc_ports.specs.Faults.{CountsFaults}
+use Rattle.acc_ports.specs.State.{DiskState}
+use Rattle.acc_ports.specs.Strict.{WithMemory, FailsArmed, LeftByChoice}
 
 -- the old bytes with others written at a place, over what stood there and past the end
 abbrev pub overwritten : ℕ → List ℕ → List ℕ → List ℕ
@@ -35,9 +40,45 @@ pub record Elapses (before now : ℕ) (past since : ℕ → List ℕ → Type 0)
   pub nothing_else : (moment : ℕ) (image : List ℕ) → moment ≤ before → since moment image → past moment image ⊎ images image
   pub keeps : (moment : ℕ) (image : List ℕ) → moment ≤ before → past moment image → since moment image
 
--- A crash at any moment since an old state of a disk leaves bytes with a property.
-pub record LeavesOnly {D : Type 0} (clock : D → ℕ) (was_image : D → ℕ → List ℕ → Type 0) (old new : D) (P : List ℕ → Type 0) : Type 0 where
-  pub later : clock old ≤ clock new
-  pub each : (image : List ℕ) → was_image new (clock old) image → P image
-  -- for a run of calls that began earlier
-  pub before : (moment : ℕ) (image : List ℕ) → moment ≤ clock old → was_image new moment image → was_image old moment image ⊎ P image
+-- A disk is at rest: a crash leaves what a read gives, and nothing was written since the last sync.
+pub record IsAtRest (disk : DiskState) (images : List ℕ → Type 0) : Type 0 where
+  pub only : Only disk.content images
+  pub all_synced : IsTrue disk.strict → disk.synced ≡ disk.content
+  pub none_written : IsTrue disk.strict → disk.written ≡ []
+
+-- A crash by choice may leave these bytes of a strict disk.
+abbrev pub CrashLeaves : ℕ → DiskState → List ℕ → Type 0
+CrashLeaves choice disk left = LeftByChoice choice disk.content disk.synced disk.written left
+
+-- ---- calls
+
+-- What each call promises, whatever it is to do.
+pub record Calls {T : Type 0} (before after : DiskState) (past since : ℕ → List ℕ → Type 0) (images : List ℕ → Type 0) (result : Result T PortError) : Type 0 where
+  pub stands : Stands after.content images
+  pub time : Elapses before.clock after.clock past since images
+  pub kind : after.strict ≡ before.strict
+  pub faults : CountsFaults (IsErrOf result port.Failed) before.faults after.faults
+  pub armed : IsTrue before.strict → FailsArmed before.armed after.armed result
+
+-- No byte of it changed.
+pub record SameBytes (before after : DiskState) : Type 0 where
+  pub content : after.content ≡ before.content
+  pub synced : after.synced ≡ before.synced
+  pub written : after.written ≡ before.written
+
+-- A call that only reads changes no byte.
+pub record OnlyReads {T : Type 0} (before after : DiskState) (result : Result T PortError) : Type 0 where
+  pub content : OnOk result (after.content ≡ before.content)
+  pub strict : IsTrue before.strict → WithMemory result (SameBytes before after)
+
+-- Bytes are written at a place. On a strict disk one that failed wrote none of them, and its range counts as written.
+pub record Writes (at : ℕ) (bytes : List ℕ) (before after : DiskState) (result : Result (Unit {0}) PortError) : Type 0 where
+  pub content : OnOk result (after.content ≡ overwritten at bytes before.content)
+  pub strict_failed : IsTrue before.strict → IsErrOf result port.Failed → after.content ≡ before.content
+  pub strict : IsTrue before.strict → WithMemory result ((after.synced ≡ before.synced) × (after.written ≡ before.written ++ (at, length bytes) ∷ []))
+
+-- All that was written is synced. On a strict disk one that failed changed no byte.
+pub record Syncs (before after : DiskState) (images : List ℕ → Type 0) (result : Result (Unit {0}) PortError) : Type 0 where
+  pub content : OnOk result (after.content ≡ before.content)
+  pub rest : OnOk result (IsAtRest after images)
+  pub strict_failed : IsTrue before.strict → IsErrOf result port.Failed → SameBytes before after

@@ -13,3 +13,8 @@ next_count count = min (count + 1) greatest_count
 -- enough.
 abbrev pub Rose : ℕ → ℕ → Type 0
 Rose before now = (before < now) ⊎ ((before ≡ greatest_count) × (now ≡ greatest_count))
+
+-- A call that failed raised the count, and one that didn't, for want of memory too, left it.
+pub record CountsFaults (failed : Type 0) (before now : ℕ) : Type 0 where
+  pub cause : failed → Rose before now
+  pub unfailed : ¬ failed → now ≡ before

@@ -4,8 +4,10 @@ pub mod Faults
 pub mod MemoryDisk
 pub mod MemoryMaker
 pub mod MemPort
+pub mod Moments
 pub mod Sink
 pub mod Source
+pub mod State
 pub mod StdPort
 pub mod Strict
 pub mod Undo

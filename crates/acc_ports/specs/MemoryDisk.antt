@@ -1,7 +1,11 @@
 -- A disk in memory, as contracts see it.
-use Rattle.std.specs.Prelude.{◌≡◌, ◌⊎◌, ℕ, ◌≤◌, List, [], ◌∷◌, ◌++◌, length, drop, Option, Some, IsSomeAnd, Contains}
+use Rattle.std.specs.Prelude.{◌≡◌, ◌⊎◌, ◌↔◌, ℕ, ◌≤◌, List, [], ◌∷◌, ◌++◌, length, drop, Option, Some, is_none, IsSomeAnd, Contains, Result, IsErr, IsErrOf}
 use Rattle.std.proofs.Common.{inl, inr}
-use Rattle.acc_ports.specs.Strict.{Ranges, IsImage}
+use Rattle.acc_ports.specs.declared.error.PortError.{PortError}
+use Rattle.acc_ports.specs.declared.error.PortError.TheVariants as port
+use Rattle.acc_ports.specs.State.{Ranges, DiskState}
+use Rattle.acc_ports.specs.Faults.{next_count}
+use Rattle.acc_ports.specs.Strict.{IsImage, after_call, WithMemory}
 use Rattle.acc_ports.specs.Disk.{overwritten}
 
 -- what stands on a disk at a moment
@@ -44,6 +48,26 @@ pub record MemoryDisk : Type 0 where
 -- A call fails: it is the armed one, or its number is listed.
 abbrev pub MustFail : Option ℕ → Option (List ℕ) → ℕ → Type 0
 MustFail armed fails calls = (armed ≡ Some 0) ⊎ IsSomeAnd fails (λ listed. Contains listed calls)
+
+-- what contracts of all disks see of it
+abbrev pub state_of : MemoryDisk → DiskState
+state_of disk = record {
+  content = disk.now.content;
+  faults = disk.faults;
+  clock = length disk.past;
+  strict = is_none disk.fails;
+  armed = disk.armed;
+  synced = disk.now.synced;
+  written = disk.now.written;
+}
+
+-- A call of it is counted, and it fails just where it must. One that found no memory changed nothing.
+pub record IsCounted {T : Type 0} (old new : MemoryDisk) (result : Result T PortError) : Type 0 where
+  pub fails : WithMemory result (IsErr result ↔ MustFail old.armed old.fails old.calls)
+  pub calls : WithMemory result (new.calls ≡ next_count old.calls)
+  pub armed : WithMemory result (new.armed ≡ after_call old.armed)
+  pub listed : new.fails ≡ old.fails
+  pub no_memory : IsErrOf result port.OutOfMemory → new ≡ old
 
 -- bytes are an image of one of these states
 abbrev pub WereImage : List DiskBytes → List ℕ → Type 0

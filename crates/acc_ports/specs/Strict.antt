@@ -3,10 +3,7 @@ use Rattle.std.specs.Prelude.{◌≡◌, ◌≢◌, ℕ, ◌+◌, ◌-◌, ◌<�
 use Rattle.std.specs.List.{list_any}
 use Rattle.acc_ports.specs.declared.error.PortError.{PortError}
 use Rattle.acc_ports.specs.declared.error.PortError.TheVariants as port
-
--- A place and a count of bytes from there on.
-abbrev pub Ranges : Type 0
-Ranges = List (ℕ × ℕ)
+use Rattle.acc_ports.specs.State.{Ranges}
 
 -- whether a place is in one of the ranges
 abbrev pub is_within : Ranges → ℕ → Bool
@@ -46,9 +43,8 @@ WithMemory (Ok answer) P = P
 WithMemory (Err port.Failed) P = P
 WithMemory (Err port.OutOfMemory) P = Unit {0}
 
--- A call fails where it is the armed one, and the count of faults rises in no other call.
-pub record FailsArmed {T : Type 0} (armed left : Option ℕ) (before now : ℕ) (result : Result T PortError) : Type 0 where
+-- A call fails where it is the armed one, and no other does. One that found its memory is counted.
+pub record FailsArmed {T : Type 0} (armed left : Option ℕ) (result : Result T PortError) : Type 0 where
   pub fails : armed ≡ Some 0 → IsErr result
   pub passes : armed ≢ Some 0 → IsErrOf result port.Failed → ⊥
-  pub still : armed ≢ Some 0 → now ≡ before
   pub counts : WithMemory result (left ≡ after_call armed)

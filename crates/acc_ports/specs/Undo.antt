@@ -2,7 +2,8 @@
 use Rattle.std.specs.Prelude.{ℕ, ◌+◌, ◌≤◌, List, [], ◌∷◌, length, take, map, reverse}
 use Rattle.acc_ports.specs.declared.surface.Write.{Write}
 use Rattle.acc_ports.specs.Disk.{overwritten}
-use Rattle.acc_ports.specs.Strict.{Ranges, IsImage}
+use Rattle.acc_ports.specs.State.{Ranges}
+use Rattle.acc_ports.specs.Strict.{IsImage}
 
 -- the content before a write
 abbrev pub taken_back : Write → List ℕ → List ℕ

@@ -1,6 +1,6 @@
 //! Makers of disks.
-ghost use Rattle.std.specs.Prelude.{◌≡◌, ℕ, Bool, IsTrue, List, [], ◌∷◌, ◌++◌, None, IfOk, OnOk, OnErr};
-ghost use Rattle.acc_ports.specs.Disk.{Only};
+ghost use Rattle.std.specs.Prelude.{◌≡◌, ℕ, Bool, IsTrue, List, [], ◌∷◌, ◌++◌, IfOk, OnOk, OnErr};
+ghost use Rattle.acc_ports.specs.Moments.{IsFresh};
 
 use crate::Rig;
 use acc_base::OutOfMemory;
@@ -17,12 +17,8 @@ pub trait DiskMaker {
 
     /// A new disk. It holds the two bytes 1 and 0, synced, has counted no fault, and nothing is armed.
     fn make(&mut self, number: u32) -> Result<Self::D, OutOfMemory>
-        ensures content { IfOk result (λ disk. Self.D.content disk ≡ 1 ∷ 0 ∷ []) }
-        ensures only { IfOk result (λ disk. Only (1 ∷ 0 ∷ []) (Self.D.is_image disk)) }
-        ensures counts { IfOk result (λ disk. (Self.D.faults disk ≡ 0) × (Self.D.armed disk ≡ None)) }
-        ensures synced { IfOk result (λ disk. IsTrue (Self.D.strict disk) → (Self.D.synced disk ≡ 1 ∷ 0 ∷ []) × (Self.D.written disk ≡ [])) }
-        ensures strict { IsTrue (strict self.old) → IfOk result (λ disk. IsTrue (Self.D.strict disk)) }
-
+        ensures fresh { IfOk result (λ disk. IsFresh Self.D.Disk disk) }
+        ensures strict { IsTrue (strict self.old) → IfOk result (λ disk. IsTrue (Self.D.state disk).strict) }
         ensures kind { strict self.new ≡ strict self.old }
         ensures given { given self.new ≡ given self.old };
 

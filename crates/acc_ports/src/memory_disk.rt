@@ -1,11 +1,11 @@
 //! A disk in memory.
-ghost use Rattle.std.specs.Prelude.{◌≡◌, ◌+◌, ◌≤◌, ◌↔◌, IsTrue, [], ◌∷◌, ◌++◌, length, take, drop, Some, None, IfOk, OnOk, OnErr, IsErrOf};
-ghost use Rattle.acc_ports.specs.Faults.{next_count, Rose};
+ghost use Rattle.std.specs.Prelude.{◌≡◌, ◌+◌, ◌≤◌, [], ◌∷◌, length, take, drop, Some, None, IfOk, OnOk, OnErr};
+ghost use Rattle.acc_ports.specs.Disk.{Torn, Follows, NoFurther, Calls, OnlyReads, Writes, Syncs};
+ghost use Rattle.acc_ports.specs.MemoryDisk.{IsCounted};
 
-use crate::disk::{Disk, Rig};
 use crate::disk_calls::DiskCalls;
 use crate::surface::Surface;
-use crate::{Calls, History, PortError};
+use crate::{Calls as Listed, Disk, History, PortError, Rig};
 use acc_base::{Bytes, OutOfMemory, Sequence};
 use std::alloc::Global;
 use std::marker::Model;
@@ -55,7 +55,7 @@ impl MemDisk {
 
     /// A disk as of `new` whose calls of these numbers fail besides the armed one. Calls of `Disk` are counted from 0. It
     /// isn't strict.
-    pub fn listed(alloc: Global, fails: Calls) -> Result<MemDisk, OutOfMemory>
+    pub fn listed(alloc: Global, fails: Listed) -> Result<MemDisk, OutOfMemory>
         ensures only { IfOk result (λ disk. Only (1 ∷ 0 ∷ []) (IsImageOf disk.now)) }
         ensures value { IfOk result (λ disk. disk ≡ record { now = settled_on (1 ∷ 0 ∷ []); past = []; armed = None; fails = Some fails; calls = 0; faults = 0 }) }
     {
@@ -78,37 +78,39 @@ impl MemDisk {
 }
 
 impl Disk for MemDisk {
-    ghost use Rattle.std.specs.Prelude.{is_none, length};
-    ghost use Rattle.acc_ports.specs.MemoryDisk.{IsImageOf, WasImage, counts_now, only_now};
+    ghost use Rattle.acc_ports.specs.MemoryDisk.{state_of, IsImageOf, WasImage, counts_now, only_now};
 
-    ghost content = { λ d. d.now.content };
+    ghost state = { state_of };
 
     ghost is_image = { λ d. IsImageOf d.now };
 
-    ghost clock = { λ d. length d.past };
-
     ghost was_image = { WasImage };
-
-    ghost faults = { λ d. d.faults };
-
-    ghost strict = { λ d. is_none d.fails };
-
-    ghost armed = { λ d. d.armed };
-
-    ghost synced = { λ d. d.now.synced };
-
-    ghost written = { λ d. d.now.written };
 
     ghost counts_now = { counts_now };
 
     ghost only_now = { only_now };
 
-    fn len(&mut self) -> Result<u64, PortError> {
+    fn len(&mut self) -> Result<u64, PortError>
+        ensures value { IfOk result (λ count. count ≡ length self.old.now.content) }
+        ensures reads { OnlyReads (state_of self.old) (state_of self.new) result }
+        ensures images { NoFurther (IsImageOf self.old.now) (IsImageOf self.new.now) }
+        ensures call { Calls (state_of self.old) (state_of self.new) (WasImage self.old) (WasImage self.new) (IsImageOf self.new.now) result }
+        ensures counted { IsCounted self.old self.new result }
+    {
         self.calls.enter()?;
         Ok(self.surface.content().len() as u64)
     }
 
-    fn read(&mut self, at: u64, into: &mut [u8]) -> Result<(), PortError> {
+    /// After an error `into` is as before.
+    fn read(&mut self, at: u64, into: &mut [u8]) -> Result<(), PortError>
+        requires { at + length into.old ≤ length self.old.now.content }
+        ensures bytes { OnOk result (into.new ≡ take (length into.old) (drop at self.old.now.content)) }
+        ensures reads { OnlyReads (state_of self.old) (state_of self.new) result }
+        ensures images { NoFurther (IsImageOf self.old.now) (IsImageOf self.new.now) }
+        ensures call { Calls (state_of self.old) (state_of self.new) (WasImage self.old) (WasImage self.new) (IsImageOf self.new.now) result }
+        ensures counted { IsCounted self.old self.new result }
+        ensures untouched { OnErr result (into.new ≡ into.old) }
+    {
         let content = self.surface.content();
         self.calls.enter()?;
         let at = at as usize;
@@ -116,7 +118,13 @@ impl Disk for MemDisk {
         Ok(())
     }
 
-    fn write_at(&mut self, at: u64, bytes: &[u8]) -> Result<(), PortError> {
+    fn write_at(&mut self, at: u64, bytes: &[u8]) -> Result<(), PortError>
+        requires { at ≤ length self.old.now.content }
+        ensures writes { Writes at bytes.now (state_of self.old) (state_of self.new) result }
+        ensures images { Follows (Torn at (length bytes.now)) (IsImageOf self.old.now) (IsImageOf self.new.now) }
+        ensures call { Calls (state_of self.old) (state_of self.new) (WasImage self.old) (WasImage self.new) (IsImageOf self.new.now) result }
+        ensures counted { IsCounted self.old self.new result }
+    {
         let at = at as usize;
         let before = self.past.and(&self.surface);
         if self.calls.next_fails() {
@@ -130,7 +138,12 @@ impl Disk for MemDisk {
         Ok(())
     }
 
-    fn sync(&mut self) -> Result<(), PortError> {
+    fn sync(&mut self) -> Result<(), PortError>
+        ensures syncs { Syncs (state_of self.old) (state_of self.new) (IsImageOf self.new.now) result }
+        ensures images { NoFurther (IsImageOf self.old.now) (IsImageOf self.new.now) }
+        ensures call { Calls (state_of self.old) (state_of self.new) (WasImage self.old) (WasImage self.new) (IsImageOf self.new.now) result }
+        ensures counted { IsCounted self.old self.new result }
+    {
         if self.calls.next_fails() {
             return Err(self.calls.fail());
         }

@@ -1,9 +1,10 @@
 //! A maker of disks in memory.
-ghost use Rattle.std.specs.Prelude.{◌≡◌, [], Some, None};
+ghost use Rattle.std.specs.Prelude.{◌≡◌, [], Some, None, is_none, IsTrue, IfOk};
 ghost use Rattle.std.specs.Option.{option_copied};
+ghost use Rattle.acc_ports.specs.Moments.{IsFresh};
+ghost use Rattle.acc_ports.specs.MemoryMaker.{listed_for, made};
 
-use crate::disk::Disk;
-use crate::{Calls, DiskMaker, MemDisk};
+use crate::{Calls, Disk, DiskMaker, MemDisk};
 use acc_base::OutOfMemory;
 use std::alloc::Global;
 use std::marker::Model;
@@ -75,7 +76,12 @@ impl DiskMaker for MemMaker {
 
     ghost given = { λ m. m.given };
 
-    fn make(&mut self, number: u32) -> Result<MemDisk, OutOfMemory> {
+    fn make(&mut self, number: u32) -> Result<MemDisk, OutOfMemory>
+        ensures fresh { IfOk result (λ disk. IsFresh ⟦<MemDisk as Disk>⟧ disk) }
+        ensures strict { IsTrue (is_none self.old.listed) → IfOk result (λ disk. IsTrue (is_none disk.fails)) }
+        ensures made { IfOk result (λ disk. disk ≡ made (listed_for number self.old.listed)) }
+        ensures same { self.new ≡ self.old }
+    {
         match &self.listed {
             Some(listed) if listed.0 == number => MemDisk::listed(self.alloc, listed.1.copy()?),
             _ => MemDisk::new(self.alloc),

@@ -4,14 +4,15 @@ use Rattle.std.specs.List.{AllByRecursion}
 use Rattle.std.specs.Prelude.{IfOk}
 use Rattle.std.proofs.lemmas.Bool.{eqb-true}
 use Rattle.std.proofs.lemmas.List.{map-append}
-use Rattle.acc_ports.specs.Disk.{Only}
-use Rattle.acc_ports.specs.Strict.{Ranges}
+use Rattle.acc_ports.specs.State.{Ranges}
+use Rattle.acc_ports.specs.Moments.{IsFresh}
+use Rattle.acc_ports.specs.Disk.{Only, IsAtRest}
 use Rattle.acc_stamp.specs.declared.actors.Actor.{Actor}
 use Rattle.acc_stamp.specs.Actor.{actor_of}
 use Rattle.acc_stamp.proofs.Rising.{each_append, each_weaker}
 use Rattle.acc_topology.specs.Layout.{Layout}
+use Rattle.acc_ports.specs.declared.disk.Disk.{Ghosts}
 use Rattle.acc_journal.specs.Layout.{Reads}
-use Rattle.acc_journal.specs.Journal.{IsAtRest}
 use Rattle.acc_message.specs.declared.item.Item.{Item}
 use Rattle.acc_message.specs.Run.{clock_start, is_node}
 use Rattle.acc_payloads.specs.Items.{without_marks}
@@ -41,11 +42,11 @@ items_of v = v.items
 abbrev pub number_in : {D : Type 0} → DurableNode D → ℕ
 number_in n = n.number
 
-abbrev pub IsNodeUnarmed : {D : Type 0} → (D → Bool) → (D → Option ℕ) → DurableNode D → Type 0
-IsNodeUnarmed strict armed n = IsUnarmed strict armed n.journal.disk
+abbrev pub IsNodeUnarmed : {D : Type 0} → Ghosts D → DurableNode D → Type 0
+IsNodeUnarmed port n = IsUnarmed port n.journal.disk
 
-abbrev pub IsStoreUnarmed : {D : Type 0} → (D → Bool) → (D → Option ℕ) → DurableStore D → Type 0
-IsStoreUnarmed strict armed t = IsUnarmed strict armed t.journal.disk
+abbrev pub IsStoreUnarmed : {D : Type 0} → Ghosts D → DurableStore D → Type 0
+IsStoreUnarmed port t = IsUnarmed port t.journal.disk
 
 -- ---- one after another
 
@@ -97,36 +98,32 @@ store_kind a node shard is low high = not_so (is_node a) (λ kind. no_node node 
 abbrev pub new_disk : List ℕ
 new_disk = 1 ∷ 0 ∷ []
 
-pub at_rest : (content : List ℕ) (images : List ℕ → Type 0) (strict : Bool) (synced : List ℕ) (written : Ranges) → content ≡ new_disk → Only new_disk images
-    → (IsTrue strict → (synced ≡ new_disk) × (written ≡ [])) → IsAtRest content images strict synced written
-at_rest content images strict synced written is only settled = record {
-  only = λ image there. only image there ∙ sym is;
-  all_synced = λ s. (settled s).0 ∙ sym is;
-  none_written = λ s. (settled s).1;
-}
+-- a new disk leaves but its two bytes
+pub fresh_only : {D : Type 0} (port : Ghosts D) (disk : D) → IsFresh port disk → Only new_disk (port.is_image disk)
+fresh_only port disk fresh image left = fresh.rest.only image left ∙ fresh.content
 
-module _ {D : Type 0} (images : D → List ℕ → Type 0) (plan : Content) where
+module _ {D : Type 0} (port : Ghosts D) (plan : Content) where
   pub node_fresh : (n : DurableNode D) (disk : D) → ((layout : Layout) → node.StandsFor layout n []) → n.start ≡ clock_start plan.starts n.number → n.version ≡ plan.version
-      → n.journal.disk ≡ disk → n.journal.payloads ≡ [] → Only new_disk (images disk) → IsFreshNode images plan n
+      → n.journal.disk ≡ disk → n.journal.payloads ≡ [] → Only new_disk (port.is_image disk) → IsFreshNode port plan n
   node_fresh n disk stands start version same payloads only = record {
     of_plan = record {
       sound = (stands plan.topology).sound;
       start_is = start;
       version_is = version;
-      lasts = λ image there. subst (Reads image) (sym payloads) (fresh_reads images n.journal.disk disk same only image there);
+      lasts = λ image there. subst (Reads image) (sym payloads) (fresh_reads port.is_image n.journal.disk disk same only image there);
     };
     did_nothing = record { stands = stands plan.topology; held = ap without_marks payloads };
   }
 
   pub store_fresh : (t : DurableStore D) (disk : D) → ((layout : Layout) → store.StandsFor layout t []) → t.version ≡ plan.version
-      → t.journal.disk ≡ disk → t.journal.payloads ≡ [] → t.journal.group ≡ [] → Only new_disk (images disk) → is_node (store.actor_in t) ≡ false → IsFreshStore images plan t
+      → t.journal.disk ≡ disk → t.journal.payloads ≡ [] → t.journal.group ≡ [] → Only new_disk (port.is_image disk) → is_node (store.actor_in t) ≡ false → IsFreshStore port plan t
   store_fresh t disk stands version same payloads group only kind = record {
     kind = kind;
     of_plan = record {
       sound = (stands plan.topology).sound;
       none_staged = group;
       version_is = version;
-      lasts = λ image there. subst (Reads image) (sym payloads) (fresh_reads images t.journal.disk disk same only image there);
+      lasts = λ image there. subst (Reads image) (sym payloads) (fresh_reads port.is_image t.journal.disk disk same only image there);
     };
     took_nothing = record { stands = stands plan.topology; held = ap without_marks payloads };
   }
@@ -137,13 +134,13 @@ module _ {D : Type 0} (images : D → List ℕ → Type 0) (plan : Content) wher
   numbered_as [] = refl
   numbered_as (n ∷ nodes) = ap (λ rest. actor_of n.number 0 ∷ rest) (numbered_as nodes)
 
-  both_of : (stores : List (DurableStore D)) → ((t : DurableStore D) → IsFreshStore images plan t → is_node (store.actor_in t) ≡ false)
-      → AllByRecursion (IsFreshStore images plan) stores → AllByRecursion (λ (t : DurableStore D). Contains (actors plan.topology) (store.actor_in t)) stores
+  both_of : (stores : List (DurableStore D)) → ((t : DurableStore D) → IsFreshStore port plan t → is_node (store.actor_in t) ≡ false)
+      → AllByRecursion (IsFreshStore port plan) stores → AllByRecursion (λ (t : DurableStore D). Contains (actors plan.topology) (store.actor_in t)) stores
       → AllByRecursion (IsStoreNumber plan) stores
   both_of [] kind fresh known = tt
   both_of (t ∷ stores) kind fresh known = (record { member = known.0; kind = kind t fresh.0 }, both_of stores kind fresh.1 known.1)
 
-  pub fresh_actors : (nodes : List (DurableNode D)) (stores : List (DurableStore D)) → AreFreshNodes images plan nodes → AreFreshStores images plan stores → AreActorsOf plan nodes stores
+  pub fresh_actors : (nodes : List (DurableNode D)) (stores : List (DurableStore D)) → AreFreshNodes port plan nodes → AreFreshStores port plan stores → AreActorsOf plan nodes stores
   fresh_actors nodes stores ns ts =
       let front = map (λ (k : ℕ). actor_of k 0) plan.topology.nodes in
       let all : map (λ (n : DurableNode D). actor_of n.number 0) nodes ++ map store.actor_in stores ≡ actors plan.topology =
@@ -159,28 +156,28 @@ module _ {D : Type 0} (images : D → List ℕ → Type 0) (plan : Content) wher
         each = λ a there. subst (λ (l : List Actor). Contains l a) (sym all) there;
       }
 
-  pub no_item : (nodes : List (DurableNode D)) (stores : List (DurableStore D)) → IsValidCluster (cluster_of plan) → AreFreshNodes images plan nodes → AreFreshStores images plan stores
+  pub no_item : (nodes : List (DurableNode D)) (stores : List (DurableStore D)) → IsValidCluster (cluster_of plan) → AreFreshNodes port plan nodes → AreFreshStores port plan stores
       → IsEarlier plan nodes stores []
   no_item nodes stores valid ns ts = record {
     sound = sound_opened (cluster_of plan) [] valid (record { stands = tt; lost = λ a. refl; downs = refl });
     room = omega arith;
     up = λ a. refl;
-    nodes_did = each_weaker (IsFreshNode images plan) (HasDone plan []) nodes (λ n f. f.did_nothing) ns.each;
-    stores_did = each_weaker (IsFreshStore images plan) (HasTaken plan []) stores (λ t f. f.took_nothing) ts.each;
+    nodes_did = each_weaker (IsFreshNode port plan) (HasDone plan []) nodes (λ n f. f.did_nothing) ns.each;
+    stores_did = each_weaker (IsFreshStore port plan) (HasTaken plan []) stores (λ t f. f.took_nothing) ts.each;
   }
 
   -- ---- the cluster of these actors
 
-  module _ {E : Type 0} (faults : D → ℕ) (nodes : List (DurableNode D)) (stores : List (DurableStore D)) (none : IsEarlier plan nodes stores []) where
+  module _ {E : Type 0} (nodes : List (DurableNode D)) (stores : List (DurableStore D)) (none : IsEarlier plan nodes stores []) where
     pub opened_stands : (r : Result (Cluster D) E)
-        → IfOk r (λ cluster. (earlier : List Item) → IsEarlier plan nodes stores earlier → StandsFor images faults plan cluster (opened earlier))
-        → IfOk r (λ cluster. StandsFor images faults plan cluster (opened []))
+        → IfOk r (λ cluster. (earlier : List Item) → IsEarlier plan nodes stores earlier → StandsFor port plan cluster (opened earlier))
+        → IfOk r (λ cluster. StandsFor port plan cluster (opened []))
     opened_stands (Ok cluster) stands = stands [] none
     opened_stands (Err e) stands = tt
 
-    pub opened_stands_strictly : (strict : D → Bool) (armed : D → Option ℕ) (content synced : D → List ℕ) (written : D → Ranges) → AreUnarmed strict armed nodes stores → (r : Result (Cluster D) E)
-        → IfOk r (λ cluster. (earlier : List Item) → IsEarlier plan nodes stores earlier → AreUnarmed strict armed nodes stores
-        → StandsStrictly images faults strict armed content synced written plan cluster (opened_strictly earlier))
-        → IfOk r (λ cluster. StandsStrictly images faults strict armed content synced written plan cluster (opened_strictly []))
-    opened_stands_strictly strict armed content synced written unarmed (Ok cluster) stands = stands [] none unarmed
-    opened_stands_strictly strict armed content synced written unarmed (Err e) stands = tt
+    pub opened_stands_strictly : AreUnarmed port nodes stores → (r : Result (Cluster D) E)
+        → IfOk r (λ cluster. (earlier : List Item) → IsEarlier plan nodes stores earlier → AreUnarmed port nodes stores
+        → StandsStrictly port plan cluster (opened_strictly earlier))
+        → IfOk r (λ cluster. StandsStrictly port plan cluster (opened_strictly []))
+    opened_stands_strictly unarmed (Ok cluster) stands = stands [] none unarmed
+    opened_stands_strictly unarmed (Err e) stands = tt

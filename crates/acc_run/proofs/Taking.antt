@@ -3,7 +3,7 @@ use Rattle.std.proofs.Common.{◌≡◌, ℕ, ◌+◌, ◌<◌, ◌≤◌, Bool,
 use Rattle.std.specs.Prelude.{IfErr, IsErrAnd}
 use Rattle.std.proofs.lemmas.List.{append_assoc, take-append-drop, take_more}
 use Rattle.std.proofs.lemmas.Result.{err_from_is_err_and}
-use Rattle.acc_ports.specs.Strict.{Ranges}
+use Rattle.acc_ports.specs.declared.disk.Disk.{Ghosts}
 use Rattle.acc_message.specs.declared.error.Which.{Which}
 use Rattle.acc_message.specs.declared.error.RunError.{RunError}
 use Rattle.acc_message.specs.declared.error.RunError.TheVariants.{Limit, OutOfMemory}
@@ -40,14 +40,14 @@ pub record GoOnStrictly : Type 0 where
   pub front : (cluster : Of) (number : ℕ) (steps more : List Step) (step : Step) (s between reached : StrictSituation) → FollowsStrictly cluster number steps s between
       → StrictlyComesTo cluster (number + length steps) step between reached → StrictlyReaches cluster number (steps ++ step ∷ more) s reached
 
-module _ {D : Type 0} (images : D → List ℕ → Type 0) (faults : D → ℕ) (plan : Content) where
-  pub none_taken : (cluster : Cluster D) → StandsFor images faults plan cluster (opened []) → HasTaken images faults plan cluster []
+module _ {D : Type 0} (port : Ghosts D) (plan : Content) where
+  pub none_taken : (cluster : Cluster D) → StandsFor port plan cluster (opened []) → HasTaken port plan cluster []
   none_taken cluster stands = record { answers = no_faults; last = opened []; follows = refl; stands = stands }
 
   module _ (law : GoOn) (steps : List Step) (step : Step) (number : ℕ) (numbered : number ≡ 0 + length steps) where
-    pub one_more : (old new : Cluster D) → HasTaken images faults plan old steps
-        → ((s : Situation) (answers : Answers) → StandsFor images faults plan old s → StepsTo images faults plan answers number step old new s)
-        → HasTaken images faults plan new (steps ++ step ∷ [])
+    pub one_more : (old new : Cluster D) → HasTaken port plan old steps
+        → ((s : Situation) (answers : Answers) → StandsFor port plan old s → StepsTo port plan answers number step old new s)
+        → HasTaken port plan new (steps ++ step ∷ [])
     one_more old new taken steps_to =
         let n = steps_to taken.last taken.answers taken.stands in
         record {
@@ -61,8 +61,8 @@ module _ {D : Type 0} (images : D → List ℕ → Type 0) (faults : D → ℕ) 
         }
 
     -- a limit inside the step ends the plan's run
-    pub limit_ends : (more : List Step) → plan.steps ≡ steps ++ step ∷ more → (cluster : Cluster D) → HasTaken images faults plan cluster steps → (which : Which) (most : ℕ)
-        → ((s : Situation) (answers : Answers) → StandsFor images faults plan cluster s → EndsIn plan answers number step s which most)
+    pub limit_ends : (more : List Step) → plan.steps ≡ steps ++ step ∷ more → (cluster : Cluster D) → HasTaken port plan cluster steps → (which : Which) (most : ℕ)
+        → ((s : Situation) (answers : Answers) → StandsFor port plan cluster s → EndsIn plan answers number step s which most)
         → (answers : Answers) × (front : List Item) × LimitEnds plan answers front which most
     limit_ends more whole cluster taken which most ends_in =
         let e = ends_in taken.last taken.answers taken.stands in
@@ -86,55 +86,54 @@ module _ {D : Type 0} (images : D → List ℕ → Type 0) (faults : D → ℕ) 
           },
         )
 
-    pub if_limit_ends : (more : List Step) → plan.steps ≡ steps ++ step ∷ more → (cluster : Cluster D) → HasTaken images faults plan cluster steps → (error : RunError)
-        → IfLimit (λ which most. (s : Situation) (answers : Answers) → StandsFor images faults plan cluster s → EndsIn plan answers number step s which most) error
+    pub if_limit_ends : (more : List Step) → plan.steps ≡ steps ++ step ∷ more → (cluster : Cluster D) → HasTaken port plan cluster steps → (error : RunError)
+        → IfLimit (λ which most. (s : Situation) (answers : Answers) → StandsFor port plan cluster s → EndsIn plan answers number step s which most) error
         → IfLimit (λ which most. (answers : Answers) × (front : List Item) × LimitEnds plan answers front which most) error
     if_limit_ends more whole cluster taken (Limit which most) ends_in = limit_ends more whole cluster taken which most ends_in
     if_limit_ends more whole cluster taken OutOfMemory ends_in = tt
 
-  module _ (strict : D → Bool) (armed : D → Option ℕ) (content synced : D → List ℕ) (written : D → Ranges) where
-    pub none_taken_strictly : (cluster : Cluster D) → StandsStrictly images faults strict armed content synced written plan cluster (opened_strictly [])
-        → HasTakenStrictly images faults strict armed content synced written plan cluster []
-    none_taken_strictly cluster stands = record { last = opened_strictly []; follows = refl; stands = stands }
+  pub none_taken_strictly : (cluster : Cluster D) → StandsStrictly port plan cluster (opened_strictly [])
+      → HasTakenStrictly port plan cluster []
+  none_taken_strictly cluster stands = record { last = opened_strictly []; follows = refl; stands = stands }
 
-    module _ (law : GoOnStrictly) (steps : List Step) (step : Step) (number : ℕ) (numbered : number ≡ 0 + length steps) where
-      pub one_more_strictly : (old new : Cluster D) → HasTakenStrictly images faults strict armed content synced written plan old steps
-          → ((s : StrictSituation) → StandsStrictly images faults strict armed content synced written plan old s → StepsStrictly images faults strict armed content synced written plan number step new s)
-          → HasTakenStrictly images faults strict armed content synced written plan new (steps ++ step ∷ [])
-      one_more_strictly old new taken steps_to =
-          let n = steps_to taken.last taken.stands in
+  module _ (law : GoOnStrictly) (steps : List Step) (step : Step) (number : ℕ) (numbered : number ≡ 0 + length steps) where
+    pub one_more_strictly : (old new : Cluster D) → HasTakenStrictly port plan old steps
+        → ((s : StrictSituation) → StandsStrictly port plan old s → StepsStrictly port plan number step new s)
+        → HasTakenStrictly port plan new (steps ++ step ∷ [])
+    one_more_strictly old new taken steps_to =
+        let n = steps_to taken.last taken.stands in
+        record {
+          last = n.next;
+          follows =
+              law.step (cluster_of plan) 0 steps step (opened_strictly []) taken.last n.next taken.follows
+              (subst (λ k. IsStrictNext (cluster_of plan) k step taken.last n.next) numbered n.next_is);
+          stands = n.stands;
+        }
+
+    pub if_limit_ends_strictly : (more : List Step) → plan.steps ≡ steps ++ step ∷ more → (cluster : Cluster D) → HasTakenStrictly port plan cluster steps
+        → (error : RunError)
+        → IfLimit (λ which most. (s : StrictSituation) → StandsStrictly port plan cluster s → EndsStrictlyIn plan number step s which most) error
+        → IfLimit (λ which most. (front : List Item) × StrictLimitEnds plan front which most) error
+    if_limit_ends_strictly more whole cluster taken OutOfMemory ends_in = tt
+    if_limit_ends_strictly more whole cluster taken (Limit which most) ends_in =
+        let e = ends_in taken.last taken.stands in
+        let f = e.ends.front in (
+          e.items,
           record {
-            last = n.next;
-            follows =
-                law.step (cluster_of plan) 0 steps step (opened_strictly []) taken.last n.next taken.follows
-                (subst (λ k. IsStrictNext (cluster_of plan) k step taken.last n.next) numbered n.next_is);
-            stands = n.stands;
-          }
-
-      pub if_limit_ends_strictly : (more : List Step) → plan.steps ≡ steps ++ step ∷ more → (cluster : Cluster D) → HasTakenStrictly images faults strict armed content synced written plan cluster steps
-          → (error : RunError)
-          → IfLimit (λ which most. (s : StrictSituation) → StandsStrictly images faults strict armed content synced written plan cluster s → EndsStrictlyIn plan number step s which most) error
-          → IfLimit (λ which most. (front : List Item) × StrictLimitEnds plan front which most) error
-      if_limit_ends_strictly more whole cluster taken OutOfMemory ends_in = tt
-      if_limit_ends_strictly more whole cluster taken (Limit which most) ends_in =
-          let e = ends_in taken.last taken.stands in
-          let f = e.ends.front in (
-            e.items,
-            record {
-              next = e.ends.next;
-              front =
-                  record {
-                    reached = f.0;
-                    reaches =
-                        subst (λ all. StrictlyReaches (cluster_of plan) 0 all (opened_strictly []) f.0) (sym whole)
-                        (law.front (cluster_of plan) 0 steps more step (opened_strictly []) taken.last f.0 taken.follows
-                        (subst (λ k. StrictlyComesTo (cluster_of plan) k step taken.last f.0) numbered f.1));
-                    begins = f.2;
-                  };
-              within = e.ends.within;
-              passed = e.ends.passed;
-            },
-          )
+            next = e.ends.next;
+            front =
+                record {
+                  reached = f.0;
+                  reaches =
+                      subst (λ all. StrictlyReaches (cluster_of plan) 0 all (opened_strictly []) f.0) (sym whole)
+                      (law.front (cluster_of plan) 0 steps more step (opened_strictly []) taken.last f.0 taken.follows
+                      (subst (λ k. StrictlyComesTo (cluster_of plan) k step taken.last f.0) numbered f.1));
+                  begins = f.2;
+                };
+            within = e.ends.within;
+            passed = e.ends.passed;
+          },
+        )
 
 -- ---- the steps
 

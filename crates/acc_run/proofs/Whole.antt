@@ -3,8 +3,8 @@ use Rattle.std.proofs.Common.{◌≡◌, ℕ, Bool, List, [], ◌++◌, reverse,
 use Rattle.std.specs.List.{AllByRecursion}
 use Rattle.std.proofs.lemmas.List.{reverse-reverse}
 use Rattle.acc_stamp.specs.declared.actors.Actor.{Actor}
-use Rattle.acc_ports.specs.Strict.{Ranges}
 use Rattle.std.specs.Prelude.{IfErr, IsErrAnd}
+use Rattle.acc_ports.specs.declared.disk.Disk.{Ghosts}
 use Rattle.acc_message.specs.declared.error.Which.{Which}
 use Rattle.acc_message.specs.declared.error.RunError.{RunError}
 use Rattle.acc_message.specs.declared.error.RunError.TheVariants.{Limit}
@@ -25,31 +25,31 @@ use Rattle.acc_run.specs.Given.{GivesBack, numbered}
 use Rattle.acc_run.proofs.Earlier.{same_earlier}
 use Rattle.acc_run.proofs.Taking.{handed_on}
 
-module _ {D : Type 0} (images : D → List ℕ → Type 0) (faults : D → ℕ) (plan : Content) where
+module _ {D : Type 0} (port : Ghosts D) (plan : Content) where
   turned : (items own : List Item) → items ≡ reverse own → reverse items ≡ own
   turned items own is = ap reverse is ∙ reverse-reverse own
 
-  pub obeys : (cluster : Cluster D) (ended : Ended D) → HasTaken images faults plan cluster plan.steps
-      → ((plan : Content) (s : Situation) → StandsFor images faults plan cluster s → IsEndOf images faults plan s ended)
+  pub obeys : (cluster : Cluster D) (ended : Ended D) → HasTaken port plan cluster plan.steps
+      → ((plan : Content) (s : Situation) → StandsFor port plan cluster s → IsEndOf port plan s ended)
       → (answers : Answers) × Obeys plan answers (reverse ended.items)
   obeys cluster ended taken ends =
       (taken.answers, record { last = taken.last; follows = taken.follows; items_are = turned ended.items taken.last.own (ends plan taken.last taken.stands).items_are })
 
-  pub obeys_strictly : (strict : D → Bool) (armed : D → Option ℕ) (content synced : D → List ℕ) (written : D → Ranges) (cluster : Cluster D) (ended : Ended D)
-      → HasTakenStrictly images faults strict armed content synced written plan cluster plan.steps
-      → ((plan : Content) (s : Situation) → StandsFor images faults plan cluster s → IsEndOf images faults plan s ended)
+  pub obeys_strictly : (cluster : Cluster D) (ended : Ended D)
+      → HasTakenStrictly port plan cluster plan.steps
+      → ((plan : Content) (s : Situation) → StandsFor port plan cluster s → IsEndOf port plan s ended)
       → ObeysStrictly plan (reverse ended.items)
-  obeys_strictly strict armed content synced written cluster ended taken ends =
+  obeys_strictly cluster ended taken ends =
       record {
         last = taken.last;
         follows = taken.follows;
         items_are = turned ended.items taken.last.found.own (ends plan taken.last.found taken.stands.stands).items_are;
       }
 
-  pub gives : (cluster : Cluster D) (ended : Ended D) (before after : List (ℕ × D)) → HasTaken images faults plan cluster plan.steps
-      → ((plan : Content) (s : Situation) → StandsFor images faults plan cluster s → IsEndOf images faults plan s ended)
+  pub gives : (cluster : Cluster D) (ended : Ended D) (before after : List (ℕ × D)) → HasTaken port plan cluster plan.steps
+      → ((plan : Content) (s : Situation) → StandsFor port plan cluster s → IsEndOf port plan s ended)
       → after ≡ before ++ map numbered ended.disks.items
-      → GivesBack faults images plan (reverse ended.items) before after
+      → GivesBack port plan (reverse ended.items) before after
   gives cluster ended before after taken ends given =
       let end = ends plan taken.last taken.stands in
       record {
@@ -57,7 +57,7 @@ module _ {D : Type 0} (images : D → List ℕ → Type 0) (faults : D → ℕ) 
         given = given;
         disks_are = end.disks_are;
         kept =
-            subst (λ items. AllByRecursion (λ (entry : Actor × D). Keeps plan.version entry.0 items (faults entry.1) (images entry.1)) ended.disks.items)
+            subst (λ items. AllByRecursion (λ (entry : Actor × D). Keeps plan.version entry.0 items (port.state entry.1).faults (port.is_image entry.1)) ended.disks.items)
             (sym (turned ended.items taken.last.own end.items_are))
             (end.kept (same_earlier (cluster_of plan) taken.answers 0 plan.steps (opened []) taken.last taken.follows));
       }

@@ -1,6 +1,6 @@
 -- The steps of a plan that a cluster has taken, from actors that had done nothing.
 use Rattle.std.specs.Prelude.{ℕ, Bool, List, [], Option}
-use Rattle.acc_ports.specs.Strict.{Ranges}
+use Rattle.acc_ports.specs.declared.disk.Disk.{Ghosts}
 use Rattle.acc_schedule.specs.Content.{Content}
 use Rattle.acc_schedule.specs.declared.plan.Step.{Step}
 use Rattle.acc_schedule_runs.specs.Situations.{Situation, opened}
@@ -12,14 +12,14 @@ use Rattle.acc_cluster.specs.declared.cluster.Cluster.{Cluster}
 use Rattle.acc_cluster.specs.Stands.{StandsFor, StandsStrictly}
 
 -- with some answers of the disks
-pub record HasTaken {D : Type 0} (images : D → List ℕ → Type 0) (faults : D → ℕ) (plan : Content) (cluster : Cluster D) (steps : List Step) : Type 0 where
+pub record HasTaken {D : Type 0} (port : Ghosts D) (plan : Content) (cluster : Cluster D) (steps : List Step) : Type 0 where
   pub answers : Answers
   pub last : Situation
   pub follows : Follows (cluster_of plan) answers 0 steps (opened []) last
-  pub stands : StandsFor images faults plan cluster last
+  pub stands : StandsFor port plan cluster last
 
 -- over strict disks
-pub record HasTakenStrictly {D : Type 0} (images : D → List ℕ → Type 0) (faults : D → ℕ) (strict : D → Bool) (armed : D → Option ℕ) (content synced : D → List ℕ) (written : D → Ranges) (plan : Content) (cluster : Cluster D) (steps : List Step) : Type 0 where
+pub record HasTakenStrictly {D : Type 0} (port : Ghosts D) (plan : Content) (cluster : Cluster D) (steps : List Step) : Type 0 where
   pub last : StrictSituation
   pub follows : FollowsStrictly (cluster_of plan) 0 steps (opened_strictly []) last
-  pub stands : StandsStrictly images faults strict armed content synced written plan cluster last
+  pub stands : StandsStrictly port plan cluster last

@@ -34,9 +34,9 @@ pub fn opened<M: DiskMaker>(
 where
     M::D: Drop,
     requires is_plan { IsPlan plan.now }
-    ensures ok { IfOk result (λ cluster. StandsFor M.D.is_image M.D.faults plan.now cluster (opened_behind [])) }
+    ensures ok { IfOk result (λ cluster. StandsFor M.D.Disk plan.now cluster (opened_behind [])) }
     ensures strict { IsTrue (M.strict disks.old) → IfOk result (λ cluster.
-        StandsStrictly M.D.is_image M.D.faults M.D.strict M.D.armed M.D.content M.D.synced M.D.written plan.now cluster (opened_strictly [])) }
+        StandsStrictly M.D.Disk plan.now cluster (opened_strictly [])) }
     ensures given { M.given disks.new ≡ M.given disks.old }
     ensures kind { M.strict disks.new ≡ M.strict disks.old }
 {
@@ -55,8 +55,8 @@ fn fresh_nodes<M: DiskMaker>(
 where
     M::D: Drop,
     requires is_plan { IsPlan plan.now }
-    ensures ok { IfOk result (λ nodes. AreFreshNodes M.D.is_image plan.now nodes.items) }
-    ensures strict { IsTrue (M.strict disks.old) → IfOk result (λ nodes. AllByRecursion (λ n. IsUnarmed M.D.strict M.D.armed n.journal.disk) nodes.items) }
+    ensures ok { IfOk result (λ nodes. AreFreshNodes M.D.Disk plan.now nodes.items) }
+    ensures strict { IsTrue (M.strict disks.old) → IfOk result (λ nodes. AllByRecursion (λ n. IsUnarmed M.D.Disk n.journal.disk) nodes.items) }
     ensures given { M.given disks.new ≡ M.given disks.old }
     ensures kind { M.strict disks.new ≡ M.strict disks.old }
 {
@@ -83,8 +83,8 @@ where
     requires is_plan { IsPlan plan.now }
     requires known { IsTrue (is_among plan.now.topology.nodes number) }
     ensures number { IfOk result (λ n. n.number ≡ number) }
-    ensures fresh { IfOk result (IsFreshNode M.D.is_image plan.now) }
-    ensures strict { IsTrue (M.strict disks.old) → IfOk result (λ n. IsUnarmed M.D.strict M.D.armed n.journal.disk) }
+    ensures fresh { IfOk result (IsFreshNode M.D.Disk plan.now) }
+    ensures strict { IsTrue (M.strict disks.old) → IfOk result (λ n. IsUnarmed M.D.Disk n.journal.disk) }
     ensures given { M.given disks.new ≡ M.given disks.old }
     ensures kind { M.strict disks.new ≡ M.strict disks.old }
 {
@@ -113,8 +113,8 @@ fn fresh_stores<M: DiskMaker>(
 ) -> Result<Vec<DurableStore<M::D>>, OutOfMemory>
 where
     M::D: Drop,
-    ensures ok { IfOk result (λ stores. AreFreshStores M.D.is_image plan.now stores.items) }
-    ensures strict { IsTrue (M.strict disks.old) → IfOk result (λ stores. AllByRecursion (λ t. IsUnarmed M.D.strict M.D.armed t.journal.disk) stores.items) }
+    ensures ok { IfOk result (λ stores. AreFreshStores M.D.Disk plan.now stores.items) }
+    ensures strict { IsTrue (M.strict disks.old) → IfOk result (λ stores. AllByRecursion (λ t. IsUnarmed M.D.Disk t.journal.disk) stores.items) }
     ensures given { M.given disks.new ≡ M.given disks.old }
     ensures kind { M.strict disks.new ≡ M.strict disks.old }
 {
@@ -136,11 +136,11 @@ fn fresh_stores_of<M: DiskMaker>(
 where
     M::D: Drop,
     requires shard { HasShard plan.now.topology shard }
-    requires fresh { AllByRecursion (IsFreshStore M.D.is_image plan.now) stores.old.items }
+    requires fresh { AllByRecursion (IsFreshStore M.D.Disk plan.now) stores.old.items }
     ensures actors { OnOk result (map actor_in stores.new.items ≡ map actor_in stores.old.items ++ map (λ node. actor_of node shard) (shard_at plan.now.topology shard).replicas) }
-    ensures each { OnOk result (AllByRecursion (IsFreshStore M.D.is_image plan.now) stores.new.items) }
-    ensures strict { IsTrue (M.strict disks.old) → AllByRecursion (λ t. IsUnarmed M.D.strict M.D.armed t.journal.disk) stores.old.items
-        → OnOk result (AllByRecursion (λ t. IsUnarmed M.D.strict M.D.armed t.journal.disk) stores.new.items) }
+    ensures each { OnOk result (AllByRecursion (IsFreshStore M.D.Disk plan.now) stores.new.items) }
+    ensures strict { IsTrue (M.strict disks.old) → AllByRecursion (λ t. IsUnarmed M.D.Disk t.journal.disk) stores.old.items
+        → OnOk result (AllByRecursion (λ t. IsUnarmed M.D.Disk t.journal.disk) stores.new.items) }
     ensures given { M.given disks.new ≡ M.given disks.old }
     ensures kind { M.strict disks.new ≡ M.strict disks.old }
 {
@@ -167,8 +167,8 @@ where
     requires node { node ≤ 15 }
     requires shard { (1 ≤ shard) × (shard ≤ 15) }
     ensures actor { IfOk result (λ t. actor_in t ≡ actor_of node shard) }
-    ensures fresh { IfOk result (IsFreshStore M.D.is_image plan.now) }
-    ensures strict { IsTrue (M.strict disks.old) → IfOk result (λ t. IsUnarmed M.D.strict M.D.armed t.journal.disk) }
+    ensures fresh { IfOk result (IsFreshStore M.D.Disk plan.now) }
+    ensures strict { IsTrue (M.strict disks.old) → IfOk result (λ t. IsUnarmed M.D.Disk t.journal.disk) }
     ensures given { M.given disks.new ≡ M.given disks.old }
     ensures kind { M.strict disks.new ≡ M.strict disks.old }
 {

@@ -44,7 +44,7 @@ where
     ensures strict_limit { IsTrue (M.strict disks.old) → IfErr result (λ e. (which : Which) (number : ℕ) → e ≡ Why.Limit which number →
         (front : List Item) × StrictLimitEnds plan.now front which number) }
 
-    ensures given { IfOk result (λ items. GivesBack M.D.faults M.D.is_image plan.now (reverse items) (M.given disks.old) (M.given disks.new)) }
+    ensures given { IfOk result (λ items. GivesBack M.D.Disk plan.now (reverse items) (M.given disks.old) (M.given disks.new)) }
     ensures kind { M.strict disks.new ≡ M.strict disks.old }
 {
     let mut cluster = opened(alloc, plan, disks)?;

@@ -24,14 +24,14 @@ use acc_schedule_runs::strict::strict_runs_are_made_step_by_step;
 /// Takes all steps of a plan, numbered from 0.
 pub fn take_all<D: Rig + Drop>(cluster: &mut Cluster<D>, plan: &Plan) -> Result<(), RunError>
     requires is_plan { IsPlan plan.now }
-    requires stands { StandsFor D.is_image D.faults plan.now cluster.old (opened_behind []) }
+    requires stands { StandsFor D.Disk plan.now cluster.old (opened_behind []) }
 
-    ensures ok { OnOk result (HasTaken D.is_image D.faults plan.now cluster.new plan.now.steps) }
+    ensures ok { OnOk result (HasTaken D.Disk plan.now cluster.new plan.now.steps) }
     ensures limit { IfErr result (IfLimit (λ which most. (answers : Answers) × (front : List Item) × LimitEnds plan.now answers front which most)) }
 
-    ensures strict { StandsStrictly D.is_image D.faults D.strict D.armed D.content D.synced D.written plan.now cluster.old (opened_strictly [])
-        → OnOk result (HasTakenStrictly D.is_image D.faults D.strict D.armed D.content D.synced D.written plan.now cluster.new plan.now.steps) }
-    ensures strict_limit { StandsStrictly D.is_image D.faults D.strict D.armed D.content D.synced D.written plan.now cluster.old (opened_strictly [])
+    ensures strict { StandsStrictly D.Disk plan.now cluster.old (opened_strictly [])
+        → OnOk result (HasTakenStrictly D.Disk plan.now cluster.new plan.now.steps) }
+    ensures strict_limit { StandsStrictly D.Disk plan.now cluster.old (opened_strictly [])
         → IfErr result (IfLimit (λ which most. (front : List Item) × StrictLimitEnds plan.now front which most)) }
 {
     runs_are_made_step_by_step();

@@ -3,8 +3,9 @@ use Rattle.std.proofs.Common.{◌≡◌, ℕ, zero, suc, ◌+◌, ◌-◌, ◌*�
 use Rattle.std.specs.Prelude.{◌↔◌}
 use Rattle.std.proofs.lemmas.Bool.{ne_eqb, eq-eqb, and_parts, and_from}
 use Rattle.std.proofs.lemmas.Bool.Decides.{nat_tests, Decides-eqb}
+use Rattle.acc_journal.specs.Calls.{FailsWithin}
 use Rattle.acc_ports.specs.Strict.{after_call}
-use Rattle.acc_journal.specs.Journal.{FailsWithin, keeps_group}
+use Rattle.acc_journal.specs.Journal.{keeps_group}
 use Rattle.acc_stamp.specs.declared.actors.Actor.{Actor}
 use Rattle.acc_message.specs.Items.{same_actor}
 use Rattle.acc_safety.proofs.Bridge.{same_itself}

@@ -2,7 +2,7 @@
 ghost use Rattle.std.specs.Prelude.{◌≡◌, ℕ, suc, ◌+◌, ◌/◌, ◌%◌, ◌<◌, ◌↔◌, true, false, List, [], ◌∷◌, ◌++◌, length, Option};
 ghost use Rattle.std.specs.List.{AllByRecursion};
 ghost use Rattle.acc_stamp.specs.declared.actors.Actor.{Actor};
-ghost use Rattle.acc_journal.specs.Journal.{FailsWithin};
+ghost use Rattle.acc_journal.specs.Calls.{FailsWithin};
 ghost use Rattle.acc_message.specs.Items.{same_actor};
 ghost use Rattle.acc_message.specs.declared.item.Item.{Item};
 ghost use Rattle.acc_message.specs.Run.{Cluster};

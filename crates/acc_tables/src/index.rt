@@ -1,4 +1,6 @@
 //! Indexes, and scans of their columns.
+ghost use Rattle.std.specs.Prelude.{◌≡◌, length};
+
 use crate::stamps::stamp;
 use acc_index::{Index, Share};
 use acc_lanes::{below, greatest, has};
@@ -51,14 +53,28 @@ fn note(index: &mut Index, share: &Share, word: &str) -> Result<()> {
 /// Which stamps are below the bound, the greatest of these, and whether the other one is there.
 fn scanned(alloc: Global, index: &Index, bound: Stamp, sought: Stamp) -> Result<String> {
     let (h, origins) = (index.heights(), index.origins());
-    let mut mask = vec![in alloc; false; h.len()]?;
-    below(h, origins, (bound.h, bound.origin), mask.as_mut_slice());
+    if origins.len() != h.len() {
+        bail!("columns of different lengths");
+    }
+    let mask = mask(alloc, h, origins, bound)?;
+    if mask.len() != h.len() {
+        bail!("a mask of another length");
+    }
     let greatest = greatest(h, origins, mask.as_slice());
     let is_there = has(h, origins, (sought.h, sought.origin));
     let mut told = flags(alloc, mask.as_slice())?;
     told.push_str(&pair(alloc, greatest)?)?;
     told.push_str(if is_there { " there" } else { " missing" })?;
     Ok(told)
+}
+
+/// Of each stamp whether it is below the bound.
+fn mask(alloc: Global, h: &[u64], origins: &[u32], bound: Stamp) -> Result<Vec<bool>, AllocError>
+    requires { length origins.now ≡ length h.now }
+{
+    let mut mask = vec![in alloc; false; h.len()]?;
+    below(h, origins, (bound.h, bound.origin), mask.as_mut_slice());
+    Ok(mask)
 }
 
 /// A `1` for each true one and a `0` for each other.

@@ -8,7 +8,7 @@ use acc_base::OutOfMemory;
 pub use messages::told_message;
 pub use outcomes::told_outcome;
 
-/// Puts a piece behind a text.
+/// Appends a piece to a text.
 fn push(text: &mut Vec<u8>, piece: &str) -> Result<(), OutOfMemory> {
     text.extend_from_slice(piece.as_bytes())?;
     Ok(())

@@ -3,7 +3,7 @@ use super::push;
 use acc_base::{OutOfMemory, push_number, push_signed_number};
 use acc_value::{Key, Value};
 
-/// Cells, joined by commas, each behind its sign: the first one behind the given sign.
+/// Cells, joined by commas, each after its sign: the first one after the given sign.
 pub fn push_cells(
     text: &mut Vec<u8>,
     first: &str,
@@ -18,7 +18,7 @@ pub fn push_cells(
     Ok(())
 }
 
-/// Keys with their cells, as `TABLE.KEY=VALUE`, each behind its sign: the first one behind the given sign.
+/// Keys with their cells, as `TABLE.KEY=VALUE`, each after its sign: the first one after the given sign.
 pub fn push_pairs(
     text: &mut Vec<u8>,
     first: &str,
@@ -41,7 +41,7 @@ fn push_key(text: &mut Vec<u8>, key: &Key) -> Result<(), OutOfMemory> {
     push(text, "=")
 }
 
-/// Bytes as they are where they are UTF-8, else the number of each behind a backslash.
+/// Bytes as they are where they are UTF-8, else the number of each after a backslash.
 fn push_shown(text: &mut Vec<u8>, bytes: &[u8]) -> Result<(), OutOfMemory> {
     if std::str::from_utf8(bytes).is_ok() {
         text.extend_from_slice(bytes)?;

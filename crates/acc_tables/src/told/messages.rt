@@ -1,4 +1,4 @@
-//! Messages: the variant's name, and its fields in their order, each behind a space.
+//! Messages: the variant's name, and its fields in their order, each after a space.
 use super::cells::push_pairs;
 use super::outcomes::push_outcome;
 use super::push;

@@ -5,14 +5,14 @@ use acc_base::OutOfMemory;
 use acc_txn::{Outcome, Verdict};
 use std::alloc::Global;
 
-/// An outcome: the verdict, the values behind a space, and the writes behind ` / `.
+/// An outcome: the verdict, the values after a space, and the writes after ` / `.
 pub fn told_outcome(alloc: Global, outcome: &Outcome) -> Result<Vec<u8>, OutOfMemory> {
     let mut text = Vec::new(alloc);
     push_outcome(&mut text, outcome)?;
     Ok(text)
 }
 
-/// The same behind a text.
+/// The same, appended to a text.
 pub fn push_outcome(text: &mut Vec<u8>, outcome: &Outcome) -> Result<(), OutOfMemory> {
     push(text, verdict(outcome.reply.verdict))?;
     push_cells(text, " ", outcome.reply.values.as_slice())?;

@@ -1,4 +1,4 @@
-//! Actors, stamps, dependencies, and what stores keep. Each stands behind a space.
+//! Actors, stamps, dependencies, and what stores keep. Each stands after a space.
 use super::push;
 use acc_base::{OutOfMemory, push_number};
 use acc_deps::{Accepted, Deps, Settled, View};
@@ -28,7 +28,7 @@ fn push_pair(text: &mut Vec<u8>, stamp: Stamp) -> Result<(), OutOfMemory> {
     push_number(text, u64::from(stamp.origin))
 }
 
-/// The ids of each shard behind its number and a colon, joined by semicolons, or `-` for none.
+/// The ids of each shard after its number and a colon, joined by semicolons, or `-` for none.
 pub fn push_deps(text: &mut Vec<u8>, deps: &Deps) -> Result<(), OutOfMemory> {
     let mut sign = " ";
     for shard in deps.by_shard() {
@@ -43,7 +43,7 @@ pub fn push_deps(text: &mut Vec<u8>, deps: &Deps) -> Result<(), OutOfMemory> {
     Ok(())
 }
 
-/// Ids joined by commas, the first one behind the given sign.
+/// Ids joined by commas, the first one after the given sign.
 fn push_ids(text: &mut Vec<u8>, first: &str, ids: &[TxnId]) -> Result<(), OutOfMemory> {
     let mut sign = first;
     for id in ids {

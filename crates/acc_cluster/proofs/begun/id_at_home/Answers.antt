@@ -25,7 +25,7 @@ returns-then-numbers-place g c =
     let low : place < length numbers = search rules in
     let within = node_within nodes numbers place c.requires.numbers low in
     let number = number_read nodes numbers place n c.requires.numbers within c.index-nodes-place.is in
-    tells_at g.D.Disk.is_image plan nodes place n c.args.txn c.id_of.result within c.index-nodes-place.is
+    tells_at g.D.Disk plan nodes place n c.args.txn c.id_of.result within c.index-nodes-place.is
     (home_at plan (content c.plan.inside) c.as_slice.result.now c.args.txn c.plan.view_is c.as_slice.ensures c.plan.invariant c.requires.known
     ∙ ap Some (sym (number ∙ c.if-numbers-place.true)))
     c.requires.nodes c.id_of.ensures

@@ -22,7 +22,7 @@ loop-slot-preserved g c =
       disks =
           c.in_ok-put_disk.ensures.disks ∙ ap (λ es. es ++ entry_of c.loop-slot.number slot) before.disks
           ∙ ap (λ n. disks_from 0 slots ++ entry_of n slot) place ∙ sym (disks_more 0 slots slot);
-      left = all_more (LeavesHeld g.D.Disk.is_image g.D.Disk.faults) slots slot before.left c.in_ok-put_disk.ensures.left;
+      left = all_more (LeavesHeld g.D.Disk) slots slot before.left c.in_ok-put_disk.ensures.left;
     }
 
 pub returns-clause-disks : goal.returns-clause-disks
@@ -35,4 +35,4 @@ pub returns-clause-left : goal.returns-clause-left
 returns-clause-left g c =
     let left = c.loop-slot.slot-iterator in
     let all = all_out c.loop-slot.yielded (into_iter_items left) c.args.slots.items left.rest.len c.loop-slot.invariant.rest left.rest.ok.0 c.in-None.ensures.steps.0 in
-    subst (AllByRecursion (LeavesHeld g.D.Disk.is_image g.D.Disk.faults)) all c.loop-slot.invariant.left
+    subst (AllByRecursion (LeavesHeld g.D.Disk)) all c.loop-slot.invariant.left

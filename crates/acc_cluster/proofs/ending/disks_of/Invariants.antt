@@ -11,5 +11,5 @@ invariant-loop-slot g l = record {
   rest : l.yielded ++ into_iter_items l.slot-iterator ≡ l.fn.slots.items;
   number : l.number ≡ length l.yielded;
   disks : l.disks.items ≡ disks_from 0 l.yielded;
-  left : AllByRecursion (LeavesHeld g.D.Disk.is_image g.D.Disk.faults) l.yielded;
+  left : AllByRecursion (LeavesHeld g.D.Disk) l.yielded;
 }

@@ -14,7 +14,7 @@ pub put_node-requires-clause-node : goal.put_node-requires-clause-node
 put_node-requires-clause-node g c =
     let after = into_iter_items c.next.new.self in
     let seam = ap (λ (l : List (DurableNode g.row.D.Denot)). c.loop-node.yielded ++ l) (sym c.in-Some.ensures.steps.0) ∙ c.loop-node.invariant.rest in
-    let P = IsNodeOf g.D.Disk.is_image c.args.plan.now in
+    let P = IsNodeOf g.D.Disk c.args.plan.now in
     all_seam P c.loop-node.yielded c.in-Some.node after (subst (λ (ns : List (DurableNode g.row.D.Denot)). AllByRecursion P ns) (sym seam) c.requires.nodes)
 
 pub put_node-requires-clause-number : goal.put_node-requires-clause-number
@@ -53,11 +53,11 @@ pub returns-clause-filled : goal.returns-clause-filled
 returns-clause-filled g c =
     let left = c.loop-node.node-iterator in
     let all = all_out c.loop-node.yielded (into_iter_items left) c.args.nodes.items left.rest.len c.loop-node.invariant.rest left.rest.ok.0 c.in-None.ensures.steps.0 in
-    subst (λ (nodes : List (DurableNode g.row.D.Denot)). AreFilled g.D.Disk.is_image g.D.Disk.faults c.args.plan.now nodes [] c.loop-node.slots.items) all c.loop-node.invariant.filled
+    subst (λ (nodes : List (DurableNode g.row.D.Denot)). AreFilled g.D.Disk c.args.plan.now nodes [] c.loop-node.slots.items) all c.loop-node.invariant.filled
 
 pub returns-clause-strictly : goal.returns-clause-strictly
 returns-clause-strictly g c =
     let d = g.D.Disk in
     let left = c.loop-node.node-iterator in
     let all = all_out c.loop-node.yielded (into_iter_items left) c.args.nodes.items left.rest.len c.loop-node.invariant.rest left.rest.ok.0 c.in-None.ensures.steps.0 in
-    subst (λ (nodes : List (DurableNode g.row.D.Denot)). AreFilledStrictly d.strict d.armed d.content d.synced d.written c.args.plan.now nodes [] c.loop-node.slots.items) all c.loop-node.invariant.strictly
+    subst (λ (nodes : List (DurableNode g.row.D.Denot)). AreFilledStrictly d c.args.plan.now nodes [] c.loop-node.slots.items) all c.loop-node.invariant.strictly

@@ -9,6 +9,6 @@ invariant-loop-node g l = record {
   is_finite : (goal.iterator-loop-node g).is_finite l.node-iterator;
   rest : l.yielded ++ into_iter_items l.node-iterator ≡ l.fn.nodes.items;
   place : l.place ≡ length l.yielded;
-  filled : AreFilled g.D.Disk.is_image g.D.Disk.faults l.plan l.yielded [] l.slots.items;
-  strictly : AreFilledStrictly g.D.Disk.strict g.D.Disk.armed g.D.Disk.content g.D.Disk.synced g.D.Disk.written l.plan l.yielded [] l.slots.items;
+  filled : AreFilled g.D.Disk l.plan l.yielded [] l.slots.items;
+  strictly : AreFilledStrictly g.D.Disk l.plan l.yielded [] l.slots.items;
 }

@@ -37,11 +37,11 @@ returns-clause-filled g c =
     let version = ap (λ (p : Content). p.version) c.plan.view_is in
     on_ok c.put.result
     (λ put nodes stores filled.
-    filled_node g.D.Disk.is_image g.D.Disk.faults plan c.args.slots.now.items c.put.new.slots.items nodes stores (Node actor) tt number c.args.node c.requires.number
+    filled_node g.D.Disk plan c.args.slots.now.items c.put.new.slots.items nodes stores (Node actor) tt number c.args.node c.requires.number
     (subst (λ (a : Actor). (k : ℕ) → slice_index_or c.put.new.slots.items k Empty ≡ cond (k == a.0) (Node actor) (slice_index_or c.args.slots.now.items k Empty)) c.actor-place.ensures.number put)
     (IsIn-Contains (actor_of number 0) (actors plan.topology) (node_is plan.topology number c.requires.known))
     (λ earlier up did.
-    node_opens g.D.Disk.is_image g.D.Disk.faults plan number c.start_of-start.result c.plan.inside.version c.args.node actor c.requires.number begins version
+    node_opens g.D.Disk plan number c.start_of-start.result c.plan.inside.version c.args.node actor c.requires.number begins version
     (λ acts h. c.opened-opened.ensures.stands plan.topology acts h) c.opened-opened.ensures.up earlier up did)
     filled)
     c.put.ensures
@@ -56,11 +56,11 @@ returns-clause-strictly g c =
     let version = ap (λ (p : Content). p.version) c.plan.view_is in
     on_ok c.put.result
     (λ put nodes stores filled.
-    filled_node_strictly d.is_image d.faults plan d.strict d.armed d.content d.synced d.written c.args.slots.now.items c.put.new.slots.items nodes stores (actor_of number 0) (Node actor)
+    filled_node_strictly d plan c.args.slots.now.items c.put.new.slots.items nodes stores (actor_of number 0) (Node actor)
     (subst (λ (a : Actor). (k : ℕ) → slice_index_or c.put.new.slots.items k Empty ≡ cond (k == a.0) (Node actor) (slice_index_or c.args.slots.now.items k Empty)) c.actor-place.ensures.number put)
     c.args.node
     (λ unarmed earlier.
-    node_unarmed d.strict d.armed d.content d.synced d.written plan number c.start_of-start.result c.plan.inside.version (d.armed c.args.node.journal.disk) actor begins version unarmed.1
+    node_unarmed d plan number c.start_of-start.result c.plan.inside.version (d.state c.args.node.journal.disk).armed actor begins version unarmed.1
     (λ passed past. c.opened-opened.ensures.strict unarmed.0 plan.topology passed past) earlier)
     filled)
     c.put.ensures

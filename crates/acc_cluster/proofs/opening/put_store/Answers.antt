@@ -24,12 +24,12 @@ returns-clause-filled g c =
     let version = ap (λ (p : Content). p.version) c.plan.view_is in
     on_ok c.put.result
     (λ put nodes stores filled.
-    filled_store d.is_image d.faults plan c.args.slots.now.items c.put.new.slots.items nodes stores (Store actor) tt c.args.store
+    filled_store d plan c.args.slots.now.items c.put.new.slots.items nodes stores (Store actor) tt c.args.store
     (subst (λ (a : Actor). (k : ℕ) → slice_index_or c.put.new.slots.items k Empty ≡ cond (k == a.0) (Store actor) (slice_index_or c.args.slots.now.items k Empty)) owned put)
     c.requires.number.member
     (λ earlier up took.
-    subst (λ (a : Actor). SlotStands d.is_image d.faults plan (opened earlier) a (Store actor)) owned
-    (store_opens d.is_image d.faults plan c.plan.inside.version c.args.store own actor (sym owned) (ap is_node owned ∙ c.requires.number.kind) version
+    subst (λ (a : Actor). SlotStands d plan (opened earlier) a (Store actor)) owned
+    (store_opens d plan c.plan.inside.version c.args.store own actor (sym owned) (ap is_node owned ∙ c.requires.number.kind) version
     (λ messages h. c.opened-opened.ensures.stands plan.topology messages h) c.opened-opened.ensures.up earlier up took))
     filled)
     c.put.ensures
@@ -43,9 +43,9 @@ returns-clause-strictly g c =
     let version = ap (λ (p : Content). p.version) c.plan.view_is in
     on_ok c.put.result
     (λ put nodes stores filled.
-    filled_store_strictly d.is_image d.faults plan d.strict d.armed d.content d.synced d.written c.args.slots.now.items c.put.new.slots.items nodes stores own (Store actor) put c.args.store
+    filled_store_strictly d plan c.args.slots.now.items c.put.new.slots.items nodes stores own (Store actor) put c.args.store
     (λ unarmed earlier.
-    store_unarmed d.strict d.armed d.content d.synced d.written plan own c.plan.inside.version (d.armed c.args.store.journal.disk) actor version unarmed.1
+    store_unarmed d plan own c.plan.inside.version (d.state c.args.store.journal.disk).armed actor version unarmed.1
     (λ passed past. c.opened-opened.ensures.strict unarmed.0 plan.topology passed past) earlier)
     filled)
     c.put.ensures

@@ -11,7 +11,7 @@ use Rattle.acc_cluster.proofs.opening.with_stores.Goals as goal
 pub put_store-requires-clause-store : goal.put_store-requires-clause-store
 put_store-requires-clause-store g c =
     let seam = ap (λ (l : List (DurableStore g.row.D.Denot)). c.loop-store.yielded ++ l) (sym c.in-Some.ensures.steps.0) ∙ c.loop-store.invariant.rest in
-    let P = IsStoreOf g.D.Disk.is_image c.args.plan.now in
+    let P = IsStoreOf g.D.Disk c.args.plan.now in
     all_seam P c.loop-store.yielded c.in-Some.store (into_iter_items c.next.new.self) (subst (λ (ts : List (DurableStore g.row.D.Denot)). AllByRecursion P ts) (sym seam) c.requires.stores)
 
 pub put_store-requires-clause-number : goal.put_store-requires-clause-number
@@ -36,11 +36,11 @@ pub returns-clause-filled : goal.returns-clause-filled
 returns-clause-filled g c = λ nodes h.
     let left = c.loop-store.store-iterator in
     let all = all_out c.loop-store.yielded (into_iter_items left) c.args.stores.items left.rest.len c.loop-store.invariant.rest left.rest.ok.0 c.in-None.ensures.steps.0 in
-    subst (λ (stores : List (DurableStore g.row.D.Denot)). AreFilled g.D.Disk.is_image g.D.Disk.faults c.args.plan.now nodes stores c.loop-store.full.items) all (c.loop-store.invariant.filled nodes h)
+    subst (λ (stores : List (DurableStore g.row.D.Denot)). AreFilled g.D.Disk c.args.plan.now nodes stores c.loop-store.full.items) all (c.loop-store.invariant.filled nodes h)
 
 pub returns-clause-strictly : goal.returns-clause-strictly
 returns-clause-strictly g c = λ nodes h.
     let d = g.D.Disk in
     let left = c.loop-store.store-iterator in
     let all = all_out c.loop-store.yielded (into_iter_items left) c.args.stores.items left.rest.len c.loop-store.invariant.rest left.rest.ok.0 c.in-None.ensures.steps.0 in
-    subst (λ (stores : List (DurableStore g.row.D.Denot)). AreFilledStrictly d.strict d.armed d.content d.synced d.written c.args.plan.now nodes stores c.loop-store.full.items) all (c.loop-store.invariant.strictly nodes h)
+    subst (λ (stores : List (DurableStore g.row.D.Denot)). AreFilledStrictly d c.args.plan.now nodes stores c.loop-store.full.items) all (c.loop-store.invariant.strictly nodes h)

@@ -9,9 +9,9 @@ invariant-loop-store g l = record {
   can_next : (goal.iterator-loop-store g).can_next l.store-iterator;
   is_finite : (goal.iterator-loop-store g).is_finite l.store-iterator;
   rest : l.yielded ++ into_iter_items l.store-iterator ≡ l.fn.stores.items;
-  filled : (nodes : List (DurableNode g.row.D.Denot)) → AreFilled g.D.Disk.is_image g.D.Disk.faults l.plan nodes [] l.fn.slots.items
-      → AreFilled g.D.Disk.is_image g.D.Disk.faults l.plan nodes l.yielded l.full.items;
+  filled : (nodes : List (DurableNode g.row.D.Denot)) → AreFilled g.D.Disk l.plan nodes [] l.fn.slots.items
+      → AreFilled g.D.Disk l.plan nodes l.yielded l.full.items;
   strictly : (nodes : List (DurableNode g.row.D.Denot))
-      → AreFilledStrictly g.D.Disk.strict g.D.Disk.armed g.D.Disk.content g.D.Disk.synced g.D.Disk.written l.plan nodes [] l.fn.slots.items
-      → AreFilledStrictly g.D.Disk.strict g.D.Disk.armed g.D.Disk.content g.D.Disk.synced g.D.Disk.written l.plan nodes l.yielded l.full.items;
+      → AreFilledStrictly g.D.Disk l.plan nodes [] l.fn.slots.items
+      → AreFilledStrictly g.D.Disk l.plan nodes l.yielded l.full.items;
 }

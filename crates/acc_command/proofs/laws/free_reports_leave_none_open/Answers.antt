@@ -10,6 +10,6 @@ returns g c = record {
     c.served_runs_are_answered.ensures.answered plan items is over.served (quiet_served plan items over.served (over.stayed refl) recovers restarts),
   );
   report = λ before after bytes text plan is says recovers restarts report.
-      free_none_open g.M.D.Disk.faults g.M.D.Disk.is_image before after bytes text plan
+      free_none_open g.M.D.Disk before after bytes text plan
       (λ items served up. c.served_runs_are_answered.ensures.none_open plan items is served (quiet_served plan items served up recovers restarts)) says report;
 }

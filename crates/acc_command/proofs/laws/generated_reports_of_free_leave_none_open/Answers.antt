@@ -15,7 +15,7 @@ returns g c = λ before after words seed txns bytes text line made due.
     let says : Means bytes (plan seed txns) = subst (λ (b : List ℕ). Means b (plan seed txns)) (sym made) (c.generated_documents_are_accepted.ensures seed txns few) in
     let is = c.generated_plans_keep_the_rules.ensures seed txns few in
     let forward = goes_forward (steps txns) (steps_end txns) in
-    free_ends_alike g.M.D.Disk.faults g.M.D.Disk.is_image before after bytes text (plan seed txns) (answered_text txns)
+    free_ends_alike g.M.D.Disk before after bytes text (plan seed txns) (answered_text txns)
     (λ items served up.
     let quiet = quiet_served (plan seed txns) items served up forward.0 forward.1 in
     text_ends seed txns items

@@ -21,7 +21,7 @@ returns-in-Ok-Some-Document-Run-clause-complete_run g c = λ _ no_read no_write.
 pub returns-in-Ok-Some-Document-Check-clause-check : goal.returns-in-Ok-Some-Document-Check-clause-check
 returns-in-Ok-Some-Document-Check-clause-check g c = λ _.
     check_ends_on_given
-    (OverDisks g.M.D.Disk.faults g.M.D.Disk.is_image (g.M.DiskMaker.strict c.args.disks.now) (g.M.DiskMaker.given c.args.disks.now)
+    (OverDisks g.M.D.Disk (g.M.DiskMaker.strict c.args.disks.now) (g.M.DiskMaker.given c.args.disks.now)
     (g.M.DiskMaker.given c.answer-in-Ok-Some-Document-Check.new.disks))
     no_run (g.S.Source.left c.args.source.now) c.answer-in-Ok-Some-Document-Check.result (g.K.Sink.written c.args.sink.now) _
     c.answer-in-Ok-Some-Document-Check.ensures.ends

@@ -4,5 +4,5 @@ use Rattle.acc_command_alone.proofs.laws.calm_reports_leave_none_open.Goals as g
 
 pub returns : goal.returns
 returns g c = λ before after bytes text plan is says calm report.
-    none_open g.M.D.Disk.faults g.M.D.Disk.is_image before after bytes text plan
+    none_open g.M.D.Disk before after bytes text plan
     (λ items strictly. c.plans_run_safely_over_strict_disks.ensures.none_open plan items is calm strictly) says report

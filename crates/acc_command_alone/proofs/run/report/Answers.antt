@@ -22,7 +22,7 @@ returns-in_ok-text-in-Ok g c =
 
 pub returns-in_ok-limit_line-in-Err-Limit : goal.returns-in_ok-limit_line-in-Err-Limit
 returns-in_ok-limit_line-in-Err-Limit g c =
-    limited g.M.D.Disk.faults g.M.D.Disk.is_image (g.M.DiskMaker.strict c.args.disks.now) _ _ c.args.plan.now c.in-Err-Limit.which c.in-Err-Limit.number
+    limited g.M.D.Disk (g.M.DiskMaker.strict c.args.disks.now) _ _ c.args.plan.now c.in-Err-Limit.which c.in-Err-Limit.number
     c.in_ok-limit_line-in-Err-Limit.field-0 (c.one_limit_over_strict_disks.ensures.answered c.args.plan.now)
     (c.in-Err-Limit.ensures.limit c.in-Err-Limit.which c.in-Err-Limit.number c.in-Err-Limit.field-0-is)
     (λ strict. c.in-Err-Limit.ensures.strict_limit strict c.in-Err-Limit.which c.in-Err-Limit.number c.in-Err-Limit.field-0-is)

@@ -10,23 +10,23 @@ use Rattle.acc_desk.proofs.ask.step.Goals as goal
 pub returns-in-Begin-clause-strict : goal.returns-in-Begin-clause-strict
 returns-in-Begin-clause-strict g c =
     subst
-    (λ (ask : Ask). IfOk c.begin.result (λ given. (s : Situation) (disks : Disks) → IsAsked g.D.Disk.is_image g.D.Disk.faults c.args.plan.now s c.args.actor (event_of ask) (act_of_ask ask) c.args.slot.now
-    → IsStrictSlot g.D.Disk.strict g.D.Disk.armed g.D.Disk.content g.D.Disk.synced g.D.Disk.written c.args.plan.now s disks c.args.actor c.args.slot.now
-    → HasTriedStrictly g.D.Disk.strict g.D.Disk.armed g.D.Disk.content g.D.Disk.synced g.D.Disk.written c.args.plan.now s disks c.args.actor (event_of ask) c.begin.new.self given))
+    (λ (ask : Ask). IfOk c.begin.result (λ given. (s : Situation) (disks : Disks) → IsAsked g.D.Disk c.args.plan.now s c.args.actor (event_of ask) (act_of_ask ask) c.args.slot.now
+    → IsStrictSlot g.D.Disk c.args.plan.now s disks c.args.actor c.args.slot.now
+    → HasTriedStrictly g.D.Disk c.args.plan.now s disks c.args.actor (event_of ask) c.begin.new.self given))
     (sym c.in-Begin.is) c.begin.ensures.strict
 
 pub returns-in-Recover-clause-strict : goal.returns-in-Recover-clause-strict
 returns-in-Recover-clause-strict g c =
     subst
-    (λ (ask : Ask). IfOk c.recover.result (λ given. (s : Situation) (disks : Disks) → IsAsked g.D.Disk.is_image g.D.Disk.faults c.args.plan.now s c.args.actor (event_of ask) (act_of_ask ask) c.args.slot.now
-    → IsStrictSlot g.D.Disk.strict g.D.Disk.armed g.D.Disk.content g.D.Disk.synced g.D.Disk.written c.args.plan.now s disks c.args.actor c.args.slot.now
-    → HasTriedStrictly g.D.Disk.strict g.D.Disk.armed g.D.Disk.content g.D.Disk.synced g.D.Disk.written c.args.plan.now s disks c.args.actor (event_of ask) c.recover.new.self given))
+    (λ (ask : Ask). IfOk c.recover.result (λ given. (s : Situation) (disks : Disks) → IsAsked g.D.Disk c.args.plan.now s c.args.actor (event_of ask) (act_of_ask ask) c.args.slot.now
+    → IsStrictSlot g.D.Disk c.args.plan.now s disks c.args.actor c.args.slot.now
+    → HasTriedStrictly g.D.Disk c.args.plan.now s disks c.args.actor (event_of ask) c.recover.new.self given))
     (sym c.in-Recover.is) c.recover.ensures.strict
 
 pub returns-in-Message-clause-strict : goal.returns-in-Message-clause-strict
 returns-in-Message-clause-strict g c =
     subst
-    (λ (ask : Ask). IfOk c.take.result (λ given. (s : Situation) (disks : Disks) → IsAsked g.D.Disk.is_image g.D.Disk.faults c.args.plan.now s c.args.actor (event_of ask) (act_of_ask ask) c.args.slot.now
-    → IsStrictSlot g.D.Disk.strict g.D.Disk.armed g.D.Disk.content g.D.Disk.synced g.D.Disk.written c.args.plan.now s disks c.args.actor c.args.slot.now
-    → HasTriedStrictly g.D.Disk.strict g.D.Disk.armed g.D.Disk.content g.D.Disk.synced g.D.Disk.written c.args.plan.now s disks c.args.actor (event_of ask) c.take.new.self given))
+    (λ (ask : Ask). IfOk c.take.result (λ given. (s : Situation) (disks : Disks) → IsAsked g.D.Disk c.args.plan.now s c.args.actor (event_of ask) (act_of_ask ask) c.args.slot.now
+    → IsStrictSlot g.D.Disk c.args.plan.now s disks c.args.actor c.args.slot.now
+    → HasTriedStrictly g.D.Disk c.args.plan.now s disks c.args.actor (event_of ask) c.take.new.self given))
     (sym c.in-Message.is) c.take.ensures.strict

@@ -13,13 +13,13 @@ use Rattle.acc_desk.proofs.ask.weigh.Goals as goal
 
 pub weigh_take-requires : goal.weigh_take-requires
 weigh_take-requires g c =
-    may_ask_behind g.D.Disk.is_image g.D.Disk.faults c.args.plan.now c.args.actor (MessageEvent c.in-Message.number) (Takes c.in-Message.message.now) c.args.slot.now
-    (subst (λ (ask : Ask). MayAsk g.D.Disk.is_image g.D.Disk.faults c.args.plan.now c.args.actor (event_of ask) (act_of_ask ask) c.args.slot.now) c.in-Message.is c.requires)
+    may_ask_behind g.D.Disk c.args.plan.now c.args.actor (MessageEvent c.in-Message.number) (Takes c.in-Message.message.now) c.args.slot.now
+    (subst (λ (ask : Ask). MayAsk g.D.Disk c.args.plan.now c.args.actor (event_of ask) (act_of_ask ask) c.args.slot.now) c.in-Message.is c.requires)
 
 pub returns-in-Message : goal.returns-in-Message
 returns-in-Message g c =
     subst
-    (λ (ask : Ask). IfOk c.weigh_take.result (λ weight. (s : Situation) → IsAsked g.D.Disk.is_image g.D.Disk.faults c.args.plan.now s c.args.actor (event_of ask) (act_of_ask ask) c.args.slot.now
+    (λ (ask : Ask). IfOk c.weigh_take.result (λ weight. (s : Situation) → IsAsked g.D.Disk c.args.plan.now s c.args.actor (event_of ask) (act_of_ask ask) c.args.slot.now
     → weight ≡ weight_of (entry_of (cluster_of c.args.plan.now) s c.args.actor (event_of ask) false)))
     (sym c.in-Message.is)
-    (weighs_alone g.D.Disk.is_image g.D.Disk.faults c.args.plan.now c.args.actor (MessageEvent c.in-Message.number) (Takes c.in-Message.message.now) c.args.slot.now c.weigh_take.result c.weigh_take.ensures)
+    (weighs_alone g.D.Disk c.args.plan.now c.args.actor (MessageEvent c.in-Message.number) (Takes c.in-Message.message.now) c.args.slot.now c.weigh_take.result c.weigh_take.ensures)

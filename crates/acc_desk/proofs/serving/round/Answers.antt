@@ -24,7 +24,7 @@ returns-in-Full-clause-same g c =
 
 pub returns-in-Full-clause-ok : goal.returns-in-Full-clause-ok
 returns-in-Full-clause-ok g c =
-    All-set (λ (desk : Desk g.row.D.Denot g.row.J.Denot). IsSound g.D.Disk.is_image g.D.Disk.faults g.D.Disk.strict g.D.Disk.armed g.D.Disk.content g.D.Disk.synced g.D.Disk.written g.J.Planned.strict c.args.plan.now c.args.tape.now desk.actor desk.seat desk.slot desk.commands desk.gone) c.loop-place.desks.items c.loop-place.place c.turn.new.self c.in_ok-turn.ensures.ok c.loop-place.invariant.sound
+    All-set (λ (desk : Desk g.row.D.Denot g.row.J.Denot). IsSound g.D.Disk g.J.Planned.strict c.args.plan.now c.args.tape.now desk.actor desk.seat desk.slot desk.commands desk.gone) c.loop-place.desks.items c.loop-place.place c.turn.new.self c.in_ok-turn.ensures.ok c.loop-place.invariant.sound
 
 pub loop-place-preserved : goal.loop-place-preserved
 loop-place-preserved g c =
@@ -44,7 +44,7 @@ loop-place-preserved g c =
           ((λ i. (c.turn.ensures.same.0 i, c.turn.ensures.same.1 i)) ∙ ap name_of c.index_mut.ensures.value)
           ∙ c.loop-place.invariant.same;
       sound =
-          All-set (λ (desk : Desk g.row.D.Denot g.row.J.Denot). IsSound g.D.Disk.is_image g.D.Disk.faults g.D.Disk.strict g.D.Disk.armed g.D.Disk.content g.D.Disk.synced g.D.Disk.written g.J.Planned.strict c.args.plan.now c.args.tape.now desk.actor desk.seat desk.slot desk.commands desk.gone) c.loop-place.desks.items c.loop-place.place c.turn.new.self c.in_ok-turn.ensures.ok c.loop-place.invariant.sound;
+          All-set (λ (desk : Desk g.row.D.Denot g.row.J.Denot). IsSound g.D.Disk g.J.Planned.strict c.args.plan.now c.args.tape.now desk.actor desk.seat desk.slot desk.commands desk.gone) c.loop-place.desks.items c.loop-place.place c.turn.new.self c.in_ok-turn.ensures.ok c.loop-place.invariant.sound;
       came = elim c.match-branch-2.branch [
         | in-Idle w ↦ subst (λ so. SoFar so xs (set ys place new)) (sym w.all-is) (after_idle plan tape xs ys place new d there c.loop-place.all c.loop-place.invariant.came (turned Idle w.in-Idle.is))
         | in-Taken w ↦ subst (λ so. SoFar so xs (set ys place new)) (sym w.all-is) (after_taken plan tape xs ys place new d there c.loop-place.all c.loop-place.invariant.came (turned Taken w.in-Taken.is))

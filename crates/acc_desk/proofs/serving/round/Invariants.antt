@@ -7,7 +7,7 @@ use Rattle.acc_desk.proofs.serving.round.Given as goal
 abbrev pub invariant-loop-place : goal.invariant-loop-place
 invariant-loop-place g l = record {
   same : map name_of l.desks.items ≡ map name_of l.initial.desks.items;
-  sound : AreSound g.D.Disk.is_image g.D.Disk.faults g.D.Disk.strict g.D.Disk.armed g.D.Disk.content g.D.Disk.synced g.D.Disk.written g.J.Planned.strict l.plan l.tape l.desks.items;
+  sound : AreSound g.D.Disk g.J.Planned.strict l.plan l.tape l.desks.items;
   came : SoFar l.all l.initial.desks.items l.desks.items;
   long : vec_len l.desks ≡ l.place-end;
 }

@@ -7,5 +7,5 @@ invariant-loop g l = record {
   can_next : (goal.iterator-loop g).can_next l.iterator';
   is_finite : (goal.iterator-loop g).is_finite l.iterator';
   same : map name_of l.desks.items ≡ map name_of l.initial.desks.items;
-  sound : AreSound g.D.Disk.is_image g.D.Disk.faults g.D.Disk.strict g.D.Disk.armed g.D.Disk.content g.D.Disk.synced g.D.Disk.written g.J.Planned.strict l.plan l.tape l.desks.items;
+  sound : AreSound g.D.Disk g.J.Planned.strict l.plan l.tape l.desks.items;
 }

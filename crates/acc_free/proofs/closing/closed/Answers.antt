@@ -12,7 +12,7 @@ use Rattle.acc_free.proofs.closing.closed.Goals as goal
 pub close-requires-clause-others : goal.close-requires-clause-others
 close-requires-clause-others g c =
     let d = g.D.Disk in
-    seats_ready d.is_image d.faults d.strict d.armed d.content d.synced d.written g.J.Planned.strict c.args.plan.now c.args.tape c.args.desks.items c.in_ok-seats.seats c.in_ok-seats.ensures.seats c.requires.sound
+    seats_ready d g.J.Planned.strict c.args.plan.now c.args.tape c.args.desks.items c.in_ok-seats.seats c.in_ok-seats.ensures.seats c.requires.sound
 
 pub close-requires-clause-all : goal.close-requires-clause-all
 close-requires-clause-all g c = ap length c.in_ok-seats.ensures.seats ∙ length-map c.args.desks.items seat_in ∙ sym c.requires.all
@@ -24,7 +24,7 @@ returns-clause-actors g c =
 pub returns-clause-rested : goal.returns-clause-rested
 returns-clause-rested g c =
     let d = g.D.Disk in
-    closes d.is_image d.faults d.strict d.armed d.content d.synced d.written g.J.Planned.strict c.args.plan.now c.args.tape c.requires.is_plan
+    closes d g.J.Planned.strict c.args.plan.now c.args.tape c.requires.is_plan
     c.turns_go_by.ensures.together c.turns_go_by.ensures.each c.nobody_goes_down.ensures c.closed_items_are_within.ensures c.desks_stand_at_the_end.ensures
     c.requires.limits.0 c.requires.limits.1 c.args.desks.items c.requires.actors c.requires.sound
     _ c.in_ok-seats.seats _ _ c.in_ok-seats.rests.items c.in_ok-seats.ensures.seats c.in_ok-seats.ensures.rests refl

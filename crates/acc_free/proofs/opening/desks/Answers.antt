@@ -5,5 +5,5 @@ use Rattle.acc_free.proofs.opening.desks.Goals as goal
 pub put_nodes-requires-clause-opened : goal.put_nodes-requires-clause-opened
 put_nodes-requires-clause-opened g c κs within =
     let d = g.M.D.Disk in
-    none_opened d.is_image d.faults d.strict d.armed d.content d.synced d.written g.J.Planned.strict c.args.plan.now c.args.tape.now c.args.first.now c.new-desks.result.items
+    none_opened d g.J.Planned.strict c.args.plan.now c.args.tape.now c.args.first.now c.new-desks.result.items
     c.requires.first.0 c.requires.first.1 c.requires.first.2 c.new-desks.ensures.items

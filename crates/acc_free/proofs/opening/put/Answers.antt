@@ -38,7 +38,7 @@ returns g c =
     let turn = c.split.ensures.turn in
     record {
       ok =
-          one_opened d.is_image d.faults d.strict d.armed d.content d.synced d.written g.J.Planned.strict c.args.plan.now c.args.tape.now c.args.own c.args.first.now c.split.new.first
+          one_opened d g.J.Planned.strict c.args.plan.now c.args.tape.now c.args.own c.args.first.now c.split.new.first
           c.args.desks.now.items c.push.new.self.items c.new-desk.result c.requires.opened turn.tape turn.actor c.split.ensures.made c.in_ok-push.ensures.items c.new-desk.ensures.same.0
           c.new-desk.ensures.sound;
     }

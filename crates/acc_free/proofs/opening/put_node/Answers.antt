@@ -7,7 +7,6 @@ use Rattle.acc_free_laws.specs.FreeRun.{alone}
 use Rattle.acc_schedule_runs.specs.Disks.{fresh_disks}
 use Rattle.acc_actors.specs.Slots.{SlotStands, IsStrictSlot}
 use Rattle.acc_run.proofs.Numbers.{node_range}
-use Rattle.acc_run.proofs.Beginning.{at_rest}
 use Rattle.acc_free.specs.Opened.{desk_actor, rank_of}
 use Rattle.acc_free.proofs.Known.{node_known, at_most}
 use Rattle.acc_free.proofs.Openings.{node_rank, opened_as}
@@ -22,9 +21,7 @@ actor-own-requires-clause-node_in_range g c = (node_range c.args.plan.now.topolo
 
 pub fresh_node-slot-requires-clause-rest : goal.fresh_node-slot-requires-clause-rest
 fresh_node-slot-requires-clause-rest g c =
-    let d = g.M.D.Disk in
-    let e = c.in_ok-disk.ensures in
-    at_rest (d.content c.in_ok-disk.disk) (d.is_image c.in_ok-disk.disk) (d.strict c.in_ok-disk.disk) (d.synced c.in_ok-disk.disk) (d.written c.in_ok-disk.disk) e.content e.only e.synced
+    c.in_ok-disk.ensures.fresh.rest
 
 pub put-requires-clause-known : goal.put-requires-clause-known
 put-requires-clause-known g c =
@@ -40,18 +37,18 @@ put-requires-clause-opened g c =
     let d = g.M.D.Disk in
     let low = (node_range c.args.plan.now.topology c.args.number c.requires.is_plan.layout c.requires.known).1 in
     let rank : rank_of c.actor-own.result ≡ c.args.number = ap rank_of c.actor-own.ensures.number ∙ node_rank c.args.number low in
-    opened_as d.is_image d.faults d.strict d.armed d.content d.synced d.written g.J.Planned.strict c.args.plan.now c.args.tape.now _ (map desk_actor c.args.desks.now.items) c.args.number
+    opened_as d g.J.Planned.strict c.args.plan.now c.args.tape.now _ (map desk_actor c.args.desks.now.items) c.args.number
     (rank_of c.actor-own.result) c.args.first.now c.args.desks.now.items refl (at_most c.args.number (rank_of c.actor-own.result) (sym rank)) c.requires.opened
 
 pub put-requires-clause-slot : goal.put-requires-clause-slot
 put-requires-clause-slot g c =
-    subst (λ (a : Actor). SlotStands g.M.D.Disk.is_image g.M.D.Disk.faults c.args.plan.now (alone [] []) a c.fresh_node-slot.result) (sym c.actor-own.ensures.number) c.fresh_node-slot.ensures.stands
+    subst (λ (a : Actor). SlotStands g.M.D.Disk c.args.plan.now (alone [] []) a c.fresh_node-slot.result) (sym c.actor-own.ensures.number) c.fresh_node-slot.ensures.stands
 
 pub put-requires-clause-strict : goal.put-requires-clause-strict
 put-requires-clause-strict g c = λ is.
     let d = g.M.D.Disk in
-    subst (λ (a : Actor). IsStrictSlot d.strict d.armed d.content d.synced d.written c.args.plan.now (alone [] []) fresh_disks a c.fresh_node-slot.result) (sym c.actor-own.ensures.number)
-    (c.fresh_node-slot.ensures.strict (c.in_ok-disk.ensures.strict (sym c.requires.strict ∙ is), c.in_ok-disk.ensures.counts.1))
+    subst (λ (a : Actor). IsStrictSlot d c.args.plan.now (alone [] []) fresh_disks a c.fresh_node-slot.result) (sym c.actor-own.ensures.number)
+    (c.fresh_node-slot.ensures.strict (c.in_ok-disk.ensures.strict (sym c.requires.strict ∙ is), c.in_ok-disk.ensures.fresh.armed))
 
 pub returns-clause-ok : goal.returns-clause-ok
 returns-clause-ok g c =
@@ -60,7 +57,7 @@ returns-clause-ok g c =
     let low = (node_range c.args.plan.now.topology c.args.number c.requires.is_plan.layout c.requires.known).1 in
     let rank : rank_of own ≡ c.args.number = ap rank_of c.actor-own.ensures.number ∙ node_rank c.args.number low in
     on_ok _ _ c.put.result
-    (opened_as d.is_image d.faults d.strict d.armed d.content d.synced d.written g.J.Planned.strict c.args.plan.now c.args.tape.now (map desk_actor c.args.desks.now.items ++ own ∷ [])
+    (opened_as d g.J.Planned.strict c.args.plan.now c.args.tape.now (map desk_actor c.args.desks.now.items ++ own ∷ [])
     (map desk_actor c.args.desks.now.items ++ actor_of c.args.number 0 ∷ []) (rank_of own + 1) (c.args.number + 1) c.put.new.first c.put.new.desks.items
     (ap (λ (a : Actor). map desk_actor c.args.desks.now.items ++ a ∷ []) c.actor-own.ensures.number) (at_most (rank_of own + 1) (c.args.number + 1) (ap (λ n. n + 1) rank)))
     c.put.ensures.ok

@@ -12,7 +12,7 @@ pub put_node-requires-clause-opened : goal.put_node-requires-clause-opened
 put_node-requires-clause-opened g c κs within =
     let d = g.M.D.Disk in
     let n = c.loop-number.number in
-    opened_named d.is_image d.faults d.strict d.armed d.content d.synced d.written g.J.Planned.strict c.args.plan.now c.args.tape.now _ n n c.loop-number.first c.loop-number.desks.items
+    opened_named d g.J.Planned.strict c.args.plan.now c.args.tape.now _ n n c.loop-number.first c.loop-number.desks.items
     (itself_at_most n) c.loop-number.invariant.opened
 
 pub loop-number-preserved : goal.loop-number-preserved
@@ -26,7 +26,7 @@ loop-number-preserved g c =
           let e = w.in_ok-put_node.ensures in
           record {
             opened =
-                opened_still d.is_image d.faults d.strict d.armed d.content d.synced d.written g.J.Planned.strict c.args.plan.now c.args.tape.now _ _ (n + 1) (n + 1) _ _ _ _
+                opened_still d g.J.Planned.strict c.args.plan.now c.args.tape.now _ _ (n + 1) (n + 1) _ _ _ _
                 (store_on [] (map desk_actor c.loop-number.desks.items) 0 set n _ l.opened.named w.if-contains.true c.contains.ensures) (itself_at_most (n + 1)) w.first-is (ap (λ v. v.items) w.desks-is) e.ok;
             given = kept_twice g.M.DiskMaker.given _ _ _ _ w.disks-is e.given l.given;
             kind = kept_twice g.M.DiskMaker.strict _ _ _ _ w.disks-is e.kind l.kind;
@@ -34,7 +34,7 @@ loop-number-preserved g c =
       | else-contains w ↦
           record {
             opened =
-                opened_still d.is_image d.faults d.strict d.armed d.content d.synced d.written g.J.Planned.strict c.args.plan.now c.args.tape.now _ _ n (n + 1) _ _ _ _
+                opened_still d g.J.Planned.strict c.args.plan.now c.args.tape.now _ _ n (n + 1) _ _ _ _
                 (no_store_on [] 0 set n _ w.if-contains.false c.contains.ensures) (one_after n) w.first-is (ap (λ v. v.items) w.desks-is) l.opened;
             given = kept_still g.M.DiskMaker.given _ _ _ w.disks-is l.given;
             kind = kept_still g.M.DiskMaker.strict _ _ _ w.disks-is l.kind;
@@ -46,5 +46,5 @@ returns-clause-ok g c =
     let full : c.loop-number.number ≡ 16 = omega (arith, c.loop-number-test.false, c.loop-number.auto.number-end) in
     let l = c.loop-number.invariant in
     let d = g.M.D.Disk in
-    opened_as d.is_image d.faults d.strict d.armed d.content d.synced d.written g.J.Planned.strict c.args.plan.now c.args.tape.now _ _ c.loop-number.number 16 c.loop-number.first c.loop-number.desks.items
+    opened_as d g.J.Planned.strict c.args.plan.now c.args.tape.now _ _ c.loop-number.number 16 c.loop-number.first c.loop-number.desks.items
     (all_stores [] 0 c.nodes-members.result c.loop-number.number _ _ full c.nodes-members.ensures.listed (ap (λ (p : Content). p.topology.nodes) c.plan.view_is)) (at_most c.loop-number.number 16 full) l.opened

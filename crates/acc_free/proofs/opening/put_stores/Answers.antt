@@ -28,7 +28,7 @@ pub put_stores_of-requires-clause-opened : goal.put_stores_of-requires-clause-op
 put_stores_of-requires-clause-opened g c κs within =
     let d = g.M.D.Disk in
     let rank = (c.loop-place.place + 1) * 16 in
-    opened_named d.is_image d.faults d.strict d.armed d.content d.synced d.written g.J.Planned.strict c.args.plan.now c.args.tape.now _ rank rank c.loop-place.first c.loop-place.desks.items
+    opened_named d g.J.Planned.strict c.args.plan.now c.args.tape.now _ rank rank c.loop-place.first c.loop-place.desks.items
     (itself_at_most rank) c.loop-place.invariant.opened
 
 pub loop-place-preserved : goal.loop-place-preserved
@@ -45,7 +45,7 @@ loop-place-preserved g c =
     let rank = (place + 1 + 1) * 16 in
     record {
       opened =
-          opened_as d.is_image d.faults d.strict d.armed d.content d.synced d.written g.J.Planned.strict c.args.plan.now c.args.tape.now (map desk_actor c.loop-place.desks.items ++ more)
+          opened_as d g.J.Planned.strict c.args.plan.now c.args.tape.now (map desk_actor c.loop-place.desks.items ++ more)
           (front ++ stores_to layout (place + 1)) rank rank c.put_stores_of.new.first c.put_stores_of.new.desks.items
           (ap (λ (names : List Actor). names ++ more) l.opened.named ∙ shard_on layout front place within) (itself_at_most rank) e.ok;
       given = e.given ∙ l.given;

@@ -8,7 +8,7 @@ use Rattle.acc_free.proofs.opening.put_stores.Given as goal
 abbrev pub invariant-loop-place : goal.invariant-loop-place
 invariant-loop-place g l = record {
   opened :
-      AreOpened g.M.D.Disk.is_image g.M.D.Disk.faults g.M.D.Disk.strict g.M.D.Disk.armed g.M.D.Disk.content g.M.D.Disk.synced g.M.D.Disk.written g.J.Planned.strict l.plan l.tape
+      AreOpened g.M.D.Disk g.J.Planned.strict l.plan l.tape
       (map (λ node. actor_of node 0) l.plan.topology.nodes ++ stores_to l.plan.topology l.place) ((l.place + 1) * 16) l.first l.desks.items;
   given : g.M.DiskMaker.given l.disks ≡ g.M.DiskMaker.given l.initial.disks;
   kind : g.M.DiskMaker.strict l.disks ≡ g.M.DiskMaker.strict l.initial.disks;

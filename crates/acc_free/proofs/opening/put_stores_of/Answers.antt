@@ -41,7 +41,7 @@ put_store-requires-clause-opened g c κs within =
     let rank : rank_of c.actor.result ≡ c.args.shard * 16 + c.loop-node.node =
     ap rank_of c.actor.ensures.number
     ∙ store_rank c.loop-node.node c.args.shard (low_node c.loop-node.node c.loop-node-test.true) (few_shards c.args.plan.now.topology c.args.shard c.requires.is_plan.layout c.requires.shard) in
-    opened_named d.is_image d.faults d.strict d.armed d.content d.synced d.written g.J.Planned.strict c.args.plan.now c.args.tape.now _ (c.args.shard * 16 + c.loop-node.node) (rank_of c.actor.result)
+    opened_named d g.J.Planned.strict c.args.plan.now c.args.tape.now _ (c.args.shard * 16 + c.loop-node.node) (rank_of c.actor.result)
     c.loop-node.first c.loop-node.desks.items (at_most _ _ (sym rank)) c.loop-node.invariant.opened
 
 pub loop-node-preserved : goal.loop-node-preserved
@@ -60,7 +60,7 @@ loop-node-preserved g c =
           ∙ store_rank n shard (low_node n c.loop-node-test.true) (few_shards c.args.plan.now.topology shard c.requires.is_plan.layout c.requires.shard) in
           record {
             opened =
-                opened_still d.is_image d.faults d.strict d.armed d.content d.synced d.written g.J.Planned.strict c.args.plan.now c.args.tape.now _ _ (rank_of w.actor.result + 1) (shard * 16 + (n + 1)) _ _ _ _
+                opened_still d g.J.Planned.strict c.args.plan.now c.args.tape.now _ _ (rank_of w.actor.result + 1) (shard * 16 + (n + 1)) _ _ _ _
                 (ap (λ (a : Actor). map desk_actor c.loop-node.desks.items ++ a ∷ []) w.actor.ensures.number ∙ store_on before (map desk_actor c.loop-node.desks.items) shard set n _ l.opened.named w.if-contains.true c.contains.ensures) (own_rank (rank_of w.actor.result) shard n rank) w.first-is (ap (λ v. v.items) w.desks-is) e.ok;
             given = kept_twice g.M.DiskMaker.given _ _ _ _ w.disks-is e.given l.given;
             kind = kept_twice g.M.DiskMaker.strict _ _ _ _ w.disks-is e.kind l.kind;
@@ -68,7 +68,7 @@ loop-node-preserved g c =
       | else-contains w ↦
           record {
             opened =
-                opened_still d.is_image d.faults d.strict d.armed d.content d.synced d.written g.J.Planned.strict c.args.plan.now c.args.tape.now _ _ (shard * 16 + n) (shard * 16 + (n + 1)) _ _ _ _
+                opened_still d g.J.Planned.strict c.args.plan.now c.args.tape.now _ _ (shard * 16 + n) (shard * 16 + (n + 1)) _ _ _ _
                 (no_store_on before shard set n _ w.if-contains.false c.contains.ensures) (next_rank shard n) w.first-is (ap (λ v. v.items) w.desks-is) l.opened;
             given = kept_still g.M.DiskMaker.given _ _ _ w.disks-is l.given;
             kind = kept_still g.M.DiskMaker.strict _ _ _ w.disks-is l.kind;
@@ -81,7 +81,7 @@ returns-clause-ok g c =
     let l = c.loop-node.invariant in
     let d = g.M.D.Disk in
     let shard = c.args.shard in
-    opened_as d.is_image d.faults d.strict d.armed d.content d.synced d.written g.J.Planned.strict c.args.plan.now c.args.tape.now _ _ (shard * 16 + c.loop-node.node) ((shard + 1) * 16)
+    opened_as d g.J.Planned.strict c.args.plan.now c.args.tape.now _ _ (shard * 16 + c.loop-node.node) ((shard + 1) * 16)
     c.loop-node.first c.loop-node.desks.items
     (all_stores (map desk_actor c.args.desks.now.items) shard c.replicas-replicas.result c.loop-node.node _ _ full c.replicas-replicas.ensures.listed
     (ap (λ (p : Content). (shard_at p.topology shard).replicas) c.plan.view_is)) (full_rank shard c.loop-node.node full) l.opened

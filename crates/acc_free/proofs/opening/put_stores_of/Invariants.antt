@@ -8,7 +8,7 @@ use Rattle.acc_free.proofs.opening.put_stores_of.Given as goal
 abbrev pub invariant-loop-node : goal.invariant-loop-node
 invariant-loop-node g l = record {
   opened :
-      AreOpened g.M.D.Disk.is_image g.M.D.Disk.faults g.M.D.Disk.strict g.M.D.Disk.armed g.M.D.Disk.content g.M.D.Disk.synced g.M.D.Disk.written g.J.Planned.strict l.plan l.tape
+      AreOpened g.M.D.Disk g.J.Planned.strict l.plan l.tape
       (map desk_actor l.initial.desks.items ++ map (λ node. actor_of node l.fn.shard) (members_below l.replicas l.node)) (l.fn.shard * 16 + l.node) l.first l.desks.items;
   given : g.M.DiskMaker.given l.disks ≡ g.M.DiskMaker.given l.initial.disks;
   kind : g.M.DiskMaker.strict l.disks ≡ g.M.DiskMaker.strict l.initial.disks;

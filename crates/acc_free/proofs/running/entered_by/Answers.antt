@@ -18,7 +18,7 @@ serve_all-requires-clause-limits g c κs within = items_within _ 1000000 2684354
 pub serve_all-requires-clause-sound : goal.serve_all-requires-clause-sound
 serve_all-requires-clause-sound g c κs within =
     let d = g.M.D.Disk in
-    sound_dealt c.args.plan.now d.is_image d.faults d.strict d.armed d.content d.synced d.written g.J.Planned.strict c.in_ok-tape.tape c.in_ok-all.all.items (all_in c.in_ok-hands.hands.items)
+    sound_dealt c.args.plan.now d g.J.Planned.strict c.in_ok-tape.tape c.in_ok-all.all.items (all_in c.in_ok-hands.hands.items)
     c.in_ok-hands.ensures.all c.in_ok-all.ensures.ok.sound
 
 pub closed-requires-clause-limits : goal.closed-requires-clause-limits
@@ -37,7 +37,7 @@ pub closed-requires-clause-actors : goal.closed-requires-clause-actors
 closed-requires-clause-actors g c =
     let d = g.M.D.Disk in
     all_dealt c.args.plan.now c.in_ok-all.all.items (all_in c.in_ok-hands.hands.items) c.in_ok-served.served.items c.in_ok-hands.ensures.all c.in_ok-served.ensures.same
-    (are_all c.args.plan.now d.is_image d.faults d.strict d.armed d.content d.synced d.written g.J.Planned.strict _ _ _ c.in_ok-all.all.items c.in_ok-all.ensures.ok)
+    (are_all c.args.plan.now d g.J.Planned.strict _ _ _ c.in_ok-all.all.items c.in_ok-all.ensures.ok)
 
 pub closed-requires-clause-sound : goal.closed-requires-clause-sound
 closed-requires-clause-sound g c = c.in_ok-served.ensures.sound

@@ -11,7 +11,7 @@ use Rattle.acc_free_ending.proofs.command.take_command.Goals as goal
 
 pub returns-then-queue-commands-clause-ok : goal.returns-then-queue-commands-clause-ok
 returns-then-queue-commands-clause-ok g c = λ strict_run s serves gone.
-    nothing_left g.D.Disk.is_image g.D.Disk.faults g.D.Disk.strict g.D.Disk.armed g.D.Disk.content g.D.Disk.synced g.D.Disk.written strict_run c.args.plan.now c.args.queue.now.actor s c.args.cluster.now (left_in c.args.queue.now) serves gone
+    nothing_left g.D.Disk strict_run c.args.plan.now c.args.queue.now.actor s c.args.cluster.now (left_in c.args.queue.now) serves gone
     (none_in c.args.queue.now c.as_slice-commands.result.now c.as_slice-commands.ensures (omega (arith, c.if-queue-commands.true)))
 
 pub turn_of-requires : goal.turn_of-requires
@@ -43,7 +43,7 @@ returns-in_ok-step-in-Takes-clause-ok g c = λ strict_run s serves gone.
     let xs = c.as_slice-commands.result.now in
     let command = get_or xs queue.gone (Begin 0) in
     let is = next_in queue xs (Begin 0) c.as_slice-commands.ensures (omega (arith, c.if-queue-commands.false)) in
-    goes_on g.D.Disk.is_image g.D.Disk.faults g.D.Disk.strict g.D.Disk.armed g.D.Disk.content g.D.Disk.synced g.D.Disk.written strict_run c.args.plan.now queue.actor s (left_in queue) (drop (queue.gone + 1) queue.commands) command is gone
+    goes_on g.D.Disk strict_run c.args.plan.now queue.actor s (left_in queue) (drop (queue.gone + 1) queue.commands) command is gone
     c.schedule_steps_serve.ensures.command c.requires.is_plan c.requires.known some_answers c.args.cluster.now c.step.new.self serves
     (subst (λ (turn : Turn). IsTurn turn queue.actor (whole s) command) c.in-Takes.is (c.turn_of.ensures c.args.plan.now s serves.stands))
     (c.in_ok-step-in-Takes.ensures.ok s some_answers serves.stands) c.in_ok-step-in-Takes.ensures.strict
@@ -56,7 +56,7 @@ returns-in_err-step-in-Takes-clause-limit g c =
     let is = next_in queue xs (Begin 0) c.as_slice-commands.ensures (omega (arith, c.if-queue-commands.false)) in
     limit_handed _ _ c.from_residual.result c.in_err-step-in-Takes.field-0.0 c.from_residual.ensures.1
     (λ which most ends strict_run s serves gone each.
-    limit_in g.D.Disk.is_image g.D.Disk.faults g.D.Disk.strict g.D.Disk.armed g.D.Disk.content g.D.Disk.synced g.D.Disk.written strict_run c.args.plan.now queue.actor s (left_in queue) (drop (queue.gone + 1) queue.commands) command is gone
+    limit_in g.D.Disk strict_run c.args.plan.now queue.actor s (left_in queue) (drop (queue.gone + 1) queue.commands) command is gone
     c.schedule_steps_serve.ensures.command c.requires.is_plan c.requires.known some_answers which most c.args.cluster.now serves
     (subst (λ (turn : Turn). IsTurn turn queue.actor (whole s) command) c.in-Takes.is (c.turn_of.ensures c.args.plan.now s serves.stands))
     (ends.0 s some_answers serves.stands) ends.1 each)
@@ -68,7 +68,7 @@ returns-in-Passes-clause-ok g c = λ strict_run s serves gone.
     let xs = c.as_slice-commands.result.now in
     let command = get_or xs queue.gone (Begin 0) in
     let is = next_in queue xs (Begin 0) c.as_slice-commands.ensures (omega (arith, c.if-queue-commands.false)) in
-    passes_on g.D.Disk.is_image g.D.Disk.faults g.D.Disk.strict g.D.Disk.armed g.D.Disk.content g.D.Disk.synced g.D.Disk.written strict_run c.args.plan.now queue.actor s (left_in queue) (drop (queue.gone + 1) queue.commands) command is gone
+    passes_on g.D.Disk strict_run c.args.plan.now queue.actor s (left_in queue) (drop (queue.gone + 1) queue.commands) command is gone
     c.schedule_steps_serve.ensures.passed c.args.cluster.now serves
     (subst (λ (turn : Turn). IsTurn turn queue.actor (whole s) command) c.in-Passes.is (c.turn_of.ensures c.args.plan.now s serves.stands))
 
@@ -78,6 +78,6 @@ returns-in-Waits-clause-ok g c = λ strict_run s serves gone.
     let xs = c.as_slice-commands.result.now in
     let command = get_or xs queue.gone (Begin 0) in
     let is = next_in queue xs (Begin 0) c.as_slice-commands.ensures (omega (arith, c.if-queue-commands.false)) in
-    waits_still g.D.Disk.is_image g.D.Disk.faults g.D.Disk.strict g.D.Disk.armed g.D.Disk.content g.D.Disk.synced g.D.Disk.written strict_run c.args.plan.now queue.actor s (left_in queue) (drop (queue.gone + 1) queue.commands) command is gone
+    waits_still g.D.Disk strict_run c.args.plan.now queue.actor s (left_in queue) (drop (queue.gone + 1) queue.commands) command is gone
     c.args.cluster.now serves
     (subst (λ (turn : Turn). IsTurn turn queue.actor (whole s) command) c.in-Waits.is (c.turn_of.ensures c.args.plan.now s serves.stands))

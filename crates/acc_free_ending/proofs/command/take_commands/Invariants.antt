@@ -10,8 +10,8 @@ use Rattle.acc_free_ending.proofs.command.take_commands.Given as goal
 abbrev pub invariant-commands : goal.invariant-commands
 invariant-commands g l = record {
   same : l.queue.actor ≡ l.fn.queue.actor;
-  moving : (strict_run : Bool) (s : Situation) → Serves g.D.Disk.is_image g.D.Disk.faults g.D.Disk.strict g.D.Disk.armed g.D.Disk.content g.D.Disk.synced g.D.Disk.written strict_run l.plan l.fn.cluster s → HasGone l.plan s l.fn.queue.actor (left_in l.fn.queue)
-      → IsMoving g.D.Disk.is_image g.D.Disk.faults g.D.Disk.strict g.D.Disk.armed g.D.Disk.content g.D.Disk.synced g.D.Disk.written strict_run l.plan l.fn.queue.actor (left_in l.fn.queue) (left_in l.queue) l.went l.cluster s;
+  moving : (strict_run : Bool) (s : Situation) → Serves g.D.Disk strict_run l.plan l.fn.cluster s → HasGone l.plan s l.fn.queue.actor (left_in l.fn.queue)
+      → IsMoving g.D.Disk strict_run l.plan l.fn.queue.actor (left_in l.fn.queue) (left_in l.queue) l.went l.cluster s;
 }
 
 abbrev pub decreases-commands : goal.decreases-commands

@@ -16,7 +16,7 @@ pub over-requires-clause-standing : goal.over-requires-clause-standing
 over-requires-clause-standing g c =
     let resting = c.requires.standing in (
       resting.0,
-      subst (λ (slots : List (Actor × Slot g.row.D.Denot)). IsOver g.D.Disk.is_image g.D.Disk.faults c.args.plan.now slots c.args.entered.items resting.0) (sym c.in_ok-slots.ensures.slots) resting.1.over,
+      subst (λ (slots : List (Actor × Slot g.row.D.Denot)). IsOver g.D.Disk c.args.plan.now slots c.args.entered.items resting.0) (sym c.in_ok-slots.ensures.slots) resting.1.over,
     )
 
 pub over-requires-clause-actors : goal.over-requires-clause-actors
@@ -31,7 +31,7 @@ pub rounds-requires-clause-standing : goal.rounds-requires-clause-standing
 rounds-requires-clause-standing g c =
     let stopped = c.requires.standing.0 in
     let resting = c.requires.standing.1 in
-    let over = subst (λ (slots : List (Actor × Slot g.row.D.Denot)). IsOver g.D.Disk.is_image g.D.Disk.faults c.args.plan.now slots c.args.entered.items stopped) (sym c.in_ok-slots.ensures.slots) resting.over in
+    let over = subst (λ (slots : List (Actor × Slot g.row.D.Denot)). IsOver g.D.Disk c.args.plan.now slots c.args.entered.items stopped) (sym c.in_ok-slots.ensures.slots) resting.over in
     let s = behind_items c.args.entered.items stopped in (
       s,
       record { stands = c.in_ok-cluster.ensures.ok stopped over; serving = resting.serving; stayed = λ on. absurd (true≢false (sym on)) },
@@ -44,12 +44,12 @@ returns-clause-ok g c =
     let d = g.D.Disk in
     let stopped = c.requires.standing.0 in
     let resting = c.requires.standing.1 in
-    let over = subst (λ (slots : List (Actor × Slot g.row.D.Denot)). IsOver d.is_image d.faults plan slots c.args.entered.items stopped) (sym c.in_ok-slots.ensures.slots) resting.over in
+    let over = subst (λ (slots : List (Actor × Slot g.row.D.Denot)). IsOver d plan slots c.args.entered.items stopped) (sym c.in_ok-slots.ensures.slots) resting.over in
     let s = behind_items c.args.entered.items stopped in
-    let serves : Serves d.is_image d.faults d.strict d.armed d.content d.synced d.written false plan c.in_ok-cluster.cluster s =
+    let serves : Serves d false plan c.in_ok-cluster.cluster s =
     record { stands = c.in_ok-cluster.ensures.ok stopped over; serving = resting.serving; stayed = λ on. absurd (true≢false (sym on)) } in
     let gone = subst (HaveGone plan s) (sym c.in_ok-slots.ensures.queues) (rests_gone plan s c.args.rests.items resting.gone) in
-    has_finished d.is_image d.faults d.strict d.armed d.content d.synced d.written false plan c.args.entered.items stopped c.rounds.new.queues.items (map rest_actor c.args.rests.items)
+    has_finished d false plan c.args.entered.items stopped c.rounds.new.queues.items (map rest_actor c.args.rests.items)
     (c.in_ok-rounds.ensures.same ∙ ap (λ (queues : List Queue). map actor_in queues) c.in_ok-slots.ensures.queues ∙ actors_of_queues c.args.rests.items)
     c.requires.actors c.rounds.new.cluster (c.in_ok-rounds.ensures.ok false s serves gone) c.served_at_the_end.ensures c.in_ok-finish.field-0 c.in_ok-finish.ensures.ok
 
@@ -58,17 +58,17 @@ returns-clause-strict g c = λ stopped disks resting strictly unarmed up.
     let plan = c.args.plan.now in
     let d = g.D.Disk in
     let s = behind_items c.args.entered.items stopped in
-    let over = subst (λ (slots : List (Actor × Slot g.row.D.Denot)). IsOver d.is_image d.faults plan slots c.args.entered.items stopped) (sym c.in_ok-slots.ensures.slots) resting.over in
-    let slots = subst (λ (slots : List (Actor × Slot g.row.D.Denot)). AreStrictSlots d.strict d.armed d.content d.synced d.written plan s disks slots) (sym c.in_ok-slots.ensures.slots) strictly in
+    let over = subst (λ (slots : List (Actor × Slot g.row.D.Denot)). IsOver d plan slots c.args.entered.items stopped) (sym c.in_ok-slots.ensures.slots) resting.over in
+    let slots = subst (λ (slots : List (Actor × Slot g.row.D.Denot)). AreStrictSlots d plan s disks slots) (sym c.in_ok-slots.ensures.slots) strictly in
     let stands = c.in_ok-cluster.ensures.strict stopped disks over slots in
-    let serves : Serves d.is_image d.faults d.strict d.armed d.content d.synced d.written true plan c.in_ok-cluster.cluster s =
+    let serves : Serves d true plan c.in_ok-cluster.cluster s =
     record {
       stands = stands.stands;
       serving = resting.serving;
       stayed = λ _. record { disks = disks; strictly = stands.strictly; unarmed = unarmed; up = up };
     } in
     let gone = subst (HaveGone plan s) (sym c.in_ok-slots.ensures.queues) (rests_gone plan s c.args.rests.items resting.gone) in
-    nobody_down d.is_image d.faults d.strict d.armed d.content d.synced d.written true plan c.args.entered.items stopped c.rounds.new.queues.items (map rest_actor c.args.rests.items)
+    nobody_down d true plan c.args.entered.items stopped c.rounds.new.queues.items (map rest_actor c.args.rests.items)
     (c.in_ok-rounds.ensures.same ∙ ap (λ (queues : List Queue). map actor_in queues) c.in_ok-slots.ensures.queues ∙ actors_of_queues c.args.rests.items)
     c.requires.actors c.rounds.new.cluster (c.in_ok-rounds.ensures.ok true s serves gone) c.in_ok-finish.field-0 c.in_ok-finish.ensures.ok refl
 
@@ -78,9 +78,9 @@ returns-in_err-rounds-clause-limit g c =
     let d = g.D.Disk in
     let stopped = c.requires.standing.0 in
     let resting = c.requires.standing.1 in
-    let over = subst (λ (slots : List (Actor × Slot g.row.D.Denot)). IsOver d.is_image d.faults plan slots c.args.entered.items stopped) (sym c.in_ok-slots.ensures.slots) resting.over in
+    let over = subst (λ (slots : List (Actor × Slot g.row.D.Denot)). IsOver d plan slots c.args.entered.items stopped) (sym c.in_ok-slots.ensures.slots) resting.over in
     let s = behind_items c.args.entered.items stopped in
-    let serves : Serves d.is_image d.faults d.strict d.armed d.content d.synced d.written false plan c.in_ok-cluster.cluster s =
+    let serves : Serves d false plan c.in_ok-cluster.cluster s =
     record { stands = c.in_ok-cluster.ensures.ok stopped over; serving = resting.serving; stayed = λ on. absurd (true≢false (sym on)) } in
     let gone = subst (HaveGone plan s) (sym c.in_ok-slots.ensures.queues) (rests_gone plan s c.args.rests.items resting.gone) in
     limit_handed _ _ c.from_residual-in_err-rounds.result c.in_err-rounds.field-0.0 c.from_residual-in_err-rounds.ensures.1 (λ which most ends. ends false s serves gone)
@@ -91,10 +91,10 @@ returns-in_err-rounds-clause-strict_limit g c = λ stopped disks resting strictl
     let plan = c.args.plan.now in
     let d = g.D.Disk in
     let s = behind_items c.args.entered.items stopped in
-    let over = subst (λ (slots : List (Actor × Slot g.row.D.Denot)). IsOver d.is_image d.faults plan slots c.args.entered.items stopped) (sym c.in_ok-slots.ensures.slots) resting.over in
-    let slots = subst (λ (slots : List (Actor × Slot g.row.D.Denot)). AreStrictSlots d.strict d.armed d.content d.synced d.written plan s disks slots) (sym c.in_ok-slots.ensures.slots) strictly in
+    let over = subst (λ (slots : List (Actor × Slot g.row.D.Denot)). IsOver d plan slots c.args.entered.items stopped) (sym c.in_ok-slots.ensures.slots) resting.over in
+    let slots = subst (λ (slots : List (Actor × Slot g.row.D.Denot)). AreStrictSlots d plan s disks slots) (sym c.in_ok-slots.ensures.slots) strictly in
     let stands = c.in_ok-cluster.ensures.strict stopped disks over slots in
-    let serves : Serves d.is_image d.faults d.strict d.armed d.content d.synced d.written true plan c.in_ok-cluster.cluster s =
+    let serves : Serves d true plan c.in_ok-cluster.cluster s =
     record {
       stands = stands.stands;
       serving = resting.serving;

@@ -10,7 +10,7 @@ pub returns-clause-ok : goal.returns-clause-ok
 returns-clause-ok g c =
     on_ok _ _ c.step.result
     (λ steps strict_run s serves.
-    drained c.args.plan.now c.requires.is_plan g.D.Disk.is_image g.D.Disk.faults g.D.Disk.strict g.D.Disk.armed g.D.Disk.content g.D.Disk.synced g.D.Disk.written strict_run s c.args.cluster.now serves
+    drained c.args.plan.now c.requires.is_plan g.D.Disk strict_run s c.args.cluster.now serves
     c.schedule_steps_serve.ensures.drain some_answers c.step.new.self (steps.0 s some_answers serves.stands) steps.1)
     (both_on_ok _ _ c.step.result c.step.ensures.ok c.step.ensures.strict)
 
@@ -18,6 +18,6 @@ pub returns-clause-limit : goal.returns-clause-limit
 returns-clause-limit g c =
     on_limit _ _ c.step.result
     (λ which most ends strict_run s serves each.
-    drain_limit c.args.plan.now c.requires.is_plan g.D.Disk.is_image g.D.Disk.faults g.D.Disk.strict g.D.Disk.armed g.D.Disk.content g.D.Disk.synced g.D.Disk.written strict_run s c.args.cluster.now serves
+    drain_limit c.args.plan.now c.requires.is_plan g.D.Disk strict_run s c.args.cluster.now serves
     c.schedule_steps_serve.ensures.delivery some_answers which most (ends.0 s some_answers serves.stands) ends.1 each)
     (both_on_limit _ _ c.step.result c.step.ensures.limit c.step.ensures.strict_limit)

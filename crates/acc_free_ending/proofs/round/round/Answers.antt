@@ -12,7 +12,7 @@ pub loop-place-init : goal.loop-place-init
 loop-place-init g c = record {
   same = refl;
   long = refl;
-  under = λ strict_run s serves gone. under_none g.D.Disk.is_image g.D.Disk.faults g.D.Disk.strict g.D.Disk.armed g.D.Disk.content g.D.Disk.synced g.D.Disk.written strict_run c.args.plan.now s c.args.queues.now.items c.args.cluster.now serves gone;
+  under = λ strict_run s serves gone. under_none g.D.Disk strict_run c.args.plan.now s c.args.queues.now.items c.args.cluster.now serves gone;
 }
 
 pub take_commands-requires-clause-known : goal.take_commands-requires-clause-known
@@ -41,26 +41,26 @@ loop-place-preserved g c =
     let turned = c.take_commands.new.queue in
     let now = slice_set c.loop-place.queues.items c.loop-place.place turned in
     record {
-      same = still_named g.D.Disk.is_image g.D.Disk.faults g.D.Disk.strict g.D.Disk.armed g.D.Disk.content g.D.Disk.synced g.D.Disk.written false c.args.plan.now c.requires.standing.0 c.args.queues.now.items c.loop-place.queues.items c.loop-place.place names c.loop-place.invariant.same c.requires.actors queue turned there c.take_commands.ensures.same;
+      same = still_named g.D.Disk false c.args.plan.now c.requires.standing.0 c.args.queues.now.items c.loop-place.queues.items c.loop-place.place names c.loop-place.invariant.same c.requires.actors queue turned there c.take_commands.ensures.same;
       long = length-set c.loop-place.queues.items c.loop-place.place turned ∙ c.loop-place.invariant.long;
       under = λ strict_run s serves gone.
           let under = c.loop-place.invariant.under strict_run s serves gone in
           let told = c.in_ok-take_commands.ensures.ok strict_run under.reached under.serves (under.gone c.loop-place.place queue there) in
           elim c.if-branch.branch [
             | then-branch w ↦
-                subst (λ went. IsUnder g.D.Disk.is_image g.D.Disk.faults g.D.Disk.strict g.D.Disk.armed g.D.Disk.content g.D.Disk.synced g.D.Disk.written strict_run c.args.plan.now c.args.queues.now.items now (c.loop-place.place + 1) went c.take_commands.new.cluster s) (sym w.went-is)
-                (under_went g.D.Disk.is_image g.D.Disk.faults g.D.Disk.strict g.D.Disk.armed g.D.Disk.content g.D.Disk.synced g.D.Disk.written strict_run c.args.plan.now s c.args.queues.now.items c.loop-place.queues.items c.loop-place.place names c.loop-place.invariant.same c.requires.actors queue turned there c.take_commands.ensures.same
+                subst (λ went. IsUnder g.D.Disk strict_run c.args.plan.now c.args.queues.now.items now (c.loop-place.place + 1) went c.take_commands.new.cluster s) (sym w.went-is)
+                (under_went g.D.Disk strict_run c.args.plan.now s c.args.queues.now.items c.loop-place.queues.items c.loop-place.place names c.loop-place.invariant.same c.requires.actors queue turned there c.take_commands.ensures.same
                 c.loop-place.went c.in_ok-take_commands.field-0 c.loop-place.cluster c.take_commands.new.cluster under told w.if-branch.true)
             | else-branch w ↦
-                subst (λ went. IsUnder g.D.Disk.is_image g.D.Disk.faults g.D.Disk.strict g.D.Disk.armed g.D.Disk.content g.D.Disk.synced g.D.Disk.written strict_run c.args.plan.now c.args.queues.now.items now (c.loop-place.place + 1) went c.take_commands.new.cluster s) (sym w.went-is)
-                (under_stayed g.D.Disk.is_image g.D.Disk.faults g.D.Disk.strict g.D.Disk.armed g.D.Disk.content g.D.Disk.synced g.D.Disk.written strict_run c.args.plan.now s c.args.queues.now.items c.loop-place.queues.items c.loop-place.place names c.loop-place.invariant.same c.requires.actors queue turned there c.take_commands.ensures.same
+                subst (λ went. IsUnder g.D.Disk strict_run c.args.plan.now c.args.queues.now.items now (c.loop-place.place + 1) went c.take_commands.new.cluster s) (sym w.went-is)
+                (under_stayed g.D.Disk strict_run c.args.plan.now s c.args.queues.now.items c.loop-place.queues.items c.loop-place.place names c.loop-place.invariant.same c.requires.actors queue turned there c.take_commands.ensures.same
                 c.loop-place.went c.in_ok-take_commands.field-0 c.loop-place.cluster c.take_commands.new.cluster under told w.if-branch.false)
           ];
     }
 
 pub returns-clause-ok : goal.returns-clause-ok
 returns-clause-ok g c = λ strict_run s serves gone.
-    round_ended g.D.Disk.is_image g.D.Disk.faults g.D.Disk.strict g.D.Disk.armed g.D.Disk.content g.D.Disk.synced g.D.Disk.written strict_run c.args.plan.now s c.args.queues.now.items c.loop-place.queues.items c.loop-place.place c.loop-place.went c.loop-place.cluster
+    round_ended g.D.Disk strict_run c.args.plan.now s c.args.queues.now.items c.loop-place.queues.items c.loop-place.place c.loop-place.went c.loop-place.cluster
     (c.loop-place.invariant.under strict_run s serves gone) (omega (arith, c.loop-place.invariant.long, c.len-place-end.ensures, c.loop-place-test.false))
 
 pub returns-in_err-take_commands-clause-limit : goal.returns-in_err-take_commands-clause-limit

@@ -10,6 +10,6 @@ abbrev pub invariant-loop-place : goal.invariant-loop-place
 invariant-loop-place g l = record {
   same : map actor_in l.queues.items ≡ map actor_in l.fn.queues.items;
   long : length l.queues.items ≡ length l.fn.queues.items;
-  under : (strict_run : Bool) (s : Situation) → Serves g.D.Disk.is_image g.D.Disk.faults g.D.Disk.strict g.D.Disk.armed g.D.Disk.content g.D.Disk.synced g.D.Disk.written strict_run l.plan l.fn.cluster s → HaveGone l.plan s l.fn.queues.items
-      → IsUnder g.D.Disk.is_image g.D.Disk.faults g.D.Disk.strict g.D.Disk.armed g.D.Disk.content g.D.Disk.synced g.D.Disk.written strict_run l.plan l.fn.queues.items l.queues.items l.place l.went l.cluster s;
+  under : (strict_run : Bool) (s : Situation) → Serves g.D.Disk strict_run l.plan l.fn.cluster s → HaveGone l.plan s l.fn.queues.items
+      → IsUnder g.D.Disk strict_run l.plan l.fn.queues.items l.queues.items l.place l.went l.cluster s;
 }

@@ -13,7 +13,7 @@ pub rounds-init : goal.rounds-init
 rounds-init g c = record {
   same = refl;
   come = λ strict_run s serves gone.
-      come_first g.D.Disk.is_image g.D.Disk.faults g.D.Disk.strict g.D.Disk.armed g.D.Disk.content g.D.Disk.synced g.D.Disk.written strict_run c.args.plan.now s c.args.queues.now.items c.drain.new.cluster gone (c.in_ok-drain.ensures.ok strict_run s serves);
+      come_first g.D.Disk strict_run c.args.plan.now s c.args.queues.now.items c.drain.new.cluster gone (c.in_ok-drain.ensures.ok strict_run s serves);
 }
 
 pub round-requires-clause-actors : goal.round-requires-clause-actors
@@ -40,9 +40,9 @@ rounds-preserved g c = record {
   same = c.in_ok-round.ensures.same ∙ c.rounds.invariant.same;
   come = λ strict_run s serves gone.
       let come = c.rounds.invariant.come strict_run s serves gone in
-      let turned = subst (λ went. HasGoneRound g.D.Disk.is_image g.D.Disk.faults g.D.Disk.strict g.D.Disk.armed g.D.Disk.content g.D.Disk.synced g.D.Disk.written strict_run c.args.plan.now c.rounds.queues.items c.round.new.queues.items went c.round.new.cluster come.reached)
+      let turned = subst (λ went. HasGoneRound g.D.Disk strict_run c.args.plan.now c.rounds.queues.items c.round.new.queues.items went c.round.new.cluster come.reached)
       c.if-branch.true (c.in_ok-round.ensures.ok strict_run come.reached come.serves come.gone) in
-      come_on g.D.Disk.is_image g.D.Disk.faults g.D.Disk.strict g.D.Disk.armed g.D.Disk.content g.D.Disk.synced g.D.Disk.written strict_run c.args.plan.now s c.rounds.queues.items c.round.new.queues.items c.rounds.cluster c.round.new.cluster c.drain-in-rounds.new.cluster
+      come_on g.D.Disk strict_run c.args.plan.now s c.rounds.queues.items c.round.new.queues.items c.rounds.cluster c.round.new.cluster c.drain-in-rounds.new.cluster
       come turned (c.in_ok-drain-2.ensures.ok strict_run turned.next turned.serves);
 }
 
@@ -52,8 +52,8 @@ returns-clause-same g c = c.in_ok-round.ensures.same ∙ c.rounds.invariant.same
 pub returns-clause-ok : goal.returns-clause-ok
 returns-clause-ok g c = λ strict_run s serves gone.
     let come = c.rounds.invariant.come strict_run s serves gone in
-    come_to_end g.D.Disk.is_image g.D.Disk.faults g.D.Disk.strict g.D.Disk.armed g.D.Disk.content g.D.Disk.synced g.D.Disk.written strict_run c.args.plan.now s c.rounds.queues.items c.round.new.queues.items c.rounds.cluster c.round.new.cluster come
-    (subst (λ went. HasGoneRound g.D.Disk.is_image g.D.Disk.faults g.D.Disk.strict g.D.Disk.armed g.D.Disk.content g.D.Disk.synced g.D.Disk.written strict_run c.args.plan.now c.rounds.queues.items c.round.new.queues.items went c.round.new.cluster come.reached)
+    come_to_end g.D.Disk strict_run c.args.plan.now s c.rounds.queues.items c.round.new.queues.items c.rounds.cluster c.round.new.cluster come
+    (subst (λ went. HasGoneRound g.D.Disk strict_run c.args.plan.now c.rounds.queues.items c.round.new.queues.items went c.round.new.cluster come.reached)
     c.if-branch.false (c.in_ok-round.ensures.ok strict_run come.reached come.serves come.gone))
 
 pub returns-in_err-drain-clause-limit : goal.returns-in_err-drain-clause-limit

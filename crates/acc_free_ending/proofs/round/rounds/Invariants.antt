@@ -9,8 +9,8 @@ use Rattle.acc_free_ending.proofs.round.rounds.Given as goal
 abbrev pub invariant-rounds : goal.invariant-rounds
 invariant-rounds g l = record {
   same : map actor_in l.queues.items ≡ map actor_in l.fn.queues.items;
-  come : (strict_run : Bool) (s : Situation) → Serves g.D.Disk.is_image g.D.Disk.faults g.D.Disk.strict g.D.Disk.armed g.D.Disk.content g.D.Disk.synced g.D.Disk.written strict_run l.plan l.fn.cluster s → HaveGone l.plan s l.fn.queues.items
-      → HasCome g.D.Disk.is_image g.D.Disk.faults g.D.Disk.strict g.D.Disk.armed g.D.Disk.content g.D.Disk.synced g.D.Disk.written strict_run l.plan l.queues.items l.cluster s;
+  come : (strict_run : Bool) (s : Situation) → Serves g.D.Disk strict_run l.plan l.fn.cluster s → HaveGone l.plan s l.fn.queues.items
+      → HasCome g.D.Disk strict_run l.plan l.queues.items l.cluster s;
 }
 
 abbrev pub decreases-rounds : goal.decreases-rounds

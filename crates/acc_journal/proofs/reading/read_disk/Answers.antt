@@ -1,14 +1,36 @@
 -- No call leaves another image than the content.
-use Rattle.std.proofs.Common.{◌≡◌, List, ℕ}
-use Rattle.acc_journal.proofs.Moments.{started, goes_on}
+use Rattle.std.proofs.Common.{Ok, Err, Result, sym, subst}
+use Rattle.std.proofs.lemmas.Result.{err_from_is_err_and}
+use Rattle.acc_journal.specs.declared.error.JournalError.{JournalError}
+use Rattle.acc_journal.specs.declared.reading.Told.{Told}
+use Rattle.acc_journal.specs.Calls.{ReadsDisk, answer_of}
+use Rattle.acc_journal.proofs.DiskReads.{first_read, second_read, first_fails, no_room, second_fails, both_read}
 use Rattle.acc_journal.proofs.reading.read_disk.Goals as goal
 
-pub returns-clause-any_moment : goal.returns-clause-any_moment
-returns-clause-any_moment g c =
-    let clock = g.D.Disk.clock in
-    let was = g.D.Disk.was_image in
-    let old = c.args.disk.now in
-    let only = c.requires.only in
-    let P : List ℕ → Type 0 = λ image. image ≡ g.D.Disk.content old in
-    let first = goes_on clock was old old c.len.new.self P _ (started clock was old P (λ image left. only image (g.met.D.Disk.only_now old image left))) c.len.ensures.time (λ image now. only image (c.len.ensures.images image now)) in
-    goes_on clock was old c.len.new.self c.read.new.self P _ first c.read.ensures.time (λ image now. only image (c.len.ensures.images image (c.read.ensures.images image now)))
+pub returns-in_err-count-clause-reads : goal.returns-in_err-count-clause-reads
+returns-in_err-count-clause-reads g c =
+    let p = err_from_is_err_and c.from_residual.result c.from_residual.ensures.1 in
+    let read = first_read g.D.Disk c.args.disk.now c.requires (g.met.D.Disk.only_now c.args.disk.now) c.len.new.self (Err c.in_err-count.field-0.0) c.in_err-count.ensures.images c.in_err-count.ensures.call in
+    subst (λ (r : Result Told JournalError). ReadsDisk g.D.Disk c.args.disk.now c.len.new.self (answer_of r)) (sym p.1)
+    (first_fails g.D.Disk c.args.disk.now c.requires Told c.len.new.self c.in_err-count.field-0.0 p.0 p.2 read)
+
+pub returns-in_err-resize-clause-reads : goal.returns-in_err-resize-clause-reads
+returns-in_err-resize-clause-reads g c =
+    let p = err_from_is_err_and c.from_residual-in_err-resize.result c.from_residual-in_err-resize.ensures.1 in
+    let read = first_read g.D.Disk c.args.disk.now c.requires (g.met.D.Disk.only_now c.args.disk.now) c.len.new.self (Ok c.in_ok-count.count) c.in_ok-count.ensures.images c.in_ok-count.ensures.call in
+    subst (λ (r : Result Told JournalError). ReadsDisk g.D.Disk c.args.disk.now c.len.new.self (answer_of r)) (sym p.1)
+    (no_room g.D.Disk c.args.disk.now c.requires Told c.len.new.self p.0 p.2 read)
+
+pub returns-in_err-read-clause-reads : goal.returns-in_err-read-clause-reads
+returns-in_err-read-clause-reads g c =
+    let p = err_from_is_err_and c.from_residual-in_err-read.result c.from_residual-in_err-read.ensures.1 in
+    let first = first_read g.D.Disk c.args.disk.now c.requires (g.met.D.Disk.only_now c.args.disk.now) c.len.new.self (Ok c.in_ok-count.count) c.in_ok-count.ensures.images c.in_ok-count.ensures.call in
+    let read = second_read g.D.Disk c.args.disk.now c.requires c.len.new.self c.read.new.self (Err c.in_err-read.field-0.0) first c.in_err-read.ensures.images c.in_err-read.ensures.call in
+    subst (λ (r : Result Told JournalError). ReadsDisk g.D.Disk c.args.disk.now c.read.new.self (answer_of r)) (sym p.1)
+    (second_fails g.D.Disk c.args.disk.now c.requires Told c.read.new.self c.in_err-read.field-0.0 p.0 p.2 read)
+
+pub returns-clause-reads : goal.returns-clause-reads
+returns-clause-reads g c =
+    let first = first_read g.D.Disk c.args.disk.now c.requires (g.met.D.Disk.only_now c.args.disk.now) c.len.new.self (Ok c.in_ok-count.count) c.in_ok-count.ensures.images c.in_ok-count.ensures.call in
+    let read = second_read g.D.Disk c.args.disk.now c.requires c.len.new.self c.read.new.self (Ok c.in_ok-read.field-0) first c.in_ok-read.ensures.images c.in_ok-read.ensures.call in
+    both_read g.D.Disk c.args.disk.now c.requires c.read.new.self c.read_payloads.result c.read_payloads.ensures.no_fault read

@@ -2,7 +2,7 @@ use Rattle.std.proofs.Common.{◌≡◌, ℕ, ◌*◌, ◌≤◌, Fits, w32, sym
 use Rattle.acc_message.specs.Run.{clock_start}
 use Rattle.acc_schedule.specs.Content.{Content}
 use Rattle.acc_run.proofs.Numbers.{node_range, start_low}
-use Rattle.acc_run.proofs.Beginning.{node_fresh}
+use Rattle.acc_run.proofs.Beginning.{node_fresh, fresh_only}
 use Rattle.acc_run.proofs.opening.fresh_node.Goals as goal
 
 low_fits : (n : ℕ) → n ≤ 15 → Fits w32 (n * 64)
@@ -31,5 +31,5 @@ returns-clause-fresh g c =
     let is : c.start_of-start.result ≡ clock_start c.args.plan.now.starts c.args.number =
     c.start_of-start.ensures ∙ ap (λ starts. clock_start starts c.args.number) (c.as_slice.ensures ∙ ap (λ (p : Content). p.starts) c.plan.view_is) in
     let n = c.fresh.ensures in
-    node_fresh g.M.D.Disk.is_image c.args.plan.now c.fresh.result c.in_ok-disk.disk n.stands
-    (n.given.1 ∙ is ∙ ap (clock_start c.args.plan.now.starts) (sym n.given.0)) (n.given.2 ∙ ap (λ (p : Content). p.version) c.plan.view_is) n.journal.0 n.journal.1 c.in_ok-disk.ensures.only
+    node_fresh g.M.D.Disk c.args.plan.now c.fresh.result c.in_ok-disk.disk n.stands
+    (n.given.1 ∙ is ∙ ap (clock_start c.args.plan.now.starts) (sym n.given.0)) (n.given.2 ∙ ap (λ (p : Content). p.version) c.plan.view_is) n.journal.0 n.journal.1 (fresh_only g.M.D.Disk c.in_ok-disk.disk c.in_ok-disk.ensures.fresh)

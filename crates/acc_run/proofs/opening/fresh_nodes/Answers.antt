@@ -15,15 +15,15 @@ loop-number-preserved g c =
       | then-contains+in_ok-node+in_ok-push w ↦
           let n = w.in_ok-node.ensures in
           record {
-            fresh = pushed number_in (IsFreshNode g.M.D.Disk.is_image c.args.plan.now) _ _ c.loop-number.number _ _ _ w.in_ok-node.node l.fresh (one_more set c.loop-number.number _ w.if-contains.true c.contains.ensures) (ap items_of w.nodes-is) w.in_ok-push.ensures.items n.number n.fresh;
-            unarmed = λ s. each_pushed (IsNodeUnarmed g.M.D.Disk.strict g.M.D.Disk.armed) _ _ _ w.in_ok-node.node (l.unarmed s) (ap items_of w.nodes-is) w.in_ok-push.ensures.items (n.strict (l.kind ∙ s));
+            fresh = pushed number_in (IsFreshNode g.M.D.Disk c.args.plan.now) _ _ c.loop-number.number _ _ _ w.in_ok-node.node l.fresh (one_more set c.loop-number.number _ w.if-contains.true c.contains.ensures) (ap items_of w.nodes-is) w.in_ok-push.ensures.items n.number n.fresh;
+            unarmed = λ s. each_pushed (IsNodeUnarmed g.M.D.Disk) _ _ _ w.in_ok-node.node (l.unarmed s) (ap items_of w.nodes-is) w.in_ok-push.ensures.items (n.strict (l.kind ∙ s));
             given = kept_twice g.M.DiskMaker.given _ _ _ _ w.disks-is n.given l.given;
             kind = kept_twice g.M.DiskMaker.strict _ _ _ _ w.disks-is n.kind l.kind;
           }
       | else-contains w ↦
           record {
-            fresh = renamed number_in (IsFreshNode g.M.D.Disk.is_image c.args.plan.now) _ _ _ _ l.fresh (no_more set c.loop-number.number _ w.if-contains.false c.contains.ensures) (ap items_of w.nodes-is);
-            unarmed = λ s. subst (AllByRecursion (IsNodeUnarmed g.M.D.Disk.strict g.M.D.Disk.armed)) (sym (ap items_of w.nodes-is)) (l.unarmed s);
+            fresh = renamed number_in (IsFreshNode g.M.D.Disk c.args.plan.now) _ _ _ _ l.fresh (no_more set c.loop-number.number _ w.if-contains.false c.contains.ensures) (ap items_of w.nodes-is);
+            unarmed = λ s. subst (AllByRecursion (IsNodeUnarmed g.M.D.Disk)) (sym (ap items_of w.nodes-is)) (l.unarmed s);
             given = kept_still g.M.DiskMaker.given _ _ _ w.disks-is l.given;
             kind = kept_still g.M.DiskMaker.strict _ _ _ w.disks-is l.kind;
           }

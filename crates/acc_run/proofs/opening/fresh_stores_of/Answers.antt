@@ -20,17 +20,17 @@ loop-node-preserved g c =
           let t = w.in_ok-store.ensures in
           record {
             fresh =
-                pushed actor_in (IsFreshStore g.M.D.Disk.is_image c.args.plan.now) _ _ (actor_of c.loop-node.node c.args.shard) _ _ _ w.in_ok-store.store l.fresh
+                pushed actor_in (IsFreshStore g.M.D.Disk c.args.plan.now) _ _ (actor_of c.loop-node.node c.args.shard) _ _ _ w.in_ok-store.store l.fresh
                 (one_more_store before c.args.shard set c.loop-node.node _ w.if-contains.true c.contains.ensures) (ap items_of w.stores-is) w.in_ok-push.ensures.items t.actor t.fresh;
-            unarmed = λ s u. each_pushed (IsStoreUnarmed g.M.D.Disk.strict g.M.D.Disk.armed) _ _ _ w.in_ok-store.store (l.unarmed s u) (ap items_of w.stores-is) w.in_ok-push.ensures.items (t.strict (l.kind ∙ s));
+            unarmed = λ s u. each_pushed (IsStoreUnarmed g.M.D.Disk) _ _ _ w.in_ok-store.store (l.unarmed s u) (ap items_of w.stores-is) w.in_ok-push.ensures.items (t.strict (l.kind ∙ s));
             given = kept_twice g.M.DiskMaker.given _ _ _ _ w.disks-is t.given l.given;
             kind = kept_twice g.M.DiskMaker.strict _ _ _ _ w.disks-is t.kind l.kind;
           }
       | else-contains w ↦
           record {
             fresh =
-                renamed actor_in (IsFreshStore g.M.D.Disk.is_image c.args.plan.now) _ _ _ _ l.fresh (no_more_store before c.args.shard set c.loop-node.node _ w.if-contains.false c.contains.ensures) (ap items_of w.stores-is);
-            unarmed = λ s u. subst (AllByRecursion (IsStoreUnarmed g.M.D.Disk.strict g.M.D.Disk.armed)) (sym (ap items_of w.stores-is)) (l.unarmed s u);
+                renamed actor_in (IsFreshStore g.M.D.Disk c.args.plan.now) _ _ _ _ l.fresh (no_more_store before c.args.shard set c.loop-node.node _ w.if-contains.false c.contains.ensures) (ap items_of w.stores-is);
+            unarmed = λ s u. subst (AllByRecursion (IsStoreUnarmed g.M.D.Disk)) (sym (ap items_of w.stores-is)) (l.unarmed s u);
             given = kept_still g.M.DiskMaker.given _ _ _ w.disks-is l.given;
             kind = kept_still g.M.DiskMaker.strict _ _ _ w.disks-is l.kind;
           }

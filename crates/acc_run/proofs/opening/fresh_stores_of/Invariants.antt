@@ -10,9 +10,9 @@ use Rattle.acc_run.proofs.opening.fresh_stores_of.Given as goal
 
 abbrev pub invariant-loop-node : goal.invariant-loop-node
 invariant-loop-node g l = record {
-  fresh : AreFresh actor_in (IsFreshStore g.M.D.Disk.is_image l.plan) (map actor_in l.initial.stores.items ++ map (λ node. actor_of node l.fn.shard) (members_below l.replicas l.node)) l.stores.items;
-  unarmed : IsTrue (g.M.DiskMaker.strict l.initial.disks) → AllByRecursion (IsStoreUnarmed g.M.D.Disk.strict g.M.D.Disk.armed) l.initial.stores.items
-      → AllByRecursion (IsStoreUnarmed g.M.D.Disk.strict g.M.D.Disk.armed) l.stores.items;
+  fresh : AreFresh actor_in (IsFreshStore g.M.D.Disk l.plan) (map actor_in l.initial.stores.items ++ map (λ node. actor_of node l.fn.shard) (members_below l.replicas l.node)) l.stores.items;
+  unarmed : IsTrue (g.M.DiskMaker.strict l.initial.disks) → AllByRecursion (IsStoreUnarmed g.M.D.Disk) l.initial.stores.items
+      → AllByRecursion (IsStoreUnarmed g.M.D.Disk) l.stores.items;
   given : g.M.DiskMaker.given l.disks ≡ g.M.DiskMaker.given l.initial.disks;
   kind : g.M.DiskMaker.strict l.disks ≡ g.M.DiskMaker.strict l.initial.disks;
 }

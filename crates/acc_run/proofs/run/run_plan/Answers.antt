@@ -6,16 +6,16 @@ use Rattle.acc_run.proofs.run.run_plan.Goals as goal
 
 pub returns-clause-obeys : goal.returns-clause-obeys
 returns-clause-obeys g c =
-    obeys g.M.D.Disk.is_image g.M.D.Disk.faults c.args.plan.now c.take_all.new.cluster c.in_ok-ended.ended c.in_ok-take_all.ensures.ok c.in_ok-ended.ensures.ok
+    obeys g.M.D.Disk c.args.plan.now c.take_all.new.cluster c.in_ok-ended.ended c.in_ok-take_all.ensures.ok c.in_ok-ended.ensures.ok
 
 pub returns-clause-strict : goal.returns-clause-strict
 returns-clause-strict g c = λ strict.
-    obeys_strictly g.M.D.Disk.is_image g.M.D.Disk.faults c.args.plan.now g.M.D.Disk.strict g.M.D.Disk.armed g.M.D.Disk.content g.M.D.Disk.synced g.M.D.Disk.written c.take_all.new.cluster c.in_ok-ended.ended
+    obeys_strictly g.M.D.Disk c.args.plan.now c.take_all.new.cluster c.in_ok-ended.ended
     (c.in_ok-take_all.ensures.strict (c.in_ok-cluster.ensures.strict strict)) c.in_ok-ended.ensures.ok
 
 pub returns-clause-given : goal.returns-clause-given
 returns-clause-given g c =
-    gives g.M.D.Disk.is_image g.M.D.Disk.faults c.args.plan.now c.take_all.new.cluster c.in_ok-ended.ended
+    gives g.M.D.Disk c.args.plan.now c.take_all.new.cluster c.in_ok-ended.ended
     (g.M.DiskMaker.given c.args.disks.now) (g.M.DiskMaker.given c.give_back.new.disks) c.in_ok-take_all.ensures.ok c.in_ok-ended.ensures.ok
     (c.in_ok-give_back.ensures.given ∙ ap (λ before. before ++ map numbered c.in_ok-ended.ended.disks.items) c.opened.ensures.given)
 

@@ -11,8 +11,8 @@ pub loop-step-init : goal.loop-step-init
 loop-step-init g c =
     let items = c.as_slice-step-items.ensures ∙ ap (λ (p : Content). p.steps) c.plan.view_is in
     record {
-      taken = none_taken g.D.Disk.is_image g.D.Disk.faults c.args.plan.now c.args.cluster.now c.requires.stands;
-      strictly = λ stands. none_taken_strictly g.D.Disk.is_image g.D.Disk.faults c.args.plan.now g.D.Disk.strict g.D.Disk.armed g.D.Disk.content g.D.Disk.synced g.D.Disk.written c.args.cluster.now stands;
+      taken = none_taken g.D.Disk c.args.plan.now c.args.cluster.now c.requires.stands;
+      strictly = λ stands. none_taken_strictly g.D.Disk c.args.plan.now c.args.cluster.now stands;
       items = items;
       number = refl;
       few = at_most c.as_slice-step-items.result.now c.args.plan.now.steps 200000 items c.requires.is_plan.few_steps;
@@ -26,7 +26,7 @@ returns-in_err-step-clause-limit g c =
     let xs = c.as_slice-step-items.result.now in
     let i = c.loop-step.step-index in
     handed_on _ c.from_residual.result c.in_err-step.field-0.0 c.from_residual.ensures.1
-    (if_limit_ends g.D.Disk.is_image g.D.Disk.faults c.args.plan.now
+    (if_limit_ends g.D.Disk c.args.plan.now
     (record { answers = c.runs_are_made_step_by_step.ensures.answers; step = c.runs_are_made_step_by_step.ensures.step; front = c.fronts_are_made_step_by_step.ensures.step })
     (take i xs) (get_or xs i (Begin 0)) c.loop-step.number (place_is xs i c.loop-step.number c.loop-step.invariant.number c.loop-step-test.true) (drop (i + 1) xs)
     (sym c.loop-step.invariant.items ∙ split_at xs i (Begin 0) c.loop-step-test.true) c.loop-step.cluster c.loop-step.invariant.taken c.in_err-step.field-0.0 c.in_err-step.ensures.limit)
@@ -36,7 +36,7 @@ returns-in_err-step-clause-strict_limit g c = λ stands.
     let xs = c.as_slice-step-items.result.now in
     let i = c.loop-step.step-index in
     handed_on _ c.from_residual.result c.in_err-step.field-0.0 c.from_residual.ensures.1
-    (if_limit_ends_strictly g.D.Disk.is_image g.D.Disk.faults c.args.plan.now g.D.Disk.strict g.D.Disk.armed g.D.Disk.content g.D.Disk.synced g.D.Disk.written
+    (if_limit_ends_strictly g.D.Disk c.args.plan.now
     (record { step = c.strict_runs_are_made_step_by_step.ensures; front = c.a_limit_or_the_whole_over_strict_disks.ensures.step })
     (take i xs) (get_or xs i (Begin 0)) c.loop-step.number (place_is xs i c.loop-step.number c.loop-step.invariant.number c.loop-step-test.true) (drop (i + 1) xs)
     (sym c.loop-step.invariant.items ∙ split_at xs i (Begin 0) c.loop-step-test.true) c.loop-step.cluster (c.loop-step.invariant.strictly stands) c.in_err-step.field-0.0 c.in_err-step.ensures.strict_limit)
@@ -50,15 +50,15 @@ loop-step-preserved g c =
     let i = c.loop-step.step-index in
     record {
       taken =
-          subst (HasTaken g.D.Disk.is_image g.D.Disk.faults c.args.plan.now c.step.new.self) (sym (take_more xs i (Begin 0) c.loop-step-test.true))
-          (one_more g.D.Disk.is_image g.D.Disk.faults c.args.plan.now
+          subst (HasTaken g.D.Disk c.args.plan.now c.step.new.self) (sym (take_more xs i (Begin 0) c.loop-step-test.true))
+          (one_more g.D.Disk c.args.plan.now
           (record { answers = c.runs_are_made_step_by_step.ensures.answers; step = c.runs_are_made_step_by_step.ensures.step; front = c.fronts_are_made_step_by_step.ensures.step })
           (take i xs) (get_or xs i (Begin 0)) c.loop-step.number (place_is xs i c.loop-step.number c.loop-step.invariant.number c.loop-step-test.true)
           c.loop-step.cluster c.step.new.self c.loop-step.invariant.taken c.in_ok-step.ensures.ok);
       strictly = λ stands.
-          subst (HasTakenStrictly g.D.Disk.is_image g.D.Disk.faults g.D.Disk.strict g.D.Disk.armed g.D.Disk.content g.D.Disk.synced g.D.Disk.written c.args.plan.now c.step.new.self)
+          subst (HasTakenStrictly g.D.Disk c.args.plan.now c.step.new.self)
           (sym (take_more xs i (Begin 0) c.loop-step-test.true))
-          (one_more_strictly g.D.Disk.is_image g.D.Disk.faults c.args.plan.now g.D.Disk.strict g.D.Disk.armed g.D.Disk.content g.D.Disk.synced g.D.Disk.written
+          (one_more_strictly g.D.Disk c.args.plan.now
           (record { step = c.strict_runs_are_made_step_by_step.ensures; front = c.a_limit_or_the_whole_over_strict_disks.ensures.step })
           (take i xs) (get_or xs i (Begin 0)) c.loop-step.number (place_is xs i c.loop-step.number c.loop-step.invariant.number c.loop-step-test.true)
           c.loop-step.cluster c.step.new.self (c.loop-step.invariant.strictly stands) c.in_ok-step.ensures.strict);
@@ -69,10 +69,10 @@ loop-step-preserved g c =
 
 pub returns-clause-ok : goal.returns-clause-ok
 returns-clause-ok g c =
-    subst (HasTaken g.D.Disk.is_image g.D.Disk.faults c.args.plan.now c.loop-step.cluster)
+    subst (HasTaken g.D.Disk c.args.plan.now c.loop-step.cluster)
     (all_taken c.as_slice-step-items.result.now c.args.plan.now.steps c.loop-step.step-index c.loop-step.invariant.items c.loop-step-test.false) c.loop-step.invariant.taken
 
 pub returns-clause-strict : goal.returns-clause-strict
 returns-clause-strict g c = λ stands.
-    subst (HasTakenStrictly g.D.Disk.is_image g.D.Disk.faults g.D.Disk.strict g.D.Disk.armed g.D.Disk.content g.D.Disk.synced g.D.Disk.written c.args.plan.now c.loop-step.cluster)
+    subst (HasTakenStrictly g.D.Disk c.args.plan.now c.loop-step.cluster)
     (all_taken c.as_slice-step-items.result.now c.args.plan.now.steps c.loop-step.step-index c.loop-step.invariant.items c.loop-step-test.false) (c.loop-step.invariant.strictly stands)

@@ -4,22 +4,23 @@ use Rattle.acc_message.specs.NodeRules.{Begins}
 use Rattle.acc_durable_node.specs.Actor as node
 use Rattle.acc_schedule.specs.Content.{Content}
 use Rattle.acc_actors.proofs.Calls.{may_begin, called, called_strictly, begin_is}
+use Rattle.acc_actors.proofs.Few.{steps_up}
 use Rattle.acc_actors.proofs.slot.Slot.begin.Goals as goal
 
 pub begin-requires-clause-may : goal.begin-requires-clause-may
 begin-requires-clause-may g c =
-    may_begin g.D.Disk.is_image g.D.Disk.faults c.args.plan.now c.args.actor c.args.self.now c.in-Node.node c.in-Node.is c.plan.inside.topology (ap (λ (p : Content). p.topology) c.plan.view_is) c.args.txn c.args.body.now c.requires
+    may_begin g.D.Disk c.args.plan.now c.args.actor c.args.self.now c.in-Node.node c.in-Node.is c.plan.inside.topology (ap (λ (p : Content). p.topology) c.plan.view_is) c.args.txn c.args.body.now c.requires
 
 pub returns-in-Node-clause-ok : goal.returns-in-Node-clause-ok
 returns-in-Node-clause-ok g c =
-    called g.D.Disk.is_image g.D.Disk.faults c.args.plan.now c.args.actor c.args.self.now c.in-Node.node c.in-Node.is c.plan.inside.topology (ap (λ (p : Content). p.topology) c.plan.view_is)
+    called g.D.Disk c.args.plan.now c.args.actor c.args.self.now c.in-Node.node c.in-Node.is c.plan.inside.topology (ap (λ (p : Content). p.topology) c.plan.view_is)
     (BeginEvent c.args.txn) (Begins c.args.txn c.args.body.now) (λ layout number start past. node.begin_stop layout number start past c.args.txn c.args.body.now) refl
-    (begin_is g.D.Disk.is_image g.D.Disk.faults c.args.plan.now c.args.actor c.args.self.now c.in-Node.node c.in-Node.is c.plan.inside.topology (ap (λ (p : Content). p.topology) c.plan.view_is) c.args.txn c.args.body.now)
-    c.begin.new.self c.begin.result c.begin.ensures.ok c.begin.ensures.down c.begin.ensures.counted c.begin.ensures.cause
+    (begin_is g.D.Disk c.args.plan.now c.args.actor c.args.self.now c.in-Node.node c.in-Node.is c.plan.inside.topology (ap (λ (p : Content). p.topology) c.plan.view_is) c.args.txn c.args.body.now)
+    c.begin.new.self c.begin.result c.begin.ensures.ok c.begin.ensures.down (steps_up c.begin.result _ _ c.begin.ensures.faults) c.begin.ensures.faults.cause
 
 pub returns-in-Node-clause-strict : goal.returns-in-Node-clause-strict
 returns-in-Node-clause-strict g c =
-    called_strictly g.D.Disk.is_image g.D.Disk.faults c.args.plan.now c.args.actor c.args.self.now c.in-Node.node c.in-Node.is c.plan.inside.topology (ap (λ (p : Content). p.topology) c.plan.view_is)
+    called_strictly g.D.Disk c.args.plan.now c.args.actor c.args.self.now c.in-Node.node c.in-Node.is c.plan.inside.topology (ap (λ (p : Content). p.topology) c.plan.view_is)
     (BeginEvent c.args.txn) (Begins c.args.txn c.args.body.now) (λ layout number start past. node.begin_stop layout number start past c.args.txn c.args.body.now) refl
-    (begin_is g.D.Disk.is_image g.D.Disk.faults c.args.plan.now c.args.actor c.args.self.now c.in-Node.node c.in-Node.is c.plan.inside.topology (ap (λ (p : Content). p.topology) c.plan.view_is) c.args.txn c.args.body.now)
-    c.begin.new.self g.D.Disk.strict g.D.Disk.armed g.D.Disk.content g.D.Disk.synced g.D.Disk.written c.begin.result c.begin.ensures.strict
+    (begin_is g.D.Disk c.args.plan.now c.args.actor c.args.self.now c.in-Node.node c.in-Node.is c.plan.inside.topology (ap (λ (p : Content). p.topology) c.plan.view_is) c.args.txn c.args.body.now)
+    c.begin.new.self c.begin.result c.begin.ensures.strict

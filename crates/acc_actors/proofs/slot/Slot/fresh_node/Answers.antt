@@ -38,7 +38,7 @@ returns-clause-stands g c =
     let node = c.fresh-node.ensures in
     let begins = started plan (content c.plan.inside) (sym c.plan.view_is) c.plan.invariant number c.as_slice.result.now c.start_of-start.result c.as_slice.ensures c.start_of-start.ensures in
     let version = ap (λ (p : Content). p.version) c.plan.view_is in
-    node_opens g.D.Disk.is_image g.D.Disk.faults plan number c.start_of-start.result c.plan.inside.version c.fresh-node.result c.opened.result node.given.0 begins version
+    node_opens g.D.Disk plan number c.start_of-start.result c.plan.inside.version c.fresh-node.result c.opened.result node.given.0 begins version
     (λ acts h. c.opened.ensures.stands plan.topology acts h) c.opened.ensures.up [] (λ b. refl)
     (record { stands = node.stands plan.topology; held = ap without_marks node.journal.1 })
 
@@ -50,7 +50,7 @@ returns-clause-strict g c = λ unarmed.
     let same = c.fresh-node.ensures.journal.0 in
     let begins = started plan (content c.plan.inside) (sym c.plan.view_is) c.plan.invariant number c.as_slice.result.now c.start_of-start.result c.as_slice.ensures c.start_of-start.ensures in
     let version = ap (λ (p : Content). p.version) c.plan.view_is in
-    let is_strict : IsTrue (d.strict c.fresh-node.result.journal.disk) = subst (λ (x : g.row.D.Denot). IsTrue (d.strict x)) (sym same) unarmed.0 in
-    node_unarmed d.strict d.armed d.content d.synced d.written plan number c.start_of-start.result c.plan.inside.version (d.armed c.fresh-node.result.journal.disk) c.opened.result begins version
-    (ap d.armed same ∙ unarmed.1)
+    let is_strict : IsTrue (d.state c.fresh-node.result.journal.disk).strict = subst (λ (x : g.row.D.Denot). IsTrue (d.state x).strict) (sym same) unarmed.0 in
+    node_unarmed d plan number c.start_of-start.result c.plan.inside.version (d.state c.fresh-node.result.journal.disk).armed c.opened.result begins version
+    (ap (λ (x : g.row.D.Denot). (d.state x).armed) same ∙ unarmed.1)
     (λ passed past. c.opened.ensures.strict is_strict plan.topology passed past) []

@@ -13,7 +13,7 @@ pub returns-clause-stands : goal.returns-clause-stands
 returns-clause-stands g c =
     let plan = c.args.plan.now in
     let store = c.fresh-store.ensures in
-    store_opens g.D.Disk.is_image g.D.Disk.faults plan c.plan.inside.version c.fresh-store.result c.args.actor c.opened.result store.given.0 c.requires.kind (ap (λ (p : Content). p.version) c.plan.view_is)
+    store_opens g.D.Disk plan c.plan.inside.version c.fresh-store.result c.args.actor c.opened.result store.given.0 c.requires.kind (ap (λ (p : Content). p.version) c.plan.view_is)
     (λ messages h. c.opened.ensures.stands plan.topology messages h) c.opened.ensures.up [] (λ b. refl)
     (record { stands = store.stands plan.topology; held = ap without_marks store.journal.1 })
 
@@ -22,7 +22,7 @@ returns-clause-strict g c = λ unarmed.
     let d = g.D.Disk in
     let plan = c.args.plan.now in
     let same = c.fresh-store.ensures.journal.0 in
-    let is_strict : IsTrue (d.strict c.fresh-store.result.journal.disk) = subst (λ (x : g.row.D.Denot). IsTrue (d.strict x)) (sym same) unarmed.0 in
-    store_unarmed d.strict d.armed d.content d.synced d.written plan c.args.actor c.plan.inside.version (d.armed c.fresh-store.result.journal.disk) c.opened.result (ap (λ (p : Content). p.version) c.plan.view_is)
-    (ap d.armed same ∙ unarmed.1)
+    let is_strict : IsTrue (d.state c.fresh-store.result.journal.disk).strict = subst (λ (x : g.row.D.Denot). IsTrue (d.state x).strict) (sym same) unarmed.0 in
+    store_unarmed d plan c.args.actor c.plan.inside.version (d.state c.fresh-store.result.journal.disk).armed c.opened.result (ap (λ (p : Content). p.version) c.plan.view_is)
+    (ap (λ (x : g.row.D.Denot). (d.state x).armed) same ∙ unarmed.1)
     (λ passed past. c.opened.ensures.strict is_strict plan.topology passed past) []

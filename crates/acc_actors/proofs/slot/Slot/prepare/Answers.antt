@@ -9,21 +9,21 @@ use Rattle.acc_actors.proofs.slot.Slot.prepare.Goals as goal
 
 pub prepare-requires-clause-up : goal.prepare-requires-clause-up
 prepare-requires-clause-up g c =
-    store_up g.D.Disk.is_image g.D.Disk.faults c.args.plan.now c.args.actor c.args.self.now c.args.number c.args.m.now c.plan.inside.topology (ap (λ (p : Content). p.topology) c.plan.view_is) c.in-Store.store c.in-Store.is c.requires
+    store_up g.D.Disk c.args.plan.now c.args.actor c.args.self.now c.args.number c.args.m.now c.plan.inside.topology (ap (λ (p : Content). p.topology) c.plan.view_is) c.in-Store.store c.in-Store.is c.requires
 
 pub prepare-requires-clause-may : goal.prepare-requires-clause-may
 prepare-requires-clause-may g c =
-    may_stage g.D.Disk.is_image g.D.Disk.faults c.args.plan.now c.args.actor c.args.self.now c.args.number c.args.m.now c.plan.inside.topology (ap (λ (p : Content). p.topology) c.plan.view_is) c.in-Store.store c.in-Store.is
+    may_stage g.D.Disk c.args.plan.now c.args.actor c.args.self.now c.args.number c.args.m.now c.plan.inside.topology (ap (λ (p : Content). p.topology) c.plan.view_is) c.in-Store.store c.in-Store.is
     c.messages_have_numbers_alone.ensures (subst IsPlan c.plan.view_is c.plan.invariant) c.requires
 
 pub weigh-requires-clause-may : goal.weigh-requires-clause-may
 weigh-requires-clause-may g c =
-    may_weigh g.D.Disk.is_image g.D.Disk.faults c.args.plan.now c.args.actor c.args.self.now c.args.number c.args.m.now c.plan.inside.topology (ap (λ (p : Content). p.topology) c.plan.view_is) c.in-Store.store c.in-Store.is
+    may_weigh g.D.Disk c.args.plan.now c.args.actor c.args.self.now c.args.number c.args.m.now c.plan.inside.topology (ap (λ (p : Content). p.topology) c.plan.view_is) c.in-Store.store c.in-Store.is
     c.messages_have_numbers_alone.ensures (subst IsPlan c.plan.view_is c.plan.invariant) c.requires
 
 pub returns-in_ok-weight-in-Store-clause-weight : goal.returns-in_ok-weight-in-Store-clause-weight
 returns-in_ok-weight-in-Store-clause-weight g c =
-    store_weighs g.D.Disk.is_image g.D.Disk.faults c.args.plan.now c.args.actor c.args.self.now c.args.number c.args.m.now c.plan.inside.topology (ap (λ (p : Content). p.topology) c.plan.view_is) c.in-Store.store c.in-Store.is
+    store_weighs g.D.Disk c.args.plan.now c.args.actor c.args.self.now c.args.number c.args.m.now c.plan.inside.topology (ap (λ (p : Content). p.topology) c.plan.view_is) c.in-Store.store c.in-Store.is
     {E = ℕ} (Ok c.in_ok-weight-in-Store.weight) c.in_ok-weight-in-Store.ensures
 
 pub returns-in_ok-weight-in-Store-clause-prepared : goal.returns-in_ok-weight-in-Store-clause-prepared

@@ -9,11 +9,11 @@ use Rattle.acc_actors.proofs.slot.Slot.stage.Goals as goal
 
 pub stage-requires-clause-up : goal.stage-requires-clause-up
 stage-requires-clause-up g c =
-    store_up g.D.Disk.is_image g.D.Disk.faults c.args.plan.now c.args.actor c.args.self.now c.args.number c.args.m.now c.plan.inside.topology (ap (λ (p : Content). p.topology) c.plan.view_is) c.in-Store.store c.in-Store.is c.requires.may
+    store_up g.D.Disk c.args.plan.now c.args.actor c.args.self.now c.args.number c.args.m.now c.plan.inside.topology (ap (λ (p : Content). p.topology) c.plan.view_is) c.in-Store.store c.in-Store.is c.requires.may
 
 pub stage-requires-clause-may : goal.stage-requires-clause-may
 stage-requires-clause-may g c =
-    may_stage g.D.Disk.is_image g.D.Disk.faults c.args.plan.now c.args.actor c.args.self.now c.args.number c.args.m.now c.plan.inside.topology (ap (λ (p : Content). p.topology) c.plan.view_is) c.in-Store.store c.in-Store.is
+    may_stage g.D.Disk c.args.plan.now c.args.actor c.args.self.now c.args.number c.args.m.now c.plan.inside.topology (ap (λ (p : Content). p.topology) c.plan.view_is) c.in-Store.store c.in-Store.is
     c.messages_have_numbers_alone.ensures (subst IsPlan c.plan.view_is c.plan.invariant) c.requires.may
 
 pub stage-requires-clause-prepared : goal.stage-requires-clause-prepared
@@ -23,20 +23,20 @@ stage-requires-clause-prepared g c =
 
 pub returns-in-Store-clause-ok : goal.returns-in-Store-clause-ok
 returns-in-Store-clause-ok g c =
-    stage_called g.D.Disk.is_image g.D.Disk.faults c.args.plan.now c.args.actor c.args.self.now c.args.number c.args.m.now c.plan.inside.topology (ap (λ (p : Content). p.topology) c.plan.view_is) c.in-Store.store c.in-Store.is
+    stage_called g.D.Disk c.args.plan.now c.args.actor c.args.self.now c.args.number c.args.m.now c.plan.inside.topology (ap (λ (p : Content). p.topology) c.plan.view_is) c.in-Store.store c.in-Store.is
     c.stage.result c.stage.new.self c.stage.ensures.ok c.stage.ensures.up c.stage.ensures.disk
 
 pub returns-in-Store-clause-err : goal.returns-in-Store-clause-err
 returns-in-Store-clause-err g c =
-    stage_refused g.D.Disk.is_image g.D.Disk.faults c.args.plan.now c.args.actor c.args.self.now c.args.number c.args.m.now c.plan.inside.topology (ap (λ (p : Content). p.topology) c.plan.view_is) c.in-Store.store c.in-Store.is
+    stage_refused g.D.Disk c.args.plan.now c.args.actor c.args.self.now c.args.number c.args.m.now c.plan.inside.topology (ap (λ (p : Content). p.topology) c.plan.view_is) c.in-Store.store c.in-Store.is
     c.stage.result c.stage.new.self c.requires.may c.stage.ensures.err c.stage.ensures.up c.stage.ensures.disk
 
 pub returns-in-Store-clause-strict : goal.returns-in-Store-clause-strict
 returns-in-Store-clause-strict g c =
-    stage_strictly g.D.Disk.is_image g.D.Disk.faults c.args.plan.now c.args.actor c.args.self.now c.args.number c.args.m.now c.plan.inside.topology (ap (λ (p : Content). p.topology) c.plan.view_is) c.in-Store.store c.in-Store.is
-    g.D.Disk.strict g.D.Disk.armed g.D.Disk.content g.D.Disk.synced g.D.Disk.written c.stage.new.self c.stage.ensures.strict
+    stage_strictly g.D.Disk c.args.plan.now c.args.actor c.args.self.now c.args.number c.args.m.now c.plan.inside.topology (ap (λ (p : Content). p.topology) c.plan.view_is) c.in-Store.store c.in-Store.is
+    c.stage.new.self c.stage.ensures.strict
 
 pub returns-in-Store-clause-faults : goal.returns-in-Store-clause-faults
 returns-in-Store-clause-faults g c =
-    stage_faults g.D.Disk.is_image g.D.Disk.faults c.args.plan.now c.args.actor c.args.self.now c.args.number c.args.m.now c.plan.inside.topology (ap (λ (p : Content). p.topology) c.plan.view_is) c.in-Store.store c.in-Store.is
+    stage_faults g.D.Disk c.args.plan.now c.args.actor c.args.self.now c.args.number c.args.m.now c.plan.inside.topology (ap (λ (p : Content). p.topology) c.plan.view_is) c.in-Store.store c.in-Store.is
     c.stage.new.self c.stage.ensures.disk

@@ -8,15 +8,15 @@ use Rattle.acc_actors.proofs.slot.Slot.weigh_recover.Goals as goal
 
 pub weigh_recover-requires-clause-up : goal.weigh_recover-requires-clause-up
 weigh_recover-requires-clause-up g c =
-    is_up g.D.Disk.is_image g.D.Disk.faults c.args.plan.now c.args.actor c.args.self.now c.in-Node.node c.in-Node.is c.plan.inside.topology (ap (λ (p : Content). p.topology) c.plan.view_is)
+    is_up g.D.Disk c.args.plan.now c.args.actor c.args.self.now c.in-Node.node c.in-Node.is c.plan.inside.topology (ap (λ (p : Content). p.topology) c.plan.view_is)
     (RecoverEvent c.args.txn) (Recovers c.args.id c.args.body.now) c.requires
 
 pub weigh_recover-requires-clause-may : goal.weigh_recover-requires-clause-may
 weigh_recover-requires-clause-may g c =
-    may_recover g.D.Disk.is_image g.D.Disk.faults c.args.plan.now c.args.actor c.args.self.now c.in-Node.node c.in-Node.is c.plan.inside.topology (ap (λ (p : Content). p.topology) c.plan.view_is)
+    may_recover g.D.Disk c.args.plan.now c.args.actor c.args.self.now c.in-Node.node c.in-Node.is c.plan.inside.topology (ap (λ (p : Content). p.topology) c.plan.view_is)
     c.args.txn c.args.id c.args.body.now c.requires
 
 pub returns-in-Node : goal.returns-in-Node
 returns-in-Node g c =
-    node_weighs g.D.Disk.is_image g.D.Disk.faults c.args.plan.now c.args.actor c.args.self.now c.plan.inside.topology (ap (λ (p : Content). p.topology) c.plan.view_is) c.in-Node.node c.in-Node.is
+    node_weighs g.D.Disk c.args.plan.now c.args.actor c.args.self.now c.plan.inside.topology (ap (λ (p : Content). p.topology) c.plan.view_is) c.in-Node.node c.in-Node.is
     (RecoverEvent c.args.txn) (Recovers c.args.id c.args.body.now) c.weigh_recover.result c.weigh_recover.ensures

@@ -13,7 +13,7 @@ use Rattle.acc_cluster.proofs.cluster.Cluster.begin_at.Goals as goal
 pub begin-requires : goal.begin-requires
 begin-requires g c =
     let s : Situation = c.requires.standing.0 in
-    (s, asked_at g.D.Disk.is_image g.D.Disk.faults c.args.plan.now c.args.self.now c.args.home (BeginEvent c.args.txn) (Begins c.args.txn c.index-as_slice-txn.result) c.index_mut.result.now c.index_mut.ensures.value (omega (arith, c.if-place-len.false, c.len.ensures)) s c.requires.standing.1 (goes_begin c.args.plan.now (subst IsPlan c.plan.view_is c.plan.invariant) c.args.txn c.requires.known c.index-as_slice-txn.result (body_read c.args.plan.now (content c.plan.inside) c.as_slice.result.now c.args.txn c.index-as_slice-txn.result c.plan.view_is c.as_slice.ensures c.plan.invariant c.requires.known c.index-as_slice-txn.is) c.args.home c.requires.home c.requires.standing.0 c.requires.standing.1.sound c.requires.standing.3))
+    (s, asked_at g.D.Disk c.args.plan.now c.args.self.now c.args.home (BeginEvent c.args.txn) (Begins c.args.txn c.index-as_slice-txn.result) c.index_mut.result.now c.index_mut.ensures.value (omega (arith, c.if-place-len.false, c.len.ensures)) s c.requires.standing.1 (goes_begin c.args.plan.now (subst IsPlan c.plan.view_is c.plan.invariant) c.args.txn c.requires.known c.index-as_slice-txn.result (body_read c.args.plan.now (content c.plan.inside) c.as_slice.result.now c.args.txn c.index-as_slice-txn.result c.plan.view_is c.as_slice.ensures c.plan.invariant c.requires.known c.index-as_slice-txn.is) c.args.home c.requires.home c.requires.standing.0 c.requires.standing.1.sound c.requires.standing.3))
 
 pub enter_given-requires : goal.enter_given-requires
 enter_given-requires g c =
@@ -21,16 +21,16 @@ enter_given-requires g c =
     let h = c.requires.standing.1 in
     record {
       sendable =
-          sendable_at g.D.Disk.is_image g.D.Disk.faults c.args.plan.now c.args.self.now c.args.home (BeginEvent c.args.txn) (Begins c.args.txn c.index-as_slice-txn.result) c.index_mut.result.now c.index_mut.ensures.value (omega (arith, c.if-place-len.false, c.len.ensures)) s h (goes_begin c.args.plan.now (subst IsPlan c.plan.view_is c.plan.invariant) c.args.txn c.requires.known c.index-as_slice-txn.result (body_read c.args.plan.now (content c.plan.inside) c.as_slice.result.now c.args.txn c.index-as_slice-txn.result c.plan.view_is c.as_slice.ensures c.plan.invariant c.requires.known c.index-as_slice-txn.is) c.args.home c.requires.home c.requires.standing.0 c.requires.standing.1.sound c.requires.standing.3) c.in_ok-given.given
-          (c.in_ok-given.ensures.ok s (asked_at g.D.Disk.is_image g.D.Disk.faults c.args.plan.now c.args.self.now c.args.home (BeginEvent c.args.txn) (Begins c.args.txn c.index-as_slice-txn.result) c.index_mut.result.now c.index_mut.ensures.value (omega (arith, c.if-place-len.false, c.len.ensures)) s h (goes_begin c.args.plan.now (subst IsPlan c.plan.view_is c.plan.invariant) c.args.txn c.requires.known c.index-as_slice-txn.result (body_read c.args.plan.now (content c.plan.inside) c.as_slice.result.now c.args.txn c.index-as_slice-txn.result c.plan.view_is c.as_slice.ensures c.plan.invariant c.requires.known c.index-as_slice-txn.is) c.args.home c.requires.home c.requires.standing.0 c.requires.standing.1.sound c.requires.standing.3))).emitted;
+          sendable_at g.D.Disk c.args.plan.now c.args.self.now c.args.home (BeginEvent c.args.txn) (Begins c.args.txn c.index-as_slice-txn.result) c.index_mut.result.now c.index_mut.ensures.value (omega (arith, c.if-place-len.false, c.len.ensures)) s h (goes_begin c.args.plan.now (subst IsPlan c.plan.view_is c.plan.invariant) c.args.txn c.requires.known c.index-as_slice-txn.result (body_read c.args.plan.now (content c.plan.inside) c.as_slice.result.now c.args.txn c.index-as_slice-txn.result c.plan.view_is c.as_slice.ensures c.plan.invariant c.requires.known c.index-as_slice-txn.is) c.args.home c.requires.home c.requires.standing.0 c.requires.standing.1.sound c.requires.standing.3) c.in_ok-given.given
+          (c.in_ok-given.ensures.ok s (asked_at g.D.Disk c.args.plan.now c.args.self.now c.args.home (BeginEvent c.args.txn) (Begins c.args.txn c.index-as_slice-txn.result) c.index_mut.result.now c.index_mut.ensures.value (omega (arith, c.if-place-len.false, c.len.ensures)) s h (goes_begin c.args.plan.now (subst IsPlan c.plan.view_is c.plan.invariant) c.args.txn c.requires.known c.index-as_slice-txn.result (body_read c.args.plan.now (content c.plan.inside) c.as_slice.result.now c.args.txn c.index-as_slice-txn.result c.plan.view_is c.as_slice.ensures c.plan.invariant c.requires.known c.index-as_slice-txn.is) c.args.home c.requires.home c.requires.standing.0 c.requires.standing.1.sound c.requires.standing.3))).emitted;
     }
 
 pub returns-clause-ok : goal.returns-clause-ok
 returns-clause-ok g c =
-    taken_ok g.D.Disk.is_image g.D.Disk.faults c.args.plan.now c.args.self.now c.args.home (BeginEvent c.args.txn) (Begins c.args.txn c.index-as_slice-txn.result) c.index_mut.result.now c.index_mut.ensures.value (omega (arith, c.if-place-len.false, c.len.ensures)) g.D.Disk.strict g.D.Disk.armed g.D.Disk.content g.D.Disk.synced g.D.Disk.written c.begin.new.self c.in_ok-given.given c.in_ok-given.ensures.ok c.in_ok-given.ensures.strict
-    (λ s. begin_skip (cluster_of c.args.plan.now) s c.args.txn ≡ None) (λ s h p. goes_begin c.args.plan.now (subst IsPlan c.plan.view_is c.plan.invariant) c.args.txn c.requires.known c.index-as_slice-txn.result (body_read c.args.plan.now (content c.plan.inside) c.as_slice.result.now c.args.txn c.index-as_slice-txn.result c.plan.view_is c.as_slice.ensures c.plan.invariant c.requires.known c.index-as_slice-txn.is) c.args.home c.requires.home s h.sound p) c.enter_given.result _ refl (λ none. c.in_ok-given.ensures.cause (ap Ok none)) c.enter_given.ensures.ok
+    taken_ok g.D.Disk c.args.plan.now c.args.self.now c.args.home (BeginEvent c.args.txn) (Begins c.args.txn c.index-as_slice-txn.result) c.index_mut.result.now c.index_mut.ensures.value (omega (arith, c.if-place-len.false, c.len.ensures)) c.begin.new.self c.in_ok-given.given c.in_ok-given.ensures.ok c.in_ok-given.ensures.strict
+    (λ s. begin_skip (cluster_of c.args.plan.now) s c.args.txn ≡ None) (λ s h p. goes_begin c.args.plan.now (subst IsPlan c.plan.view_is c.plan.invariant) c.args.txn c.requires.known c.index-as_slice-txn.result (body_read c.args.plan.now (content c.plan.inside) c.as_slice.result.now c.args.txn c.index-as_slice-txn.result c.plan.view_is c.as_slice.ensures c.plan.invariant c.requires.known c.index-as_slice-txn.is) c.args.home c.requires.home s h.sound p) c.enter_given.result _ refl (λ none. c.in_ok-given.ensures.faults.cause (ap Ok none)) c.enter_given.ensures.ok
 
 pub returns-clause-limit : goal.returns-clause-limit
 returns-clause-limit g c =
-    taken_limit g.D.Disk.is_image g.D.Disk.faults c.args.plan.now c.args.self.now c.args.home (BeginEvent c.args.txn) (Begins c.args.txn c.index-as_slice-txn.result) c.index_mut.result.now c.index_mut.ensures.value (omega (arith, c.if-place-len.false, c.len.ensures)) g.D.Disk.strict g.D.Disk.armed g.D.Disk.content g.D.Disk.synced g.D.Disk.written c.begin.new.self c.in_ok-given.given c.in_ok-given.ensures.ok c.in_ok-given.ensures.strict
+    taken_limit g.D.Disk c.args.plan.now c.args.self.now c.args.home (BeginEvent c.args.txn) (Begins c.args.txn c.index-as_slice-txn.result) c.index_mut.result.now c.index_mut.ensures.value (omega (arith, c.if-place-len.false, c.len.ensures)) c.begin.new.self c.in_ok-given.given c.in_ok-given.ensures.ok c.in_ok-given.ensures.strict
     (λ s. begin_skip (cluster_of c.args.plan.now) s c.args.txn ≡ None) (λ s h p. goes_begin c.args.plan.now (subst IsPlan c.plan.view_is c.plan.invariant) c.args.txn c.requires.known c.index-as_slice-txn.result (body_read c.args.plan.now (content c.plan.inside) c.as_slice.result.now c.args.txn c.index-as_slice-txn.result c.plan.view_is c.as_slice.ensures c.plan.invariant c.requires.known c.index-as_slice-txn.is) c.args.home c.requires.home s h.sound p) c.enter_given.result c.enter_given.ensures.limit

@@ -20,7 +20,7 @@ use Rattle.acc_cluster.proofs.cluster.Cluster.deliver.Goals as goal
 
 pub returns-in_err-check_place-clause-limit : goal.returns-in_err-check_place-clause-limit
 returns-in_err-check_place-clause-limit g c =
-    full_refused g.D.Disk.is_image g.D.Disk.faults g.D.Disk.strict g.D.Disk.armed g.D.Disk.content g.D.Disk.synced g.D.Disk.written c.args.plan.now c.args.number c.args.self.now (λ s. deliver_skip s c.args.message)
+    full_refused g.D.Disk c.args.plan.now c.args.number c.args.self.now (λ s. deliver_skip s c.args.message)
     (λ s. receiver_in s c.args.message) (MessageEvent c.args.message) c.from_residual.result c.in_err-check_place.field-0.0 c.from_residual.ensures.1 c.in_err-check_place.ensures.limit
 
 pub returns-in_default-clause-ok : goal.returns-in_default-clause-ok
@@ -28,7 +28,7 @@ returns-in_default-clause-ok g c =
     on_ok _ _ c.pass_over.result
     (λ f s h.
     let some = nothing_sent c.args.plan.now s c.args.message c.sent-sent.result (c.sent-sent.ensures s h.past.stands) (sym (c.message.ensures s h.past.stands) ∙ ap option_copied c.in_default.is) in
-    subst (λ (skip : Option Skip). HasStepped g.D.Disk.is_image g.D.Disk.faults g.D.Disk.strict g.D.Disk.armed g.D.Disk.content g.D.Disk.synced g.D.Disk.written c.args.plan.now skip c.args.number (receiver_in s c.args.message) (MessageEvent c.args.message) c.args.self.now c.pass_over.new.self s) (sym some)
+    subst (λ (skip : Option Skip). HasStepped g.D.Disk c.args.plan.now skip c.args.number (receiver_in s c.args.message) (MessageEvent c.args.message) c.args.self.now c.pass_over.new.self s) (sym some)
     (f s (receiver_in s c.args.message) (MessageEvent c.args.message) h (c.in_ok-check_place.ensures.ok s h.past.stands)))
     c.pass_over.ensures.ok
 
@@ -40,7 +40,7 @@ returns-then-is_down-clause-ok g c =
     let to = c.to-actor.ensures ∙ sym (ap receiver found) in
     let down = sym (c.is_down.ensures s h.past.stands ∙ ap (λ (a : Actor). is_down a (whole s)) to) ∙ c.if-is_down.true in
     let some = deliver_skip_is (cluster_of c.args.plan.now) s c.args.message true true (less_is c.args.message (length (sent_of s.own)) (slice_get_within (sent_of s.own) c.args.message c.in-Some.m.now found)) down in
-    subst (λ (skip : Option Skip). HasStepped g.D.Disk.is_image g.D.Disk.faults g.D.Disk.strict g.D.Disk.armed g.D.Disk.content g.D.Disk.synced g.D.Disk.written c.args.plan.now skip c.args.number (receiver_in s c.args.message) (MessageEvent c.args.message) c.args.self.now c.pass_over-then-is_down.new.self s)
+    subst (λ (skip : Option Skip). HasStepped g.D.Disk c.args.plan.now skip c.args.number (receiver_in s c.args.message) (MessageEvent c.args.message) c.args.self.now c.pass_over-then-is_down.new.self s)
     (ap (λ (a : Actor). Some (Down a)) to ∙ sym some)
     (f s (receiver_in s c.args.message) (MessageEvent c.args.message) h (c.in_ok-check_place.ensures.ok s h.past.stands)))
     c.pass_over-then-is_down.ensures.ok
@@ -54,7 +54,7 @@ returns-clause-ok g c =
     let up = sym (c.is_down.ensures s h.past.stands ∙ ap (λ (a : Actor). is_down a (whole s)) to) ∙ c.if-is_down.false in
     let none : deliver_skip s c.args.message ≡ None =
     deliver_skip_is (cluster_of c.args.plan.now) s c.args.message true false (less_is c.args.message (length (sent_of s.own)) (slice_get_within (sent_of s.own) c.args.message c.in-Some.m.now found)) up in
-    subst (λ (skip : Option Skip). HasStepped g.D.Disk.is_image g.D.Disk.faults g.D.Disk.strict g.D.Disk.armed g.D.Disk.content g.D.Disk.synced g.D.Disk.written c.args.plan.now skip c.args.number (receiver_in s c.args.message) (MessageEvent c.args.message) c.args.self.now c.take.new.self s) (sym none)
+    subst (λ (skip : Option Skip). HasStepped g.D.Disk c.args.plan.now skip c.args.number (receiver_in s c.args.message) (MessageEvent c.args.message) c.args.self.now c.take.new.self s) (sym none)
     (f c.args.number s h (c.in_ok-check_place.ensures.ok s h.past.stands) none))
     c.take.ensures.ok
 
@@ -67,6 +67,6 @@ returns-clause-limit g c =
     let up = sym (c.is_down.ensures s h.past.stands ∙ ap (λ (a : Actor). is_down a (whole s)) to) ∙ c.if-is_down.false in
     let none : deliver_skip s c.args.message ≡ None =
     deliver_skip_is (cluster_of c.args.plan.now) s c.args.message true false (less_is c.args.message (length (sent_of s.own)) (slice_get_within (sent_of s.own) c.args.message c.in-Some.m.now found)) up in
-    subst (λ (skip : Option Skip). HitsLimit g.D.Disk.strict g.D.Disk.armed g.D.Disk.content g.D.Disk.synced g.D.Disk.written c.args.plan.now skip c.args.number (receiver_in s c.args.message) (MessageEvent c.args.message) c.args.self.now s which limit) (sym none)
+    subst (λ (skip : Option Skip). HitsLimit g.D.Disk c.args.plan.now skip c.args.number (receiver_in s c.args.message) (MessageEvent c.args.message) c.args.self.now s which limit) (sym none)
     (f c.args.number s h (c.in_ok-check_place.ensures.ok s h.past.stands) none))
     c.take.ensures.limit

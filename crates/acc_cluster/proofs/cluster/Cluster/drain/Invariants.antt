@@ -8,8 +8,8 @@ use Rattle.acc_cluster.proofs.cluster.Cluster.drain.Given as goal
 
 abbrev pub invariant-loop-message : goal.invariant-loop-message
 invariant-loop-message g l =
-    (s : Situation) → StandsFor g.D.Disk.is_image g.D.Disk.faults l.plan l.initial.self s
-    → HasCome g.D.Disk.is_image g.D.Disk.faults g.D.Disk.strict g.D.Disk.armed g.D.Disk.content g.D.Disk.synced g.D.Disk.written l.plan l.initial.self l.self s
+    (s : Situation) → StandsFor g.D.Disk l.plan l.initial.self s
+    → HasCome g.D.Disk l.plan l.initial.self l.self s
 
 abbrev pub decreases-loop-message : goal.decreases-loop-message
 decreases-loop-message g l = most_items - length l.self.history.items.items

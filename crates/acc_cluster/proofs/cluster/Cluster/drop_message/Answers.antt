@@ -9,11 +9,11 @@ use Rattle.acc_cluster.proofs.cluster.Cluster.drop_message.Goals as goal
 pub returns-then-message-sent-clause-ok : goal.returns-then-message-sent-clause-ok
 returns-then-message-sent-clause-ok g c = λ s h.
     let less = subst (λ n. c.args.message < n) (c.sent.ensures s h.past.stands) c.if-message-sent.true in
-    changed_dropped g.D.Disk.is_image g.D.Disk.faults g.D.Disk.strict g.D.Disk.armed g.D.Disk.content g.D.Disk.synced g.D.Disk.written c.args.plan.now c.args.number c.args.message c.args.self.now _ s h less (c.drop_message.ensures.stands s h.past.stands less) (c.drop_message.ensures.weighed s h.past.weighed) refl
+    changed_dropped g.D.Disk c.args.plan.now c.args.number c.args.message c.args.self.now _ s h less (c.drop_message.ensures.stands s h.past.stands less) (c.drop_message.ensures.weighed s h.past.weighed) refl
 
 pub returns-in_err-check_place-clause-limit : goal.returns-in_err-check_place-clause-limit
 returns-in_err-check_place-clause-limit g c =
-    drop_refused g.D.Disk.is_image g.D.Disk.faults c.args.plan.now c.args.number c.args.message c.sent.result c.args.self.now c.from_residual.result c.in_err-check_place.field-0.0 c.sent.ensures
+    drop_refused g.D.Disk c.args.plan.now c.args.number c.args.message c.sent.result c.args.self.now c.from_residual.result c.in_err-check_place.field-0.0 c.sent.ensures
     (omega (arith, c.if-message-sent.false)) c.from_residual.ensures.1 c.in_err-check_place.ensures.limit
 
 pub returns-clause-ok : goal.returns-clause-ok
@@ -21,7 +21,7 @@ returns-clause-ok g c =
     on_ok _ _ c.pass_over.result
     (λ f s h.
     let more = none_sent c.args.plan.now s c.args.message c.sent-sent.result (c.sent-sent.ensures s h.past.stands) (few_more c.sent.result c.sent-sent.result c.args.message (c.sent.ensures s h.past.stands) (c.sent-sent.ensures s h.past.stands) (omega (arith, c.if-message-sent.false))) in
-    changed_skipped g.D.Disk.is_image g.D.Disk.faults g.D.Disk.strict g.D.Disk.armed g.D.Disk.content g.D.Disk.synced g.D.Disk.written c.args.plan.now c.args.number c.args.message c.args.self.now c.pass_over.new.self s (NoMessage c.args.message c.sent-sent.result) (actor_of 0 0) (MessageEvent c.args.message) more
+    changed_skipped g.D.Disk c.args.plan.now c.args.number c.args.message c.args.self.now c.pass_over.new.self s (NoMessage c.args.message c.sent-sent.result) (actor_of 0 0) (MessageEvent c.args.message) more
     (f s (actor_of 0 0) (MessageEvent c.args.message) h (c.in_ok-check_place.ensures.ok s h.past.stands)))
     c.pass_over.ensures.ok
 

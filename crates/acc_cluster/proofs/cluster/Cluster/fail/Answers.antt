@@ -9,10 +9,10 @@ returns-clause-ok g c = λ s h. record {
   past = h.past;
   actors =
       armed_stands c.args.plan.now c.args.self.now _ c.args.actor c.index_mut.result.now c.arm.new.self c.index_mut.ensures.value (omega (arith, c.if-place-len.false, c.len.ensures)) c.requires refl s
-      g.D.Disk.is_image g.D.Disk.faults (c.arm.ensures.stands s) h;
+      g.D.Disk (c.arm.ensures.stands s) h;
 }
 
 pub returns-clause-strict : goal.returns-clause-strict
 returns-clause-strict g c = λ s disks h are.
     armed_strictly c.args.plan.now c.args.self.now _ c.args.actor c.index_mut.result.now c.arm.new.self c.index_mut.ensures.value (omega (arith, c.if-place-len.false, c.len.ensures)) c.requires refl s
-    g.D.Disk.strict g.D.Disk.armed g.D.Disk.content g.D.Disk.synced g.D.Disk.written disks c.args.calls (c.arm.ensures.strict s disks) are
+    g.D.Disk disks c.args.calls (c.arm.ensures.strict s disks) are

@@ -10,14 +10,12 @@ use Rattle.acc_cluster.proofs.cluster.Cluster.finish.Goals as goal
 pub returns : goal.returns
 returns g c = record {
   ok = λ plan s h.
-      let images = g.D.Disk.is_image in
-      let faults = g.D.Disk.faults in
       let slots = c.args.self.slots.items in
       let from = sym c.in_ok-disks_of.ensures.disks in record {
         items_are = c.into_items.ensures s h.past.stands;
-        disks_are = subst (λ (disks : List (Actor × g.row.D.Denot)). AreDisksOf plan disks) from (disks_are plan s h.sound images faults slots h.actors);
+        disks_are = subst (λ (disks : List (Actor × g.row.D.Denot)). AreDisksOf plan disks) from (disks_are plan s h.sound g.D.Disk slots h.actors);
         kept = λ alone.
-            subst (λ (disks : List (Actor × g.row.D.Denot)). AllByRecursion (λ (entry : Actor × g.row.D.Denot). Keeps plan.version entry.0 s.own (faults entry.1) (images entry.1)) disks) from
-            (disks_keep plan s h.sound images faults slots h.actors c.in_ok-disks_of.ensures.left alone);
+            subst (λ (disks : List (Actor × g.row.D.Denot)). AllByRecursion (λ (entry : Actor × g.row.D.Denot). Keeps plan.version entry.0 s.own (g.D.Disk.state entry.1).faults (g.D.Disk.is_image entry.1)) disks) from
+            (disks_keep plan s h.sound g.D.Disk slots h.actors c.in_ok-disks_of.ensures.left alone);
       };
 }

@@ -21,7 +21,7 @@ returns-clause-ok g c = λ earlier is.
         weighed = c.in_ok-history.ensures.weighed earlier;
         within = record { few = omega arith; light = omega arith };
       };
-      actors = filled_actors g.D.Disk.is_image g.D.Disk.faults c.args.plan.now c.args.nodes.items c.args.stores.items c.in_ok-slots.slots.items c.requires.actors filled earlier is;
+      actors = filled_actors g.D.Disk c.args.plan.now c.args.nodes.items c.args.stores.items c.in_ok-slots.slots.items c.requires.actors filled earlier is;
     }
 
 pub returns-clause-strict : goal.returns-clause-strict
@@ -31,5 +31,5 @@ returns-clause-strict g c = λ earlier is unarmed.
       stands = returns-clause-ok g c earlier is;
       strictly = λ a member.
           strictly unarmed earlier a
-          (taken_everywhere g.D.Disk.is_image g.D.Disk.faults c.args.plan.now c.args.nodes.items c.args.stores.items c.in_ok-slots.slots.items c.requires.actors filled a member);
+          (taken_everywhere g.D.Disk c.args.plan.now c.args.nodes.items c.args.stores.items c.in_ok-slots.slots.items c.requires.actors filled a member);
     }

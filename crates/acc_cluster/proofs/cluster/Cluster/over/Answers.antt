@@ -16,13 +16,13 @@ history_over-requires g c =
 
 pub returns-clause-ok : goal.returns-clause-ok
 returns-clause-ok g c = λ stopped over.
-    cluster_stands g.D.Disk.is_image g.D.Disk.faults c.args.plan.now c.args.slots.items c.in_ok-slots.slots.items c.in_ok-slots.ensures c.requires.actors c.args.items.items stopped over
+    cluster_stands g.D.Disk c.args.plan.now c.args.slots.items c.in_ok-slots.slots.items c.in_ok-slots.ensures c.requires.actors c.args.items.items stopped over
     _ refl (c.in_ok-history.ensures stopped)
 
 pub returns-clause-strict : goal.returns-clause-strict
 returns-clause-strict g c = λ stopped disks over strictly. record {
   stands = returns-clause-ok g c stopped over;
   strictly =
-      actors_strictly g.D.Disk.is_image g.D.Disk.faults c.args.plan.now c.args.slots.items c.in_ok-slots.slots.items c.in_ok-slots.ensures c.requires.actors c.args.items.items stopped over
-      g.D.Disk.strict g.D.Disk.armed g.D.Disk.content g.D.Disk.synced g.D.Disk.written disks strictly;
+      actors_strictly g.D.Disk c.args.plan.now c.args.slots.items c.in_ok-slots.slots.items c.in_ok-slots.ensures c.requires.actors c.args.items.items stopped over
+      disks strictly;
 }

@@ -6,5 +6,5 @@ use Rattle.acc_cluster.proofs.cluster.Cluster.pass_over.Goals as goal
 pub returns-clause-ok : goal.returns-clause-ok
 returns-clause-ok g c =
     on_ok _ _ c.enter_skip.result (λ enter s a event h place.
-    has_skipped g.D.Disk.is_image g.D.Disk.faults g.D.Disk.strict g.D.Disk.armed g.D.Disk.content g.D.Disk.synced g.D.Disk.written c.args.plan.now c.args.self.now _ s c.args.number a event h c.args.cause refl
+    has_skipped g.D.Disk c.args.plan.now c.args.self.now _ s c.args.number a event h c.args.cause refl
     (enter s h.past place)) c.enter_skip.ensures.ok

@@ -25,7 +25,7 @@ overflow_mul-actor g c =
 
 pub returns-in_err-check_place-clause-limit : goal.returns-in_err-check_place-clause-limit
 returns-in_err-check_place-clause-limit g c =
-    full_refused g.D.Disk.is_image g.D.Disk.faults g.D.Disk.strict g.D.Disk.armed g.D.Disk.content g.D.Disk.synced g.D.Disk.written c.args.plan.now c.args.number c.args.self.now (λ s. recover_skip s c.args.txn c.args.node)
+    full_refused g.D.Disk c.args.plan.now c.args.number c.args.self.now (λ s. recover_skip s c.args.txn c.args.node)
     (λ s. actor_of c.args.node 0) (RecoverEvent c.args.txn) c.from_residual.result c.in_err-check_place.field-0.0 c.from_residual.ensures.1 c.in_err-check_place.ensures.limit
 
 pub returns-in_default-clause-ok : goal.returns-in_default-clause-ok
@@ -35,7 +35,7 @@ returns-in_default-clause-ok g c =
     let down = sym (c.is_down.ensures s h.past.stands ∙ ap (λ (a : Actor). is_down a (whole s)) (at_is c.args.node)) ∙ c.if-is_down.false in
     let begun = unknown_not_begun (cluster_of c.args.plan.now) (whole s) c.args.txn h.sound.run.stands (sym (c.id_of.ensures s h.past.stands) ∙ c.in_default.is) in
     let some : recover_skip s c.args.txn c.args.node ≡ Some (Unknown c.args.txn) = recover_skip_is (cluster_of c.args.plan.now) s c.args.txn c.args.node false false down begun in
-    subst (λ (skip : Option Skip). HasStepped g.D.Disk.is_image g.D.Disk.faults g.D.Disk.strict g.D.Disk.armed g.D.Disk.content g.D.Disk.synced g.D.Disk.written c.args.plan.now skip c.args.number (actor_of c.args.node 0) (RecoverEvent c.args.txn) c.args.self.now c.pass_over-in_default.new.self s) (sym some)
+    subst (λ (skip : Option Skip). HasStepped g.D.Disk c.args.plan.now skip c.args.number (actor_of c.args.node 0) (RecoverEvent c.args.txn) c.args.self.now c.pass_over-in_default.new.self s) (sym some)
     (f s (actor_of c.args.node 0) (RecoverEvent c.args.txn) h (c.in_ok-check_place.ensures.ok s h.past.stands)))
     c.pass_over-in_default.ensures.ok
 
@@ -47,8 +47,8 @@ returns-clause-ok g c =
     let id = sym (c.id_of.ensures s h.past.stands) ∙ c.in-Some.is in
     let none : recover_skip s c.args.txn c.args.node ≡ None =
     recover_skip_is (cluster_of c.args.plan.now) s c.args.txn c.args.node false true (sym (ap (λ (a : Actor). is_down a (whole s)) (at_is c.args.node)) ∙ up) (id_was_begun (whole s) c.args.txn c.in-Some.id id) in
-    subst (λ (skip : Option Skip). HasStepped g.D.Disk.is_image g.D.Disk.faults g.D.Disk.strict g.D.Disk.armed g.D.Disk.content g.D.Disk.synced g.D.Disk.written c.args.plan.now skip c.args.number (actor_of c.args.node 0) (RecoverEvent c.args.txn) c.args.self.now c.recover_at.new.self s) (sym none)
-    (subst (λ (a : Actor). HasStepped g.D.Disk.is_image g.D.Disk.faults g.D.Disk.strict g.D.Disk.armed g.D.Disk.content g.D.Disk.synced g.D.Disk.written c.args.plan.now None c.args.number a (RecoverEvent c.args.txn) c.args.self.now c.recover_at.new.self s) (at_is c.args.node)
+    subst (λ (skip : Option Skip). HasStepped g.D.Disk c.args.plan.now skip c.args.number (actor_of c.args.node 0) (RecoverEvent c.args.txn) c.args.self.now c.recover_at.new.self s) (sym none)
+    (subst (λ (a : Actor). HasStepped g.D.Disk c.args.plan.now None c.args.number a (RecoverEvent c.args.txn) c.args.self.now c.recover_at.new.self s) (at_is c.args.node)
     (f c.args.number s h (c.in_ok-check_place.ensures.ok s h.past.stands) up id)))
     c.recover_at.ensures.ok
 
@@ -60,7 +60,7 @@ returns-clause-limit g c =
     let id = sym (c.id_of.ensures s h.past.stands) ∙ c.in-Some.is in
     let none : recover_skip s c.args.txn c.args.node ≡ None =
     recover_skip_is (cluster_of c.args.plan.now) s c.args.txn c.args.node false true (sym (ap (λ (a : Actor). is_down a (whole s)) (at_is c.args.node)) ∙ up) (id_was_begun (whole s) c.args.txn c.in-Some.id id) in
-    subst (λ (skip : Option Skip). HitsLimit g.D.Disk.strict g.D.Disk.armed g.D.Disk.content g.D.Disk.synced g.D.Disk.written c.args.plan.now skip c.args.number (actor_of c.args.node 0) (RecoverEvent c.args.txn) c.args.self.now s which limit) (sym none)
-    (subst (λ (a : Actor). HitsLimit g.D.Disk.strict g.D.Disk.armed g.D.Disk.content g.D.Disk.synced g.D.Disk.written c.args.plan.now None c.args.number a (RecoverEvent c.args.txn) c.args.self.now s which limit) (at_is c.args.node)
+    subst (λ (skip : Option Skip). HitsLimit g.D.Disk c.args.plan.now skip c.args.number (actor_of c.args.node 0) (RecoverEvent c.args.txn) c.args.self.now s which limit) (sym none)
+    (subst (λ (a : Actor). HitsLimit g.D.Disk c.args.plan.now None c.args.number a (RecoverEvent c.args.txn) c.args.self.now s which limit) (at_is c.args.node)
     (f c.args.number s h (c.in_ok-check_place.ensures.ok s h.past.stands) up id)))
     c.recover_at.ensures.limit

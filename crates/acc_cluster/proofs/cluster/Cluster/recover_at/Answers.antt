@@ -12,7 +12,7 @@ use Rattle.acc_cluster.proofs.cluster.Cluster.recover_at.Goals as goal
 pub recover-requires : goal.recover-requires
 recover-requires g c =
     let s : Situation = c.requires.standing.0 in
-    (s, asked_at g.D.Disk.is_image g.D.Disk.faults c.args.plan.now c.args.self.now c.args.actor (RecoverEvent c.args.txn) (Recovers c.args.id c.index-as_slice-txn.result) c.index_mut.result.now c.index_mut.ensures.value (omega (arith, c.if-place-len.false, c.len.ensures)) s c.requires.standing.1 (goes_recover c.args.plan.now c.args.txn c.args.id c.index-as_slice-txn.result (body_read c.args.plan.now (content c.plan.inside) c.as_slice.result.now c.args.txn c.index-as_slice-txn.result c.plan.view_is c.as_slice.ensures c.plan.invariant c.requires.known c.index-as_slice-txn.is) c.args.actor c.requires.node c.requires.standing.0 c.requires.standing.3 c.requires.standing.4))
+    (s, asked_at g.D.Disk c.args.plan.now c.args.self.now c.args.actor (RecoverEvent c.args.txn) (Recovers c.args.id c.index-as_slice-txn.result) c.index_mut.result.now c.index_mut.ensures.value (omega (arith, c.if-place-len.false, c.len.ensures)) s c.requires.standing.1 (goes_recover c.args.plan.now c.args.txn c.args.id c.index-as_slice-txn.result (body_read c.args.plan.now (content c.plan.inside) c.as_slice.result.now c.args.txn c.index-as_slice-txn.result c.plan.view_is c.as_slice.ensures c.plan.invariant c.requires.known c.index-as_slice-txn.is) c.args.actor c.requires.node c.requires.standing.0 c.requires.standing.3 c.requires.standing.4))
 
 pub enter_given-requires : goal.enter_given-requires
 enter_given-requires g c =
@@ -20,16 +20,16 @@ enter_given-requires g c =
     let h = c.requires.standing.1 in
     record {
       sendable =
-          sendable_at g.D.Disk.is_image g.D.Disk.faults c.args.plan.now c.args.self.now c.args.actor (RecoverEvent c.args.txn) (Recovers c.args.id c.index-as_slice-txn.result) c.index_mut.result.now c.index_mut.ensures.value (omega (arith, c.if-place-len.false, c.len.ensures)) s h (goes_recover c.args.plan.now c.args.txn c.args.id c.index-as_slice-txn.result (body_read c.args.plan.now (content c.plan.inside) c.as_slice.result.now c.args.txn c.index-as_slice-txn.result c.plan.view_is c.as_slice.ensures c.plan.invariant c.requires.known c.index-as_slice-txn.is) c.args.actor c.requires.node c.requires.standing.0 c.requires.standing.3 c.requires.standing.4) c.in_ok-given.given
-          (c.in_ok-given.ensures.ok s (asked_at g.D.Disk.is_image g.D.Disk.faults c.args.plan.now c.args.self.now c.args.actor (RecoverEvent c.args.txn) (Recovers c.args.id c.index-as_slice-txn.result) c.index_mut.result.now c.index_mut.ensures.value (omega (arith, c.if-place-len.false, c.len.ensures)) s h (goes_recover c.args.plan.now c.args.txn c.args.id c.index-as_slice-txn.result (body_read c.args.plan.now (content c.plan.inside) c.as_slice.result.now c.args.txn c.index-as_slice-txn.result c.plan.view_is c.as_slice.ensures c.plan.invariant c.requires.known c.index-as_slice-txn.is) c.args.actor c.requires.node c.requires.standing.0 c.requires.standing.3 c.requires.standing.4))).emitted;
+          sendable_at g.D.Disk c.args.plan.now c.args.self.now c.args.actor (RecoverEvent c.args.txn) (Recovers c.args.id c.index-as_slice-txn.result) c.index_mut.result.now c.index_mut.ensures.value (omega (arith, c.if-place-len.false, c.len.ensures)) s h (goes_recover c.args.plan.now c.args.txn c.args.id c.index-as_slice-txn.result (body_read c.args.plan.now (content c.plan.inside) c.as_slice.result.now c.args.txn c.index-as_slice-txn.result c.plan.view_is c.as_slice.ensures c.plan.invariant c.requires.known c.index-as_slice-txn.is) c.args.actor c.requires.node c.requires.standing.0 c.requires.standing.3 c.requires.standing.4) c.in_ok-given.given
+          (c.in_ok-given.ensures.ok s (asked_at g.D.Disk c.args.plan.now c.args.self.now c.args.actor (RecoverEvent c.args.txn) (Recovers c.args.id c.index-as_slice-txn.result) c.index_mut.result.now c.index_mut.ensures.value (omega (arith, c.if-place-len.false, c.len.ensures)) s h (goes_recover c.args.plan.now c.args.txn c.args.id c.index-as_slice-txn.result (body_read c.args.plan.now (content c.plan.inside) c.as_slice.result.now c.args.txn c.index-as_slice-txn.result c.plan.view_is c.as_slice.ensures c.plan.invariant c.requires.known c.index-as_slice-txn.is) c.args.actor c.requires.node c.requires.standing.0 c.requires.standing.3 c.requires.standing.4))).emitted;
     }
 
 pub returns-clause-ok : goal.returns-clause-ok
 returns-clause-ok g c =
-    on_ok _ _ c.enter_given.result (λ f number s h place down is. f number s h place (down, is)) (taken_ok g.D.Disk.is_image g.D.Disk.faults c.args.plan.now c.args.self.now c.args.actor (RecoverEvent c.args.txn) (Recovers c.args.id c.index-as_slice-txn.result) c.index_mut.result.now c.index_mut.ensures.value (omega (arith, c.if-place-len.false, c.len.ensures)) g.D.Disk.strict g.D.Disk.armed g.D.Disk.content g.D.Disk.synced g.D.Disk.written c.recover.new.self c.in_ok-given.given c.in_ok-given.ensures.ok c.in_ok-given.ensures.strict
-    (λ s. (is_down c.args.actor (whole s) ≡ false) × (id_of_txn (whole s) c.args.txn ≡ Some c.args.id)) (λ s h p. goes_recover c.args.plan.now c.args.txn c.args.id c.index-as_slice-txn.result (body_read c.args.plan.now (content c.plan.inside) c.as_slice.result.now c.args.txn c.index-as_slice-txn.result c.plan.view_is c.as_slice.ensures c.plan.invariant c.requires.known c.index-as_slice-txn.is) c.args.actor c.requires.node s p.0 p.1) c.enter_given.result _ refl (λ none. c.in_ok-given.ensures.cause (ap Ok none)) c.enter_given.ensures.ok)
+    on_ok _ _ c.enter_given.result (λ f number s h place down is. f number s h place (down, is)) (taken_ok g.D.Disk c.args.plan.now c.args.self.now c.args.actor (RecoverEvent c.args.txn) (Recovers c.args.id c.index-as_slice-txn.result) c.index_mut.result.now c.index_mut.ensures.value (omega (arith, c.if-place-len.false, c.len.ensures)) c.recover.new.self c.in_ok-given.given c.in_ok-given.ensures.ok c.in_ok-given.ensures.strict
+    (λ s. (is_down c.args.actor (whole s) ≡ false) × (id_of_txn (whole s) c.args.txn ≡ Some c.args.id)) (λ s h p. goes_recover c.args.plan.now c.args.txn c.args.id c.index-as_slice-txn.result (body_read c.args.plan.now (content c.plan.inside) c.as_slice.result.now c.args.txn c.index-as_slice-txn.result c.plan.view_is c.as_slice.ensures c.plan.invariant c.requires.known c.index-as_slice-txn.is) c.args.actor c.requires.node s p.0 p.1) c.enter_given.result _ refl (λ none. c.in_ok-given.ensures.faults.cause (ap Ok none)) c.enter_given.ensures.ok)
 
 pub returns-clause-limit : goal.returns-clause-limit
 returns-clause-limit g c =
-    if_limit _ _ c.enter_given.result (λ which limit f number s h place down is. f number s h place (down, is)) (taken_limit g.D.Disk.is_image g.D.Disk.faults c.args.plan.now c.args.self.now c.args.actor (RecoverEvent c.args.txn) (Recovers c.args.id c.index-as_slice-txn.result) c.index_mut.result.now c.index_mut.ensures.value (omega (arith, c.if-place-len.false, c.len.ensures)) g.D.Disk.strict g.D.Disk.armed g.D.Disk.content g.D.Disk.synced g.D.Disk.written c.recover.new.self c.in_ok-given.given c.in_ok-given.ensures.ok c.in_ok-given.ensures.strict
+    if_limit _ _ c.enter_given.result (λ which limit f number s h place down is. f number s h place (down, is)) (taken_limit g.D.Disk c.args.plan.now c.args.self.now c.args.actor (RecoverEvent c.args.txn) (Recovers c.args.id c.index-as_slice-txn.result) c.index_mut.result.now c.index_mut.ensures.value (omega (arith, c.if-place-len.false, c.len.ensures)) c.recover.new.self c.in_ok-given.given c.in_ok-given.ensures.ok c.in_ok-given.ensures.strict
     (λ s. (is_down c.args.actor (whole s) ≡ false) × (id_of_txn (whole s) c.args.txn ≡ Some c.args.id)) (λ s h p. goes_recover c.args.plan.now c.args.txn c.args.id c.index-as_slice-txn.result (body_read c.args.plan.now (content c.plan.inside) c.as_slice.result.now c.args.txn c.index-as_slice-txn.result c.plan.view_is c.as_slice.ensures c.plan.invariant c.requires.known c.index-as_slice-txn.is) c.args.actor c.requires.node s p.0 p.1) c.enter_given.result c.enter_given.ensures.limit)

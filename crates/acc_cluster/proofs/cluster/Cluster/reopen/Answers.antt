@@ -7,8 +7,8 @@ use Rattle.acc_cluster.proofs.cluster.Cluster.reopen.Goals as goal
 pub returns-clause-ok : goal.returns-clause-ok
 returns-clause-ok g c =
     let within : c.args.actor.0 < length c.args.self.now.slots.items = omega (arith, c.if-place-len.false, c.len.ensures) in
-    slot_reopened g.D.Disk.is_image g.D.Disk.faults g.D.Disk.strict g.D.Disk.armed g.D.Disk.content g.D.Disk.synced g.D.Disk.written
+    slot_reopened g.D.Disk
     c.args.plan.now c.args.actor c.args.choice c.args.self.now c.requires.known c.replace-slot.new.dest c.replace-slot.result c.restart-slot.result.0 c.restart-slot.result.1
     within c.replace-slot.ensures.after
     (c.replace-slot.ensures.value ∙ get_or_read c.args.self.now.slots.items c.args.actor.0 _ within c.index_mut.ensures.value Empty)
-    c.restart-slot.ensures.ok c.restart-slot.ensures.strict c.restart-slot.ensures.cause
+    c.restart-slot.ensures.ok c.restart-slot.ensures.strict c.restart-slot.ensures.faults.cause

@@ -10,7 +10,7 @@ use Rattle.acc_cluster.proofs.cluster.Cluster.slow_at.Goals as goal
 pub slow-requires : goal.slow-requires
 slow-requires g c = (
   c.requires.standing.0,
-  home_up g.D.Disk.is_image g.D.Disk.faults g.D.Disk.strict g.D.Disk.armed g.D.Disk.content g.D.Disk.synced g.D.Disk.written c.args.plan.now c.args.self.now c.args.home c.args.txn
+  home_up g.D.Disk c.args.plan.now c.args.self.now c.args.home c.args.txn
       c.index_mut.result.now c.index_mut.ensures.value (omega (arith, c.if-place-len.false, c.len.ensures))
       (home_of_plan c.args.plan.now (subst IsPlan c.plan.view_is c.plan.invariant) c.args.txn c.requires.known c.args.home c.requires.home)
       c.requires.standing.0 c.requires.standing.1 c.requires.standing.3,
@@ -20,7 +20,7 @@ pub enter_given-requires : goal.enter_given-requires
 enter_given-requires g c =
     record {
       sendable =
-          slowed_sendable g.D.Disk.is_image g.D.Disk.faults g.D.Disk.strict g.D.Disk.armed g.D.Disk.content g.D.Disk.synced g.D.Disk.written c.args.plan.now c.args.self.now c.args.home c.args.txn
+          slowed_sendable g.D.Disk c.args.plan.now c.args.self.now c.args.home c.args.txn
           c.index_mut.result.now c.index_mut.ensures.value (omega (arith, c.if-place-len.false, c.len.ensures))
           (home_of_plan c.args.plan.now (subst IsPlan c.plan.view_is c.plan.invariant) c.args.txn c.requires.known c.args.home c.requires.home)
           c.slow.new.self c.in-Ok.emitted c.in-Ok.ensures.ok c.requires.standing.0 c.requires.standing.1 c.requires.standing.3;
@@ -28,21 +28,21 @@ enter_given-requires g c =
 
 pub returns-in-Ok-clause-ok : goal.returns-in-Ok-clause-ok
 returns-in-Ok-clause-ok g c =
-    slowed_ok g.D.Disk.is_image g.D.Disk.faults g.D.Disk.strict g.D.Disk.armed g.D.Disk.content g.D.Disk.synced g.D.Disk.written c.args.plan.now c.args.self.now c.args.home c.args.txn
+    slowed_ok g.D.Disk c.args.plan.now c.args.self.now c.args.home c.args.txn
     c.index_mut.result.now c.index_mut.ensures.value (omega (arith, c.if-place-len.false, c.len.ensures))
     (home_of_plan c.args.plan.now (subst IsPlan c.plan.view_is c.plan.invariant) c.args.txn c.requires.known c.args.home c.requires.home)
     c.slow.new.self c.args.number c.enter_given.result c.in-Ok.emitted c.in-Ok.ensures.ok _ refl c.in-Ok.ensures.strict c.enter_given.ensures.ok
 
 pub returns-in-Ok-clause-limit : goal.returns-in-Ok-clause-limit
 returns-in-Ok-clause-limit g c =
-    slowed_limit g.D.Disk.is_image g.D.Disk.faults g.D.Disk.strict g.D.Disk.armed g.D.Disk.content g.D.Disk.synced g.D.Disk.written c.args.plan.now c.args.self.now c.args.home c.args.txn
+    slowed_limit g.D.Disk c.args.plan.now c.args.self.now c.args.home c.args.txn
     c.index_mut.result.now c.index_mut.ensures.value (omega (arith, c.if-place-len.false, c.len.ensures))
     (home_of_plan c.args.plan.now (subst IsPlan c.plan.view_is c.plan.invariant) c.args.txn c.requires.known c.args.home c.requires.home)
     c.slow.new.self c.args.number c.enter_given.result c.in-Ok.emitted c.in-Ok.ensures.ok c.enter_given.ensures.limit
 
 pub returns-in-Err-Unknown-clause-ok : goal.returns-in-Err-Unknown-clause-ok
 returns-in-Err-Unknown-clause-ok g c =
-    refused_ok g.D.Disk.is_image g.D.Disk.faults g.D.Disk.strict g.D.Disk.armed g.D.Disk.content g.D.Disk.synced g.D.Disk.written c.args.plan.now c.args.self.now c.args.home c.args.txn
+    refused_ok g.D.Disk c.args.plan.now c.args.self.now c.args.home c.args.txn
     c.index_mut.result.now c.index_mut.ensures.value (omega (arith, c.if-place-len.false, c.len.ensures))
     (home_of_plan c.args.plan.now (subst IsPlan c.plan.view_is c.plan.invariant) c.args.txn c.requires.known c.args.home c.requires.home)
     c.slow.new.self c.args.number c.pass_over.result
@@ -53,7 +53,7 @@ returns-in-Err-Unknown-clause-ok g c =
 
 pub returns-in-Err-Unknown-clause-limit : goal.returns-in-Err-Unknown-clause-limit
 returns-in-Err-Unknown-clause-limit g c =
-    refused_limit g.D.Disk.is_image g.D.Disk.faults g.D.Disk.strict g.D.Disk.armed g.D.Disk.content g.D.Disk.synced g.D.Disk.written c.args.plan.now c.args.self.now c.args.home c.args.txn
+    refused_limit g.D.Disk c.args.plan.now c.args.self.now c.args.home c.args.txn
     c.index_mut.result.now c.index_mut.ensures.value (omega (arith, c.if-place-len.false, c.len.ensures))
     (home_of_plan c.args.plan.now (subst IsPlan c.plan.view_is c.plan.invariant) c.args.txn c.requires.known c.args.home c.requires.home)
     c.slow.new.self c.args.number c.pass_over.result
@@ -64,7 +64,7 @@ returns-in-Err-Unknown-clause-limit g c =
 
 pub returns-in-Err-NoQuorum-clause-ok : goal.returns-in-Err-NoQuorum-clause-ok
 returns-in-Err-NoQuorum-clause-ok g c =
-    refused_ok g.D.Disk.is_image g.D.Disk.faults g.D.Disk.strict g.D.Disk.armed g.D.Disk.content g.D.Disk.synced g.D.Disk.written c.args.plan.now c.args.self.now c.args.home c.args.txn
+    refused_ok g.D.Disk c.args.plan.now c.args.self.now c.args.home c.args.txn
     c.index_mut.result.now c.index_mut.ensures.value (omega (arith, c.if-place-len.false, c.len.ensures))
     (home_of_plan c.args.plan.now (subst IsPlan c.plan.view_is c.plan.invariant) c.args.txn c.requires.known c.args.home c.requires.home)
     c.slow.new.self c.args.number c.pass_over-in-Err-NoQuorum.result
@@ -75,7 +75,7 @@ returns-in-Err-NoQuorum-clause-ok g c =
 
 pub returns-in-Err-NoQuorum-clause-limit : goal.returns-in-Err-NoQuorum-clause-limit
 returns-in-Err-NoQuorum-clause-limit g c =
-    refused_limit g.D.Disk.is_image g.D.Disk.faults g.D.Disk.strict g.D.Disk.armed g.D.Disk.content g.D.Disk.synced g.D.Disk.written c.args.plan.now c.args.self.now c.args.home c.args.txn
+    refused_limit g.D.Disk c.args.plan.now c.args.self.now c.args.home c.args.txn
     c.index_mut.result.now c.index_mut.ensures.value (omega (arith, c.if-place-len.false, c.len.ensures))
     (home_of_plan c.args.plan.now (subst IsPlan c.plan.view_is c.plan.invariant) c.args.txn c.requires.known c.args.home c.requires.home)
     c.slow.new.self c.args.number c.pass_over-in-Err-NoQuorum.result

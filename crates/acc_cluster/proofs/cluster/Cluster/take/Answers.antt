@@ -2,6 +2,7 @@ use Rattle.std.proofs.Common.{◌≡◌, None, Ok, refl, sym, ◌∙◌, ap, sub
 use Rattle.std.specs.Option.{option_copied}
 use Rattle.std.specs.Vec.{with_item}
 use Rattle.acc_cluster.specs.declared.cluster.Cluster.{Cluster}
+use Rattle.acc_base.specs.declared.memory.OutOfMemory.{OutOfMemory as NoMemory}
 use Rattle.acc_stamp.specs.declared.actors.Actor.{Actor}
 use Rattle.acc_message.specs.declared.entry.Event.TheVariants.{Message as MessageEvent}
 use Rattle.acc_message.specs.NodeRules.{Takes}
@@ -9,6 +10,7 @@ use Rattle.acc_run_laws.specs.Asks.{receiver}
 use Rattle.acc_schedule_runs.specs.Situations.{Situation}
 use Rattle.acc_schedule_runs.specs.Moves.{deliver_skip}
 use Rattle.acc_cluster.specs.Tried.{HasStepped, HitsLimit}
+use Rattle.acc_actors.proofs.Few.{steps_up}
 use Rattle.acc_cluster.proofs.Going.{goes_take}
 use Rattle.acc_cluster.proofs.Taken.{on_ok, if_limit, asked_at, sendable_at, taken_counted, taken_ok, taken_limit}
 use Rattle.acc_cluster.proofs.cluster.Cluster.take.Goals as goal
@@ -17,7 +19,7 @@ pub take-requires : goal.take-requires
 take-requires g c =
     let s : Situation = c.requires.standing.0 in
     let h = c.requires.standing.1 in
-    (s, asked_at g.D.Disk.is_image g.D.Disk.faults c.args.plan.now c.args.self.now c.to-actor.result (MessageEvent c.args.message) (Takes c.in-Some.m.now) c.index_mut.result.now c.index_mut.ensures.value (omega (arith, c.if-place-len.false, c.len.ensures)) s h (goes_take c.args.plan.now c.args.message c.in-Some.m.now c.to-actor.result c.to-actor.ensures s h.sound (sym (c.message.ensures s h.past.stands) ∙ ap option_copied c.in-Some.is) c.requires.standing.3))
+    (s, asked_at g.D.Disk c.args.plan.now c.args.self.now c.to-actor.result (MessageEvent c.args.message) (Takes c.in-Some.m.now) c.index_mut.result.now c.index_mut.ensures.value (omega (arith, c.if-place-len.false, c.len.ensures)) s h (goes_take c.args.plan.now c.args.message c.in-Some.m.now c.to-actor.result c.to-actor.ensures s h.sound (sym (c.message.ensures s h.past.stands) ∙ ap option_copied c.in-Some.is) c.requires.standing.3))
 
 pub enter_given-requires : goal.enter_given-requires
 enter_given-requires g c =
@@ -25,8 +27,8 @@ enter_given-requires g c =
     let h = c.requires.standing.1 in
     record {
       sendable =
-          sendable_at g.D.Disk.is_image g.D.Disk.faults c.args.plan.now c.args.self.now c.to-actor.result (MessageEvent c.args.message) (Takes c.in-Some.m.now) c.index_mut.result.now c.index_mut.ensures.value (omega (arith, c.if-place-len.false, c.len.ensures)) s h (goes_take c.args.plan.now c.args.message c.in-Some.m.now c.to-actor.result c.to-actor.ensures s h.sound (sym (c.message.ensures s h.past.stands) ∙ ap option_copied c.in-Some.is) c.requires.standing.3) c.in_ok-given.given
-          (c.in_ok-given.ensures.ok s (asked_at g.D.Disk.is_image g.D.Disk.faults c.args.plan.now c.args.self.now c.to-actor.result (MessageEvent c.args.message) (Takes c.in-Some.m.now) c.index_mut.result.now c.index_mut.ensures.value (omega (arith, c.if-place-len.false, c.len.ensures)) s h (goes_take c.args.plan.now c.args.message c.in-Some.m.now c.to-actor.result c.to-actor.ensures s h.sound (sym (c.message.ensures s h.past.stands) ∙ ap option_copied c.in-Some.is) c.requires.standing.3))).emitted;
+          sendable_at g.D.Disk c.args.plan.now c.args.self.now c.to-actor.result (MessageEvent c.args.message) (Takes c.in-Some.m.now) c.index_mut.result.now c.index_mut.ensures.value (omega (arith, c.if-place-len.false, c.len.ensures)) s h (goes_take c.args.plan.now c.args.message c.in-Some.m.now c.to-actor.result c.to-actor.ensures s h.sound (sym (c.message.ensures s h.past.stands) ∙ ap option_copied c.in-Some.is) c.requires.standing.3) c.in_ok-given.given
+          (c.in_ok-given.ensures.ok s (asked_at g.D.Disk c.args.plan.now c.args.self.now c.to-actor.result (MessageEvent c.args.message) (Takes c.in-Some.m.now) c.index_mut.result.now c.index_mut.ensures.value (omega (arith, c.if-place-len.false, c.len.ensures)) s h (goes_take c.args.plan.now c.args.message c.in-Some.m.now c.to-actor.result c.to-actor.ensures s h.sound (sym (c.message.ensures s h.past.stands) ∙ ap option_copied c.in-Some.is) c.requires.standing.3))).emitted;
     }
 
 pub returns-clause-ok : goal.returns-clause-ok
@@ -35,20 +37,20 @@ returns-clause-ok g c =
     record { alloc = c.args.self.now.alloc; history = c.enter_given.new.history; slots = with_item c.args.self.now.slots c.to-actor.result.0 c.take.new.self } in
     on_ok _ _ c.enter_given.result
     (λ f number s h place none.
-    subst (λ (a : Actor). HasStepped g.D.Disk.is_image g.D.Disk.faults g.D.Disk.strict g.D.Disk.armed g.D.Disk.content g.D.Disk.synced g.D.Disk.written c.args.plan.now None number a (MessageEvent c.args.message) c.args.self.now new s)
+    subst (λ (a : Actor). HasStepped g.D.Disk c.args.plan.now None number a (MessageEvent c.args.message) c.args.self.now new s)
     (c.to-actor.ensures ∙ sym (ap receiver (sym (c.message.ensures s h.past.stands) ∙ ap option_copied c.in-Some.is))) (f number s h place none))
-    (taken_ok g.D.Disk.is_image g.D.Disk.faults c.args.plan.now c.args.self.now c.to-actor.result (MessageEvent c.args.message) (Takes c.in-Some.m.now) c.index_mut.result.now c.index_mut.ensures.value (omega (arith, c.if-place-len.false, c.len.ensures)) g.D.Disk.strict g.D.Disk.armed g.D.Disk.content g.D.Disk.synced g.D.Disk.written c.take.new.self c.in_ok-given.given c.in_ok-given.ensures.ok c.in_ok-given.ensures.strict
-    (λ s. deliver_skip s c.args.message ≡ None) (λ s h p. goes_take c.args.plan.now c.args.message c.in-Some.m.now c.to-actor.result c.to-actor.ensures s h.sound (sym (c.message.ensures s h.past.stands) ∙ ap option_copied c.in-Some.is) p) c.enter_given.result new refl (λ none. c.in_ok-given.ensures.cause (ap Ok none)) c.enter_given.ensures.ok)
+    (taken_ok g.D.Disk c.args.plan.now c.args.self.now c.to-actor.result (MessageEvent c.args.message) (Takes c.in-Some.m.now) c.index_mut.result.now c.index_mut.ensures.value (omega (arith, c.if-place-len.false, c.len.ensures)) c.take.new.self c.in_ok-given.given c.in_ok-given.ensures.ok c.in_ok-given.ensures.strict
+    (λ s. deliver_skip s c.args.message ≡ None) (λ s h p. goes_take c.args.plan.now c.args.message c.in-Some.m.now c.to-actor.result c.to-actor.ensures s h.sound (sym (c.message.ensures s h.past.stands) ∙ ap option_copied c.in-Some.is) p) c.enter_given.result new refl (λ none. c.in_ok-given.ensures.faults.cause (ap Ok none)) c.enter_given.ensures.ok)
 
 pub returns-clause-limit : goal.returns-clause-limit
 returns-clause-limit g c =
     if_limit _ _ c.enter_given.result
     (λ which limit f number s h place none.
-    subst (λ (a : Actor). HitsLimit g.D.Disk.strict g.D.Disk.armed g.D.Disk.content g.D.Disk.synced g.D.Disk.written c.args.plan.now None number a (MessageEvent c.args.message) c.args.self.now s which limit)
+    subst (λ (a : Actor). HitsLimit g.D.Disk c.args.plan.now None number a (MessageEvent c.args.message) c.args.self.now s which limit)
     (c.to-actor.ensures ∙ sym (ap receiver (sym (c.message.ensures s h.past.stands) ∙ ap option_copied c.in-Some.is))) (f number s h place none))
-    (taken_limit g.D.Disk.is_image g.D.Disk.faults c.args.plan.now c.args.self.now c.to-actor.result (MessageEvent c.args.message) (Takes c.in-Some.m.now) c.index_mut.result.now c.index_mut.ensures.value (omega (arith, c.if-place-len.false, c.len.ensures)) g.D.Disk.strict g.D.Disk.armed g.D.Disk.content g.D.Disk.synced g.D.Disk.written c.take.new.self c.in_ok-given.given c.in_ok-given.ensures.ok c.in_ok-given.ensures.strict
+    (taken_limit g.D.Disk c.args.plan.now c.args.self.now c.to-actor.result (MessageEvent c.args.message) (Takes c.in-Some.m.now) c.index_mut.result.now c.index_mut.ensures.value (omega (arith, c.if-place-len.false, c.len.ensures)) c.take.new.self c.in_ok-given.given c.in_ok-given.ensures.ok c.in_ok-given.ensures.strict
     (λ s. deliver_skip s c.args.message ≡ None) (λ s h p. goes_take c.args.plan.now c.args.message c.in-Some.m.now c.to-actor.result c.to-actor.ensures s h.sound (sym (c.message.ensures s h.past.stands) ∙ ap option_copied c.in-Some.is) p) c.enter_given.result c.enter_given.ensures.limit)
 
 pub returns-clause-counted : goal.returns-clause-counted
 returns-clause-counted g c =
-    on_ok _ _ c.enter_given.result (λ any a known. taken_counted g.D.Disk.is_image g.D.Disk.faults c.args.plan.now c.args.self.now c.to-actor.result (MessageEvent c.args.message) (Takes c.in-Some.m.now) c.index_mut.result.now c.index_mut.ensures.value (omega (arith, c.if-place-len.false, c.len.ensures)) _ c.take.new.self refl c.in_ok-given.ensures.counted a) c.enter_given.ensures.ok
+    on_ok _ _ c.enter_given.result (λ any a known. taken_counted g.D.Disk c.args.plan.now c.args.self.now c.to-actor.result (MessageEvent c.args.message) (Takes c.in-Some.m.now) c.index_mut.result.now c.index_mut.ensures.value (omega (arith, c.if-place-len.false, c.len.ensures)) _ c.take.new.self refl (steps_up {E = NoMemory} (Ok c.in_ok-given.given) _ _ c.in_ok-given.ensures.faults) a) c.enter_given.ensures.ok

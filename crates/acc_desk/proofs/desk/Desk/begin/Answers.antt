@@ -9,5 +9,5 @@ use Rattle.acc_desk.proofs.desk.Desk.begin.Goals as goal
 pub take-requires-clause-may : goal.take-requires-clause-may
 take-requires-clause-may g c =
     let self = c.args.self.now in
-    may_begin g.D.Disk.is_image g.D.Disk.faults g.D.Disk.strict g.D.Disk.armed g.D.Disk.content g.D.Disk.synced g.D.Disk.written g.J.Planned.strict c.args.plan.now self.actor (newest self.seat) self.slot self.commands self.gone c.requires.desk.all c.requires.desk.at c.requires.up c.args.txn c.requires.next
+    may_begin g.D.Disk g.J.Planned.strict c.args.plan.now self.actor (newest self.seat) self.slot self.commands self.gone c.requires.desk.all c.requires.desk.at c.requires.up c.args.txn c.requires.next
     c.in-Some.home (sym c.home_of.ensures ∙ c.in-Some.is) c.in-Some-body_of.body.now (sym c.body_of.ensures ∙ ap option_copied c.in-Some-body_of.is) (ap (λ (l : List Step). list_any (begins_it c.args.txn) (take c.args.self.now.gone l)) (sym c.as_slice.ensures) ∙ sym c.has_begun.ensures ∙ c.if-has_begun.false)

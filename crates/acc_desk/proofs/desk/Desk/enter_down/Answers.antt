@@ -30,16 +30,16 @@ pub put-requires-clause-item : goal.put-requires-clause-item
 put-requires-clause-item g c =
     let self = c.args.self.now in
     let q = c.requires.group in (
-      down_own g.D.Disk.is_image g.D.Disk.faults g.D.Disk.strict g.D.Disk.armed g.D.Disk.content g.D.Disk.synced g.D.Disk.written g.J.Planned.strict c.args.plan.now c.args.tape.now c.requires.limits self.actor self.commands self.gone q.0 self.slot q.1 c.args.hold self.seat q.2,
-      down_short g.D.Disk.is_image g.D.Disk.faults g.D.Disk.strict g.D.Disk.armed g.D.Disk.content g.D.Disk.synced g.D.Disk.written g.J.Planned.strict c.args.plan.now c.args.tape.now c.requires.limits self.actor self.commands self.gone q.0 self.slot q.1 c.args.hold self.seat q.2,
-      down_weighs g.D.Disk.is_image g.D.Disk.faults g.D.Disk.strict g.D.Disk.armed g.D.Disk.content g.D.Disk.synced g.D.Disk.written g.J.Planned.strict c.args.plan.now c.args.tape.now c.requires.limits self.actor self.commands self.gone q.0 self.slot q.1 c.args.hold self.seat q.2,
+      down_own g.D.Disk g.J.Planned.strict c.args.plan.now c.args.tape.now c.requires.limits self.actor self.commands self.gone q.0 self.slot q.1 c.args.hold self.seat q.2,
+      down_short g.D.Disk g.J.Planned.strict c.args.plan.now c.args.tape.now c.requires.limits self.actor self.commands self.gone q.0 self.slot q.1 c.args.hold self.seat q.2,
+      down_weighs g.D.Disk g.J.Planned.strict c.args.plan.now c.args.tape.now c.requires.limits self.actor self.commands self.gone q.0 self.slot q.1 c.args.hold self.seat q.2,
     )
 
 pub put-requires-clause-fits : goal.put-requires-clause-fits
 put-requires-clause-fits g c =
     let self = c.args.self.now in
     let q = c.requires.group in
-    subst (λ p. FitsBehind actor_of_item (fits_plan p) self.seat (Down self.actor)) c.requires.plan (down_fits_behind g.D.Disk.is_image g.D.Disk.faults g.D.Disk.strict g.D.Disk.armed g.D.Disk.content g.D.Disk.synced g.D.Disk.written g.J.Planned.strict c.args.plan.now c.args.tape.now c.requires.limits self.actor self.commands self.gone q.0 self.slot q.1 c.args.hold self.seat q.2)
+    subst (λ p. FitsBehind actor_of_item (fits_plan p) self.seat (Down self.actor)) c.requires.plan (down_fits_behind g.D.Disk g.J.Planned.strict c.args.plan.now c.args.tape.now c.requires.limits self.actor self.commands self.gone q.0 self.slot q.1 c.args.hold self.seat q.2)
 
 pub returns-clause-ok : goal.returns-clause-ok
 returns-clause-ok g c =
@@ -48,7 +48,7 @@ returns-clause-ok g c =
     let turns = subst (λ p. Turns actor_of_item weight_of (fits_plan p) self.seat c.put.new.seat) (sym c.requires.plan) c.put.ensures.turn in
     then_ok c.put.result
     (λ last.
-    down_on g.D.Disk.is_image g.D.Disk.faults g.D.Disk.strict g.D.Disk.armed g.D.Disk.content g.D.Disk.synced g.D.Disk.written g.J.Planned.strict c.args.plan.now c.args.tape.now c.requires.limits self.actor self.commands self.gone q.0 self.slot q.1 c.args.hold self.seat q.2 c.put.new.seat turns
+    down_on g.D.Disk g.J.Planned.strict c.args.plan.now c.args.tape.now c.requires.limits self.actor self.commands self.gone q.0 self.slot q.1 c.args.hold self.seat q.2 c.put.new.seat turns
     (held_none self.seat c.put.new.seat c.args.hold q.2.desk.seated.held_is c.put.ensures.held.0 c.put.ensures.held.1)
     (subst (λ p. ComesLast actor_of_item (fits_plan p) self.seat c.put.new.seat.seen (Down self.actor)) (sym c.requires.plan) last))
     c.put.ensures.behind
@@ -58,4 +58,4 @@ returns-clause-err g c =
     let self = c.args.self.now in
     let q = c.requires.group in
     let turns = subst (λ p. Turns actor_of_item weight_of (fits_plan p) self.seat c.put.new.seat) (sym c.requires.plan) c.put.ensures.turn in
-    on_err c.put.result (released_seat g.D.Disk.is_image g.D.Disk.faults g.D.Disk.strict g.D.Disk.armed g.D.Disk.content g.D.Disk.synced g.D.Disk.written g.J.Planned.strict c.args.plan.now c.args.tape.now c.requires.limits self.actor self.commands self.gone c.args.hold self.seat c.put.new.seat turns c.put.ensures.held.0 c.put.ensures.held.1 q.2.desk.seated)
+    on_err c.put.result (released_seat g.D.Disk g.J.Planned.strict c.args.plan.now c.args.tape.now c.requires.limits self.actor self.commands self.gone c.args.hold self.seat c.put.new.seat turns c.put.ensures.held.0 c.put.ensures.held.1 q.2.desk.seated)

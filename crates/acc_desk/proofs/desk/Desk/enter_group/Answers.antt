@@ -19,7 +19,7 @@ put_all-requires-clause-held g c =
     let self = c.args.self.now in
     let q = c.requires.group in
     let n = ap (λ (l : List Item). length l) c.in-Ok.ensures in
-    let f = puts_few g.D.Disk.is_image g.D.Disk.faults g.D.Disk.strict g.D.Disk.armed g.D.Disk.content g.D.Disk.synced g.D.Disk.written g.J.Planned.strict c.args.plan.now c.args.tape.now c.requires.limits self.actor self.commands self.gone self.slot c.args.hold q.0 c.args.unsent self.seat q.1 in (
+    let f = puts_few g.D.Disk g.J.Planned.strict c.args.plan.now c.args.tape.now c.requires.limits self.actor self.commands self.gone self.slot c.args.hold q.0 c.args.unsent self.seat q.1 in (
       omega arith,
       holds_items self.seat c.args.hold q.1.seated.held_is,
       holds_weight self.seat c.args.hold q.1.seated.held_is,
@@ -29,14 +29,14 @@ pub put_all-requires-clause-own : goal.put_all-requires-clause-own
 put_all-requires-clause-own g c =
     let self = c.args.self.now in
     let q = c.requires.group in
-    subst (All (λ item. actor_of_item item ≡ self.seat.actor)) (sym c.in-Ok.ensures) (puts_own g.D.Disk.is_image g.D.Disk.faults g.D.Disk.strict g.D.Disk.armed g.D.Disk.content g.D.Disk.synced g.D.Disk.written g.J.Planned.strict c.args.plan.now c.args.tape.now c.requires.limits self.actor self.commands self.gone self.slot c.args.hold q.0 c.args.unsent self.seat q.1)
+    subst (All (λ item. actor_of_item item ≡ self.seat.actor)) (sym c.in-Ok.ensures) (puts_own g.D.Disk g.J.Planned.strict c.args.plan.now c.args.tape.now c.requires.limits self.actor self.commands self.gone self.slot c.args.hold q.0 c.args.unsent self.seat q.1)
 
 pub put_all-requires-clause-bytes : goal.put_all-requires-clause-bytes
 put_all-requires-clause-bytes g c =
     let self = c.args.self.now in
     let q = c.requires.group in (
-      subst (All (λ item. All IsShortMessage (sent_in item))) (sym c.in-Ok.ensures) (puts_short g.D.Disk.is_image g.D.Disk.faults g.D.Disk.strict g.D.Disk.armed g.D.Disk.content g.D.Disk.synced g.D.Disk.written g.J.Planned.strict c.args.plan.now c.args.tape.now c.requires.limits self.actor self.commands self.gone self.slot c.args.hold q.0 c.args.unsent self.seat q.1),
-      subst (λ (items : List Item). sum_by weight_of items ≤ c.args.hold.weight) (sym c.in-Ok.ensures) (puts_weigh g.D.Disk.is_image g.D.Disk.faults g.D.Disk.strict g.D.Disk.armed g.D.Disk.content g.D.Disk.synced g.D.Disk.written g.J.Planned.strict c.args.plan.now c.args.tape.now c.requires.limits self.actor self.commands self.gone self.slot c.args.hold q.0 c.args.unsent self.seat q.1),
+      subst (All (λ item. All IsShortMessage (sent_in item))) (sym c.in-Ok.ensures) (puts_short g.D.Disk g.J.Planned.strict c.args.plan.now c.args.tape.now c.requires.limits self.actor self.commands self.gone self.slot c.args.hold q.0 c.args.unsent self.seat q.1),
+      subst (λ (items : List Item). sum_by weight_of items ≤ c.args.hold.weight) (sym c.in-Ok.ensures) (puts_weigh g.D.Disk g.J.Planned.strict c.args.plan.now c.args.tape.now c.requires.limits self.actor self.commands self.gone self.slot c.args.hold q.0 c.args.unsent self.seat q.1),
     )
 
 pub put_all-requires-clause-fits : goal.put_all-requires-clause-fits
@@ -44,7 +44,7 @@ put_all-requires-clause-fits g c =
     let self = c.args.self.now in
     let q = c.requires.group in
     subst (λ p. FitAllBehind actor_of_item (fits_plan p) self.seat c.in-Ok.items.items) c.requires.plan
-    (subst (FitAllBehind actor_of_item (fits_plan c.args.plan.now) self.seat) (sym c.in-Ok.ensures) (puts_fit g.D.Disk.is_image g.D.Disk.faults g.D.Disk.strict g.D.Disk.armed g.D.Disk.content g.D.Disk.synced g.D.Disk.written g.J.Planned.strict c.args.plan.now c.args.tape.now c.requires.limits self.actor self.commands self.gone self.slot c.args.hold q.0 c.args.unsent self.seat q.1))
+    (subst (FitAllBehind actor_of_item (fits_plan c.args.plan.now) self.seat) (sym c.in-Ok.ensures) (puts_fit g.D.Disk g.J.Planned.strict c.args.plan.now c.args.tape.now c.requires.limits self.actor self.commands self.gone self.slot c.args.hold q.0 c.args.unsent self.seat q.1))
 
 pub returns-clause-ok : goal.returns-clause-ok
 returns-clause-ok g c =
@@ -53,6 +53,6 @@ returns-clause-ok g c =
     let new = c.put_all.new.seat in
     let turns = subst (λ p. Turns actor_of_item weight_of (fits_plan p) self.seat new) (sym c.requires.plan) c.put_all.ensures.turn in
     let last = subst (λ p. ComeLast actor_of_item (fits_plan p) self.seat new.seen c.in-Ok.items.items) (sym c.requires.plan) c.in_ok-put_all.ensures.behind in
-    puts_on g.D.Disk.is_image g.D.Disk.faults g.D.Disk.strict g.D.Disk.armed g.D.Disk.content g.D.Disk.synced g.D.Disk.written g.J.Planned.strict c.args.plan.now c.args.tape.now c.requires.limits self.actor self.commands self.gone self.slot c.args.hold q.0 c.args.unsent self.seat q.1 new turns
+    puts_on g.D.Disk g.J.Planned.strict c.args.plan.now c.args.tape.now c.requires.limits self.actor self.commands self.gone self.slot c.args.hold q.0 c.args.unsent self.seat q.1 new turns
     (held_none self.seat new c.args.hold q.1.seated.held_is c.put_all.ensures.held.0 c.put_all.ensures.held.1)
     (subst (ComeLast actor_of_item (fits_plan c.args.plan.now) self.seat new.seen) c.in-Ok.ensures last)

@@ -9,7 +9,7 @@ pub returns-then-staged-eq0-clause-ok : goal.returns-then-staged-eq0-clause-ok
 returns-then-staged-eq0-clause-ok g c =
     let self = c.args.self.now in
     let q = c.requires.group in
-    c.let_go.ensures.sound (none_joined g.D.Disk.is_image g.D.Disk.faults g.D.Disk.strict g.D.Disk.armed g.D.Disk.content g.D.Disk.synced g.D.Disk.written g.J.Planned.strict c.args.plan.now c.args.tape.now c.requires.limits self.actor self.commands self.gone q.0 self.slot q.1 q.2 c.args.hold self.seat q.4 (q.3 ∙ c.if-staged-eq0.true))
+    c.let_go.ensures.sound (none_joined g.D.Disk g.J.Planned.strict c.args.plan.now c.args.tape.now c.requires.limits self.actor self.commands self.gone q.0 self.slot q.1 q.2 c.args.hold self.seat q.4 (q.3 ∙ c.if-staged-eq0.true))
 
 pub settle-requires-clause-group : goal.settle-requires-clause-group
 settle-requires-clause-group g c =

@@ -30,13 +30,13 @@ first_taken (x ∷ found) pair is = let same : pair ≡ x = cc in ap (λ (p : Po
 pub returns-in_default-clause-gathering : goal.returns-in_default-clause-gathering
 returns-in_default-clause-gathering g c =
     let self = c.args.self.now in
-    (0, refl, begins_gathering g.D.Disk.is_image g.D.Disk.faults g.D.Disk.strict g.D.Disk.armed g.D.Disk.content g.D.Disk.synced g.D.Disk.written g.J.Planned.strict c.args.plan.now c.args.tape.now c.requires.limits self.actor self.commands self.gone self.slot self.seat c.requires.kind c.requires.up c.requires.desk)
+    (0, refl, begins_gathering g.D.Disk g.J.Planned.strict c.args.plan.now c.args.tape.now c.requires.limits self.actor self.commands self.gone self.slot self.seat c.requires.kind c.requires.up c.requires.desk)
 
 pub join_first-requires-clause-group : goal.join_first-requires-clause-group
 join_first-requires-clause-group g c =
     let self = c.args.self.now in (
       first_can (CanJoin c.args.plan.now (newest self.seat) self.actor (drop self.gone self.commands)) c.args.found.now c.in-Some.field-0.now (sym c.in-Some.ensures.value) c.requires.found.each,
-      begins_gathering g.D.Disk.is_image g.D.Disk.faults g.D.Disk.strict g.D.Disk.armed g.D.Disk.content g.D.Disk.synced g.D.Disk.written g.J.Planned.strict c.args.plan.now c.args.tape.now c.requires.limits self.actor self.commands self.gone self.slot self.seat c.requires.kind c.requires.up c.requires.desk,
+      begins_gathering g.D.Disk g.J.Planned.strict c.args.plan.now c.args.tape.now c.requires.limits self.actor self.commands self.gone self.slot self.seat c.requires.kind c.requires.up c.requires.desk,
     )
 
 pub join_others-staged-requires-clause-found : goal.join_others-staged-requires-clause-found
@@ -60,7 +60,7 @@ returns-in-Ok-Some-clause-gathering g c =
     let hold = c.in-Ok-Some.hold in
     let count = c.join_others-staged.result.0 in
     let joined = some_of _ _ c.in-Ok-Some.field-0 (used, hold) c.in-Ok-Some.field-0-is c.in-Ok-Some.ensures.ok in
-    let front = subst (λ joinings. IsGathering g.D.Disk.is_image g.D.Disk.faults g.D.Disk.strict g.D.Disk.armed g.D.Disk.content g.D.Disk.synced g.D.Disk.written g.J.Planned.strict c.args.plan.now c.args.tape.now first.actor first.seat self.slot first.slot first.commands first.gone joinings used hold) (first_taken found pair (sym c.in-Some.ensures.value)) joined in
+    let front = subst (λ joinings. IsGathering g.D.Disk g.J.Planned.strict c.args.plan.now c.args.tape.now first.actor first.seat self.slot first.slot first.commands first.gone joinings used hold) (first_taken found pair (sym c.in-Some.ensures.value)) joined in
     let all = c.join_others-staged.ensures.gathering self.slot front in
     let long = length-map found joining_of in
     let few = c.join_others-staged.ensures.count.1 in

@@ -19,7 +19,7 @@ returns-then-is_empty-clause-ok g c =
     let new = c.collect.new.seat in
     let same = c.collect.ensures.same in
     let turns = subst (λ p. Turns actor_of_item weight_of (fits_plan p) self.seat new) (sym c.requires.plan) c.collect.ensures.turn in
-    desk_on c.args.plan.now c.args.tape.now c.requires.limits self.actor g.D.Disk.is_image g.D.Disk.faults g.D.Disk.strict g.D.Disk.armed g.D.Disk.content g.D.Disk.synced g.D.Disk.written g.J.Planned.strict self.commands self.gone self.slot no_hold no_hold self.seat new c.requires.desk turns same.0 (held_same self.seat new no_hold c.requires.desk.seated.held_is same.1 same.2)
+    desk_on c.args.plan.now c.args.tape.now c.requires.limits self.actor g.D.Disk g.J.Planned.strict self.commands self.gone self.slot no_hold no_hold self.seat new c.requires.desk turns same.0 (held_same self.seat new no_hold c.requires.desk.seated.held_is same.1 same.2)
 
 pub gather-staged-requires-clause-desk : goal.gather-staged-requires-clause-desk
 gather-staged-requires-clause-desk g c =
@@ -27,7 +27,7 @@ gather-staged-requires-clause-desk g c =
     let new = c.collect.new.seat in
     let same = c.collect.ensures.same in
     let turns = subst (λ p. Turns actor_of_item weight_of (fits_plan p) self.seat new) (sym c.requires.plan) c.collect.ensures.turn in
-    desk_on c.args.plan.now c.args.tape.now c.requires.limits self.actor g.D.Disk.is_image g.D.Disk.faults g.D.Disk.strict g.D.Disk.armed g.D.Disk.content g.D.Disk.synced g.D.Disk.written g.J.Planned.strict self.commands self.gone self.slot no_hold no_hold self.seat new c.requires.desk turns same.0 (held_same self.seat new no_hold c.requires.desk.seated.held_is same.1 same.2)
+    desk_on c.args.plan.now c.args.tape.now c.requires.limits self.actor g.D.Disk g.J.Planned.strict self.commands self.gone self.slot no_hold no_hold self.seat new c.requires.desk turns same.0 (held_same self.seat new no_hold c.requires.desk.seated.held_is same.1 same.2)
 
 pub gather-staged-requires-clause-up : goal.gather-staged-requires-clause-up
 gather-staged-requires-clause-up g c =
@@ -35,8 +35,8 @@ gather-staged-requires-clause-up g c =
     let new = c.collect.new.seat in
     let same = c.collect.ensures.same in
     let turns = subst (λ p. Turns actor_of_item weight_of (fits_plan p) self.seat new) (sym c.requires.plan) c.collect.ensures.turn in
-    up_moves g.D.Disk.is_image g.D.Disk.faults g.D.Disk.strict g.D.Disk.armed g.D.Disk.content g.D.Disk.synced g.D.Disk.written g.J.Planned.strict c.args.plan.now c.args.tape.now c.requires.limits self.actor self.commands self.gone self.slot self.slot [] 0 no_hold no_hold self.seat new
-    (begins_gathering g.D.Disk.is_image g.D.Disk.faults g.D.Disk.strict g.D.Disk.armed g.D.Disk.content g.D.Disk.synced g.D.Disk.written g.J.Planned.strict c.args.plan.now c.args.tape.now c.requires.limits self.actor self.commands self.gone self.slot self.seat c.requires.kind c.requires.up c.requires.desk)
+    up_moves g.D.Disk g.J.Planned.strict c.args.plan.now c.args.tape.now c.requires.limits self.actor self.commands self.gone self.slot self.slot [] 0 no_hold no_hold self.seat new
+    (begins_gathering g.D.Disk g.J.Planned.strict c.args.plan.now c.args.tape.now c.requires.limits self.actor self.commands self.gone self.slot self.seat c.requires.kind c.requires.up c.requires.desk)
     turns same.0 (held_same self.seat new no_hold c.requires.desk.seated.held_is same.1 same.2)
 
 pub gather-staged-requires-clause-found : goal.gather-staged-requires-clause-found
@@ -48,8 +48,8 @@ gather-staged-requires-clause-found g c =
     let left = drop self.gone self.commands in
     let turns = subst (λ p. Turns actor_of_item weight_of (fits_plan p) self.seat new) (sym c.requires.plan) c.collect.ensures.turn in
     let up =
-    up_moves g.D.Disk.is_image g.D.Disk.faults g.D.Disk.strict g.D.Disk.armed g.D.Disk.content g.D.Disk.synced g.D.Disk.written g.J.Planned.strict c.args.plan.now c.args.tape.now c.requires.limits self.actor self.commands self.gone self.slot self.slot [] 0 no_hold no_hold self.seat new
-    (begins_gathering g.D.Disk.is_image g.D.Disk.faults g.D.Disk.strict g.D.Disk.armed g.D.Disk.content g.D.Disk.synced g.D.Disk.written g.J.Planned.strict c.args.plan.now c.args.tape.now c.requires.limits self.actor self.commands self.gone self.slot self.seat c.requires.kind c.requires.up c.requires.desk)
+    up_moves g.D.Disk g.J.Planned.strict c.args.plan.now c.args.tape.now c.requires.limits self.actor self.commands self.gone self.slot self.slot [] 0 no_hold no_hold self.seat new
+    (begins_gathering g.D.Disk g.J.Planned.strict c.args.plan.now c.args.tape.now c.requires.limits self.actor self.commands self.gone self.slot self.seat c.requires.kind c.requires.up c.requires.desk)
     turns same.0 (held_same self.seat new no_hold c.requires.desk.seated.held_is same.1 same.2) in
     let few : length (map joining_of list.items) ≤ 16 =
     (let n = length-map list.items joining_of in let long = list.ok.0 in let within = list.ok.1 in let room = c.collect.ensures.room in let most = c.in_ok-found.ensures.exact in omega arith) in

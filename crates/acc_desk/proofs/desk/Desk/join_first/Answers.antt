@@ -36,13 +36,13 @@ pub prepare-requires : goal.prepare-requires
 prepare-requires g c =
     let self = c.args.self.now in
     let q = c.requires.group in
-    asks_now g.D.Disk.is_image g.D.Disk.faults g.D.Disk.strict g.D.Disk.armed g.D.Disk.content g.D.Disk.synced g.D.Disk.written g.J.Planned.strict c.args.plan.now c.args.tape.now c.requires.limits self.actor self.commands self.gone self.slot self.slot [] 0 no_hold self.seat q.1 (record { event = MessageEvent c.args.number; act = Takes c.args.message.now }) q.0
+    asks_now g.D.Disk g.J.Planned.strict c.args.plan.now c.args.tape.now c.requires.limits self.actor self.commands self.gone self.slot self.slot [] 0 no_hold self.seat q.1 (record { event = MessageEvent c.args.number; act = Takes c.args.message.now }) q.0
 
 pub stage-staged-requires-clause-may : goal.stage-staged-requires-clause-may
 stage-staged-requires-clause-may g c =
     let self = c.args.self.now in
     let q = c.requires.group in
-    asks_now g.D.Disk.is_image g.D.Disk.faults g.D.Disk.strict g.D.Disk.armed g.D.Disk.content g.D.Disk.synced g.D.Disk.written g.J.Planned.strict c.args.plan.now c.args.tape.now c.requires.limits self.actor self.commands self.gone self.slot self.slot [] 0 no_hold self.seat q.1 (record { event = MessageEvent c.args.number; act = Takes c.args.message.now }) q.0
+    asks_now g.D.Disk g.J.Planned.strict c.args.plan.now c.args.tape.now c.requires.limits self.actor self.commands self.gone self.slot self.slot [] 0 no_hold self.seat q.1 (record { event = MessageEvent c.args.number; act = Takes c.args.message.now }) q.0
 
 pub returns-in_err-hold-clause-err : goal.returns-in_err-hold-clause-err
 returns-in_err-hold-clause-err g c =
@@ -51,7 +51,7 @@ returns-in_err-hold-clause-err g c =
     let new = c.reserve.new.seat in
     let turns = subst (λ p. Turns actor_of_item weight_of (fits_plan p) self.seat new) (sym c.requires.plan) c.reserve.ensures.on in
     on_err c.from_residual-in_err-hold.result
-    (gathering_moves g.D.Disk.is_image g.D.Disk.faults g.D.Disk.strict g.D.Disk.armed g.D.Disk.content g.D.Disk.synced g.D.Disk.written g.J.Planned.strict c.args.plan.now c.args.tape.now c.requires.limits self.actor self.commands self.gone self.slot self.slot [] 0 no_hold no_hold self.seat new q.1 turns c.reserve.ensures.mine c.in_err-hold.ensures.err (omega arith) (omega arith))
+    (gathering_moves g.D.Disk g.J.Planned.strict c.args.plan.now c.args.tape.now c.requires.limits self.actor self.commands self.gone self.slot self.slot [] 0 no_hold no_hold self.seat new q.1 turns c.reserve.ensures.mine c.in_err-hold.ensures.err (omega arith) (omega arith))
 
 -- what holds of what was reserved, and where nothing was
 none_of : {X : Type 0} (N : Type 0) (P : X → Type 0) (o : Option X) → o ≡ None → MatchOption o N P → N
@@ -70,10 +70,10 @@ returns-in_default-clause-ok g c =
     let j : Joining = record { event = MessageEvent c.args.number; act = Takes c.args.message.now } in
     let turns = subst (λ p. Turns actor_of_item weight_of (fits_plan p) self.seat new) (sym c.requires.plan) c.reserve.ensures.on in
     let h = none_of _ _ c.in_ok-hold.field-0 c.in_default.is c.in_ok-hold.ensures.ok in
-    let gathering = gathering_moves g.D.Disk.is_image g.D.Disk.faults g.D.Disk.strict g.D.Disk.armed g.D.Disk.content g.D.Disk.synced g.D.Disk.written g.J.Planned.strict c.args.plan.now c.args.tape.now c.requires.limits self.actor self.commands self.gone self.slot self.slot [] 0 no_hold no_hold self.seat new q.1 turns c.reserve.ensures.mine h.0 (omega arith) (omega arith) in
+    let gathering = gathering_moves g.D.Disk g.J.Planned.strict c.args.plan.now c.args.tape.now c.requires.limits self.actor self.commands self.gone self.slot self.slot [] 0 no_hold no_hold self.seat new q.1 turns c.reserve.ensures.mine h.0 (omega arith) (omega arith) in
     let can = can_moves c.args.plan.now c.args.tape.now c.requires.limits self.actor no_hold (drop self.gone self.commands) self.seat new q.1.desk.seated turns c.reserve.ensures.mine j q.0 in (
       gathering,
-      first_no_room g.D.Disk.is_image g.D.Disk.faults g.D.Disk.strict g.D.Disk.armed g.D.Disk.content g.D.Disk.synced g.D.Disk.written g.J.Planned.strict c.args.plan.now c.args.tape.now c.requires.limits self.actor self.commands self.gone self.slot new j gathering can c.in_ok-weight.weight c.in_ok-weight.ensures.weight h.1.0 h.1.1 h.1.2,
+      first_no_room g.D.Disk g.J.Planned.strict c.args.plan.now c.args.tape.now c.requires.limits self.actor self.commands self.gone self.slot new j gathering can c.in_ok-weight.weight c.in_ok-weight.ensures.weight h.1.0 h.1.1 h.1.2,
     )
 
 pub returns-then-is_err-clause-err : goal.returns-then-is_err-clause-err
@@ -85,11 +85,11 @@ returns-then-is_err-clause-err g c =
     let free = c.let_go.new.self.seat in
     let turns = subst (λ p. Turns actor_of_item weight_of (fits_plan p) self.seat new) (sym c.requires.plan) c.reserve.ensures.on in
     let h = some_of _ _ c.in_ok-hold.field-0 hold c.in-Some.is c.in_ok-hold.ensures.ok in
-    let held = gathering_moves g.D.Disk.is_image g.D.Disk.faults g.D.Disk.strict g.D.Disk.armed g.D.Disk.content g.D.Disk.synced g.D.Disk.written g.J.Planned.strict c.args.plan.now c.args.tape.now c.requires.limits self.actor self.commands self.gone self.slot self.slot [] 0 no_hold hold self.seat new q.1 turns c.reserve.ensures.mine h.0 (omega arith) (omega arith) in
-    let still = refused g.D.Disk.is_image g.D.Disk.faults g.D.Disk.strict g.D.Disk.armed g.D.Disk.content g.D.Disk.synced g.D.Disk.written g.J.Planned.strict c.args.plan.now c.args.tape.now c.requires.limits self.actor self.commands self.gone self.slot self.slot [] 0 hold new held c.stage-staged.new.self (when_err c.stage-staged.result (sym c.is_err.ensures.value ∙ c.if-is_err.true) c.stage-staged.ensures.err) c.stage-staged.ensures.strict in
+    let held = gathering_moves g.D.Disk g.J.Planned.strict c.args.plan.now c.args.tape.now c.requires.limits self.actor self.commands self.gone self.slot self.slot [] 0 no_hold hold self.seat new q.1 turns c.reserve.ensures.mine h.0 (omega arith) (omega arith) in
+    let still = refused g.D.Disk g.J.Planned.strict c.args.plan.now c.args.tape.now c.requires.limits self.actor self.commands self.gone self.slot self.slot [] 0 hold new held c.stage-staged.new.self (when_err c.stage-staged.result (sym c.is_err.ensures.value ∙ c.if-is_err.true) c.stage-staged.ensures.err) c.stage-staged.ensures.strict in
     let later = subst (λ p. Turns actor_of_item weight_of (fits_plan p) new free) (sym c.requires.plan) (some_held hold h.1 c.let_go.ensures.on) in
-    along (λ a slot commands gone. IsGathering g.D.Disk.is_image g.D.Disk.faults g.D.Disk.strict g.D.Disk.armed g.D.Disk.content g.D.Disk.synced g.D.Disk.written g.J.Planned.strict c.args.plan.now c.args.tape.now a free self.slot slot commands gone [] 0 no_hold) c.let_go.ensures.same.0 c.let_go.ensures.same.1 c.let_go.ensures.same.2 c.let_go.ensures.same.3
-    (gathering_moves g.D.Disk.is_image g.D.Disk.faults g.D.Disk.strict g.D.Disk.armed g.D.Disk.content g.D.Disk.synced g.D.Disk.written g.J.Planned.strict c.args.plan.now c.args.tape.now c.requires.limits self.actor self.commands self.gone self.slot c.stage-staged.new.self [] 0 hold no_hold new free still later c.let_go.ensures.mine c.let_go.ensures.seated.held_is (omega arith) (omega arith))
+    along (λ a slot commands gone. IsGathering g.D.Disk g.J.Planned.strict c.args.plan.now c.args.tape.now a free self.slot slot commands gone [] 0 no_hold) c.let_go.ensures.same.0 c.let_go.ensures.same.1 c.let_go.ensures.same.2 c.let_go.ensures.same.3
+    (gathering_moves g.D.Disk g.J.Planned.strict c.args.plan.now c.args.tape.now c.requires.limits self.actor self.commands self.gone self.slot c.stage-staged.new.self [] 0 hold no_hold new free still later c.let_go.ensures.mine c.let_go.ensures.seated.held_is (omega arith) (omega arith))
 
 pub returns-clause-ok : goal.returns-clause-ok
 returns-clause-ok g c =
@@ -100,8 +100,8 @@ returns-clause-ok g c =
     let j : Joining = record { event = MessageEvent c.args.number; act = Takes c.args.message.now } in
     let turns = subst (λ p. Turns actor_of_item weight_of (fits_plan p) self.seat new) (sym c.requires.plan) c.reserve.ensures.on in
     let h = some_of _ _ c.in_ok-hold.field-0 hold c.in-Some.is c.in_ok-hold.ensures.ok in
-    let held = gathering_moves g.D.Disk.is_image g.D.Disk.faults g.D.Disk.strict g.D.Disk.armed g.D.Disk.content g.D.Disk.synced g.D.Disk.written g.J.Planned.strict c.args.plan.now c.args.tape.now c.requires.limits self.actor self.commands self.gone self.slot self.slot [] 0 no_hold hold self.seat new q.1 turns c.reserve.ensures.mine h.0 (omega arith) (omega arith) in
+    let held = gathering_moves g.D.Disk g.J.Planned.strict c.args.plan.now c.args.tape.now c.requires.limits self.actor self.commands self.gone self.slot self.slot [] 0 no_hold hold self.seat new q.1 turns c.reserve.ensures.mine h.0 (omega arith) (omega arith) in
     let can = can_moves c.args.plan.now c.args.tape.now c.requires.limits self.actor no_hold (drop self.gone self.commands) self.seat new q.1.desk.seated turns c.reserve.ensures.mine j q.0 in
-    joins g.D.Disk.is_image g.D.Disk.faults g.D.Disk.strict g.D.Disk.armed g.D.Disk.content g.D.Disk.synced g.D.Disk.written g.J.Planned.strict c.args.plan.now c.args.tape.now c.requires.limits self.actor self.commands self.gone self.slot self.slot [] 0 hold new held j can
+    joins g.D.Disk g.J.Planned.strict c.args.plan.now c.args.tape.now c.requires.limits self.actor self.commands self.gone self.slot self.slot [] 0 hold new held j can
     c.stage-staged.new.self c.in_ok-weight.weight c.in_ok-weight.weight (omega arith) h.3 h.1 (omega arith) tt c.in_ok-weight.ensures.weight
     (when_ok c.stage-staged.result (sym c.is_err.ensures.value ∙ c.if-is_err.false) c.stage-staged.ensures.ok) c.stage-staged.ensures.strict

@@ -3,7 +3,7 @@ use Rattle.std.specs.Prelude.{MatchOption}
 use Rattle.std.specs.List.{AllByRecursion}
 use Rattle.std.proofs.lemmas.List.{length-map, take_more, get_or-map}
 use Rattle.acc_stamp.specs.declared.actors.Actor.{Actor}
-use Rattle.acc_ports.specs.Strict.{Ranges}
+use Rattle.acc_ports.specs.declared.disk.Disk.{Ghosts}
 use Rattle.acc_message.specs.declared.entry.Event.{Event}
 use Rattle.acc_message.specs.declared.message.Message.{Message}
 use Rattle.acc_message.specs.declared.item.Item.{Item}
@@ -36,12 +36,12 @@ one_more found place pair low is =
     let js = map joining_of found in
     take_more js place (joining_of pair) (let n = length-map found joining_of in omega arith) ∙ ap (λ (j : Joining). take place js ++ j ∷ []) (found_at found place pair low is)
 
-module _ {D : Type 0} (images : D → List ℕ → Type 0) (faults : D → ℕ) (strict : D → Bool) (armed : D → Option ℕ) (content synced : D → List ℕ) (written : D → Ranges) (strict_run : Bool) (plan : Content) (tape : TapeName) (a : Actor) (commands : List Step) (gone : ℕ)
+module _ {D : Type 0} (port : Ghosts D) (strict_run : Bool) (plan : Content) (tape : TapeName) (a : Actor) (commands : List Step) (gone : ℕ)
     (first slot : Slot D) (found : List (Post × Message)) (place used : ℕ) (held : Hold) (seat : SeatView Item) (pair : Post × Message) where
   -- the message behind those that are staged can join them
   can_gather : place < length found → place < held.items → pair ≡ get_or found place pair → CanAllJoin plan (newest seat) a (drop gone commands) (map joining_of found)
-      → IsGathering images faults strict armed content synced written strict_run plan tape a seat first slot commands gone (take place (map joining_of found)) used held
-      → CanGather images faults strict armed content synced written strict_run plan tape a seat first slot commands gone (take place (map joining_of found)) used held (joining_of pair)
+      → IsGathering port strict_run plan tape a seat first slot commands gone (take place (map joining_of found)) used held
+      → CanGather port strict_run plan tape a seat first slot commands gone (take place (map joining_of found)) used held (joining_of pair)
   can_gather low room is all gathering =
       let js = map joining_of found in
       let j = joining_of pair in
@@ -85,8 +85,8 @@ loop-place-preserved g c =
       high = omega arith;
       can = along (λ a seat commands gone. CanAllJoin c.args.plan.now (newest seat) a (drop gone commands) (map joining_of found)) same.0 same.1 same.2 same.3 c.loop-place.invariant.can;
       group = λ first gathering.
-          let can = can_gather g.D.Disk.is_image g.D.Disk.faults g.D.Disk.strict g.D.Disk.armed g.D.Disk.content g.D.Disk.synced g.D.Disk.written g.J.Planned.strict c.args.plan.now c.args.tape.now self.actor self.commands self.gone first self.slot found place c.loop-place.used c.args.hold self.seat pair low c.if-place-hold.false c.index-found-place.is c.loop-place.invariant.can (c.loop-place.invariant.group first gathering) in
-          subst (λ joinings. IsGathering g.D.Disk.is_image g.D.Disk.faults g.D.Disk.strict g.D.Disk.armed g.D.Disk.content g.D.Disk.synced g.D.Disk.written g.J.Planned.strict c.args.plan.now c.args.tape.now new.actor new.seat first new.slot new.commands new.gone joinings c.in-Ok-Some.more c.args.hold) (sym (one_more found place pair low c.index-found-place.is))
+          let can = can_gather g.D.Disk g.J.Planned.strict c.args.plan.now c.args.tape.now self.actor self.commands self.gone first self.slot found place c.loop-place.used c.args.hold self.seat pair low c.if-place-hold.false c.index-found-place.is c.loop-place.invariant.can (c.loop-place.invariant.group first gathering) in
+          subst (λ joinings. IsGathering g.D.Disk g.J.Planned.strict c.args.plan.now c.args.tape.now new.actor new.seat first new.slot new.commands new.gone joinings c.in-Ok-Some.more c.args.hold) (sym (one_more found place pair low c.index-found-place.is))
           (some_of _ _ c.in-Ok-Some.field-0 c.in-Ok-Some.more c.in-Ok-Some.field-0-is (c.in-Ok-Some.ensures.ok first (take place (map joining_of found)) can));
     }
 
@@ -98,7 +98,7 @@ join_next-requires-clause-group g c =
     let q = c.requires.group in (
       q.0,
       take place (map joining_of found),
-      can_gather g.D.Disk.is_image g.D.Disk.faults g.D.Disk.strict g.D.Disk.armed g.D.Disk.content g.D.Disk.synced g.D.Disk.written g.J.Planned.strict c.args.plan.now c.args.tape.now self.actor self.commands self.gone q.0 self.slot found place c.loop-place.used c.args.hold self.seat c.index-found-place.result c.loop-place-test.true c.if-place-hold.false c.index-found-place.is c.loop-place.invariant.can (c.loop-place.invariant.group q.0 q.1),
+      can_gather g.D.Disk g.J.Planned.strict c.args.plan.now c.args.tape.now self.actor self.commands self.gone q.0 self.slot found place c.loop-place.used c.args.hold self.seat c.index-found-place.result c.loop-place-test.true c.if-place-hold.false c.index-found-place.is c.loop-place.invariant.can (c.loop-place.invariant.group q.0 q.1),
     )
 
 pub returns-in-Ok-None-clause-gathering : goal.returns-in-Ok-None-clause-gathering
@@ -106,7 +106,7 @@ returns-in-Ok-None-clause-gathering g c = λ first gathering.
     let self = c.loop-place.self in
     let found = c.args.found.now in
     let place = c.loop-place.place in
-    let can = can_gather g.D.Disk.is_image g.D.Disk.faults g.D.Disk.strict g.D.Disk.armed g.D.Disk.content g.D.Disk.synced g.D.Disk.written g.J.Planned.strict c.args.plan.now c.args.tape.now self.actor self.commands self.gone first self.slot found place c.loop-place.used c.args.hold self.seat c.index-found-place.result c.loop-place-test.true c.if-place-hold.false c.index-found-place.is c.loop-place.invariant.can (c.loop-place.invariant.group first gathering) in
+    let can = can_gather g.D.Disk g.J.Planned.strict c.args.plan.now c.args.tape.now self.actor self.commands self.gone first self.slot found place c.loop-place.used c.args.hold self.seat c.index-found-place.result c.loop-place-test.true c.if-place-hold.false c.index-found-place.is c.loop-place.invariant.can (c.loop-place.invariant.group first gathering) in
     (c.loop-place.used, none_of _ _ c.in-Ok-None.field-0 c.in-Ok-None.field-0-is (c.in-Ok-None.ensures.ok first (take place (map joining_of found)) can))
 
 pub returns-in-Err-clause-gathering : goal.returns-in-Err-clause-gathering
@@ -114,5 +114,5 @@ returns-in-Err-clause-gathering g c = λ first gathering.
     let self = c.loop-place.self in
     let found = c.args.found.now in
     let place = c.loop-place.place in
-    let can = can_gather g.D.Disk.is_image g.D.Disk.faults g.D.Disk.strict g.D.Disk.armed g.D.Disk.content g.D.Disk.synced g.D.Disk.written g.J.Planned.strict c.args.plan.now c.args.tape.now self.actor self.commands self.gone first self.slot found place c.loop-place.used c.args.hold self.seat c.index-found-place.result c.loop-place-test.true c.if-place-hold.false c.index-found-place.is c.loop-place.invariant.can (c.loop-place.invariant.group first gathering) in
+    let can = can_gather g.D.Disk g.J.Planned.strict c.args.plan.now c.args.tape.now self.actor self.commands self.gone first self.slot found place c.loop-place.used c.args.hold self.seat c.index-found-place.result c.loop-place-test.true c.if-place-hold.false c.index-found-place.is c.loop-place.invariant.can (c.loop-place.invariant.group first gathering) in
     (c.loop-place.used, c.in-Err.ensures.err first (take place (map joining_of found)) can)

@@ -10,6 +10,6 @@ invariant-loop-place g l = record {
   low : 1 ≤ l.place;
   high : l.place ≤ length l.found;
   can : CanAllJoin l.plan (newest l.self.seat) l.self.actor (drop l.self.gone l.self.commands) (map joining_of l.found);
-  group : (first : Slot g.row.D.Denot) → IsGathering g.D.Disk.is_image g.D.Disk.faults g.D.Disk.strict g.D.Disk.armed g.D.Disk.content g.D.Disk.synced g.D.Disk.written g.J.Planned.strict l.plan l.tape l.fn.self.actor l.fn.self.seat first l.fn.self.slot l.fn.self.commands l.fn.self.gone (take 1 (map joining_of l.found)) l.fn.used l.hold
-      → IsGathering g.D.Disk.is_image g.D.Disk.faults g.D.Disk.strict g.D.Disk.armed g.D.Disk.content g.D.Disk.synced g.D.Disk.written g.J.Planned.strict l.plan l.tape l.self.actor l.self.seat first l.self.slot l.self.commands l.self.gone (take l.place (map joining_of l.found)) l.used l.hold;
+  group : (first : Slot g.row.D.Denot) → IsGathering g.D.Disk g.J.Planned.strict l.plan l.tape l.fn.self.actor l.fn.self.seat first l.fn.self.slot l.fn.self.commands l.fn.self.gone (take 1 (map joining_of l.found)) l.fn.used l.hold
+      → IsGathering g.D.Disk g.J.Planned.strict l.plan l.tape l.self.actor l.self.seat first l.self.slot l.self.commands l.self.gone (take l.place (map joining_of l.found)) l.used l.hold;
 }

@@ -10,4 +10,4 @@ pub returns-then-hold-gt0-clause-sound : goal.returns-then-hold-gt0-clause-sound
 returns-then-hold-gt0-clause-sound g c = λ desk.
     let self = c.args.self.now in
     let turns = subst (λ p. Turns actor_of_item weight_of (fits_plan p) self.seat c.release.new.seat) (sym c.requires.plan) c.release.ensures.turn in
-    released_desk g.D.Disk.is_image g.D.Disk.faults g.D.Disk.strict g.D.Disk.armed g.D.Disk.content g.D.Disk.synced g.D.Disk.written g.J.Planned.strict c.args.plan.now c.args.tape.now c.requires.limits self.actor self.commands self.gone c.args.hold self.seat c.release.new.seat turns c.release.ensures.held.0 c.release.ensures.held.1 self.slot c.release.ensures.same.0 desk
+    released_desk g.D.Disk g.J.Planned.strict c.args.plan.now c.args.tape.now c.requires.limits self.actor self.commands self.gone c.args.hold self.seat c.release.new.seat turns c.release.ensures.held.0 c.release.ensures.held.1 self.slot c.release.ensures.same.0 desk

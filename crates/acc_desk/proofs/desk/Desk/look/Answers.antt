@@ -13,13 +13,13 @@ pub returns-in-Err-NoPlace-clause-ok : goal.returns-in-Err-NoPlace-clause-ok
 returns-in-Err-NoPlace-clause-ok g c =
     let self = c.loop-place.self in
     let turns = subst (λ p. Turns actor_of_item weight_of (fits_plan p) self.seat c.fetch.new.seat) (sym c.requires.plan) c.fetch.ensures.turn in
-    desk_on c.args.plan.now c.args.tape.now c.requires.limits self.actor g.D.Disk.is_image g.D.Disk.faults g.D.Disk.strict g.D.Disk.armed g.D.Disk.content g.D.Disk.synced g.D.Disk.written g.J.Planned.strict self.commands self.gone self.slot no_hold no_hold self.seat c.fetch.new.seat c.loop-place.invariant.desk turns c.fetch.ensures.same.0 (held_same self.seat c.fetch.new.seat no_hold c.loop-place.invariant.desk.seated.held_is c.fetch.ensures.same.1 c.fetch.ensures.same.2)
+    desk_on c.args.plan.now c.args.tape.now c.requires.limits self.actor g.D.Disk g.J.Planned.strict self.commands self.gone self.slot no_hold no_hold self.seat c.fetch.new.seat c.loop-place.invariant.desk turns c.fetch.ensures.same.0 (held_same self.seat c.fetch.new.seat no_hold c.loop-place.invariant.desk.seated.held_is c.fetch.ensures.same.1 c.fetch.ensures.same.2)
 
 pub returns-in-Some-clause-ok : goal.returns-in-Some-clause-ok
 returns-in-Some-clause-ok g c =
     let self = c.loop-place.self in
     let turns = subst (λ p. Turns actor_of_item weight_of (fits_plan p) self.seat c.fetch.new.seat) (sym c.requires.plan) c.fetch.ensures.turn in
-    desk_on c.args.plan.now c.args.tape.now c.requires.limits self.actor g.D.Disk.is_image g.D.Disk.faults g.D.Disk.strict g.D.Disk.armed g.D.Disk.content g.D.Disk.synced g.D.Disk.written g.J.Planned.strict self.commands self.gone self.slot no_hold no_hold self.seat c.fetch.new.seat c.loop-place.invariant.desk turns c.fetch.ensures.same.0 (held_same self.seat c.fetch.new.seat no_hold c.loop-place.invariant.desk.seated.held_is c.fetch.ensures.same.1 c.fetch.ensures.same.2)
+    desk_on c.args.plan.now c.args.tape.now c.requires.limits self.actor g.D.Disk g.J.Planned.strict self.commands self.gone self.slot no_hold no_hold self.seat c.fetch.new.seat c.loop-place.invariant.desk turns c.fetch.ensures.same.0 (held_same self.seat c.fetch.new.seat no_hold c.loop-place.invariant.desk.seated.held_is c.fetch.ensures.same.1 c.fetch.ensures.same.2)
 
 pub returns-in-Some-clause-found : goal.returns-in-Some-clause-found
 returns-in-Some-clause-found g c =
@@ -34,5 +34,5 @@ loop-place-preserved g c =
     record {
       same = c.loop-place.invariant.same;
       mine = c.fetch.ensures.same.0 ∙ c.loop-place.invariant.mine;
-      desk = desk_on c.args.plan.now c.args.tape.now c.requires.limits self.actor g.D.Disk.is_image g.D.Disk.faults g.D.Disk.strict g.D.Disk.armed g.D.Disk.content g.D.Disk.synced g.D.Disk.written g.J.Planned.strict self.commands self.gone self.slot no_hold no_hold self.seat c.fetch.new.seat c.loop-place.invariant.desk turns c.fetch.ensures.same.0 (held_same self.seat c.fetch.new.seat no_hold c.loop-place.invariant.desk.seated.held_is c.fetch.ensures.same.1 c.fetch.ensures.same.2);
+      desk = desk_on c.args.plan.now c.args.tape.now c.requires.limits self.actor g.D.Disk g.J.Planned.strict self.commands self.gone self.slot no_hold no_hold self.seat c.fetch.new.seat c.loop-place.invariant.desk turns c.fetch.ensures.same.0 (held_same self.seat c.fetch.new.seat no_hold c.loop-place.invariant.desk.seated.held_is c.fetch.ensures.same.1 c.fetch.ensures.same.2);
     }

@@ -6,5 +6,5 @@ abbrev pub invariant-loop-place : goal.invariant-loop-place
 invariant-loop-place g l = record {
   same : (l.self.actor ≡ l.initial.self.actor) × (l.self.commands ≡ l.initial.self.commands) × (l.self.gone ≡ l.initial.self.gone);
   mine : l.self.seat.mine ≡ l.initial.self.seat.mine;
-  desk : IsSound g.D.Disk.is_image g.D.Disk.faults g.D.Disk.strict g.D.Disk.armed g.D.Disk.content g.D.Disk.synced g.D.Disk.written g.J.Planned.strict l.plan l.tape l.self.actor l.self.seat l.self.slot l.self.commands l.self.gone;
+  desk : IsSound g.D.Disk g.J.Planned.strict l.plan l.tape l.self.actor l.self.seat l.self.slot l.self.commands l.self.gone;
 }

@@ -16,24 +16,24 @@ pub take-requires-clause-desk : goal.take-requires-clause-desk
 take-requires-clause-desk g c =
     let self = c.args.self.now in
     let turns = subst (λ p. Turns actor_of_item weight_of (fits_plan p) self.seat c.collect.new.seat) (sym c.requires.plan) c.collect.ensures.turn in
-    desk_on c.args.plan.now c.args.tape.now c.requires.limits self.actor g.D.Disk.is_image g.D.Disk.faults g.D.Disk.strict g.D.Disk.armed g.D.Disk.content g.D.Disk.synced g.D.Disk.written g.J.Planned.strict self.commands self.gone self.slot no_hold no_hold self.seat c.collect.new.seat c.requires.desk turns c.collect.ensures.same.0 (held_same self.seat c.collect.new.seat no_hold c.requires.desk.seated.held_is c.collect.ensures.same.1 c.collect.ensures.same.2)
+    desk_on c.args.plan.now c.args.tape.now c.requires.limits self.actor g.D.Disk g.J.Planned.strict self.commands self.gone self.slot no_hold no_hold self.seat c.collect.new.seat c.requires.desk turns c.collect.ensures.same.0 (held_same self.seat c.collect.new.seat no_hold c.requires.desk.seated.held_is c.collect.ensures.same.1 c.collect.ensures.same.2)
 
 pub returns-in_default-clause-ok : goal.returns-in_default-clause-ok
 returns-in_default-clause-ok g c =
     let self = c.args.self.now in
     let turns = subst (λ p. Turns actor_of_item weight_of (fits_plan p) self.seat c.collect.new.seat) (sym c.requires.plan) c.collect.ensures.turn in
-    desk_on c.args.plan.now c.args.tape.now c.requires.limits self.actor g.D.Disk.is_image g.D.Disk.faults g.D.Disk.strict g.D.Disk.armed g.D.Disk.content g.D.Disk.synced g.D.Disk.written g.J.Planned.strict self.commands self.gone self.slot no_hold no_hold self.seat c.collect.new.seat c.requires.desk turns c.collect.ensures.same.0 (held_same self.seat c.collect.new.seat no_hold c.requires.desk.seated.held_is c.collect.ensures.same.1 c.collect.ensures.same.2)
+    desk_on c.args.plan.now c.args.tape.now c.requires.limits self.actor g.D.Disk g.J.Planned.strict self.commands self.gone self.slot no_hold no_hold self.seat c.collect.new.seat c.requires.desk turns c.collect.ensures.same.0 (held_same self.seat c.collect.new.seat no_hold c.requires.desk.seated.held_is c.collect.ensures.same.1 c.collect.ensures.same.2)
 
 pub returns-then-is_down-clause-ok : goal.returns-then-is_down-clause-ok
 returns-then-is_down-clause-ok g c =
     let self = c.args.self.now in
     let turns = subst (λ p. Turns actor_of_item weight_of (fits_plan p) self.seat c.collect.new.seat) (sym c.requires.plan) c.collect.ensures.turn in
-    desk_on c.args.plan.now c.args.tape.now c.requires.limits self.actor g.D.Disk.is_image g.D.Disk.faults g.D.Disk.strict g.D.Disk.armed g.D.Disk.content g.D.Disk.synced g.D.Disk.written g.J.Planned.strict self.commands self.gone self.slot no_hold no_hold self.seat c.collect.new.seat c.requires.desk turns c.collect.ensures.same.0 (held_same self.seat c.collect.new.seat no_hold c.requires.desk.seated.held_is c.collect.ensures.same.1 c.collect.ensures.same.2)
+    desk_on c.args.plan.now c.args.tape.now c.requires.limits self.actor g.D.Disk g.J.Planned.strict self.commands self.gone self.slot no_hold no_hold self.seat c.collect.new.seat c.requires.desk turns c.collect.ensures.same.0 (held_same self.seat c.collect.new.seat no_hold c.requires.desk.seated.held_is c.collect.ensures.same.1 c.collect.ensures.same.2)
 
 pub take-requires-clause-may : goal.take-requires-clause-may
 take-requires-clause-may g c =
     let self = c.args.self.now in
     let turns = subst (λ p. Turns actor_of_item weight_of (fits_plan p) self.seat c.collect.new.seat) (sym c.requires.plan) c.collect.ensures.turn in
-    let desk = desk_on c.args.plan.now c.args.tape.now c.requires.limits self.actor g.D.Disk.is_image g.D.Disk.faults g.D.Disk.strict g.D.Disk.armed g.D.Disk.content g.D.Disk.synced g.D.Disk.written g.J.Planned.strict self.commands self.gone self.slot no_hold no_hold self.seat c.collect.new.seat c.requires.desk turns c.collect.ensures.same.0 (held_same self.seat c.collect.new.seat no_hold c.requires.desk.seated.held_is c.collect.ensures.same.1 c.collect.ensures.same.2) in
+    let desk = desk_on c.args.plan.now c.args.tape.now c.requires.limits self.actor g.D.Disk g.J.Planned.strict self.commands self.gone self.slot no_hold no_hold self.seat c.collect.new.seat c.requires.desk turns c.collect.ensures.same.0 (held_same self.seat c.collect.new.seat no_hold c.requires.desk.seated.held_is c.collect.ensures.same.1 c.collect.ensures.same.2) in
     let up = sym (c.is_down.ensures c.args.plan.now c.args.tape.now desk) ∙ c.if-is_down.false in
     found_may c.args.plan.now self.actor c.collect.new.seat.seen c.collect.new.found.items c.in-Some.field-0.now c.collect.ensures.oldest c.collect.ensures.sent (ap (λ (l : List (Post × Message)). slice_get l 0) (sym c.deref.ensures.value) ∙ sym c.first.ensures.value ∙ ap option_copied c.in-Some.is) up (drop self.gone self.commands)

@@ -13,7 +13,7 @@ use Rattle.acc_desk.proofs.desk.Desk.restart.Goals as goal
 pub returns-in-Err-Full-clause-ok : goal.returns-in-Err-Full-clause-ok
 returns-in-Err-Full-clause-ok g c =
     let turns = subst (λ p. Turns actor_of_item weight_of (fits_plan p) c.args.self.now.seat c.reserve.new.seat) (sym c.requires.plan) c.reserve.ensures.turn in
-    desk_on c.args.plan.now c.args.tape.now c.requires.limits c.args.self.now.actor g.D.Disk.is_image g.D.Disk.faults g.D.Disk.strict g.D.Disk.armed g.D.Disk.content g.D.Disk.synced g.D.Disk.written g.J.Planned.strict c.args.self.now.commands c.args.self.now.gone c.args.self.now.slot no_hold no_hold c.args.self.now.seat c.reserve.new.seat c.requires.desk turns c.reserve.ensures.same.0 (held_same c.args.self.now.seat c.reserve.new.seat no_hold c.requires.desk.seated.held_is c.in-Err-Full.ensures.err.0 c.in-Err-Full.ensures.err.1)
+    desk_on c.args.plan.now c.args.tape.now c.requires.limits c.args.self.now.actor g.D.Disk g.J.Planned.strict c.args.self.now.commands c.args.self.now.gone c.args.self.now.slot no_hold no_hold c.args.self.now.seat c.reserve.new.seat c.requires.desk turns c.reserve.ensures.same.0 (held_same c.args.self.now.seat c.reserve.new.seat no_hold c.requires.desk.seated.held_is c.in-Err-Full.ensures.err.0 c.in-Err-Full.ensures.err.1)
 
 pub reopen-requires : goal.reopen-requires
 reopen-requires g c = (alone (newest c.args.self.now.seat) c.requires.desk.at.stopped, c.requires.desk.at.stands, c.requires.desk.known)
@@ -36,11 +36,11 @@ put-requires-clause-item g c =
     let turns = subst (λ p. Turns actor_of_item weight_of (fits_plan p) c.args.self.now.seat c.reserve.new.seat) (sym c.requires.plan) c.reserve.ensures.turn in
     let hold : Hold = record { items = 1; weight = 0 } in
     let held = held_first c.args.self.now.seat c.reserve.new.seat hold c.requires.desk.seated.held_is c.in-Ok.ensures.ok.0 c.in-Ok.ensures.ok.1 in
-    let desk = desk_on c.args.plan.now c.args.tape.now c.requires.limits a g.D.Disk.is_image g.D.Disk.faults g.D.Disk.strict g.D.Disk.armed g.D.Disk.content g.D.Disk.synced g.D.Disk.written g.J.Planned.strict c.args.self.now.commands c.args.self.now.gone c.args.self.now.slot no_hold hold c.args.self.now.seat c.reserve.new.seat c.requires.desk turns c.reserve.ensures.same.0 held in
+    let desk = desk_on c.args.plan.now c.args.tape.now c.requires.limits a g.D.Disk g.J.Planned.strict c.args.self.now.commands c.args.self.now.gone c.args.self.now.slot no_hold hold c.args.self.now.seat c.reserve.new.seat c.requires.desk turns c.reserve.ensures.same.0 held in
     let item_is = c.item_for-item.ensures in
-    let silent = restart_silent g.D.Disk.is_image g.D.Disk.faults g.D.Disk.strict g.D.Disk.armed g.D.Disk.content g.D.Disk.synced g.D.Disk.written g.J.Planned.strict c.args.plan.now c.args.tape.now c.requires.limits a c.args.self.now.commands c.args.self.now.gone c.args.self.now.slot c.reopen.new.slot hold c.reserve.new.seat c.requires.next.0 desk c.requires.next.1 c.requires.next.2 c.in-Ok-reopen.given c.in-Ok-reopen.ensures.ok in
+    let silent = restart_silent g.D.Disk g.J.Planned.strict c.args.plan.now c.args.tape.now c.requires.limits a c.args.self.now.commands c.args.self.now.gone c.args.self.now.slot c.reopen.new.slot hold c.reserve.new.seat c.requires.next.0 desk c.requires.next.1 c.requires.next.2 c.in-Ok-reopen.given c.in-Ok-reopen.ensures.ok in
     rw item_is (
-      restart_owned g.D.Disk.is_image g.D.Disk.faults g.D.Disk.strict g.D.Disk.armed g.D.Disk.content g.D.Disk.synced g.D.Disk.written g.J.Planned.strict c.args.plan.now c.args.tape.now c.requires.limits a c.args.self.now.commands c.args.self.now.gone c.args.self.now.slot c.reopen.new.slot hold c.reserve.new.seat c.requires.next.0 desk c.requires.next.1 c.requires.next.2 c.in-Ok-reopen.given c.in-Ok-reopen.ensures.ok,
+      restart_owned g.D.Disk g.J.Planned.strict c.args.plan.now c.args.tape.now c.requires.limits a c.args.self.now.commands c.args.self.now.gone c.args.self.now.slot c.reopen.new.slot hold c.reserve.new.seat c.requires.next.0 desk c.requires.next.1 c.requires.next.2 c.in-Ok-reopen.given c.in-Ok-reopen.ensures.ok,
       restart_short a c.in-Ok-reopen.given silent,
       restart_weighs a c.in-Ok-reopen.given silent,
     )
@@ -51,11 +51,11 @@ put-requires-clause-fits g c =
     let turns = subst (λ p. Turns actor_of_item weight_of (fits_plan p) c.args.self.now.seat c.reserve.new.seat) (sym c.requires.plan) c.reserve.ensures.turn in
     let hold : Hold = record { items = 1; weight = 0 } in
     let held = held_first c.args.self.now.seat c.reserve.new.seat hold c.requires.desk.seated.held_is c.in-Ok.ensures.ok.0 c.in-Ok.ensures.ok.1 in
-    let desk = desk_on c.args.plan.now c.args.tape.now c.requires.limits a g.D.Disk.is_image g.D.Disk.faults g.D.Disk.strict g.D.Disk.armed g.D.Disk.content g.D.Disk.synced g.D.Disk.written g.J.Planned.strict c.args.self.now.commands c.args.self.now.gone c.args.self.now.slot no_hold hold c.args.self.now.seat c.reserve.new.seat c.requires.desk turns c.reserve.ensures.same.0 held in
+    let desk = desk_on c.args.plan.now c.args.tape.now c.requires.limits a g.D.Disk g.J.Planned.strict c.args.self.now.commands c.args.self.now.gone c.args.self.now.slot no_hold hold c.args.self.now.seat c.reserve.new.seat c.requires.desk turns c.reserve.ensures.same.0 held in
     let item_is = c.item_for-item.ensures in
-    let silent = restart_silent g.D.Disk.is_image g.D.Disk.faults g.D.Disk.strict g.D.Disk.armed g.D.Disk.content g.D.Disk.synced g.D.Disk.written g.J.Planned.strict c.args.plan.now c.args.tape.now c.requires.limits a c.args.self.now.commands c.args.self.now.gone c.args.self.now.slot c.reopen.new.slot hold c.reserve.new.seat c.requires.next.0 desk c.requires.next.1 c.requires.next.2 c.in-Ok-reopen.given c.in-Ok-reopen.ensures.ok in
+    let silent = restart_silent g.D.Disk g.J.Planned.strict c.args.plan.now c.args.tape.now c.requires.limits a c.args.self.now.commands c.args.self.now.gone c.args.self.now.slot c.reopen.new.slot hold c.reserve.new.seat c.requires.next.0 desk c.requires.next.1 c.requires.next.2 c.in-Ok-reopen.given c.in-Ok-reopen.ensures.ok in
     subst (λ p. FitsBehind actor_of_item (fits_plan p) c.reserve.new.seat c.item_for-item.result) c.requires.plan
-    (subst (λ item. FitsBehind actor_of_item (fits_plan c.args.plan.now) c.reserve.new.seat item) (sym item_is) (restart_fits_behind g.D.Disk.is_image g.D.Disk.faults g.D.Disk.strict g.D.Disk.armed g.D.Disk.content g.D.Disk.synced g.D.Disk.written g.J.Planned.strict c.args.plan.now c.args.tape.now c.requires.limits a c.args.self.now.commands c.args.self.now.gone c.args.self.now.slot c.reopen.new.slot hold c.reserve.new.seat c.requires.next.0 desk c.requires.next.1 c.requires.next.2 c.in-Ok-reopen.given silent))
+    (subst (λ item. FitsBehind actor_of_item (fits_plan c.args.plan.now) c.reserve.new.seat item) (sym item_is) (restart_fits_behind g.D.Disk g.J.Planned.strict c.args.plan.now c.args.tape.now c.requires.limits a c.args.self.now.commands c.args.self.now.gone c.args.self.now.slot c.reopen.new.slot hold c.reserve.new.seat c.requires.next.0 desk c.requires.next.1 c.requires.next.2 c.in-Ok-reopen.given silent))
 
 pub returns-clause-ok : goal.returns-clause-ok
 returns-clause-ok g c =
@@ -63,9 +63,9 @@ returns-clause-ok g c =
     let turns = subst (λ p. Turns actor_of_item weight_of (fits_plan p) c.args.self.now.seat c.reserve.new.seat) (sym c.requires.plan) c.reserve.ensures.turn in
     let hold : Hold = record { items = 1; weight = 0 } in
     let held = held_first c.args.self.now.seat c.reserve.new.seat hold c.requires.desk.seated.held_is c.in-Ok.ensures.ok.0 c.in-Ok.ensures.ok.1 in
-    let desk = desk_on c.args.plan.now c.args.tape.now c.requires.limits a g.D.Disk.is_image g.D.Disk.faults g.D.Disk.strict g.D.Disk.armed g.D.Disk.content g.D.Disk.synced g.D.Disk.written g.J.Planned.strict c.args.self.now.commands c.args.self.now.gone c.args.self.now.slot no_hold hold c.args.self.now.seat c.reserve.new.seat c.requires.desk turns c.reserve.ensures.same.0 held in
+    let desk = desk_on c.args.plan.now c.args.tape.now c.requires.limits a g.D.Disk g.J.Planned.strict c.args.self.now.commands c.args.self.now.gone c.args.self.now.slot no_hold hold c.args.self.now.seat c.reserve.new.seat c.requires.desk turns c.reserve.ensures.same.0 held in
     let item_is = c.item_for-item.ensures in
     let turns' = subst (λ p. Turns actor_of_item weight_of (fits_plan p) c.reserve.new.seat c.put.new.seat) (sym c.requires.plan) c.put.ensures.turn in
     let last = subst (λ p. ComesLast actor_of_item (fits_plan p) c.reserve.new.seat c.put.new.seat.seen c.item_for-item.result) (sym c.requires.plan) c.in_ok-put.ensures.behind in
     let free = held_none c.reserve.new.seat c.put.new.seat hold held c.put.ensures.held.0 c.put.ensures.held.1 in
-    restart_taken g.D.Disk.is_image g.D.Disk.faults g.D.Disk.strict g.D.Disk.armed g.D.Disk.content g.D.Disk.synced g.D.Disk.written g.J.Planned.strict c.args.plan.now c.args.tape.now c.requires.limits a c.args.self.now.commands c.args.self.now.gone c.args.self.now.slot c.reopen.new.slot hold c.reserve.new.seat c.requires.next.0 desk c.requires.next.1 c.requires.next.2 c.in-Ok-reopen.given c.in-Ok-reopen.ensures.ok c.in-Ok-reopen.ensures.strict c.put.new.seat turns' free (subst (λ item. ComesLast actor_of_item (fits_plan c.args.plan.now) c.reserve.new.seat c.put.new.seat.seen item) item_is last)
+    restart_taken g.D.Disk g.J.Planned.strict c.args.plan.now c.args.tape.now c.requires.limits a c.args.self.now.commands c.args.self.now.gone c.args.self.now.slot c.reopen.new.slot hold c.reserve.new.seat c.requires.next.0 desk c.requires.next.1 c.requires.next.2 c.in-Ok-reopen.given c.in-Ok-reopen.ensures.ok c.in-Ok-reopen.ensures.strict c.put.new.seat turns' free (subst (λ item. ComesLast actor_of_item (fits_plan c.args.plan.now) c.reserve.new.seat c.put.new.seat.seen item) item_is last)

@@ -16,7 +16,7 @@ pub settle-requires : goal.settle-requires
 settle-requires g c =
     let self = c.args.self.now in
     let q = c.requires.group in
-    settle_asks g.D.Disk.is_image g.D.Disk.faults g.D.Disk.strict g.D.Disk.armed g.D.Disk.content g.D.Disk.synced g.D.Disk.written g.J.Planned.strict c.args.plan.now c.args.tape.now c.requires.limits self.actor self.commands self.gone q.0 self.slot q.1 q.2 c.args.hold self.seat q.4
+    settle_asks g.D.Disk g.J.Planned.strict c.args.plan.now c.args.tape.now c.requires.limits self.actor self.commands self.gone q.0 self.slot q.1 q.2 c.args.hold self.seat q.4
 
 pub let_go-requires-clause-seated : goal.let_go-requires-clause-seated
 let_go-requires-clause-seated g c = c.requires.group.4.desk.seated
@@ -25,25 +25,25 @@ pub enter_group-requires-clause-group : goal.enter_group-requires-clause-group
 enter_group-requires-clause-group g c =
     let self = c.args.self.now in
     let q = c.requires.group in
-    let settled = subst (λ (o : Option (List Unsent)). (s : Situation) (staged : List Event) → IsStaged g.D.Disk.is_image g.D.Disk.faults c.args.plan.now s self.actor staged self.slot → HasSettled g.D.Disk.is_image g.D.Disk.faults c.args.plan.now s self.actor staged c.settle.new.self o) c.in-Some.is c.in-Ok.ensures.ok in
-    let strictly = subst (λ (o : Option (List Unsent)). (s : Situation) (staged : List Event) (disks : Disks) → IsStaged g.D.Disk.is_image g.D.Disk.faults c.args.plan.now s self.actor staged self.slot → staged ≢ []
-    → IsStrictSlot g.D.Disk.strict g.D.Disk.armed g.D.Disk.content g.D.Disk.synced g.D.Disk.written c.args.plan.now s disks self.actor self.slot
-    → HasSettledStrictly g.D.Disk.strict g.D.Disk.armed g.D.Disk.content g.D.Disk.synced g.D.Disk.written c.args.plan.now s disks self.actor staged c.settle.new.self o) c.in-Some.is c.in-Ok.ensures.strict in (
+    let settled = subst (λ (o : Option (List Unsent)). (s : Situation) (staged : List Event) → IsStaged g.D.Disk c.args.plan.now s self.actor staged self.slot → HasSettled g.D.Disk c.args.plan.now s self.actor staged c.settle.new.self o) c.in-Some.is c.in-Ok.ensures.ok in
+    let strictly = subst (λ (o : Option (List Unsent)). (s : Situation) (staged : List Event) (disks : Disks) → IsStaged g.D.Disk c.args.plan.now s self.actor staged self.slot → staged ≢ []
+    → IsStrictSlot g.D.Disk c.args.plan.now s disks self.actor self.slot
+    → HasSettledStrictly g.D.Disk c.args.plan.now s disks self.actor staged c.settle.new.self o) c.in-Some.is c.in-Ok.ensures.strict in (
       events_of q.1,
-      settled_some g.D.Disk.is_image g.D.Disk.faults g.D.Disk.strict g.D.Disk.armed g.D.Disk.content g.D.Disk.synced g.D.Disk.written g.J.Planned.strict c.args.plan.now c.args.tape.now c.requires.limits self.actor self.commands self.gone q.0 self.slot q.1 q.2 c.args.hold self.seat q.4 c.settle.new.self c.in-Some.unsent settled strictly q.3,
+      settled_some g.D.Disk g.J.Planned.strict c.args.plan.now c.args.tape.now c.requires.limits self.actor self.commands self.gone q.0 self.slot q.1 q.2 c.args.hold self.seat q.4 c.settle.new.self c.in-Some.unsent settled strictly q.3,
     )
 
 pub enter_down-requires-clause-group : goal.enter_down-requires-clause-group
 enter_down-requires-clause-group g c =
     let self = c.args.self.now in
     let q = c.requires.group in
-    let settled = subst (λ (o : Option (List Unsent)). (s : Situation) (staged : List Event) → IsStaged g.D.Disk.is_image g.D.Disk.faults c.args.plan.now s self.actor staged self.slot → HasSettled g.D.Disk.is_image g.D.Disk.faults c.args.plan.now s self.actor staged c.settle.new.self o) c.in-None.is c.in-Ok.ensures.ok in
-    let strictly = subst (λ (o : Option (List Unsent)). (s : Situation) (staged : List Event) (disks : Disks) → IsStaged g.D.Disk.is_image g.D.Disk.faults c.args.plan.now s self.actor staged self.slot → staged ≢ []
-    → IsStrictSlot g.D.Disk.strict g.D.Disk.armed g.D.Disk.content g.D.Disk.synced g.D.Disk.written c.args.plan.now s disks self.actor self.slot
-    → HasSettledStrictly g.D.Disk.strict g.D.Disk.armed g.D.Disk.content g.D.Disk.synced g.D.Disk.written c.args.plan.now s disks self.actor staged c.settle.new.self o) c.in-None.is c.in-Ok.ensures.strict in (
+    let settled = subst (λ (o : Option (List Unsent)). (s : Situation) (staged : List Event) → IsStaged g.D.Disk c.args.plan.now s self.actor staged self.slot → HasSettled g.D.Disk c.args.plan.now s self.actor staged c.settle.new.self o) c.in-None.is c.in-Ok.ensures.ok in
+    let strictly = subst (λ (o : Option (List Unsent)). (s : Situation) (staged : List Event) (disks : Disks) → IsStaged g.D.Disk c.args.plan.now s self.actor staged self.slot → staged ≢ []
+    → IsStrictSlot g.D.Disk c.args.plan.now s disks self.actor self.slot
+    → HasSettledStrictly g.D.Disk c.args.plan.now s disks self.actor staged c.settle.new.self o) c.in-None.is c.in-Ok.ensures.strict in (
       q.0,
       q.1,
-      settled_none g.D.Disk.is_image g.D.Disk.faults g.D.Disk.strict g.D.Disk.armed g.D.Disk.content g.D.Disk.synced g.D.Disk.written g.J.Planned.strict c.args.plan.now c.args.tape.now c.requires.limits self.actor self.commands self.gone q.0 self.slot q.1 q.2 c.args.hold self.seat q.4 c.settle.new.self settled strictly q.3,
+      settled_none g.D.Disk g.J.Planned.strict c.args.plan.now c.args.tape.now c.requires.limits self.actor self.commands self.gone q.0 self.slot q.1 q.2 c.args.hold self.seat q.4 c.settle.new.self settled strictly q.3,
     )
 
 -- a group that isn't empty gives a step
@@ -60,9 +60,9 @@ pub returns-in-Some-clause-entered : goal.returns-in-Some-clause-entered
 returns-in-Some-clause-entered g c =
     let self = c.args.self.now in
     let q = c.requires.group in
-    let settled = subst (λ (o : Option (List Unsent)). (s : Situation) (staged : List Event) → IsStaged g.D.Disk.is_image g.D.Disk.faults c.args.plan.now s self.actor staged self.slot → HasSettled g.D.Disk.is_image g.D.Disk.faults c.args.plan.now s self.actor staged c.settle.new.self o) c.in-Some.is c.in-Ok.ensures.ok in
-    let strictly = subst (λ (o : Option (List Unsent)). (s : Situation) (staged : List Event) (disks : Disks) → IsStaged g.D.Disk.is_image g.D.Disk.faults c.args.plan.now s self.actor staged self.slot → staged ≢ []
-    → IsStrictSlot g.D.Disk.strict g.D.Disk.armed g.D.Disk.content g.D.Disk.synced g.D.Disk.written c.args.plan.now s disks self.actor self.slot
-    → HasSettledStrictly g.D.Disk.strict g.D.Disk.armed g.D.Disk.content g.D.Disk.synced g.D.Disk.written c.args.plan.now s disks self.actor staged c.settle.new.self o) c.in-Some.is c.in-Ok.ensures.strict in
-    let desk = settled_some g.D.Disk.is_image g.D.Disk.faults g.D.Disk.strict g.D.Disk.armed g.D.Disk.content g.D.Disk.synced g.D.Disk.written g.J.Planned.strict c.args.plan.now c.args.tape.now c.requires.limits self.actor self.commands self.gone q.0 self.slot q.1 q.2 c.args.hold self.seat q.4 c.settle.new.self c.in-Some.unsent settled strictly q.3 in
+    let settled = subst (λ (o : Option (List Unsent)). (s : Situation) (staged : List Event) → IsStaged g.D.Disk c.args.plan.now s self.actor staged self.slot → HasSettled g.D.Disk c.args.plan.now s self.actor staged c.settle.new.self o) c.in-Some.is c.in-Ok.ensures.ok in
+    let strictly = subst (λ (o : Option (List Unsent)). (s : Situation) (staged : List Event) (disks : Disks) → IsStaged g.D.Disk c.args.plan.now s self.actor staged self.slot → staged ≢ []
+    → IsStrictSlot g.D.Disk c.args.plan.now s disks self.actor self.slot
+    → HasSettledStrictly g.D.Disk c.args.plan.now s disks self.actor staged c.settle.new.self o) c.in-Some.is c.in-Ok.ensures.strict in
+    let desk = settled_some g.D.Disk g.J.Planned.strict c.args.plan.now c.args.tape.now c.requires.limits self.actor self.commands self.gone q.0 self.slot q.1 q.2 c.args.hold self.seat q.4 c.settle.new.self c.in-Some.unsent settled strictly q.3 in
     then_ok c.enter_group.result (λ more. more (some_given _ _ _ q.1 _ c.in-Some.unsent q.3 desk.entering.steps)) c.enter_group.ensures.entered

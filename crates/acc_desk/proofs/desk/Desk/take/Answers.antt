@@ -13,12 +13,12 @@ use Rattle.acc_desk.proofs.Rooms.{asked_no_room}
 use Rattle.acc_desk.proofs.desk.Desk.take.Goals as goal
 
 pub weigh-requires : goal.weigh-requires
-weigh-requires g c = asks c.args.plan.now c.args.tape.now c.requires.limits c.args.self.now.actor g.D.Disk.is_image g.D.Disk.faults g.D.Disk.strict g.D.Disk.armed g.D.Disk.content g.D.Disk.synced g.D.Disk.written g.J.Planned.strict c.args.self.now.commands c.args.self.now.gone c.args.self.now.slot (event_of c.args.ask) (act_of_ask c.args.ask) c.args.gone no_hold c.args.self.now.seat c.requires.desk c.requires.may
+weigh-requires g c = asks c.args.plan.now c.args.tape.now c.requires.limits c.args.self.now.actor g.D.Disk g.J.Planned.strict c.args.self.now.commands c.args.self.now.gone c.args.self.now.slot (event_of c.args.ask) (act_of_ask c.args.ask) c.args.gone no_hold c.args.self.now.seat c.requires.desk c.requires.may
 
 pub returns-in-Err-Full-clause-ok : goal.returns-in-Err-Full-clause-ok
 returns-in-Err-Full-clause-ok g c =
     let turns = subst (λ p. Turns actor_of_item weight_of (fits_plan p) c.args.self.now.seat c.reserve.new.seat) (sym c.requires.plan) c.reserve.ensures.turn in
-    desk_on c.args.plan.now c.args.tape.now c.requires.limits c.args.self.now.actor g.D.Disk.is_image g.D.Disk.faults g.D.Disk.strict g.D.Disk.armed g.D.Disk.content g.D.Disk.synced g.D.Disk.written g.J.Planned.strict c.args.self.now.commands c.args.self.now.gone c.args.self.now.slot no_hold no_hold c.args.self.now.seat c.reserve.new.seat c.requires.desk turns c.reserve.ensures.same.0 (held_same c.args.self.now.seat c.reserve.new.seat no_hold c.requires.desk.seated.held_is c.in-Err-Full.ensures.err.0 c.in-Err-Full.ensures.err.1)
+    desk_on c.args.plan.now c.args.tape.now c.requires.limits c.args.self.now.actor g.D.Disk g.J.Planned.strict c.args.self.now.commands c.args.self.now.gone c.args.self.now.slot no_hold no_hold c.args.self.now.seat c.reserve.new.seat c.requires.desk turns c.reserve.ensures.same.0 (held_same c.args.self.now.seat c.reserve.new.seat no_hold c.requires.desk.seated.held_is c.in-Err-Full.ensures.err.0 c.in-Err-Full.ensures.err.1)
 
 pub step-requires : goal.step-requires
 step-requires g c =
@@ -29,9 +29,9 @@ step-requires g c =
     let turns = subst (λ p. Turns actor_of_item weight_of (fits_plan p) c.args.self.now.seat c.reserve.new.seat) (sym c.requires.plan) c.reserve.ensures.turn in
     let hold : Hold = record { items = 1; weight = w } in
     let held = held_first c.args.self.now.seat c.reserve.new.seat hold c.requires.desk.seated.held_is c.in-Ok.ensures.ok.0 c.in-Ok.ensures.ok.1 in
-    let desk = desk_on c.args.plan.now c.args.tape.now c.requires.limits a g.D.Disk.is_image g.D.Disk.faults g.D.Disk.strict g.D.Disk.armed g.D.Disk.content g.D.Disk.synced g.D.Disk.written g.J.Planned.strict c.args.self.now.commands c.args.self.now.gone c.args.self.now.slot no_hold hold c.args.self.now.seat c.reserve.new.seat c.requires.desk turns c.reserve.ensures.same.0 held in
-    let may = may_on c.args.plan.now c.args.tape.now c.requires.limits a g.D.Disk.is_image g.D.Disk.faults g.D.Disk.strict g.D.Disk.armed g.D.Disk.content g.D.Disk.synced g.D.Disk.written g.J.Planned.strict c.args.self.now.commands c.args.self.now.gone c.args.self.now.slot event act c.args.gone no_hold c.args.self.now.seat c.reserve.new.seat c.requires.desk turns c.reserve.ensures.same.0 c.requires.may in
-    asks c.args.plan.now c.args.tape.now c.requires.limits a g.D.Disk.is_image g.D.Disk.faults g.D.Disk.strict g.D.Disk.armed g.D.Disk.content g.D.Disk.synced g.D.Disk.written g.J.Planned.strict c.args.self.now.commands c.args.self.now.gone c.args.self.now.slot event act c.args.gone hold c.reserve.new.seat desk may
+    let desk = desk_on c.args.plan.now c.args.tape.now c.requires.limits a g.D.Disk g.J.Planned.strict c.args.self.now.commands c.args.self.now.gone c.args.self.now.slot no_hold hold c.args.self.now.seat c.reserve.new.seat c.requires.desk turns c.reserve.ensures.same.0 held in
+    let may = may_on c.args.plan.now c.args.tape.now c.requires.limits a g.D.Disk g.J.Planned.strict c.args.self.now.commands c.args.self.now.gone c.args.self.now.slot event act c.args.gone no_hold c.args.self.now.seat c.reserve.new.seat c.requires.desk turns c.reserve.ensures.same.0 c.requires.may in
+    asks c.args.plan.now c.args.tape.now c.requires.limits a g.D.Disk g.J.Planned.strict c.args.self.now.commands c.args.self.now.gone c.args.self.now.slot event act c.args.gone hold c.reserve.new.seat desk may
 
 pub release-requires-clause-held : goal.release-requires-clause-held
 release-requires-clause-held g c =
@@ -56,13 +56,13 @@ put-requires-clause-item g c =
     let turns = subst (λ p. Turns actor_of_item weight_of (fits_plan p) c.args.self.now.seat c.reserve.new.seat) (sym c.requires.plan) c.reserve.ensures.turn in
     let hold : Hold = record { items = 1; weight = w } in
     let held = held_first c.args.self.now.seat c.reserve.new.seat hold c.requires.desk.seated.held_is c.in-Ok.ensures.ok.0 c.in-Ok.ensures.ok.1 in
-    let desk = desk_on c.args.plan.now c.args.tape.now c.requires.limits a g.D.Disk.is_image g.D.Disk.faults g.D.Disk.strict g.D.Disk.armed g.D.Disk.content g.D.Disk.synced g.D.Disk.written g.J.Planned.strict c.args.self.now.commands c.args.self.now.gone c.args.self.now.slot no_hold hold c.args.self.now.seat c.reserve.new.seat c.requires.desk turns c.reserve.ensures.same.0 held in
-    let may = may_on c.args.plan.now c.args.tape.now c.requires.limits a g.D.Disk.is_image g.D.Disk.faults g.D.Disk.strict g.D.Disk.armed g.D.Disk.content g.D.Disk.synced g.D.Disk.written g.J.Planned.strict c.args.self.now.commands c.args.self.now.gone c.args.self.now.slot event act c.args.gone no_hold c.args.self.now.seat c.reserve.new.seat c.requires.desk turns c.reserve.ensures.same.0 c.requires.may in
+    let desk = desk_on c.args.plan.now c.args.tape.now c.requires.limits a g.D.Disk g.J.Planned.strict c.args.self.now.commands c.args.self.now.gone c.args.self.now.slot no_hold hold c.args.self.now.seat c.reserve.new.seat c.requires.desk turns c.reserve.ensures.same.0 held in
+    let may = may_on c.args.plan.now c.args.tape.now c.requires.limits a g.D.Disk g.J.Planned.strict c.args.self.now.commands c.args.self.now.gone c.args.self.now.slot event act c.args.gone no_hold c.args.self.now.seat c.reserve.new.seat c.requires.desk turns c.reserve.ensures.same.0 c.requires.may in
     let item_is = c.item_for-item.ensures ∙ ap (λ e. item_of a e c.in-Ok-step.given) c.event.ensures in
     rw item_is (
-      own c.args.plan.now c.args.tape.now c.requires.limits a g.D.Disk.is_image g.D.Disk.faults g.D.Disk.strict g.D.Disk.armed g.D.Disk.content g.D.Disk.synced g.D.Disk.written g.J.Planned.strict c.args.self.now.commands c.args.self.now.gone c.args.self.now.slot event act c.args.gone hold c.reserve.new.seat desk may c.in-Ok-step.given c.step.new.slot c.in-Ok-step.ensures.ok,
-      short c.args.plan.now c.args.tape.now c.requires.limits a g.D.Disk.is_image g.D.Disk.faults g.D.Disk.strict g.D.Disk.armed g.D.Disk.content g.D.Disk.synced g.D.Disk.written g.J.Planned.strict c.args.self.now.commands c.args.self.now.gone c.args.self.now.slot event act c.args.gone hold c.reserve.new.seat desk may c.in-Ok-step.given c.step.new.slot c.in-Ok-step.ensures.ok,
-      weighs c.args.plan.now c.args.tape.now c.requires.limits a g.D.Disk.is_image g.D.Disk.faults g.D.Disk.strict g.D.Disk.armed g.D.Disk.content g.D.Disk.synced g.D.Disk.written g.J.Planned.strict c.args.self.now.commands c.args.self.now.gone c.args.self.now.slot event act c.args.gone hold c.reserve.new.seat desk may c.in-Ok-step.given c.step.new.slot c.in-Ok-step.ensures.ok w c.in_ok-weight.ensures,
+      own c.args.plan.now c.args.tape.now c.requires.limits a g.D.Disk g.J.Planned.strict c.args.self.now.commands c.args.self.now.gone c.args.self.now.slot event act c.args.gone hold c.reserve.new.seat desk may c.in-Ok-step.given c.step.new.slot c.in-Ok-step.ensures.ok,
+      short c.args.plan.now c.args.tape.now c.requires.limits a g.D.Disk g.J.Planned.strict c.args.self.now.commands c.args.self.now.gone c.args.self.now.slot event act c.args.gone hold c.reserve.new.seat desk may c.in-Ok-step.given c.step.new.slot c.in-Ok-step.ensures.ok,
+      weighs c.args.plan.now c.args.tape.now c.requires.limits a g.D.Disk g.J.Planned.strict c.args.self.now.commands c.args.self.now.gone c.args.self.now.slot event act c.args.gone hold c.reserve.new.seat desk may c.in-Ok-step.given c.step.new.slot c.in-Ok-step.ensures.ok w c.in_ok-weight.ensures,
     )
 
 pub put-requires-clause-fits : goal.put-requires-clause-fits
@@ -74,11 +74,11 @@ put-requires-clause-fits g c =
     let turns = subst (λ p. Turns actor_of_item weight_of (fits_plan p) c.args.self.now.seat c.reserve.new.seat) (sym c.requires.plan) c.reserve.ensures.turn in
     let hold : Hold = record { items = 1; weight = w } in
     let held = held_first c.args.self.now.seat c.reserve.new.seat hold c.requires.desk.seated.held_is c.in-Ok.ensures.ok.0 c.in-Ok.ensures.ok.1 in
-    let desk = desk_on c.args.plan.now c.args.tape.now c.requires.limits a g.D.Disk.is_image g.D.Disk.faults g.D.Disk.strict g.D.Disk.armed g.D.Disk.content g.D.Disk.synced g.D.Disk.written g.J.Planned.strict c.args.self.now.commands c.args.self.now.gone c.args.self.now.slot no_hold hold c.args.self.now.seat c.reserve.new.seat c.requires.desk turns c.reserve.ensures.same.0 held in
-    let may = may_on c.args.plan.now c.args.tape.now c.requires.limits a g.D.Disk.is_image g.D.Disk.faults g.D.Disk.strict g.D.Disk.armed g.D.Disk.content g.D.Disk.synced g.D.Disk.written g.J.Planned.strict c.args.self.now.commands c.args.self.now.gone c.args.self.now.slot event act c.args.gone no_hold c.args.self.now.seat c.reserve.new.seat c.requires.desk turns c.reserve.ensures.same.0 c.requires.may in
+    let desk = desk_on c.args.plan.now c.args.tape.now c.requires.limits a g.D.Disk g.J.Planned.strict c.args.self.now.commands c.args.self.now.gone c.args.self.now.slot no_hold hold c.args.self.now.seat c.reserve.new.seat c.requires.desk turns c.reserve.ensures.same.0 held in
+    let may = may_on c.args.plan.now c.args.tape.now c.requires.limits a g.D.Disk g.J.Planned.strict c.args.self.now.commands c.args.self.now.gone c.args.self.now.slot event act c.args.gone no_hold c.args.self.now.seat c.reserve.new.seat c.requires.desk turns c.reserve.ensures.same.0 c.requires.may in
     let item_is = c.item_for-item.ensures ∙ ap (λ e. item_of a e c.in-Ok-step.given) c.event.ensures in
     subst (λ p. FitsBehind actor_of_item (fits_plan p) c.reserve.new.seat c.item_for-item.result) c.requires.plan
-    (subst (λ item. FitsBehind actor_of_item (fits_plan c.args.plan.now) c.reserve.new.seat item) (sym item_is) (fits c.args.plan.now c.args.tape.now c.requires.limits a g.D.Disk.is_image g.D.Disk.faults g.D.Disk.strict g.D.Disk.armed g.D.Disk.content g.D.Disk.synced g.D.Disk.written g.J.Planned.strict c.args.self.now.commands c.args.self.now.gone c.args.self.now.slot event act c.args.gone hold c.reserve.new.seat desk may c.in-Ok-step.given c.step.new.slot c.in-Ok-step.ensures.ok))
+    (subst (λ item. FitsBehind actor_of_item (fits_plan c.args.plan.now) c.reserve.new.seat item) (sym item_is) (fits c.args.plan.now c.args.tape.now c.requires.limits a g.D.Disk g.J.Planned.strict c.args.self.now.commands c.args.self.now.gone c.args.self.now.slot event act c.args.gone hold c.reserve.new.seat desk may c.in-Ok-step.given c.step.new.slot c.in-Ok-step.ensures.ok))
 
 pub returns-clause-ok : goal.returns-clause-ok
 returns-clause-ok g c =
@@ -89,13 +89,13 @@ returns-clause-ok g c =
     let turns = subst (λ p. Turns actor_of_item weight_of (fits_plan p) c.args.self.now.seat c.reserve.new.seat) (sym c.requires.plan) c.reserve.ensures.turn in
     let hold : Hold = record { items = 1; weight = w } in
     let held = held_first c.args.self.now.seat c.reserve.new.seat hold c.requires.desk.seated.held_is c.in-Ok.ensures.ok.0 c.in-Ok.ensures.ok.1 in
-    let desk = desk_on c.args.plan.now c.args.tape.now c.requires.limits a g.D.Disk.is_image g.D.Disk.faults g.D.Disk.strict g.D.Disk.armed g.D.Disk.content g.D.Disk.synced g.D.Disk.written g.J.Planned.strict c.args.self.now.commands c.args.self.now.gone c.args.self.now.slot no_hold hold c.args.self.now.seat c.reserve.new.seat c.requires.desk turns c.reserve.ensures.same.0 held in
-    let may = may_on c.args.plan.now c.args.tape.now c.requires.limits a g.D.Disk.is_image g.D.Disk.faults g.D.Disk.strict g.D.Disk.armed g.D.Disk.content g.D.Disk.synced g.D.Disk.written g.J.Planned.strict c.args.self.now.commands c.args.self.now.gone c.args.self.now.slot event act c.args.gone no_hold c.args.self.now.seat c.reserve.new.seat c.requires.desk turns c.reserve.ensures.same.0 c.requires.may in
+    let desk = desk_on c.args.plan.now c.args.tape.now c.requires.limits a g.D.Disk g.J.Planned.strict c.args.self.now.commands c.args.self.now.gone c.args.self.now.slot no_hold hold c.args.self.now.seat c.reserve.new.seat c.requires.desk turns c.reserve.ensures.same.0 held in
+    let may = may_on c.args.plan.now c.args.tape.now c.requires.limits a g.D.Disk g.J.Planned.strict c.args.self.now.commands c.args.self.now.gone c.args.self.now.slot event act c.args.gone no_hold c.args.self.now.seat c.reserve.new.seat c.requires.desk turns c.reserve.ensures.same.0 c.requires.may in
     let item_is = c.item_for-item.ensures ∙ ap (λ e. item_of a e c.in-Ok-step.given) c.event.ensures in
     let turns' = subst (λ p. Turns actor_of_item weight_of (fits_plan p) c.reserve.new.seat c.put.new.seat) (sym c.requires.plan) c.put.ensures.turn in
     let last = subst (λ p. ComesLast actor_of_item (fits_plan p) c.reserve.new.seat c.put.new.seat.seen c.item_for-item.result) (sym c.requires.plan) c.in_ok-put.ensures.behind in
     let free = held_none c.reserve.new.seat c.put.new.seat hold held c.put.ensures.held.0 c.put.ensures.held.1 in
-    taken c.args.plan.now c.args.tape.now c.requires.limits a g.D.Disk.is_image g.D.Disk.faults g.D.Disk.strict g.D.Disk.armed g.D.Disk.content g.D.Disk.synced g.D.Disk.written g.J.Planned.strict c.args.self.now.commands c.args.self.now.gone c.args.self.now.slot event act c.args.gone hold c.reserve.new.seat desk may c.in-Ok-step.given c.step.new.slot c.in-Ok-step.ensures.ok c.in-Ok-step.ensures.strict c.put.new.seat turns' free (subst (λ item. ComesLast actor_of_item (fits_plan c.args.plan.now) c.reserve.new.seat c.put.new.seat.seen item) item_is last)
+    taken c.args.plan.now c.args.tape.now c.requires.limits a g.D.Disk g.J.Planned.strict c.args.self.now.commands c.args.self.now.gone c.args.self.now.slot event act c.args.gone hold c.reserve.new.seat desk may c.in-Ok-step.given c.step.new.slot c.in-Ok-step.ensures.ok c.in-Ok-step.ensures.strict c.put.new.seat turns' free (subst (λ item. ComesLast actor_of_item (fits_plan c.args.plan.now) c.reserve.new.seat c.put.new.seat.seen item) item_is last)
 
 pub returns-in-Err-Full-clause-came : goal.returns-in-Err-Full-clause-came
 returns-in-Err-Full-clause-came g c =
@@ -104,11 +104,11 @@ returns-in-Err-Full-clause-came g c =
     let act = act_of_ask c.args.ask in
     let new = c.reserve.new.seat in
     let turns = subst (λ p. Turns actor_of_item weight_of (fits_plan p) c.args.self.now.seat new) (sym c.requires.plan) c.reserve.ensures.turn in
-    let desk = desk_on c.args.plan.now c.args.tape.now c.requires.limits a g.D.Disk.is_image g.D.Disk.faults g.D.Disk.strict g.D.Disk.armed g.D.Disk.content g.D.Disk.synced g.D.Disk.written g.J.Planned.strict c.args.self.now.commands c.args.self.now.gone c.args.self.now.slot no_hold no_hold c.args.self.now.seat new c.requires.desk turns c.reserve.ensures.same.0 (held_same c.args.self.now.seat c.reserve.new.seat no_hold c.requires.desk.seated.held_is c.in-Err-Full.ensures.err.0 c.in-Err-Full.ensures.err.1) in
-    let may = may_on c.args.plan.now c.args.tape.now c.requires.limits a g.D.Disk.is_image g.D.Disk.faults g.D.Disk.strict g.D.Disk.armed g.D.Disk.content g.D.Disk.synced g.D.Disk.written g.J.Planned.strict c.args.self.now.commands c.args.self.now.gone c.args.self.now.slot event act c.args.gone no_hold c.args.self.now.seat new c.requires.desk turns c.reserve.ensures.same.0 c.requires.may in
+    let desk = desk_on c.args.plan.now c.args.tape.now c.requires.limits a g.D.Disk g.J.Planned.strict c.args.self.now.commands c.args.self.now.gone c.args.self.now.slot no_hold no_hold c.args.self.now.seat new c.requires.desk turns c.reserve.ensures.same.0 (held_same c.args.self.now.seat c.reserve.new.seat no_hold c.requires.desk.seated.held_is c.in-Err-Full.ensures.err.0 c.in-Err-Full.ensures.err.1) in
+    let may = may_on c.args.plan.now c.args.tape.now c.requires.limits a g.D.Disk g.J.Planned.strict c.args.self.now.commands c.args.self.now.gone c.args.self.now.slot event act c.args.gone no_hold c.args.self.now.seat new c.requires.desk turns c.reserve.ensures.same.0 c.requires.may in
     let refuses = subst (λ e. Refuses c.args.tape.now.limits (length new.seen + new.out_count) (sum_by weight_of new.seen + new.out_weight) 1 c.in_ok-weight.weight e) c.in-Err-Full.field-0-is c.in-Err-Full.ensures.cause in (
       c.reserve.ensures.same.0,
       refl,
-      asked_no_room g.D.Disk.is_image g.D.Disk.faults g.D.Disk.strict g.D.Disk.armed g.D.Disk.content g.D.Disk.synced g.D.Disk.written g.J.Planned.strict c.args.plan.now c.args.tape.now c.requires.limits a c.args.self.now.commands c.args.self.now.gone c.args.self.now.slot event act c.args.gone no_hold new desk may
+      asked_no_room g.D.Disk g.J.Planned.strict c.args.plan.now c.args.tape.now c.requires.limits a c.args.self.now.commands c.args.self.now.gone c.args.self.now.slot event act c.args.gone no_hold new desk may
           c.in_ok-weight.weight c.in_ok-weight.ensures c.in-Err-Full.field-0-0 c.in-Err-Full.field-0-1 refuses,
     )

@@ -5,21 +5,21 @@ use Rattle.acc_durable_node.proofs.actor.NodeActor.weigh_begin.Goals as goal
 
 pub weigh_begin-requires-clause-not_begun : goal.weigh_begin-requires-clause-not_begun
 weigh_begin-requires-clause-not_begun g c =
-    (can_begin g.D.Disk.is_image c.args.topology.now c.args.self.now c.in-Open.node c.in-Open.is c.requires.up c.args.txn c.requires.may).fresh
+    (can_begin g.D.Disk c.args.topology.now c.args.self.now c.in-Open.node c.in-Open.is c.requires.up c.args.txn c.requires.may).fresh
 
 pub weigh_begin-requires-clause-node_in_range : goal.weigh_begin-requires-clause-node_in_range
 weigh_begin-requires-clause-node_in_range g c =
-    few_nodes g.D.Disk.is_image c.args.topology.now c.args.self.now c.in-Open.node c.in-Open.is c.requires.up c.requires.may.number c.requires.may.start c.requires.may.version c.requires.may.past
+    few_nodes g.D.Disk c.args.topology.now c.args.self.now c.in-Open.node c.in-Open.is c.requires.up c.requires.may.number c.requires.may.start c.requires.may.version c.requires.may.past
     c.args.self.now.name.number_to c.requires.may.stands
 
 pub weigh_begin-requires-clause-drawn_in_range : goal.weigh_begin-requires-clause-drawn_in_range
 weigh_begin-requires-clause-drawn_in_range g c =
-    (can_begin g.D.Disk.is_image c.args.topology.now c.args.self.now c.in-Open.node c.in-Open.is c.requires.up c.args.txn c.requires.may).low.drawn
+    (can_begin g.D.Disk c.args.topology.now c.args.self.now c.in-Open.node c.in-Open.is c.requires.up c.args.txn c.requires.may).low.drawn
 
 pub weigh_begin-requires-clause-seen_in_range : goal.weigh_begin-requires-clause-seen_in_range
 weigh_begin-requires-clause-seen_in_range g c =
-    (can_begin g.D.Disk.is_image c.args.topology.now c.args.self.now c.in-Open.node c.in-Open.is c.requires.up c.args.txn c.requires.may).low.seen
+    (can_begin g.D.Disk c.args.topology.now c.args.self.now c.in-Open.node c.in-Open.is c.requires.up c.args.txn c.requires.may).low.seen
 
 pub returns : goal.returns
 returns g c =
-    weighs g.D.Disk.is_image c.args.topology.now c.args.self.now c.in-Open.node c.in-Open.is c.requires.up (Begins c.args.txn c.args.body.now) c.weigh_begin.result c.weigh_begin.ensures
+    weighs g.D.Disk c.args.topology.now c.args.self.now c.in-Open.node c.in-Open.is c.requires.up (Begins c.args.txn c.args.body.now) c.weigh_begin.result c.weigh_begin.ensures

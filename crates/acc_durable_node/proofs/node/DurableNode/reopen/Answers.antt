@@ -28,10 +28,10 @@ returns-in-Ok-read_node_journal-clause-ok g c =
 
 pub returns-clause-never : goal.returns-clause-never
 returns-clause-never g c = λ payloads items reads journal.
-    refused_never c.args.version c.args.start (g.D.Disk.content c.args.disk) c.in-Ok.opened.1 payloads items c.in-Err-read_node_journal.error c.in-Ok.ensures.payloads reads journal
+    refused_never c.args.version c.args.start (g.D.Disk.state c.args.disk).content c.in-Ok.opened.1 payloads items c.in-Err-read_node_journal.error c.in-Ok.ensures.payloads reads journal
     (subst (λ (l : List (List ℕ)). IsRefusedAs node_bytes (NodeMay c.args.version c.args.start) l c.in-Err-read_node_journal.error) c.as_slice.ensures c.in-Err-read_node_journal.ensures.refused)
 
 pub returns-in-Ok-read_node_journal-clause-restarts : goal.returns-in-Ok-read_node_journal-clause-restarts
 returns-in-Ok-read_node_journal-clause-restarts g c = λ layout acts payloads reads after.
-    reopened_from layout _ (g.D.Disk.content c.args.disk) acts payloads (returns-in-Ok-read_node_journal-clause-ok g c)
-    (subst (Reads (g.D.Disk.content c.args.disk)) (sym (ap (λ (j : JournalState g.row.D.Denot). j.payloads) c.in-Ok.ensures.ok)) c.in-Ok.ensures.payloads) reads after
+    reopened_from layout _ (g.D.Disk.state c.args.disk).content acts payloads (returns-in-Ok-read_node_journal-clause-ok g c)
+    (subst (Reads (g.D.Disk.state c.args.disk).content) (sym (ap (λ (j : JournalState g.row.D.Denot). j.payloads) c.in-Ok.ensures.ok)) c.in-Ok.ensures.payloads) reads after

@@ -6,7 +6,7 @@ use Rattle.acc_durable_store.proofs.actor.StoreActor.prepare.Goals as goal
 
 pub prepare-requires : goal.prepare-requires
 prepare-requires g c =
-    record { stands = store_stands g.D.Disk.is_image c.args.topology.now c.args.self.now c.in-Open.store c.in-Open.is c.requires.up c.args.m.now c.requires.may }
+    record { stands = store_stands g.D.Disk c.args.topology.now c.args.self.now c.in-Open.store c.in-Open.is c.requires.up c.args.m.now c.requires.may }
 
 pub returns : goal.returns
 returns g c = subst (λ state. IfOk c.prepare.result (IsPreparedIn c.args.topology.now state c.args.m.now)) (sym c.in-Open.is) c.prepare.ensures

@@ -13,20 +13,19 @@ use Rattle.acc_durable_store.proofs.actor.StoreActor.restart.Goals as goal
 
 pub returns-clause-ok : goal.returns-clause-ok
 returns-clause-ok g c =
-    subst (λ (q : Result Restarted NoMemory). IfOk q (λ found. (own : Actor) (version : ℕ) (past : Past Message) → StandsFor g.D.Disk.is_image c.args.topology.now own version past c.args.self
+    subst (λ (q : Result Restarted NoMemory). IfOk q (λ found. (own : Actor) (version : ℕ) (past : Past Message) → StandsFor g.D.Disk c.args.topology.now own version past c.args.self
     → KeptIn c.args.topology.now own past found
-    × StandsFor g.D.Disk.is_image c.args.topology.now own version (past_after found past) (record c.args.self { state = c.reopened-state.result.0; unsent = c.told-found.result.1; kept = c.held-kept.result }))) (sym (ap (λ (t : Result Restarted NoMemory × List Unsent). t.0) c.told-found.ensures))
-    (for_all g.D.Disk.is_image c.args.topology.now c.args.self (record c.args.self { state = c.reopened-state.result.0; unsent = c.told-found.result.1; kept = c.held-kept.result })
+    × StandsFor g.D.Disk c.args.topology.now own version (past_after found past) (record c.args.self { state = c.reopened-state.result.0; unsent = c.told-found.result.1; kept = c.held-kept.result }))) (sym (ap (λ (t : Result Restarted NoMemory × List Unsent). t.0) c.told-found.ensures))
+    (for_all g.D.Disk c.args.topology.now c.args.self (record c.args.self { state = c.reopened-state.result.0; unsent = c.told-found.result.1; kept = c.held-kept.result })
     (told c.reopened-state.result.1 c.args.self.unsent.items).0
     (λ own version past stands.
-    restarted g.D.Disk.is_image c.args.topology.now c.args.self own version past stands c.reopened-state.result.0 c.held-kept.result c.reopened-state.result.1 c.told-found.result.1 c.into_disk.result (ap (λ (t : Result Restarted NoMemory × List Unsent). t.1) c.told-found.ensures) c.into_disk.ensures
+    restarted g.D.Disk c.args.topology.now c.args.self own version past stands c.reopened-state.result.0 c.held-kept.result c.reopened-state.result.1 c.told-found.result.1 c.into_disk.result (ap (λ (t : Result Restarted NoMemory × List Unsent). t.1) c.told-found.ensures) c.into_disk.ensures
     (c.held-kept.ensures c.args.topology.now own version past stands) c.reopened-state.ensures.shut c.reopened-state.ensures.ok))
 
 pub returns-clause-strict : goal.returns-clause-strict
 returns-clause-strict g c = λ own version armed passed past stands at.
     subst (λ (q : Result Restarted NoMemory). IfOk q (λ found. KeepsByChoice passed c.args.choice past.stopped found
-    × IsStrictAt g.D.Disk.strict g.D.Disk.armed g.D.Disk.content g.D.Disk.synced g.D.Disk.written c.args.topology.now own version None None (past_after found past)
+    × IsStrictAt g.D.Disk c.args.topology.now own version None None (past_after found past)
     (record c.args.self { state = c.reopened-state.result.0; unsent = c.told-found.result.1; kept = c.held-kept.result }))) (sym (ap (λ (t : Result Restarted NoMemory × List Unsent). t.0) c.told-found.ensures))
-    (restarted_strictly g.D.Disk.is_image c.args.topology.now c.args.self own version past stands c.reopened-state.result.0 c.held-kept.result
-    g.D.Disk.strict g.D.Disk.armed g.D.Disk.content g.D.Disk.synced g.D.Disk.written armed passed at c.args.choice c.reopened-state.result.1 c.told-found.result.1 c.into_disk.result c.into_disk.ensures
+    (restarted_strictly g.D.Disk c.args.topology.now c.args.self own version past stands c.reopened-state.result.0 c.held-kept.result armed passed at c.args.choice c.reopened-state.result.1 c.told-found.result.1 c.into_disk.result c.into_disk.ensures
     (c.held-kept.ensures c.args.topology.now own version past stands) c.reopened-state.ensures.shut c.reopened-state.ensures.kind c.reopened-state.ensures.unarmed c.reopened-state.ensures.strict)

@@ -1,6 +1,9 @@
 -- What is staged is the group that was appended, whether the append passed or failed.
-use Rattle.std.proofs.Common.{◌≡◌, false, sym, ap, subst, ◌∙◌}
-use Rattle.acc_durable_store.specs.Store.{IsDiskFault, FailsToSettle}
+use Rattle.std.proofs.Common.{◌≡◌, ◌≢◌, [], Err, false, sym, ap, subst, ◌∙◌}
+use Rattle.acc_journal.specs.Calls.{Appends}
+use Rattle.acc_journal.proofs.Appends.{either_now}
+use Rattle.acc_durable_store.specs.declared.error.StepError.{StepError}
+use Rattle.acc_durable_store.specs.Store.{answer_of, FailsToSettle}
 use Rattle.acc_durable_store.specs.Actor.{is_shut}
 use Rattle.acc_durable_store.proofs.StoreActors.{up_in}
 use Rattle.acc_durable_store.proofs.StoreSteps.{gives, given_stands, stopped_stands, stopped_strictly}
@@ -11,9 +14,9 @@ returns-in-Ok-clause-ok g c = λ layout own version past staged stands.
     let sound : c.in-Open.store.journal.broken ≡ false = ap is_shut (sym c.in-Open.is) ∙ c.requires.up in
     record {
       emits =
-          gives g.D.Disk.is_image layout c.args.self.now c.in-Open.store c.settle.new.self c.in-Open.is sound own version past staged stands c.settle.ensures.same c.take_all.result c.take_all.ensures.given;
+          gives g.D.Disk layout c.args.self.now c.in-Open.store c.settle.new.self c.in-Open.is sound own version past staged stands c.settle.ensures.same c.take_all.result c.take_all.ensures.given;
       stands =
-          given_stands g.D.Disk.is_image layout c.args.self.now c.in-Open.store c.settle.new.self c.in-Open.is sound own version past staged stands c.settle.ensures.same c.take_all.new.unsents c.take_all.ensures.none
+          given_stands g.D.Disk layout c.args.self.now c.in-Open.store c.settle.new.self c.in-Open.is sound own version past staged stands c.settle.ensures.same c.take_all.new.unsents c.take_all.ensures.none
           c.in-Ok.ensures.ok c.in-Ok.ensures.none_staged c.in-Ok.ensures.appended c.in-Ok.ensures.lasts;
     }
 
@@ -24,20 +27,20 @@ returns-in-Ok-clause-down g c =
 
 pub returns-in-Err-DiskFault-clause-ok : goal.returns-in-Err-DiskFault-clause-ok
 returns-in-Err-DiskFault-clause-ok g c = λ layout own version past staged stands.
+    let some : c.in-Open.store.journal.group ≢ [] = λ none. cc ((c.settle.ensures.nothing none).0, c.in-Err-DiskFault.is) in
     let sound : c.in-Open.store.journal.broken ≡ false = ap is_shut (sym c.in-Open.is) ∙ c.requires.up in
     let fails = subst (FailsToSettle c.settle.new.self) c.in-Err-DiskFault.field-0-is c.in-Err-DiskFault.ensures.err in
     record {
       emits = tt;
       stands =
-          stopped_stands g.D.Disk.is_image layout c.args.self.now c.in-Open.store c.settle.new.self c.in-Open.is sound own version past staged stands c.settle.ensures.same c.kept-kept.result c.kept-kept.ensures fails.0
-          c.settle.ensures.either;
+          stopped_stands g.D.Disk layout c.args.self.now c.in-Open.store c.settle.new.self c.in-Open.is sound own version past staged stands c.settle.ensures.same c.kept-kept.result c.kept-kept.ensures fails.0
+          (either_now g.D.Disk c.in-Open.store.journal.disk c.settle.new.self.journal.disk c.in-Open.store.journal.payloads c.in-Open.store.journal.group _ (g.met.D.Disk.counts_now c.settle.new.self.journal.disk) (c.settle.ensures.appends some));
     }
 
 pub returns-in-Err-DiskFault-clause-strict : goal.returns-in-Err-DiskFault-clause-strict
-returns-in-Err-DiskFault-clause-strict g c = λ layout own version armed passed past staged stands at some.
+returns-in-Err-DiskFault-clause-strict g c = λ layout own version armed passed past staged stands at any.
     let sound : c.in-Open.store.journal.broken ≡ false = ap is_shut (sym c.in-Open.is) ∙ c.requires.up in
     let fails = subst (FailsToSettle c.settle.new.self) c.in-Err-DiskFault.field-0-is c.in-Err-DiskFault.ensures.err in
-    let fault : IsDiskFault c.in-Err-DiskFault.field-0 = subst IsDiskFault (sym c.in-Err-DiskFault.field-0-is) tt in
-    stopped_strictly g.D.Disk.is_image layout c.args.self.now c.in-Open.store c.settle.new.self c.in-Open.is sound own version past staged stands c.settle.ensures.same
-    g.D.Disk.strict g.D.Disk.armed g.D.Disk.content g.D.Disk.synced g.D.Disk.written armed passed at c.settle.ensures.kind c.kept-kept.result fails.0
-    (λ is_strict never. c.in-Err-DiskFault.ensures.late is_strict never fault) (λ is_strict. c.in-Err-DiskFault.ensures.failed is_strict fault)
+    let some : c.in-Open.store.journal.group ≢ [] = λ none. cc ((c.settle.ensures.nothing none).0, c.in-Err-DiskFault.is) in
+    let appends = subst (λ (e : StepError). Appends g.D.Disk c.in-Open.store.journal.disk c.settle.new.self.journal.disk c.in-Open.store.journal.payloads c.in-Open.store.journal.group (answer_of {T = Unit {0}} (Err e))) c.in-Err-DiskFault.field-0-is (c.in-Err-DiskFault.ensures.appends some) in
+    stopped_strictly g.D.Disk layout c.args.self.now c.in-Open.store c.settle.new.self c.in-Open.is sound own version past staged stands c.settle.ensures.same armed passed at appends.calls.kind c.kept-kept.result fails.0 appends

@@ -23,7 +23,7 @@ pub returns-clause-ok : goal.returns-clause-ok
 returns-clause-ok g c = λ own version past staged stands.
     let sound : c.in-Open.store.journal.broken ≡ false = ap is_shut (sym c.in-Open.is) ∙ c.requires.up in
     let takes = c.in_ok-out.ensures.ok _ (up_in c.args.topology.now own version past staged c.args.self.now.state c.in-Open.store c.in-Open.is (stands.up c.requires.up)).stands in
-    stages g.D.Disk.is_image c.args.topology.now c.args.self.now c.in-Open.store c.stage.new.self c.in-Open.is sound own version past staged stands c.stage.ensures.same c.args.number c.args.m.now
+    stages g.D.Disk c.args.topology.now c.args.self.now c.in-Open.store c.stage.new.self c.in-Open.is sound own version past staged stands c.stage.ensures.same c.args.number c.args.m.now
     c.in_ok-out.ensures.fits c.in_ok-out.ensures.journal c.in_ok-out.out c.put.new.unsents
     (room_more c.put.new.unsents.items c.reserve.new.self.items c.args.self.now.unsent.items _ c.emitted-emitted.result _ c.put.ensures c.reserve.ensures.items c.emitted-emitted.ensures)
     takes

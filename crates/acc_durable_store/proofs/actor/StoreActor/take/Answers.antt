@@ -22,8 +22,8 @@ settle-requires-clause-may g c =
 pub returns-clause-ok : goal.returns-clause-ok
 returns-clause-ok g c = λ own version past stands.
     let settles = c.in_ok-settled.ensures.ok c.args.topology.now own version past (message_stop c.args.number c.args.m.now ∷ []) (c.in_ok-stage.ensures.ok own version past [] stands) in
-    took c.args.topology.now own past c.args.number c.args.m.now g.D.Disk.is_image version c.settle.new.self c.in-Some.settled
-    (subst (λ (given : Option (List Unsent)). Settles g.D.Disk.is_image c.args.topology.now own version past (message_stop c.args.number c.args.m.now ∷ []) c.settle.new.self given) c.in-Some.is settles)
+    took c.args.topology.now own past c.args.number c.args.m.now g.D.Disk version c.settle.new.self c.in-Some.settled
+    (subst (λ (given : Option (List Unsent)). Settles g.D.Disk c.args.topology.now own version past (message_stop c.args.number c.args.m.now ∷ []) c.settle.new.self given) c.in-Some.is settles)
     c.pop.new.self c.in-Some-pop.field-0 (sym c.into_vec.ensures ∙ c.in-Some-pop.ensures.items)
 
 pub returns-clause-strict : goal.returns-clause-strict
@@ -31,16 +31,16 @@ returns-clause-strict g c = λ own version armed passed past stands at.
     let strictly = c.in_ok-settled.ensures.strict c.args.topology.now own version armed passed past (message_stop c.args.number c.args.m.now ∷ []) (c.in_ok-stage.ensures.ok own version past [] stands)
     (c.in_ok-stage.ensures.strict own version armed passed past past at) (one_there (message_stop c.args.number c.args.m.now)) in
     let told = subst (λ (given : Option (List Unsent)). (is_none given ≡ fails_append armed)
-    × IsStrictAt g.D.Disk.strict g.D.Disk.armed g.D.Disk.content g.D.Disk.synced g.D.Disk.written c.args.topology.now own version (after_append armed) (passed_in armed)
+    × IsStrictAt g.D.Disk c.args.topology.now own version (after_append armed) (passed_in armed)
     (after_group given past (message_stop c.args.number c.args.m.now ∷ [])) c.settle.new.self) c.in-Some.is strictly in (
       told.0,
-      took_strictly g.D.Disk.strict g.D.Disk.armed g.D.Disk.content g.D.Disk.synced g.D.Disk.written c.args.topology.now own version (after_append armed) (passed_in armed) _ c.settle.new.self c.pop.new.self told.1,
+      took_strictly g.D.Disk c.args.topology.now own version (after_append armed) (passed_in armed) _ c.settle.new.self c.pop.new.self told.1,
     )
 
 pub returns-in_default-clause-ok : goal.returns-in_default-clause-ok
 returns-in_default-clause-ok g c = λ own version past stands.
     let settles = c.in_ok-settled.ensures.ok c.args.topology.now own version past (message_stop c.args.number c.args.m.now ∷ []) (c.in_ok-stage.ensures.ok own version past [] stands) in
-    let told = subst (λ (given : Option (List Unsent)). Settles g.D.Disk.is_image c.args.topology.now own version past (message_stop c.args.number c.args.m.now ∷ []) c.settle.new.self given) c.in_default.is settles in
+    let told = subst (λ (given : Option (List Unsent)). Settles g.D.Disk c.args.topology.now own version past (message_stop c.args.number c.args.m.now ∷ []) c.settle.new.self given) c.in_default.is settles in
     record { emits = tt; stands = told.stands }
 
 pub returns-in_default-clause-strict : goal.returns-in_default-clause-strict
@@ -48,13 +48,13 @@ returns-in_default-clause-strict g c = λ own version armed passed past stands a
     let strictly = c.in_ok-settled.ensures.strict c.args.topology.now own version armed passed past (message_stop c.args.number c.args.m.now ∷ []) (c.in_ok-stage.ensures.ok own version past [] stands)
     (c.in_ok-stage.ensures.strict own version armed passed past past at) (one_there (message_stop c.args.number c.args.m.now)) in
     subst (λ (given : Option (List Unsent)). (is_none given ≡ fails_append armed)
-    × IsStrictAt g.D.Disk.strict g.D.Disk.armed g.D.Disk.content g.D.Disk.synced g.D.Disk.written c.args.topology.now own version (after_append armed) (passed_in armed)
+    × IsStrictAt g.D.Disk c.args.topology.now own version (after_append armed) (passed_in armed)
     (after_group given past (message_stop c.args.number c.args.m.now ∷ [])) c.settle.new.self) c.in_default.is strictly
 
 pub unreachable-requires : goal.unreachable-requires
 unreachable-requires g c =
     let may = c.requires.may in
     let settles = c.in_ok-settled.ensures.ok c.args.topology.now may.own may.version may.past (message_stop c.args.number c.args.m.now ∷ []) (c.in_ok-stage.ensures.ok may.own may.version may.past [] may.stands) in
-    let told = subst (λ (given : Option (List Unsent)). Settles g.D.Disk.is_image c.args.topology.now may.own may.version may.past (message_stop c.args.number c.args.m.now ∷ []) c.settle.new.self given) c.in-Some.is settles in
+    let told = subst (λ (given : Option (List Unsent)). Settles g.D.Disk c.args.topology.now may.own may.version may.past (message_stop c.args.number c.args.m.now ∷ []) c.settle.new.self given) c.in-Some.is settles in
     one_given c.args.topology.now may.own may.past c.args.number c.args.m.now c.in-Some.settled told.emits
     (sym c.into_vec.ensures ∙ none_left c.into_vec.result.items c.pop.new.self.items c.into_vec.result.len c.in-None.ensures.items c.in-None.ensures.rest c.in-None.ensures.cases.0)

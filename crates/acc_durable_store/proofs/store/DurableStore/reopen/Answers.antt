@@ -10,5 +10,5 @@ returns-in-Err-clause-never g c = λ payloads items reads journal. c.in-Err.ensu
 
 pub returns-clause-never : goal.returns-clause-never
 returns-clause-never g c = λ payloads items reads journal.
-    refused_never c.args.topology.now c.args.version c.args.actor (g.D.Disk.content c.args.disk) c.in-Ok.opened.1 payloads items c.in-Err-replay.error c.in-Ok.ensures.payloads reads journal
+    refused_never c.args.topology.now c.args.version c.args.actor (g.D.Disk.state c.args.disk).content c.in-Ok.opened.1 payloads items c.in-Err-replay.error c.in-Ok.ensures.payloads reads journal
     (subst (λ (l : List (List ℕ)). IsRefusedAs store_bytes (StoreMay c.args.topology.now c.args.version c.args.actor) l c.in-Err-replay.error) c.as_slice.ensures c.in-Err-replay.ensures.refused)

@@ -1,9 +1,9 @@
 -- The group of all that waits.
 use Rattle.std.proofs.Common.{arith, ◌≡◌, ◌∙◌, ap, sym, subst, ℕ, ◌-◌, List, ◌++◌, length, vec_len}
-use Rattle.std.specs.Prelude.{OnOk, false, IsTrue}
-use Rattle.acc_ports.specs.Disk.{LeavesOnly}
-use Rattle.acc_journal.specs.Layout.{Reads, payloads_of}
-use Rattle.acc_journal.specs.Journal.{JournalState, ReadsAsEither, left_by_choice}
+use Rattle.std.specs.Prelude.{OnOk, false}
+use Rattle.acc_journal.specs.Layout.{payloads_of}
+use Rattle.acc_journal.specs.Journal.{JournalState}
+use Rattle.acc_journal.specs.Calls.{Appends, answer_of}
 use Rattle.acc_journal.specs.Records.{payloads_in, AreRecords}
 use Rattle.acc_journal.proofs.Waiting.{waiting_group, gate_off}
 use Rattle.acc_journal.proofs.journal.Journal.append_records.Goals as goal
@@ -11,29 +11,17 @@ use Rattle.acc_journal.proofs.journal.Journal.append_records.Goals as goal
 pub invariant_of-self : goal.invariant_of-self
 invariant_of-self g c =
     let is = waiting_group _ _ _ c.records.view_is c.requires.some c.records.invariant.records (c.deref.ensures.value ∙ c.push_reserved.ensures.items) in
-    c.put_down-appended.ensures.settled (c.args.records.now) is
+    c.put_down-appended.ensures.settled c.args.records.now is
 
 pub returns-clause-ok : goal.returns-clause-ok
 returns-clause-ok g c =
     let is = waiting_group _ _ _ c.records.view_is c.requires.some c.records.invariant.records (c.deref.ensures.value ∙ c.push_reserved.ensures.items) in
-    subst (λ (v : JournalState g.row.D.Denot). OnOk c.put_down-appended.result ((c.put_down-appended.new.broken ≡ false) × (payloads_of (g.D.Disk.content c.put_down-appended.new.disk) ≡ v.payloads ++ c.args.records.now))) c.self.view_is (c.put_down-appended.ensures.ok (c.args.records.now) is)
+    subst (λ (v : JournalState g.row.D.Denot). OnOk c.put_down-appended.result ((c.put_down-appended.new.broken ≡ false) × (payloads_of (g.D.Disk.state c.put_down-appended.new.disk).content ≡ v.payloads ++ c.args.records.now))) c.self.view_is (c.put_down-appended.ensures.ok c.args.records.now is)
 
-pub returns-clause-lasts : goal.returns-clause-lasts
-returns-clause-lasts g c =
+pub returns-clause-appends : goal.returns-clause-appends
+returns-clause-appends g c =
     let is = waiting_group _ _ _ c.records.view_is c.requires.some c.records.invariant.records (c.deref.ensures.value ∙ c.push_reserved.ensures.items) in
-    c.put_down-appended.ensures.lasts (c.args.records.now) is
-
-pub returns-clause-any_moment : goal.returns-clause-any_moment
-returns-clause-any_moment g c =
-    let is = waiting_group _ _ _ c.records.view_is c.requires.some c.records.invariant.records (c.deref.ensures.value ∙ c.push_reserved.ensures.items) in
-    subst (λ (v : JournalState g.row.D.Denot). LeavesOnly g.D.Disk.clock g.D.Disk.was_image v.disk c.put_down-appended.new.disk (ReadsAsEither v.payloads (c.args.records.now))) c.self.view_is (c.put_down-appended.ensures.any_moment (c.args.records.now) is)
-
-pub returns-clause-failed : goal.returns-clause-failed
-returns-clause-failed g c =
-    let is = waiting_group _ _ _ c.records.view_is c.requires.some c.records.invariant.records (c.deref.ensures.value ∙ c.push_reserved.ensures.items) in
-    λ strict failed choice left by.
-    let old_strict : IsTrue (g.D.Disk.strict c.self.inside.disk) = subst (λ (v : JournalState g.row.D.Denot). IsTrue (g.D.Disk.strict v.disk)) (sym c.self.view_is) strict in
-    subst (λ (v : JournalState g.row.D.Denot). Reads left (left_by_choice (g.D.Disk.armed v.disk) choice v.payloads (c.args.records.now))) c.self.view_is (c.put_down-appended.ensures.failed old_strict failed (c.args.records.now) is choice left by)
+    subst (λ (v : JournalState g.row.D.Denot). Appends g.D.Disk v.disk c.put_down-appended.new.disk v.payloads c.args.records.now (answer_of c.put_down-appended.result)) c.self.view_is (c.put_down-appended.ensures.appends c.args.records.now is)
 
 pub push_reserved-requires : goal.push_reserved-requires
 push_reserved-requires g c = omega (arith, c.records.invariant.room (omega (arith, c.requires.some, ap length c.records.view_is, c.records.invariant.count)))

@@ -3,15 +3,27 @@ use Rattle.std.proofs.Common.{rules, ◌≡◌, [], ◌∷◌, ◌++◌, length}
 use Rattle.acc_ports.proofs.Times.{time_goes_on, images_follow}
 use Rattle.acc_ports.proofs.memory_disk.MemDiskDisk.write_at.Goals as goal
 
-pub returns-then-next_fails-clause-time : goal.returns-then-next_fails-clause-time
-returns-then-next_fails-clause-time c =
+pub returns-then-next_fails-clause-call : goal.returns-then-next_fails-clause-call
+returns-then-next_fails-clause-call c =
     let past : c.and-before.result.items ≡ c.args.self.now.past ++ c.args.self.now.now ∷ [] = search rules in
-    time_goes_on c.args.self.now.past _ c.args.self.now.now _ _ past
+    record {
+      stands = search rules;
+      time = time_goes_on c.args.self.now.past _ c.args.self.now.now _ _ past;
+      kind = search rules;
+      faults = search rules;
+      armed = search rules;
+    }
 
-pub returns-clause-time : goal.returns-clause-time
-returns-clause-time c =
+pub returns-clause-call : goal.returns-clause-call
+returns-clause-call c =
     let past : c.and-before.result.items ≡ c.args.self.now.past ++ c.args.self.now.now ∷ [] = search rules in
-    time_goes_on c.args.self.now.past _ c.args.self.now.now _ _ past
+    record {
+      stands = search rules;
+      time = time_goes_on c.args.self.now.past _ c.args.self.now.now _ _ past;
+      kind = search rules;
+      faults = search rules;
+      armed = search rules;
+    }
 
 pub returns-then-next_fails-clause-images : goal.returns-then-next_fails-clause-images
 returns-then-next_fails-clause-images c =
