@@ -84,14 +84,14 @@ module _ (P : Stamp → Type 0) (step : (t : Stamp) → ((s : Stamp) → stamp_l
       either : (a b : ℕ) → a < suc b → (a < b) ⊎ (a ≡ b)
       either a b p = grind arith
 
-  by_stamp : (t : Stamp) → P t
+  pub by_stamp : (t : Stamp) → P t
   by_stamp t = below_h (suc t.h) t (omega arith)
 
 said_itself : {T : Type 0} (x : TxnId) (v : T) → cond (id_eq x x) (Some v) None ≡ Some v
 said_itself x v = ap (λ b. cond b (Some v) None) (eq_itself id_order x)
 
 -- what is stable, with every dependency stable and, where its timestamp is smaller, applied, is opened
-opened_from : (shard : ℕ) (history : List Taken) (x : TxnId) (mine : Settled) → stable_of history x ≡ Some mine
+pub opened_from : (shard : ℕ) (history : List Taken) (x : TxnId) (mine : Settled) → stable_of history x ≡ Some mine
     → ((y : TxnId) → id_among y (of_shard mine.deps shard) ≡ true → is_some (stable_of history y) ≡ true)
     → ((y : TxnId) (theirs : Settled) → id_among y (of_shard mine.deps shard) ≡ true → stable_of history y ≡ Some theirs
     → comes_first mine.t theirs ≡ true → is_some (kept_outcome history y) ≡ true)
@@ -105,11 +105,11 @@ opened_from shard (step ∷ past) x mine is stable outcome opens =
 
 -- ---- agreement
 
-committed_seen : OfEachStore CommittedIsSeen
+pub committed_seen : OfEachStore CommittedIsSeen
 committed_seen layout own history each step late past before f g h k x b above view =
     committed_is_seen layout own step late past before history f g h k x b above view each
 
-begins_is : (x : TxnId) (note : Note) → begins x note ≡ true → note ≡ BeginNote x
+pub begins_is : (x : TxnId) (note : Note) → begins x note ≡ true → note ≡ BeginNote x
 begins_is x (BeginNote id) h = ap BeginNote ((id_order.decides id x).0 h)
 begins_is x (RecoverNote id ballot) h = absurd (true≢false (sym h))
 begins_is x (Blocked id ballot by) h = absurd (true≢false (sym h))

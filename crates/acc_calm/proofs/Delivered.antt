@@ -36,39 +36,39 @@ pub all_in : {T : Type 0} (test : T → Bool) (xs : List T) (x : T) → list_all
 all_in test xs x h (First y ys) = (and_parts (test y) (list_all test ys) h).0
 all_in test xs x h (Later y z ys there) = all_in test ys y (and_parts (test z) (list_all test ys) h).1 there
 
-numbered : (m : Message) (ms : List Message) → IsIn m ms → (n : ℕ) × ((slice_get ms n ≡ Some m) × (n < length ms))
+pub numbered : (m : Message) (ms : List Message) → IsIn m ms → (n : ℕ) × ((slice_get ms n ≡ Some m) × (n < length ms))
 numbered m ms (First k ks) = (0, (refl, omega arith))
 numbered m ms (Later k j ks there) = let rest = numbered k ks there in (suc rest.0, (rest.1.0, omega (arith, rest.1.1)))
 
-get-more : (ms more : List Message) (n : ℕ) (m : Message) → slice_get ms n ≡ Some m → slice_get (ms ++ more) n ≡ Some m
+pub get-more : (ms more : List Message) (n : ℕ) (m : Message) → slice_get ms n ≡ Some m → slice_get (ms ++ more) n ≡ Some m
 get-more [] more n m is = absurd (not_none m is)
 get-more (k ∷ ms) more zero m is = is
 get-more (k ∷ ms) more (suc n) m is = get-more ms more n m is
 
-get-past : (earlier items : List Item) (n : ℕ) (m : Message) → IsPast earlier items → message_at earlier n ≡ Some m → message_at items n ≡ Some m
+pub get-past : (earlier items : List Item) (n : ℕ) (m : Message) → IsPast earlier items → message_at earlier n ≡ Some m → message_at items n ≡ Some m
 get-past earlier items n m (Whole xs) is = is
 get-past earlier items n m (Behind y ys xs there) is = get-more (sent_of xs) (sent_in y) n m (get-past ys xs n m there is)
 
 -- ---- the entry that takes a message
 
-taking_event : (n : ℕ) (event : Event) → event_takes n event ≡ true → event ≡ TakesMessage n
+pub taking_event : (n : ℕ) (event : Event) → event_takes n event ≡ true → event ≡ TakesMessage n
 taking_event n (TakesMessage k) h = ap TakesMessage (eqb-true k n h)
 taking_event n (Begin txn) h = absurd (true≢false (sym h))
 taking_event n (Recover txn) h = absurd (true≢false (sym h))
 taking_event n (Slow txn) h = absurd (true≢false (sym h))
 taking_event n (Restart kept) h = absurd (true≢false (sym h))
 
-record TakingItem (n : ℕ) (item : Item) : Type 0 where
+pub record TakingItem (n : ℕ) (item : Item) : Type 0 where
   pub entry : Entry
   pub is : item ≡ Step entry
   pub takes : entry.event ≡ TakesMessage n
 
-taking_item : (n : ℕ) (item : Item) → item_takes n item ≡ true → TakingItem n item
+pub taking_item : (n : ℕ) (item : Item) → item_takes n item ≡ true → TakingItem n item
 taking_item n (Step e) h = record { entry = e; is = refl; takes = taking_event n e.event h }
 taking_item n (Skipped step cause) h = absurd (true≢false (sym h))
 taking_item n (Down actor) h = absurd (true≢false (sym h))
 
-mapped : (o : Option Message) (act : Act) → option_map Takes o ≡ Some act → (m : Message) × ((o ≡ Some m) × (act ≡ Takes m))
+pub mapped : (o : Option Message) (act : Act) → option_map Takes o ≡ Some act → (m : Message) × ((o ≡ Some m) × (act ≡ Takes m))
 mapped None act is = absurd (not_none act is)
 mapped (Some m) act is = (m, (refl, sym (some_is (Takes m) act is)))
 

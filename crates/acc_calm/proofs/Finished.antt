@@ -85,7 +85,7 @@ took_outcome m x o is (step ∷ past) t =
 
 -- ---- lists
 
-all_of : {T : Type 0} (test : T → Bool) (xs : List T) → ((x : T) → IsIn x xs → test x ≡ true) → list_all test xs ≡ true
+pub all_of : {T : Type 0} (test : T → Bool) (xs : List T) → ((x : T) → IsIn x xs → test x ≡ true) → list_all test xs ≡ true
 all_of test [] h = refl
 all_of test (x ∷ xs) h = and_from (test x) (list_all test xs) (h x (First x xs)) (all_of test xs (λ y there. h y (Later y x xs there)))
 
@@ -94,11 +94,11 @@ pub noted_there : (items earlier : List Item) (i : Item) (note : Note) → Stand
 noted_there items earlier i note (Here j past) there = IsIn-append_right note (notes_of past) (noted_in j) there
 noted_there items earlier i note (Back j k past rest at) there = IsIn-append_left note (notes_of rest) (noted_in k) (noted_there rest past j note at there)
 
-some_replica : (replicas : List ℕ) → IsTrue (is_replica_count (length replicas)) → (node : ℕ) × IsIn node replicas
+pub some_replica : (replicas : List ℕ) → IsTrue (is_replica_count (length replicas)) → (node : ℕ) × IsIn node replicas
 some_replica [] count = absurd (true≢false (sym count))
 some_replica (n ∷ replicas) count = (n, First n replicas)
 
-no_outcome : (o : Option Outcome) (b : Bool) (layout : Layout) (body : BodyParts) (answers : List Message) → b ≡ true → or_else o (outcome_if b layout body answers) ≡ None → ⊥
+pub no_outcome : (o : Option Outcome) (b : Bool) (layout : Layout) (body : BodyParts) (answers : List Message) → b ≡ true → or_else o (outcome_if b layout body answers) ≡ None → ⊥
 no_outcome (Some k) b layout body answers is e = not_none k (sym e)
 no_outcome None true layout body answers is e = not_none _ (sym e)
 no_outcome None false layout body answers is e = true≢false (sym is)
@@ -142,7 +142,7 @@ module _ (cluster : Cluster) (items : List Item) (standing : IsStanding cluster 
     read_heard : (store : Actor) → IsIn store (stores_used cluster.layout a.body) → list_any (λ e. shard_of (from_of e) == shard_of store) a.answers ≡ true
     read_heard store there =
         let place = store_place cluster.layout a.body store standing.valid.layout there in
-        let r = reads_replied cluster.layout store x itself store a.body settled.t settled.deps (taken_of cluster store items)
+        let r = reads_replied cluster.layout store x zero_ballot itself store a.body settled.t settled.deps (taken_of cluster store items)
         (each_answers cluster store items standing.stands place.no_node) (stable_taken store there) (opened store there) in
         let m : Message = ReadOk store its_home x zero_ballot r.answer in
         let took : Took deeds m = delivered cluster items standing.stands calm m (step_sent cluster items standing calm store r.step r.past r.at m r.sent) in

@@ -1,15 +1,15 @@
 mod StoreCounts
 mod StoresOnly
-mod AttemptCounts
+pub mod AttemptCounts
 mod AttemptsShort
-mod Delivered
-mod ZeroBallots
-mod Reactions
-mod Reached
-mod Courses
-mod AllAnswered
-mod Undecided
-mod Named
-mod ReadsAnswered
-mod Finished
-mod CalmRuns
+pub mod Delivered
+pub mod ZeroBallots
+pub mod Reactions
+pub mod Reached
+pub mod Courses
+pub mod AllAnswered
+pub mod Undecided
+pub mod Named
+pub mod ReadsAnswered
+pub mod Finished
+pub mod CalmRuns

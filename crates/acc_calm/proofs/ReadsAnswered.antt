@@ -6,7 +6,7 @@ use Rattle.acc_stamp.specs.declared.stamps.TxnId.{TxnId}
 use Rattle.acc_stamp.specs.declared.stamps.Ballot.{Ballot}
 use Rattle.acc_stamp.specs.declared.actors.Actor.{Actor}
 use Rattle.acc_stamp.specs.Actor.{shard_of, home_of}
-use Rattle.acc_stamp.specs.Stamp.{id_eq, ballot_eq, ballot_lt, zero_ballot}
+use Rattle.acc_stamp.specs.Stamp.{id_eq, ballot_eq, ballot_lt}
 use Rattle.acc_stamp.specs.Rising.{id_among, ballot_among, rising_with}
 use Rattle.acc_stamp.proofs.Order.{id_order, ballot_order, eq_itself}
 use Rattle.acc_stamp.proofs.Rising.{is_among-with}
@@ -57,16 +57,16 @@ now_among x from to b body t deps bs =
     ap (λ c. ballot_among b (cond c (rising_with ballot_lt b bs) bs)) (eq_itself id_order x)
     ∙ is_among-with ballot_order b b bs ∙ or_left (ballot_eq b b) (ballot_among b bs) (eq_itself ballot_order b)
 
-module _ (layout : Layout) (own : Actor) (x : TxnId) (from to : Actor) (body : BodyParts) (t : Stamp) (deps : List ShardDeps) where
+module _ (layout : Layout) (own : Actor) (x : TxnId) (b : Ballot) (from to : Actor) (body : BodyParts) (t : Stamp) (deps : List ShardDeps) where
   abbrev request : Message
-  request = Stable from to x zero_ballot body t deps
+  request = Stable from to x b body t deps
 
-  waits_there : (history : List Taken) → TookStep request history → ballot_among zero_ballot (stable_ballots history x) ≡ true
+  pub waits_there : (history : List Taken) → TookStep request history → ballot_among b (stable_ballots history x) ≡ true
   waits_there [] k = elim k.at [ ]
   waits_there (step ∷ past) k =
       ⊎_elim
-      (λ now. subst (λ m. ballot_among zero_ballot (stable_ballots_in x m (stable_ballots past x)) ≡ true) (sym now) (now_among x from to zero_ballot body t deps (stable_ballots past x)))
-      (λ old. stays_among x zero_ballot step.message (stable_ballots past x) (waits_there past old))
+      (λ now. subst (λ m. ballot_among b (stable_ballots_in x m (stable_ballots past x)) ≡ true) (sym now) (now_among x from to b body t deps (stable_ballots past x)))
+      (λ old. stays_among x b step.message (stable_ballots past x) (waits_there past old))
       (step_cases request step past k)
 
   -- ---- the answer
@@ -76,29 +76,29 @@ module _ (layout : Layout) (own : Actor) (x : TxnId) (from to : Actor) (body : B
     pub past : List Taken
     pub at : StandsAt step past history
     pub answer : ReadAnswer
-    pub sent : IsIn (ReadOk own (home_of x zero_ballot) x zero_ballot answer) step.sent
+    pub sent : IsIn (ReadOk own (home_of x b) x b answer) step.sent
 
   replied_back : (step : Taken) (past : List Taken) → Replied past → Replied (step ∷ past)
   replied_back step past r = record { step = r.step; past = r.past; at = Back r.step step r.past past r.at; answer = r.answer; sent = r.sent }
 
   release_has : (now : List Taken) (c : Change) (changes : List Change) (cells : Key → Option Value) → IsIn c changes → c.opens ≡ true → c.id ≡ x
-      → IsIn zero_ballot (stable_ballots now x) → (answer : ReadAnswer) × IsIn (ReadOk own (home_of x zero_ballot) x zero_ballot answer) (release layout own now changes cells)
+      → IsIn b (stable_ballots now x) → (answer : ReadAnswer) × IsIn (ReadOk own (home_of x b) x b answer) (release layout own now changes cells)
   release_has now c changes cells (First e rest) opens same waits =
       let answer : ReadAnswer = read_by layout (shard_of own) (heard_body e.id (known now)) cells in (
         answer,
-        IsIn-append_left (ReadOk own (home_of x zero_ballot) x zero_ballot answer) (opening_of layout own now e cells)
+        IsIn-append_left (ReadOk own (home_of x b) x b answer) (opening_of layout own now e cells)
             (release layout own now rest (written_by layout (shard_of own) now e cells))
-            (subst (λ b. IsIn (ReadOk own (home_of x zero_ballot) x zero_ballot answer)
-            (cond b (map (λ k. read_ok own e.id k (read_by layout (shard_of own) (heard_body e.id (known now)) cells)) (stable_ballots now e.id)) [])) (sym opens)
-            (subst (λ y. IsIn (ReadOk own (home_of y zero_ballot) y zero_ballot answer)
+            (subst (λ o. IsIn (ReadOk own (home_of x b) x b answer)
+            (cond o (map (λ k. read_ok own e.id k (read_by layout (shard_of own) (heard_body e.id (known now)) cells)) (stable_ballots now e.id)) [])) (sym opens)
+            (subst (λ y. IsIn (ReadOk own (home_of y b) y b answer)
             (map (λ k. read_ok own e.id k (read_by layout (shard_of own) (heard_body e.id (known now)) cells)) (stable_ballots now e.id))) same
-            (map-IsIn (λ k. read_ok own e.id k (read_by layout (shard_of own) (heard_body e.id (known now)) cells)) zero_ballot (stable_ballots now e.id)
-            (subst (λ y. IsIn zero_ballot (stable_ballots now y)) (sym same) waits)))),
+            (map-IsIn (λ k. read_ok own e.id k (read_by layout (shard_of own) (heard_body e.id (known now)) cells)) b (stable_ballots now e.id)
+            (subst (λ y. IsIn b (stable_ballots now y)) (sym same) waits)))),
       )
   release_has now c changes cells (Later e f rest there) opens same waits =
       let r = release_has now e rest (written_by layout (shard_of own) now f cells) there opens same waits in (
         r.0,
-        IsIn-append_right (ReadOk own (home_of x zero_ballot) x zero_ballot r.0) (opening_of layout own now f cells)
+        IsIn-append_right (ReadOk own (home_of x b) x b r.0) (opening_of layout own now f cells)
             (release layout own now rest (written_by layout (shard_of own) now f cells)) r.1,
       )
 
@@ -109,19 +109,19 @@ module _ (layout : Layout) (own : Actor) (x : TxnId) (from to : Actor) (body : B
   released_sent past m s h there = absurd (true≢false (sym h))
 
   -- at once, where it was opened before
-  sent_at_once : (past : List Taken) → is_opened (shard_of own) past x ≡ true
-      → (answer : ReadAnswer) × IsIn (ReadOk own (home_of x zero_ballot) x zero_ballot answer) (store_answer layout own past request)
+  pub sent_at_once : (past : List Taken) → is_opened (shard_of own) past x ≡ true
+      → (answer : ReadAnswer) × IsIn (ReadOk own (home_of x b) x b answer) (store_answer layout own past request)
   sent_at_once past opened =
       let answer : ReadAnswer = kept_or (kept_outcome past x) (read_by layout (shard_of own) (heard_body x (known past)) (cells_at layout (shard_of own) past)) in (
         answer,
-        IsIn-append_left (ReadOk own (home_of x zero_ballot) x zero_ballot answer) (at_once layout own past x zero_ballot) (released layout own past request)
-            (subst (λ b. IsIn (ReadOk own (home_of x zero_ballot) x zero_ballot answer) (cond b (read_ok own x zero_ballot answer ∷ []) [])) (sym opened)
-            (First (ReadOk own (home_of x zero_ballot) x zero_ballot answer) [])),
+        IsIn-append_left (ReadOk own (home_of x b) x b answer) (at_once layout own past x b) (released layout own past request)
+            (subst (λ o. IsIn (ReadOk own (home_of x b) x b answer) (cond o (read_ok own x b answer ∷ []) [])) (sym opened)
+            (First (ReadOk own (home_of x b) x b answer) [])),
       )
 
   -- in the step that opens it
-  sent_on_opening : (past : List Taken) (m : Message) → TookStep request (taking m past) → is_opened (shard_of own) (taking m past) x ≡ true → is_opened (shard_of own) past x ≡ false
-      → (answer : ReadAnswer) × IsIn (ReadOk own (home_of x zero_ballot) x zero_ballot answer) (store_answer layout own past m)
+  pub sent_on_opening : (past : List Taken) (m : Message) → TookStep request (taking m past) → is_opened (shard_of own) (taking m past) x ≡ true → is_opened (shard_of own) past x ≡ false
+      → (answer : ReadAnswer) × IsIn (ReadOk own (home_of x b) x b answer) (store_answer layout own past m)
   sent_on_opening past m took opened closed =
       let bare : Taken = record { message = m; sent = [] } in
       let changes : List Change = changes_of (shard_of own) bare past in
@@ -130,24 +130,24 @@ module _ (layout : Layout) (own : Actor) (x : TxnId) (from to : Actor) (body : B
       ∙ and_from (is_opened (shard_of own) (taking m past) x) (not (is_opened (shard_of own) past x)) opened (ap not closed)) in
       let parts = and_parts (id_eq p.element.id x) p.element.opens p.passes in
       let r = release_has (taking m past) p.element changes (cells_at layout (shard_of own) past) p.there parts.1 ((id_order.decides p.element.id x).0 parts.0)
-      (ballot_in zero_ballot (stable_ballots (taking m past) x) (waits_there (taking m past) took)) in
+      (ballot_in b (stable_ballots (taking m past) x) (waits_there (taking m past) took)) in
       ⊎_elim
-      (λ may. (r.0, released_sent past m (ReadOk own (home_of x zero_ballot) x zero_ballot r.0) may r.1))
+      (λ may. (r.0, released_sent past m (ReadOk own (home_of x b) x b r.0) may r.1))
       (λ quiet. absurd (none_is_in p.element (subst (λ list. IsIn p.element list) (nothing_changes (shard_of own) bare past quiet) p.there)))
       (cases_Bool (may_open m))
 
   replied_here : (step : Taken) (past : List Taken) → step.sent ≡ store_answer layout own past step.message
-      → (answer : ReadAnswer) × IsIn (ReadOk own (home_of x zero_ballot) x zero_ballot answer) (store_answer layout own past step.message) → Replied (step ∷ past)
+      → (answer : ReadAnswer) × IsIn (ReadOk own (home_of x b) x b answer) (store_answer layout own past step.message) → Replied (step ∷ past)
   replied_here step past sent_is s =
       record {
         step = step;
         past = past;
         at = Here step past;
         answer = s.0;
-        sent = subst (IsIn (ReadOk own (home_of x zero_ballot) x zero_ballot s.0)) (sym sent_is) s.1;
+        sent = subst (IsIn (ReadOk own (home_of x b) x b s.0)) (sym sent_is) s.1;
       }
 
-  bare_took : (step : Taken) (past : List Taken) → TookStep request (step ∷ past) → TookStep request (taking step.message past)
+  pub bare_took : (step : Taken) (past : List Taken) → TookStep request (step ∷ past) → TookStep request (taking step.message past)
   bare_took step past k =
       ⊎_elim
       (λ now. record { step = record { message = step.message; sent = [] }; past = past; at = Here (record { message = step.message; sent = [] }) past; message_is = now })
@@ -161,7 +161,7 @@ module _ (layout : Layout) (own : Actor) (x : TxnId) (from to : Actor) (body : B
       (λ before.
       ⊎_elim
       (λ now. replied_here step past each.0
-      (subst (λ m. (answer : ReadAnswer) × IsIn (ReadOk own (home_of x zero_ballot) x zero_ballot answer) (store_answer layout own past m)) (sym now) (sent_at_once past before)))
+      (subst (λ m. (answer : ReadAnswer) × IsIn (ReadOk own (home_of x b) x b answer) (store_answer layout own past m)) (sym now) (sent_at_once past before)))
       (λ old. replied_back step past (replied past each.1 old before))
       (step_cases request step past took))
       (λ closed.

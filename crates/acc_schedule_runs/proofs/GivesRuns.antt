@@ -54,11 +54,17 @@ module _ (cluster : Cluster) (first : List Item) where
   AllGoOn s a events = AllByRecursion (λ (event : Event). CanGoOn cluster (whole s) a (event_in s event)) events
 
   -- The whole past is a run, which goes on from the first one, and each step that was stopped can still be entered.
-  record Sound (s : Situation) : Type 0 where
+  pub record Sound (s : Situation) : Type 0 where
     earlier : s.earlier ≡ first
     run : IsRun cluster (whole s)
     stopped : (a : Actor) → AllGoOn s a (stopped_at a s.stopped)
     one : StopsOne s
+
+  pub sound_run : (s : Situation) → Sound s → IsRun cluster (whole s)
+  sound_run s h = h.run
+
+  pub sound_earlier : (s : Situation) → Sound s → s.earlier ≡ first
+  sound_earlier s h = h.earlier
 
   -- ---- an item more
 
@@ -265,7 +271,7 @@ module _ (cluster : Cluster) (first : List Item) where
       sound_drained answers last (tried cluster answers s (receiver_in s n) (MessageEvent n)) rest
       (sound_tried answers s (receiver_in s n) (MessageEvent n) h (waiting_taken s n h oldest))
 
-  sound_next : (answers : Answers) (number : ℕ) (step : Step) (s next : Situation) → IsStepOf cluster step
+  pub sound_next : (answers : Answers) (number : ℕ) (step : Step) (s next : Situation) → IsStepOf cluster step
       → IsNext cluster answers number step s next → Sound s → Sound next
   sound_next answers number (Begin txn) s next of is h =
       subst Sound (sym is)
@@ -285,13 +291,13 @@ module _ (cluster : Cluster) (first : List Item) where
   sound_next answers number (Fail actor calls) s next of is h = subst Sound (sym is) h
   sound_next answers number Drain s next of drains h = sound_drained answers next s drains h
 
-  sound_last : (answers : Answers) (number : ℕ) (steps : List Step) (s last : Situation) → AllByRecursion (IsStepOf cluster) steps
+  pub sound_last : (answers : Answers) (number : ℕ) (steps : List Step) (s last : Situation) → AllByRecursion (IsStepOf cluster) steps
       → Follows cluster answers number steps s last → Sound s → Sound last
   sound_last answers number [] s last of is h = subst Sound (sym is) h
   sound_last answers number (step ∷ steps) s last of follows h =
       sound_last answers (number + 1) steps follows.0 last of.1 follows.2 (sound_next answers number step s follows.0 of.0 follows.1 h)
 
-  sound_opened : IsRun cluster first → Sound (opened first)
+  pub sound_opened : IsRun cluster first → Sound (opened first)
   sound_opened run = record { earlier = refl; run = run; stopped = λ a. tt; one = none_stopped first }
 
 pub gives_a_run : (cluster : Cluster) (answers : Answers) (earlier : List Item) (steps : List Step) (last : Situation) → IsRun cluster earlier
@@ -325,7 +331,7 @@ module _ (plan : Content) (h : IsPlan plan) where
   step_of_plan (Fail actor calls) is = tt
   step_of_plan Drain is = tt
 
-  steps_of_plan : (steps : List Step) → AllByRecursion (IsStep (length plan.names) plan.topology) steps → AllByRecursion (IsStepOf (cluster_of plan)) steps
+  pub steps_of_plan : (steps : List Step) → AllByRecursion (IsStep (length plan.names) plan.topology) steps → AllByRecursion (IsStepOf (cluster_of plan)) steps
   steps_of_plan [] known = tt
   steps_of_plan (step ∷ steps) known = (step_of_plan step known.0, steps_of_plan steps known.1)
 

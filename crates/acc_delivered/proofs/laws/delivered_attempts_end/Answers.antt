@@ -1,0 +1,8 @@
+use Rattle.acc_delivered.proofs.DeliveredEnds.{attempts_end, opened_attempts_finish}
+use Rattle.acc_delivered.proofs.laws.delivered_attempts_end.Goals as goal
+
+pub returns-clause-ended : goal.returns-clause-ended
+returns-clause-ended c = attempts_end
+
+pub returns-clause-finished : goal.returns-clause-finished
+returns-clause-finished c = opened_attempts_finish

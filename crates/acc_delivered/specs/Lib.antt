@@ -1,0 +1,4 @@
+pub mod Stretches
+pub mod Rounds
+pub mod Ends
+pub mod Laws
