@@ -17,6 +17,7 @@ use Rattle.acc_schedule.specs.Content.{Content}
 use Rattle.acc_schedule.specs.declared.plan.Step.{Step}
 use Rattle.acc_pasts.specs.Stopped.{AreDifferent}
 use Rattle.acc_tape.specs.ItemViews.{actor_of_item, addressee, taken_by_item, is_lost_item}
+use Rattle.acc_tape.specs.declared.view.Visit.{Visit}
 use Rattle.acc_tape.specs.Messages.{AreOldest, IsSentBy, posts_in}
 use Rattle.acc_tape.specs.Seats.{SeatView, Turns}
 use Rattle.acc_desk.specs.Desks.{newest}
@@ -30,6 +31,8 @@ pub turns_both : (plan : Content) (old between new : SeatView Item) → Turns ac
 turns_both plan old between new one two =
     let p = one.seen in
     let q = two.seen in
+    let v = one.visits in
+    let w = two.visits in
     record {
       tape = two.tape ∙ one.tape;
       actor = two.actor ∙ one.actor;
@@ -39,6 +42,10 @@ turns_both plan old between new one two =
       within_weight = two.within_weight;
       counted = two.counted;
       weighed = two.weighed;
+      visits = (v.0 ++ w.0, sym (append_assoc old.visits v.0 w.0) ∙ ap (λ (l : List Visit). l ++ w.0) v.1 ∙ w.1);
+      own = two.own;
+      reserved = two.reserved;
+      holds = two.holds;
       fitting = two.fitting;
     }
 

@@ -18,3 +18,4 @@ pub mod Joining
 pub mod Finding
 pub mod Rooms
 pub mod Rounds
+pub mod Noting

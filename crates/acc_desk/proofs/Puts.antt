@@ -7,7 +7,7 @@ use Rattle.acc_ports.specs.declared.disk.Disk.{Ghosts}
 use Rattle.acc_message.specs.declared.entry.Event.{Event}
 use Rattle.acc_message.specs.declared.item.Item.{Item}
 use Rattle.acc_message.specs.declared.item.Item.TheVariants.{Down}
-use Rattle.acc_message.specs.Items.{sent_in}
+use Rattle.acc_message.specs.Items.{sent_in, noted_in}
 use Rattle.acc_message.specs.Run.{is_down}
 use Rattle.acc_message_code.specs.Short.{IsShortMessage}
 use Rattle.acc_message_code.specs.Weight.{weight_of}
@@ -16,7 +16,7 @@ use Rattle.acc_schedule.specs.Content.{Content}
 use Rattle.acc_schedule.specs.declared.plan.Step.{Step}
 use Rattle.acc_schedule_runs.specs.Limits.{most_items}
 use Rattle.acc_actors.specs.declared.slot.Slot.{Slot}
-use Rattle.acc_free_laws.specs.FreeRun.{IsFreeRun}
+use Rattle.acc_free_laws.specs.FreeRun.{IsFreeRun, alone}
 use Rattle.acc_free_laws.proofs.Fitting.{down_fits}
 use Rattle.acc_free_laws.proofs.Others.{untouched_by}
 use Rattle.acc_schedule_runs.specs.Schedules.{cluster_of}
@@ -29,6 +29,7 @@ use Rattle.acc_desk.specs.Groups.{Joining, CanAllJoin, IsGathering, IsStopping, 
 use Rattle.acc_desk.proofs.Moving.{at_on}
 use Rattle.acc_desk.proofs.Seating.{held_none, reverse_last, seen_few, seated_on, others_since, came, newest_few, desk_on}
 use Rattle.acc_desk.proofs.Entered.{entering_on, all_fit, all_short, all_weigh, all_at, all_own}
+use Rattle.acc_desk.proofs.Noting.{all_noted}
 use Rattle.acc_desk.proofs.Gathering.{joined_over, went_down}
 
 module _ {D : Type 0} (port : Ghosts D) (strict_run : Bool) (plan : Content) (tape : TapeName) (limits : tape.limits.items ≤ most_items) (a : Actor) (commands : List Step) (gone : ℕ) where
@@ -52,6 +53,9 @@ module _ {D : Type 0} (port : Ghosts D) (strict_run : Bool) (plan : Content) (ta
     puts_short =
         all_short port strict_run plan a slot (drop gone commands) desk.known (newest seat) events unsent desk.weights desk.entering
         (let n = newest_few plan tape limits a held seat desk.seated in let l = desk.most in omega arith)
+
+    pub puts_noted : All (λ item. length (noted_in item) ≤ 2) items
+    puts_noted = all_noted (cluster_of plan) (alone desk.entering.before desk.entering.stopped) a events false unsent desk.entering.steps
 
     pub puts_weigh : sum_by weight_of items ≤ held.weight
     puts_weigh =

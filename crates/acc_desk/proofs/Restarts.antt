@@ -9,7 +9,7 @@ use Rattle.acc_message.specs.declared.entry.Entry.{Entry}
 use Rattle.acc_message.specs.declared.entry.Emitted.{Emitted}
 use Rattle.acc_message.specs.declared.item.Item.{Item}
 use Rattle.acc_message.specs.declared.item.Item.TheVariants.{Step as StepItem}
-use Rattle.acc_message.specs.Items.{sent_in}
+use Rattle.acc_message.specs.Items.{sent_in, noted_in}
 use Rattle.acc_message.specs.Coordinator.{silence}
 use Rattle.acc_message.specs.Run.{is_node}
 use Rattle.acc_message_code.specs.Short.{IsShortMessage}
@@ -76,6 +76,10 @@ restart_item_fits plan items a known free (Some emitted) is =
 pub restart_short : (a : Actor) (given : Option Emitted) → is_silent given → All IsShortMessage (sent_in (item_of a (RestartEvent 0) given))
 restart_short a None is = λ k d low. absurd (omega arith)
 restart_short a (Some emitted) is = subst (λ (e : Emitted). All IsShortMessage e.out) (sym is) (λ k d low. absurd (omega arith))
+
+pub restart_noted : (a : Actor) (given : Option Emitted) → is_silent given → length (noted_in (item_of a (RestartEvent 0) given)) ≤ 2
+restart_noted a None is = omega arith
+restart_noted a (Some emitted) is = subst (λ (e : Emitted). length e.notes ≤ 2) (sym is) (omega arith)
 
 pub restart_weighs : (a : Actor) (given : Option Emitted) → is_silent given → weight_of (item_of a (RestartEvent 0) given) ≤ 0
 restart_weighs a None is = omega arith

@@ -8,7 +8,7 @@ use Rattle.acc_ports.specs.declared.disk.Disk.{Ghosts}
 use Rattle.acc_message.specs.declared.entry.Event.{Event}
 use Rattle.acc_message.specs.declared.entry.Emitted.{Emitted}
 use Rattle.acc_message.specs.declared.item.Item.{Item}
-use Rattle.acc_message.specs.Items.{sent_in}
+use Rattle.acc_message.specs.Items.{sent_in, noted_in}
 use Rattle.acc_message.specs.NodeRules.{Act}
 use Rattle.acc_message_code.specs.Short.{IsShortMessage}
 use Rattle.acc_message_code.specs.Weight.{weight_of}
@@ -30,6 +30,7 @@ use Rattle.acc_desk.specs.declared.hold.Hold.{Hold}
 use Rattle.acc_desk.specs.Desks.{newest, held_of, no_hold, IsSeated, IsAt, IsDesk, MayStep, item_of}
 use Rattle.acc_desk.specs.Fits.{fits_plan}
 use Rattle.acc_desk.proofs.Moving.{Between, between, at_on}
+use Rattle.acc_desk.proofs.Noting.{noted_few}
 use Rattle.acc_desk.proofs.Stepping.{here, asked, step_on, item_short, item_weighs, item_behind, stepped}
 
 -- ---- what a seat holds
@@ -155,6 +156,9 @@ module _ (plan : Content) (tape : TapeName) (limits : tape.limits.items ≤ most
 
           pub short : All IsShortMessage (sent_in (item_of a event given))
           short = item_short port strict_run plan a (newest seat) slot (drop gone commands) (drop later commands) event act desk.known few_now desk.at may given now_tried.emitted
+
+          pub noted : length (noted_in (item_of a event given)) ≤ 2
+          noted = noted_few (cluster_of plan) seen_now a event given now_tried.emitted
 
           pub weighs : (weight : ℕ) → ((s : Situation) → IsAsked port plan s a event act slot → weight ≡ weight_of (entry_of (cluster_of plan) s a event false)) → weight_of (item_of a event given) ≤ weight
           weighs weight is = item_weighs port strict_run plan a (newest seat) slot (drop gone commands) (drop later commands) event act desk.known few_now desk.at may given now_tried.emitted weight (is seen_now asked_now)

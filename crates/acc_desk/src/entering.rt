@@ -47,7 +47,10 @@ impl<D: Rig + Drop, J: Planned> Desk<D, J> {
         };
         match given {
             Some(unsent) => self.enter_group(rt, plan, floor, tape, hold, unsent),
-            None => self.enter_down(rt, plan, tape, hold),
+            None => {
+                self.enter_down(rt, plan, tape, hold);
+                Ok(())
+            }
         }
     }
 
@@ -75,7 +78,7 @@ impl<D: Rig + Drop, J: Planned> Desk<D, J> {
             self.let_go(rt, plan, tape, hold);
             return Err(OutOfMemory);
         };
-        tape.put_all(rt, &mut self.seat, hold.items, hold.weight, items)?;
+        tape.put_all(rt, &mut self.seat, hold.items, hold.weight, items);
         floor.call(keepers);
         Ok(())
     }
@@ -95,25 +98,18 @@ impl<D: Rig + Drop, J: Planned> Desk<D, J> {
     }
 
     // Enters that the store went down, on what is reserved.
-    fn enter_down<W: Wait>(
-        &mut self,
-        rt: &W,
-        plan: &Plan,
-        tape: &PlanTape<J>,
-        hold: Hold,
-    ) -> Result<(), OutOfMemory>
+    fn enter_down<W: Wait>(&mut self, rt: &W, plan: &Plan, tape: &PlanTape<J>, hold: Hold)
         requires plan { plan.now ≡ J.plan }
         requires limits { tape.now.limits.items ≤ most_items }
         requires group { (first : ASlot D) × (joinings : List Joining)
             × IsStopping D.Disk J.strict plan.now tape.now self.old.actor self.old.seat first self.old.slot self.old.commands self.old.gone joinings hold }
         ensures same { (self.new.actor ≡ self.old.actor) × (self.new.commands ≡ self.old.commands) }
-        ensures ok { OnOk result (IsSound D.Disk J.strict plan.now tape.now self.new.actor self.new.seat self.new.slot self.new.commands self.new.gone) }
-        ensures err { OnErr result (IsSeated tape.now self.new.actor no_hold self.new.seat) }
-        ensures entered { OnOk result (length self.old.seat.mine < length self.new.seat.mine) }
+        ensures sound { IsSound D.Disk J.strict plan.now tape.now self.new.actor self.new.seat self.new.slot self.new.commands self.new.gone }
+        ensures entered { length self.old.seat.mine < length self.new.seat.mine }
     {
         let _plan = plan;
         let down = Item::Down { actor: self.actor };
-        tape.put(rt, &mut self.seat, hold.items, hold.weight, down)
+        tape.put(rt, &mut self.seat, hold.items, hold.weight, down);
     }
 
     /// Gives up what is reserved.

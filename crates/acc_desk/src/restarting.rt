@@ -104,7 +104,7 @@ impl<D: Rig + Drop, J: Planned> Desk<D, J> {
             return Err(OutOfMemory);
         };
         let item = item_for(self.actor, Event::Restart { kept: 0 }, given);
-        tape.put(rt, &mut self.seat, 1, 0, item)?;
+        tape.put(rt, &mut self.seat, 1, 0, item);
         self.gone += 1;
         Ok(Turned::Taken)
     }

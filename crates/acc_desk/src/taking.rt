@@ -87,7 +87,7 @@ impl<D: Rig + Drop, J: Planned> Desk<D, J> {
         };
         let keepers = count_sent(floor, &given);
         let item = item_for(self.actor, ask.event(), given);
-        tape.put(rt, &mut self.seat, 1, weight, item)?;
+        tape.put(rt, &mut self.seat, 1, weight, item);
         call_for(floor, ask, keepers);
         self.gone = gone;
         Ok(Turned::Taken)

@@ -2,7 +2,7 @@
 --     items        the items, in their order
 --     own          how many of them, the last ones, no other list has
 --     room         there is room for items and messages that are no more in all
---     notes_room   there is room for an item with so many notes
+--     notes_room   there is room for so many notes of items
 use Rattle.std.specs.Prelude.{ℕ, List, Option, None, Some}
 use Rattle.std.specs.List.{slice_get}
 use Rattle.acc_message.specs.declared.message.Message.{Message}

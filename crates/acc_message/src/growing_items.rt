@@ -9,7 +9,7 @@ ghost use Rattle.acc_message.specs.Shown.{with_sent};
 ghost use Rattle.acc_message.specs.Growing.{message_in};
 
 use crate::head::{Head, message_at, put, sent_by_head, shown_at};
-use crate::item::{Item, sent_by};
+use crate::item::{Item, notes_of, sent_by};
 use crate::items::Items;
 use crate::message::Message;
 use crate::note::Note;
@@ -171,7 +171,7 @@ impl GrowingItems {
         self.room -= less;
     }
 
-    /// Makes room for the notes of the next item, which are no more than this, in place of the room that there was for notes.
+    /// Makes room for so many notes in all, in place of the room that there was for notes.
     /// Without memory for it, and where the notes of the list's own items and the room pass 32 bits, the list is as before.
     #[inline(always)]
     pub fn reserve_notes(&mut self, notes: usize) -> Result<(), OutOfMemory>
@@ -186,15 +186,15 @@ impl GrowingItems {
         Ok(())
     }
 
-    /// Appends an item for which there is room. It uses up room for itself and each message that it sent, and all room for notes.
+    /// Appends an item for which there is room. It uses up room for itself, for each message that it sent and for each of its notes.
     #[inline(always)]
     pub fn push(&mut self, item: Item)
         requires room { length (sent_in item) < self.old.room }
         requires notes_room { length (noted_in item) ≤ self.old.notes_room }
-        ensures { self.new ≡ record { items = self.old.items ++ item ∷ []; own = self.old.own + 1; room = self.old.room - (length (sent_in item) + 1); notes_room = 0 } }
+        ensures { self.new ≡ record { items = self.old.items ++ item ∷ []; own = self.old.own + 1; room = self.old.room - (length (sent_in item) + 1); notes_room = self.old.notes_room - length (noted_in item) } }
     {
         self.room -= sent_by(&item).len() + 1;
-        self.notes_room = 0;
+        self.notes_room -= notes_of(&item).len();
         put(&mut self.heads, &mut self.notes, &mut self.messages, item);
     }
 

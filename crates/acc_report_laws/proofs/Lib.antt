@@ -3,7 +3,6 @@ pub mod Alone
 mod Bodies
 pub mod Called
 mod Data
-mod FewNotes
 pub mod Forms
 mod Known
 mod Noted

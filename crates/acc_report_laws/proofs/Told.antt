@@ -32,7 +32,7 @@ use Rattle.acc_report.specs.Report.{number_of}
 use Rattle.acc_report_line.specs.Forms.{AreNames, IsStamp}
 use Rattle.acc_report_laws.specs.Fits.{IsKnown, NoteFits, ItemFits, ItemsFit}
 use Rattle.acc_report_laws.specs.Numbers.{IsNumbered}
-use Rattle.acc_report_laws.proofs.FewNotes.{notes_few}
+use Rattle.acc_run_laws.proofs.FewNotes.{notes_few}
 use Rattle.acc_report_laws.proofs.Known.{begun_known}
 use Rattle.acc_report_laws.proofs.Noted.{notes_bounded}
 use Rattle.acc_report_laws.proofs.Placed.{ItemIsPlaced, Placed, steps_placed}

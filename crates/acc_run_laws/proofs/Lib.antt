@@ -11,6 +11,7 @@ pub mod Cells
 pub mod Clocks
 mod Contents
 pub mod Everywhere
+pub mod FewNotes
 pub mod Layouts
 pub mod LostFacts
 pub mod NodeBounds

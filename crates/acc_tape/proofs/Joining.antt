@@ -12,8 +12,9 @@ use Rattle.acc_tape.specs.declared.content.Limits.{Limits}
 use Rattle.acc_tape.specs.declared.content.Content.{Content}
 use Rattle.acc_tape.specs.declared.view.View.{View}
 use Rattle.acc_tape.specs.declared.view.Gone.{Gone}
+use Rattle.acc_tape.specs.declared.view.Visit.{Visit}
 use Rattle.acc_tape.specs.Turn.{IsResting}
-use Rattle.acc_tape.specs.Rule.{Holds, Sits, Left, SlotIs, IsSpent, one_if, joiner, gone_of, spent_view}
+use Rattle.acc_tape.specs.Rule.{Holds, Sits, Left, SlotIs, IsSpent, IsLogged, WasLogged, one_if, joiner, gone_of, spent_view}
 use Rattle.acc_tape.proofs.Weights.{sum_set, sum_at, in_one}
 
 module _ {E : Type 0} (actor_of : E → ℕ) (limits : Limits) where
@@ -111,6 +112,15 @@ module _ {E : Type 0} (actor_of : E → ℕ) (limits : Limits) where
         (λ (new : Contains (gone_of w ∷ []) g). subst (Left actor_of h.b h.made) (sym (in_one (gone_of w) g new)) record { seen = theirs.seen; mine = theirs.mine; among = theirs.among other_actor })
         (Contains-append_cases h.gone (gone_of w ∷ []) g is)
 
+    first_logged : IsLogged h.log u
+    first_logged = let l = h.logged id v at rests.is_live in record { visits = l.visits; own = l.own; turn = l.turn; holds = l.holds }
+
+    gone_logged_now : (g : Gone E) → Contains gone g → WasLogged h.log g
+    gone_logged_now g is = ⊎_elim
+        (λ (old : Contains h.gone g). h.gone_logged g old)
+        (λ (new : Contains (gone_of w ∷ []) g). let l = h.logged other w there idle.is_live in subst (WasLogged h.log) (sym (in_one (gone_of w) g new)) record { visits = l.visits; own = l.own })
+        (Contains-append_cases h.gone (gone_of w ∷ []) g is)
+
     accounted_now : (actor : ℕ) → Contains h.made actor → ((g : Gone E) × Contains gone g × (g.actor ≡ actor)) ⊎ ((x : View E) × (get_elem? views (h.seat_of actor) ≡ some x) × (x.is_live ≡ true) × (x.actor ≡ actor))
     accounted_now actor is = ⊎_elim
         (λ (g : (g : Gone E) × Contains h.gone g × (g.actor ≡ actor)). inl (g.0, Contains-append_left h.gone (gone_of w ∷ []) g.0 g.1, g.2))
@@ -141,6 +151,11 @@ module _ {E : Type 0} (actor_of : E → ℕ) (limits : Limits) where
       spent = place_of (λ j x. x.is_live ≡ false → IsSpent x) (λ dead. absurd (on (sym rests.is_live ∙ dead))) (λ dead. (refl, refl, refl, refl)) (λ j x ne ne' is dead. h.spent j x is dead);
       reserved = (let t = total (λ (x : View E). x.held_items) in let r = h.reserved in let f = free.0 in omega arith);
       reserved_weight = (let t = total (λ (x : View E). x.held_weight) in let r = h.reserved_weight in let f = free.1 in omega arith);
+      log = h.log;
+      logged = place_of (λ j x. x.is_live ≡ true → IsLogged h.log x) (λ live. first_logged) (λ live. absurd (on (sym live))) (λ j x ne ne' is live. h.logged j x is live);
+      gone_logged = gone_logged_now;
+      all_logged = h.all_logged;
+      summed = h.summed;
       counted = (let t = total (λ (x : View E). one_if x.is_live) in let r = h.counted in let o : one_if w.is_live ≡ 1 = ap one_if idle.is_live in let l = length-append h.gone (gone_of w ∷ []) in omega arith);
       all_made = h.all_made;
       no_first = h.no_first;
@@ -185,13 +200,25 @@ module _ {E : Type 0} (actor_of : E → ℕ) (limits : Limits) where
     pub joined_left : (g : Gone E) → Contains v.joined g → Left actor_of h.b h.made g
     joined_left g is = h.left g (subst (λ l. Contains l g) (mine.first first).1 is)
 
+    -- each actor for which a seat was split has a joined one
+    joined_actor : (actor : ℕ) → Contains h.made actor → (g : Gone E) × Contains v.joined g × (g.actor ≡ actor)
+    joined_actor actor made = ⊎_elim
+        (λ (g : (g : Gone E) × Contains h.gone g × (g.actor ≡ actor)). (g.0, subst (λ l. Contains l g.0) (sym (mine.first first).1) g.1, g.2))
+        (λ (x : (x : View E) × (get_elem? s.views (h.seat_of actor) ≡ some x) × (x.is_live ≡ true) × (x.actor ≡ actor)).
+        let e = alone (h.seat_of actor) x.0 x.1 x.2 in
+        absurd (h.no_first actor made (sym x.3 ∙ ap (λ (y : View E). y.actor) (sym (some-injective v x.0 (sym at ∙ ap (λ k. get_elem? s.views k) (sym e) ∙ x.1))) ∙ first)))
+        (h.accounted actor made)
+
     -- each item is of a joined seat
     pub joined_all : (item : E) → Contains h.b.items item → (g : Gone E) × Contains v.joined g × (g.actor ≡ actor_of item)
-    joined_all item is =
-        let made = h.all_made item is in
-        ⊎_elim
-        (λ (g : (g : Gone E) × Contains h.gone g × (g.actor ≡ actor_of item)). (g.0, subst (λ l. Contains l g.0) (sym (mine.first first).1) g.1, g.2))
-        (λ (x : (x : View E) × (get_elem? s.views (h.seat_of (actor_of item)) ≡ some x) × (x.is_live ≡ true) × (x.actor ≡ actor_of item)).
-        let e = alone (h.seat_of (actor_of item)) x.0 x.1 x.2 in
-        absurd (h.no_first (actor_of item) made (sym x.3 ∙ ap (λ (y : View E). y.actor) (sym (some-injective v x.0 (sym at ∙ ap (λ k. get_elem? s.views k) (sym e) ∙ x.1))) ∙ first)))
-        (h.accounted (actor_of item) made)
+    joined_all item is = joined_actor (actor_of item) (h.all_made item is)
+
+    -- each joined seat knew a beginning of all visits, each of which is of the first seat or of a joined one
+    pub joined_logged : (g : Gone E) → Contains v.joined g → WasLogged h.log g
+    joined_logged g is = h.gone_logged g (subst (λ l. Contains l g) (mine.first first).1 is)
+
+    pub joined_visits : (visit : Visit) → Contains h.log visit → (visit.actor ≡ 0) ⊎ ((g : Gone E) × Contains v.joined g × (g.actor ≡ visit.actor))
+    joined_visits visit is = ⊎_elim
+        (λ (z : visit.actor ≡ 0). inl z)
+        (λ (m : Contains h.made visit.actor). inr (joined_actor visit.actor m))
+        (h.all_logged visit is)

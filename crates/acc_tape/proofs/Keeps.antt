@@ -10,11 +10,14 @@ use Rattle.acc_tape.specs.declared.content.Limits.{Limits}
 use Rattle.acc_tape.specs.declared.content.Content.{Content}
 use Rattle.acc_tape.specs.declared.view.View.{View}
 use Rattle.acc_tape.specs.declared.view.Gone.{Gone}
+use Rattle.acc_tape.specs.declared.view.Visit.{Visit}
 use Rattle.acc_tape.specs.Lists.{items_of}
-use Rattle.acc_tape.specs.Rule.{Holds, Sits, Left, SlotIs, IsSpent, one_if}
+use Rattle.acc_tape.specs.Visits.{AreReserved}
+use Rattle.acc_tape.specs.Rule.{Holds, Sits, Left, SlotIs, IsSpent, IsLogged, WasLogged, one_if}
 use mathlib.Core.Logic.{dite}
 use native.Mathlib.Decide.{ℕ_discrete}
 use Rattle.acc_tape.proofs.Weights.{at_place, sum_set, prefix_longer, others_items}
+use Rattle.acc_tape.proofs.Logs.{whose}
 
 module _ {E : Type 0} (actor_of : E → ℕ) (limits : Limits) where
   abbrev pub Table : Type 0
@@ -43,6 +46,13 @@ module _ {E : Type 0} (actor_of : E → ℕ) (limits : Limits) where
     pub slot_is : SlotIs (set s.views id w) b slot
     pub counts : b.reserved + v.held_items ≡ h.b.reserved + w.held_items
     pub weights : b.reserved_weight + v.held_weight ≡ h.b.reserved_weight + w.held_weight
+    pub log : List Visit
+    pub more : List Visit
+    pub log_grows : log ≡ h.log ++ more
+    pub visits_by_it : (visit : Visit) → Contains more visit → visit.actor ≡ v.actor
+    pub logged : IsLogged log w
+    pub others_know : (j : ℕ) (u : View E) (c : Content E) → j ≢ id → get_elem? s.views j ≡ some u → u.is_live ≡ true → u.taken ≡ Some c → u.visits ≡ log
+    pub summed : AreReserved log b.reserved b.reserved_weight
 
   module _ (s : Table) (h : Holds actor_of limits s) (id : ℕ) (v w : View E) (at : get_elem? s.views id ≡ some v) (was_live : v.is_live ≡ true)
       (b : Content E) (ticket serving : ℕ) (slot : Option (Content E)) (holder : ℕ → ℕ) (c : Changes s h id v w b ticket serving slot holder) where
@@ -116,6 +126,43 @@ module _ {E : Type 0} (actor_of : E → ℕ) (limits : Limits) where
           among = l.among;
         }
 
+    -- no new visit is of another actor
+    not_visited : (actor : ℕ) → actor ≢ v.actor → (visit : Visit) → Contains c.more visit → whose visit ≢ actor
+    not_visited actor apart visit is same = apart (sym same ∙ c.visits_by_it visit is)
+
+    other_logged : (j : ℕ) (u : View E) → j ≢ id → get_elem? s.views j ≡ some u → u.is_live ≡ true → IsLogged c.log u
+    other_logged j u apart there live =
+        let o = h.logged j u there live in record {
+          visits = prefix_longer u.visits h.log c.log c.more o.visits c.log_grows;
+          own = o.own ∙ others_items whose u.actor h.log c.log c.more c.log_grows (not_visited u.actor (other_actor j u apart (h.live j u there live)));
+          turn = λ taken is. c.others_know j u taken apart there live is;
+          holds = o.holds;
+        }
+
+    logged_now : (j : ℕ) (u : View E) → get_elem? views j ≡ some u → u.is_live ≡ true → IsLogged c.log u
+    logged_now j u is live = ⊎_elim
+        (λ (t : (j ≡ id) × (w ≡ u)). subst (λ (x : View E). IsLogged c.log x) t.1 c.logged)
+        (λ (t : (j ≢ id) × (get_elem? s.views j ≡ some u)). other_logged j u t.0 t.1 live)
+        (at_set s.views id j w u is)
+
+    gone_logged_now : (g : Gone E) → Contains h.gone g → WasLogged c.log g
+    gone_logged_now g is =
+        let l = h.gone_logged g is in record {
+          visits = prefix_longer g.visits h.log c.log c.more l.visits c.log_grows;
+          own = l.own ∙ others_items whose g.actor h.log c.log c.more c.log_grows (not_visited g.actor (sits.apart g is));
+        }
+
+    new_logged : (visit : Visit) → visit.actor ≡ v.actor → (visit.actor ≡ 0) ⊎ Contains h.made visit.actor
+    new_logged visit is = dite (ℕ_discrete v.actor 0)
+        (λ z. inl (is ∙ z))
+        (λ nz. inr (subst (Contains h.made) (sym is) (sits.among nz)))
+
+    all_logged_now : (visit : Visit) → Contains c.log visit → (visit.actor ≡ 0) ⊎ Contains h.made visit.actor
+    all_logged_now visit is = ⊎_elim
+        (λ (x : Contains h.log visit). h.all_logged visit x)
+        (λ (x : Contains c.more visit). new_logged visit (c.visits_by_it visit x))
+        (Contains-append_cases h.log c.more visit (subst (λ l. Contains l visit) c.log_grows is))
+
     accounted_now : (actor : ℕ) → Contains h.made actor → ((g : Gone E) × Contains h.gone g × (g.actor ≡ actor)) ⊎ ((u : View E) × (get_elem? views (h.seat_of actor) ≡ some u) × (u.is_live ≡ true) × (u.actor ≡ actor))
     accounted_now actor is = ⊎_elim
         (λ (x : (g : Gone E) × Contains h.gone g × (g.actor ≡ actor)). inl x)
@@ -146,6 +193,11 @@ module _ {E : Type 0} (actor_of : E → ℕ) (limits : Limits) where
       spent = spent_now;
       reserved = (let t = sum_set (λ (u : View E). u.held_items) s.views id v w at in let r = h.reserved in let k = c.counts in omega arith);
       reserved_weight = (let t = sum_set (λ (u : View E). u.held_weight) s.views id v w at in let r = h.reserved_weight in let k = c.weights in omega arith);
+      log = c.log;
+      logged = logged_now;
+      gone_logged = gone_logged_now;
+      all_logged = all_logged_now;
+      summed = c.summed;
       counted = (let t = sum_set (λ (u : View E). one_if u.is_live) s.views id v w at in let r = h.counted in let e : one_if v.is_live ≡ one_if w.is_live = ap one_if (was_live ∙ sym c.is_live) in omega arith);
       all_made = new_made;
       no_first = h.no_first;

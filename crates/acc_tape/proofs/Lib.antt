@@ -1,8 +1,10 @@
+pub mod Alone
 pub mod Visits
 pub mod Closing
 pub mod Entering
 pub mod Joining
 pub mod Keeps
+pub mod Logs
 pub mod Mailing
 pub mod Signs
 pub mod Splitting

@@ -14,9 +14,11 @@ use Rattle.acc_tape.specs.declared.content.Limits.{Limits}
 use Rattle.acc_tape.specs.declared.content.Content.{Content}
 use Rattle.acc_tape.specs.declared.view.View.{View}
 use Rattle.acc_tape.specs.declared.view.Gone.{Gone}
+use Rattle.acc_tape.specs.declared.view.Visit.{Visit}
 use Rattle.acc_tape.specs.Turn.{IsResting}
-use Rattle.acc_tape.specs.Rule.{Holds, Sits, SlotIs, IsSpent, one_if, splitter, newcomer}
+use Rattle.acc_tape.specs.Rule.{Holds, Sits, SlotIs, IsSpent, IsLogged, one_if, splitter, newcomer}
 use Rattle.acc_tape.proofs.Weights.{at_place, before_end, at_end, sum_set, in_one, none_of}
+use Rattle.acc_tape.proofs.Logs.{whose}
 
 module _ {E : Type 0} (actor_of : E → ℕ) (limits : Limits) where
   abbrev T : Type 0
@@ -106,6 +108,24 @@ module _ {E : Type 0} (actor_of : E → ℕ) (limits : Limits) where
       turn = λ c e. absurd (no_some c (sym rests.no_turn ∙ e));
     }
 
+    first_logged : IsLogged h.log u
+    first_logged = let l = h.logged id v at rests.is_live in record { visits = l.visits; own = l.own; turn = l.turn; holds = l.holds }
+
+    -- nobody has visited for the new actor
+    not_visited : (visit : Visit) → Contains h.log visit → whose visit ≢ v.named
+    not_visited visit is same = ⊎_elim
+        (λ (z : visit.actor ≡ 0). some_actor (sym same ∙ z))
+        (λ (m : Contains h.made visit.actor). not_made visit.actor m same)
+        (h.all_logged visit is)
+
+    new_logged : IsLogged h.log w
+    new_logged = record {
+      visits = (h.logged id v at rests.is_live).visits;
+      own = sym (none_of whose v.named h.log not_visited);
+      turn = λ c e. absurd (no_some c (sym rests.no_turn ∙ e));
+      holds = record { items_are = refl; weight_is = refl };
+    }
+
     -- where a seat stands now
     place_of : (P : ℕ → View E → Type 0) → P id u → ((j : ℕ) (x : View E) → j ≢ id → get_elem? s.views j ≡ some x → P j x) → P new_id w → (j : ℕ) (x : View E) → get_elem? views j ≡ some x → P j x
     place_of P here others new j x there = dite (dec_lt j (length s.views))
@@ -172,6 +192,11 @@ module _ {E : Type 0} (actor_of : E → ℕ) (limits : Limits) where
       spent = place_of (λ j x. x.is_live ≡ false → IsSpent x) (λ dead. absurd (on (sym rests.is_live ∙ dead))) (λ j x ne there dead. h.spent j x there dead) (λ dead. absurd (on (sym rests.is_live ∙ dead)));
       reserved = (let t = total (λ (x : View E). x.held_items) in let r = h.reserved in omega arith);
       reserved_weight = (let t = total (λ (x : View E). x.held_weight) in let r = h.reserved_weight in omega arith);
+      log = h.log;
+      logged = place_of (λ j x. x.is_live ≡ true → IsLogged h.log x) (λ live. first_logged) (λ j x ne there live. h.logged j x there live) (λ live. new_logged);
+      gone_logged = h.gone_logged;
+      all_logged = λ visit is. ⊎_elim (λ (z : visit.actor ≡ 0). inl z) (λ (m : Contains h.made visit.actor). inr (more_made visit.actor m)) (h.all_logged visit is);
+      summed = h.summed;
       counted = (let t = total (λ (x : View E). one_if x.is_live) in let r = h.counted in let o : one_if v.is_live ≡ 1 = ap one_if rests.is_live in let l = length-append h.made (v.named ∷ []) in omega arith);
       all_made = λ item is. more_made (actor_of item) (h.all_made item is);
       no_first = λ actor is. ⊎_elim (λ (x : Contains h.made actor). h.no_first actor x) (λ (x : Contains (v.named ∷ []) actor). λ z. some_actor (sym (in_one v.named actor x) ∙ z)) (Contains-append_cases h.made (v.named ∷ []) actor is);

@@ -4,6 +4,7 @@ use Rattle.std.proofs.lemmas.List.{set-get_or}
 use Rattle.std.proofs.Math.Nat.{mod-eq_of_lt}
 use mathlib.Core.Option.{Option, none, some, some-injective, some-ne-none}
 use mathlib.Core.Logic.{dite}
+use mathlib.Core.List.{IsPrefix}
 use native.Mathlib.Decide.{ℕ_discrete}
 use lib.ListN.{get_elem?}
 use prog.Atomic.{either}
@@ -12,9 +13,12 @@ use Rattle.atomic_table.proofs.Lists.{set_again, set_here, set_else, exchanged}
 use Rattle.acc_tape.specs.declared.content.Limits.{Limits}
 use Rattle.acc_tape.specs.declared.content.Content.{Content}
 use Rattle.acc_tape.specs.declared.view.View.{View}
-use Rattle.acc_tape.specs.Turn.{IsResting, Learns, MayLeave, waiting, turning, draws, looks, left, view_after, taken_of, now_of, CanLeave}
-use Rattle.acc_tape.specs.Rule.{Holds, Sits, SlotIs, first_view}
-use Rattle.acc_tape.proofs.Weights.{at_place, sum_at, prefix_itself, in_none}
+use Rattle.acc_tape.specs.declared.view.Visit.{Visit}
+use Rattle.acc_tape.specs.Turn.{IsResting, Learns, MayLeave, waiting, turning, visit_of, draws, looks, left, view_after, taken_of, now_of, CanLeave}
+use Rattle.acc_tape.specs.Visits.{AreReserved}
+use Rattle.acc_tape.specs.Rule.{Holds, Sits, SlotIs, IsLogged, first_view}
+use Rattle.acc_tape.proofs.Weights.{at_place, sum_at, prefix_itself, in_none, in_one}
+use Rattle.acc_tape.proofs.Logs.{own_more, all_more, holds_more}
 use Rattle.acc_tape.proofs.Keeps.{Changes, kept}
 
 module _ {E : Type 0} (actor_of : E → ℕ) (limits : Limits) where
@@ -53,6 +57,11 @@ module _ {E : Type 0} (actor_of : E → ℕ) (limits : Limits) where
     spent = λ id v at is. let o = only id v at in absurd (off (ap (λ (x : View E). x.is_live) o.1 ∙ is));
     reserved = refl;
     reserved_weight = refl;
+    log = [];
+    logged = λ id v at is. subst (λ (x : View E). IsLogged [] x) (only id v at).1 first_logged;
+    gone_logged = λ g is. absurd (in_none g is);
+    all_logged = λ visit is. absurd (in_none visit is);
+    summed = record { items_are = refl; weight_is = refl };
     counted = refl;
     all_made = λ item is. absurd (in_none item is);
     no_first = λ actor is. absurd (in_none actor is);
@@ -62,6 +71,14 @@ module _ {E : Type 0} (actor_of : E → ℕ) (limits : Limits) where
     where
       off : true ≡ false → ⊥
       off e = cc
+
+      first_logged : IsLogged {E = E} [] (first_view limits)
+      first_logged = record {
+        visits = ([], refl);
+        own = refl;
+        turn = λ c is. absurd (no_some c is);
+        holds = record { items_are = refl; weight_is = refl };
+      }
 
       first : Sits actor_of limits empty 0 0 (some empty) [] [] (λ actor. 0) (λ t. 0) 0 (first_view limits)
       first = record {
@@ -95,6 +112,9 @@ module _ {E : Type 0} (actor_of : E → ℕ) (limits : Limits) where
     abbrev sits : Sits actor_of limits h.b h.ticket h.serving h.slot h.made h.gone h.seat_of h.holder id v
     sits = h.live id v at is_live
 
+    abbrev knows : IsLogged h.log v
+    knows = h.logged id v at is_live
+
     next_is : get_or s.words 0 0 ≡ h.ticket
     next_is = ap (λ l. get_or l 0 0) h.words_are
 
@@ -127,6 +147,13 @@ module _ {E : Type 0} (actor_of : E → ℕ) (limits : Limits) where
       slot_is = slot_kept s id v (waiting v h.ticket) h.b h.slot at idle h.slot_is;
       counts = refl;
       weights = refl;
+      log = h.log;
+      more = [];
+      log_grows = sym (append-nil h.log);
+      visits_by_it = λ visit is. absurd (in_none visit is);
+      logged = record { visits = knows.visits; own = knows.own; turn = λ c e. absurd (no_some c (sym idle ∙ e)); holds = knows.holds };
+      others_know = λ j u c apart there live e. (h.logged j u there live).turn c e;
+      summed = h.summed;
     }
 
     -- ---- looking at the serving number
@@ -142,7 +169,7 @@ module _ {E : Type 0} (actor_of : E → ℕ) (limits : Limits) where
         let same : o.0 ≡ id = sym t.2 ∙ m.2 in
         absurd (no_some h.b (sym idle ∙ ap (λ (x : View E). x.taken) (some-injective v o.1 (sym at ∙ ap (λ k. get_elem? s.views k) (sym same) ∙ o.2)) ∙ o.4))
 
-    taken : v.taken ≡ None → v.ticket ≡ Some h.serving → h.slot ≡ some h.b → Changes actor_of limits s h id v (turning v h.b) h.b h.ticket h.serving none h.holder
+    taken : v.taken ≡ None → v.ticket ≡ Some h.serving → h.slot ≡ some h.b → Changes actor_of limits s h id v (turning v h.b h.log) h.b h.ticket h.serving none h.holder
     taken idle mine home = record {
       is_live = is_live;
       same_limits = refl;
@@ -162,21 +189,41 @@ module _ {E : Type 0} (actor_of : E → ℕ) (limits : Limits) where
       turn = λ c e. (let same : c ≡ h.b = cc in same, mine, refl);
       others_wait = λ j t apart from below is. (from, below, is);
       others_turn = λ j u c apart there live e. absurd (some-ne-none h.b (sym home ∙ ((h.live j u there live).turn c e).2));
-      slot_is = inr (refl, (id, turning v h.b, set_here s.views id (turning v h.b) (at_place s.views id v at).0, is_live, refl));
+      slot_is = inr (refl, (id, turning v h.b h.log, set_here s.views id (turning v h.b h.log) (at_place s.views id v at).0, is_live, refl));
       counts = refl;
       weights = refl;
+      log = h.log;
+      more = [];
+      log_grows = sym (append-nil h.log);
+      visits_by_it = λ visit is. absurd (in_none visit is);
+      logged = record { visits = prefix_itself h.log; own = knows.own; turn = λ c e. refl; holds = knows.holds };
+      others_know = λ j u c apart there live e. absurd (some-ne-none h.b (sym home ∙ ((h.live j u there live).turn c e).2));
+      summed = h.summed;
     }
 
-    learnt : Learns actor_of v h.b
+    learnt : Learns actor_of v h.b h.log
     learnt = record {
       seen = sits.seen;
       mine = sits.mine;
       counted = (let a = sum_at (λ (u : View E). u.held_items) s.views id v at in let r = h.reserved in omega arith);
       weighed = (let a = sum_at (λ (u : View E). u.held_weight) s.views id v at in let r = h.reserved_weight in omega arith);
+      visits = knows.visits;
+      own = knows.own;
+      summed = h.summed;
+      holds = knows.holds;
       limits = h.limits_are ∙ sym sits.limits_are;
     }
 
     -- ---- leaving
+
+    left_logged : (c now : Content E) → v.taken ≡ Some c → MayLeave actor_of v.actor v.held_items v.held_weight c now → IsLogged (h.log ++ visit_of v.actor c now ∷ []) (view_after actor_of v c now)
+    left_logged c now turn may =
+        let visit = visit_of v.actor c now in record {
+          visits = subst (λ (l : List Visit). IsPrefix (l ++ visit ∷ []) (h.log ++ visit ∷ [])) (sym (knows.turn c turn)) (prefix_itself (h.log ++ visit ∷ []));
+          own = own_more v.actor h.log v.own visit refl knows.own;
+          turn = λ x e. absurd (no_some x e);
+          holds = holds_more v.actor v.own c now v.held_items v.held_weight may.counts may.weights knows.holds;
+        }
 
     left_now : (c now : Content E) → v.taken ≡ Some c → MayLeave actor_of v.actor v.held_items v.held_weight c now → Changes actor_of limits s h id v (view_after actor_of v c now) now h.ticket (h.serving + 1) (some now) h.holder
     left_now c now turn may =
@@ -203,6 +250,13 @@ module _ {E : Type 0} (actor_of : E → ℕ) (limits : Limits) where
           slot_is = inl refl;
           counts = (let e = ap (λ (x : Content E). x.reserved) mine.0 in let k = may.counts in omega arith);
           weights = (let e = ap (λ (x : Content E). x.reserved_weight) mine.0 in let k = may.weights in omega arith);
+          log = h.log ++ visit_of v.actor c now ∷ [];
+          more = visit_of v.actor c now ∷ [];
+          log_grows = refl;
+          visits_by_it = λ visit is. ap (λ (x : Visit). x.actor) (in_one (visit_of v.actor c now) visit is);
+          logged = left_logged c now turn may;
+          others_know = λ j u x apart there live e. let theirs = h.live j u there live in absurd (apart (sym (theirs.waits h.serving (theirs.turn x e).1).2 ∙ w.2));
+          summed = all_more v.actor h.log c now (subst (λ (x : Content E). AreReserved h.log x.reserved x.reserved_weight) (sym mine.0) h.summed);
         }
 
   -- ---- the three steps, as the table asks for them
@@ -234,12 +288,12 @@ module _ {E : Type 0} (actor_of : E → ℕ) (limits : Limits) where
       (λ e.
       let turn : m.0.ticket ≡ Some h.serving = mine ∙ ap (λ x. Some x) (e ∙ served) in
       let home = at_home s h id m.0 at is_live idle turn h.slot_is in (
-        turning m.0 h.b,
+        turning m.0 h.b h.log,
         takes 0 h.b,
         ap (λ l. get_elem? l 0) h.homes_are ∙ ap (λ x. some x) home,
-        kept actor_of limits s h id m.0 (turning m.0 h.b) at is_live h.b h.ticket h.serving none h.holder (taken s h id m.0 at is_live idle turn home)
+        kept actor_of limits s h id m.0 (turning m.0 h.b h.log) at is_live h.b h.ticket h.serving none h.holder (taken s h id m.0 at is_live idle turn home)
             (set s.words 1 (get_or s.words 1 0)) (set s.homes 0 none) (set-get_or s.words 1 0 ∙ h.words_are) (ap (λ l. set l 0 none) h.homes_are),
-        ((λ is. (h.b, refl, learnt s h id m.0 at is_live)), (λ not. absurd (not (mine ∙ ap (λ x. Some x) e)))),
+        ((λ is. (h.b, h.log, refl, learnt s h id m.0 at is_live)), (λ not. absurd (not (mine ∙ ap (λ x. Some x) e)))),
       ))
       (λ ne. (m.0, keeps, tt, stays s id 1 m.0 m.1 h at, ((λ is. absurd (ne (same_number ticket (get_or s.words 1 0) (sym mine ∙ is)))), (λ not. refl))))
     where

@@ -1,5 +1,5 @@
 -- Lists read at a place, sums over them, beginnings of lists, and the items of an actor.
-use Rattle.std.proofs.Common.{◌≡◌, ◌≢◌, ℕ, zero, suc, ◌+◌, ◌<◌, ◌≤◌, ◌==◌, true, false, cond, List, [], ◌∷◌, ◌++◌, length, get_or, set, take, All, refl, sym, ap, ◌∙◌, subst, arith, append-nil, append_assoc, Contains, eqb-true, eq-eqb}
+use Rattle.std.proofs.Common.{◌≡◌, ◌≢◌, ℕ, zero, suc, ◌+◌, ◌<◌, ◌≤◌, ◌==◌, true, false, cond, List, [], ◌∷◌, ◌++◌, length, get_or, set, All, refl, sym, ap, ◌∙◌, subst, arith, append-nil, append_assoc, Contains, eqb-true, eq-eqb}
 use Rattle.std.specs.Prelude.{sum_by}
 use Rattle.std.proofs.lemmas.List.Sums.{sum_by-set, get_or-le-sum_by}
 use Rattle.std.proofs.lemmas.List.Elements.{filter-append}
@@ -46,12 +46,9 @@ module _ {A : Type 0} where
   pub in_one : (x y : A) → Contains (x ∷ []) y → y ≡ x
   in_one x y h = let low : h.0 < 1 = h.1 in let z : h.0 ≡ 0 = omega arith in sym h.2 ∙ ap (λ k. get_or (x ∷ []) k y) z
 
--- a value in front of a place of a list is one of the list's values
-pub in_front : {A : Type 0} (P : A → Type 0) (k : ℕ) (xs : List A) → All P xs → (x : A) → Contains (take k xs) x → P x × (1 ≤ length xs)
-in_front P zero xs all x is = absurd (in_none x is)
-in_front P (suc k) [] all x is = absurd (in_none x is)
-in_front P (suc k) (y ∷ ys) all x (zero, low, e) = (subst P e (all 0 x (omega arith)), omega arith)
-in_front P (suc k) (y ∷ ys) all x (suc n, low, e) = ((in_front P k ys (λ m d below. all (suc m) d (omega arith)) x (n, omega arith, e)).0, omega arith)
+-- what holds of all values of a list holds of each that stands in it
+pub in_all : {A : Type 0} (P : A → Type 0) (xs : List A) → All P xs → (x : A) → Contains xs x → P x × (1 ≤ length xs)
+in_all P xs all x (k, low, e) = (subst P e (all k x low), omega arith)
 
 module _ {E : Type 0} (actor_of : E → ℕ) where
   -- items of another actor change nothing

@@ -6,6 +6,10 @@ use Rattle.acc_message_index.specs.Mail.{Mail, taken, early_after}
 use Rattle.acc_tape.specs.declared.content.Limits.{Limits}
 use Rattle.acc_tape.specs.Messages.{messages_of, is_taken}
 
+-- An item notes no more than this: of a run, a node's step that ends with an outcome has that and the reply, and every other step fewer notes.
+abbrev pub most_notes : ℕ
+most_notes = 2
+
 -- messages of which the first has the number n, each closed where it is taken
 abbrev pub closed_from : ℕ → (ℕ → Bool) → List Posting → List Posting
 closed_from n taken [] = []

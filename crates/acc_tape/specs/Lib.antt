@@ -6,3 +6,4 @@ pub mod Refusals
 pub mod Rule
 pub mod Seats
 pub mod Turn
+pub mod Visits

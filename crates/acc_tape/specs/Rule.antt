@@ -8,7 +8,9 @@ use Rattle.acc_tape.specs.declared.content.Limits.{Limits}
 use Rattle.acc_tape.specs.declared.content.Content.{Content}
 use Rattle.acc_tape.specs.declared.view.View.{View}
 use Rattle.acc_tape.specs.declared.view.Gone.{Gone}
+use Rattle.acc_tape.specs.declared.view.Visit.{Visit}
 use Rattle.acc_tape.specs.Lists.{items_of}
+use Rattle.acc_tape.specs.Visits.{visits_of, AreReserved}
 
 abbrev pub one_if : Bool → ℕ
 one_if b = cond b 1 0
@@ -27,22 +29,34 @@ module _ {E : Type 0} where
   splitter v = record v { made = v.made ++ v.named ∷ [] }
 
   abbrev pub newcomer : View E → View E
-  newcomer v = record v { actor = v.named; mine = []; held_items = 0; held_weight = 0; made = []; joined = [] }
+  newcomer v = record v { actor = v.named; mine = []; held_items = 0; held_weight = 0; own = []; made = []; joined = [] }
 
   -- the first seat after another was joined to it
   abbrev pub gone_of : View E → Gone E
-  gone_of w = record { actor = w.actor; seen = w.seen; mine = w.mine }
+  gone_of w = record { actor = w.actor; seen = w.seen; mine = w.mine; visits = w.visits; own = w.own }
 
   abbrev pub joiner : View E → View E → View E
   joiner v w = record v { joined = v.joined ++ gone_of w ∷ [] }
 
   -- the view of the first seat of a new tape
   abbrev pub first_view : Limits → View E
-  first_view limits = record { is_live = true; limits = limits; actor = 0; seen = []; mine = []; held_items = 0; held_weight = 0; out_count = 0; out_weight = 0; named = 0; made = []; joined = []; ticket = None; taken = None }
+  first_view limits = record { is_live = true; limits = limits; actor = 0; seen = []; mine = []; held_items = 0; held_weight = 0; out_count = 0; out_weight = 0; visits = []; own = []; named = 0; made = []; joined = []; ticket = None; taken = None }
 
   -- the view of a seat that was joined to the first one
   abbrev pub spent_view : View E
-  spent_view = record { is_live = false; limits = record { items = 0; weight = 0 }; actor = 0; seen = []; mine = []; held_items = 0; held_weight = 0; out_count = 0; out_weight = 0; named = 0; made = []; joined = []; ticket = None; taken = None }
+  spent_view = record { is_live = false; limits = record { items = 0; weight = 0 }; actor = 0; seen = []; mine = []; held_items = 0; held_weight = 0; out_count = 0; out_weight = 0; visits = []; own = []; named = 0; made = []; joined = []; ticket = None; taken = None }
+
+  -- A seat knows a beginning of all visits, in which its own stand in their order, and knows them all in its turn. What it holds was reserved in its own.
+  pub record IsLogged (log : List Visit) (v : View E) : Type 0 where
+    pub visits : IsPrefix v.visits log
+    pub own : v.own ≡ visits_of v.actor log
+    pub turn : (c : Content E) → v.taken ≡ Some c → v.visits ≡ log
+    pub holds : AreReserved v.own v.held_items v.held_weight
+
+  -- a seat that was joined to the first one knew such a beginning
+  pub record WasLogged (log : List Visit) (g : Gone E) : Type 0 where
+    pub visits : IsPrefix g.visits log
+    pub own : g.own ≡ visits_of g.actor log
 
   module _ (actor_of : E → ℕ) where
     -- a seat at its place id: each ticket has one holder and each actor one seat
@@ -84,6 +98,12 @@ module _ {E : Type 0} where
       -- what they hold is what is reserved, and each that was split is live or was joined
       pub reserved : sum_by (λ v. v.held_items) s.views ≡ b.reserved
       pub reserved_weight : sum_by (λ v. v.held_weight) s.views ≡ b.reserved_weight
+      -- what is reserved was reserved in visits of the first seat and of those that were split
+      pub log : List Visit
+      pub logged : (id : ℕ) (v : View E) → get_elem? s.views id ≡ some v → v.is_live ≡ true → IsLogged log v
+      pub gone_logged : (g : Gone E) → Contains gone g → WasLogged log g
+      pub all_logged : (visit : Visit) → Contains log visit → (visit.actor ≡ 0) ⊎ Contains made visit.actor
+      pub summed : AreReserved log b.reserved b.reserved_weight
       pub counted : sum_by (λ v. one_if v.is_live) s.views + length gone ≡ length made + 1
       -- each item is of an actor for which a seat was split, and that seat is live or was joined
       pub all_made : (item : E) → Contains b.items item → Contains made (actor_of item)

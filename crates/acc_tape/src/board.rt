@@ -1,8 +1,8 @@
 //! What stands in the slot of a tape: the list, what is reserved, and the index of messages. Its calls are made by the
 //! seat that has the turn.
-ghost use Rattle.std.specs.Prelude.{◌≡◌, ℕ, ◌+◌, ◌-◌, ◌^◌, ◌<◌, ◌≤◌, [], ◌∷◌, ◌++◌, length, sum_by, take, All, Some, slice_get, vec_capacity, IfOk, IfErr, OnOk, OnErr, MatchOption};
+ghost use Rattle.std.specs.Prelude.{◌≡◌, ℕ, ◌+◌, ◌-◌, ◌*◌, ◌^◌, ◌<◌, ◌≤◌, [], ◌∷◌, ◌++◌, length, sum_by, take, All, Some, slice_get, vec_capacity, IfOk, IfErr, OnOk, OnErr, MatchOption};
 ghost use Rattle.acc_tape.specs.Messages.{IsOldest, HasNone, AreOldest, IsSentBy, behind_all, behind_last, posts_in, messages_from};
-ghost use Rattle.acc_tape.specs.Kept.{after_taking, after_messages};
+ghost use Rattle.acc_tape.specs.Kept.{most_notes, after_taking, after_messages};
 ghost use Rattle.acc_tape.specs.Refusals.{Refuses};
 ghost use Rattle.acc_tape.specs.Turn.{IsWithin};
 
@@ -20,6 +20,9 @@ use std::marker::{Model, PhantomData};
 // The items of a tape and those that are reserved are at most so many, so that a place has 32 bits.
 const MOST_PLACES: u64 = u32::MAX as u64;
 
+// No item has more notes.
+const MOST_NOTES: u64 = 2;
+
 #[derive(Drop)]
 pub struct Board<E: Posted, R: Rules<E>> {
     items: E::List,
@@ -35,13 +38,29 @@ pub struct Board<E: Posted, R: Rules<E>> {
 
 impl<E: Posted, R: Rules<E>> Model for Board<E, R> {
     ghost use Rattle.acc_tape.specs.declared.content.Content.{Content};
-    ghost use Rattle.acc_tape.specs.Kept.{IsKept};
+    ghost use Rattle.std.specs.Prelude.{◌*◌, ◌≤◌};
+    ghost use Rattle.acc_tape.specs.Kept.{IsKept, most_notes};
 
     ghost Value = { Content E };
 
     ghost view = { λ b. record { items = E.in_list b.items; reserved = b.reserved; reserved_weight = b.reserved_weight; limits = b.limits; named = b.named } };
 
-    ghost invariant = { λ b. IsKept E.took E.sent_to E.is_lost E.bytes R.fits (E.in_list b.items) b.weight b.reserved b.reserved_weight b.limits (E.room b.items) b.posts };
+    ghost invariant = { λ b. IsKept E.took E.sent_to E.is_lost E.bytes R.fits (E.in_list b.items) b.weight b.reserved b.reserved_weight b.limits (E.room b.items) b.posts × (most_notes * b.reserved ≤ E.notes_room b.items) };
+}
+
+// Makes room in a list for so many more items and messages, and for so many more notes in all. Without memory for it there is as much room
+// as before.
+fn make_room<E: Posted>(list: &mut E::List, more: u64, notes: u64) -> Result<(), OutOfMemory>
+    ensures items { E.in_list list.new ≡ E.in_list list.old }
+    ensures ok { OnOk result ((E.room list.new ≡ E.room list.old + more) × (notes ≤ E.notes_room list.new)) }
+    ensures err { OnErr result ((E.room list.new ≡ E.room list.old) × (E.notes_room list.old ≤ E.notes_room list.new)) }
+{
+    E::reserve(list, more)?;
+    if E::reserve_notes(list, notes).is_err() {
+        E::release(list, more);
+        return Err(OutOfMemory);
+    }
+    Ok(())
 }
 
 impl<E: Posted, R: Rules<E>> Board<E, R> {
@@ -61,8 +80,8 @@ impl<E: Posted, R: Rules<E>> Board<E, R> {
         })
     }
 
-    /// Reserves so many items and bytes, so that there is room for them. Otherwise, and where the items, or the messages with the
-    /// items and bytes that are reserved, would be 2^32 or more, all is as before.
+    /// Reserves so many items and bytes, and takes the memory that entering them wants. Otherwise, and where the items, their notes, or
+    /// the messages with the items and bytes that are reserved, would be 2^32 or more, all is as before.
     pub fn reserve(&mut self, count: u64, weight: u64) -> Result<(), TapeError>
         ensures ok { OnOk result (self.new ≡ record self.old { reserved = self.old.reserved + count; reserved_weight = self.old.reserved_weight + weight }) }
         ensures err { OnErr result (self.new ≡ self.old) }
@@ -90,7 +109,8 @@ impl<E: Posted, R: Rules<E>> Board<E, R> {
             return Err(TapeError::OutOfMemory);
         }
         self.posts.reserve(weight, count)?;
-        if E::reserve(&mut self.items, count + weight).is_err() {
+        let notes = MOST_NOTES * (self.reserved + count);
+        if make_room::<E>(&mut self.items, count + weight, notes).is_err() {
             self.posts.release(weight, count);
             return Err(TapeError::OutOfMemory);
         }
@@ -120,21 +140,16 @@ impl<E: Posted, R: Rules<E>> Board<E, R> {
         self.reserved_weight -= weight;
     }
 
-    /// Gives up so much of what is reserved, and appends an item. Where the room that it wants beside is refused, no item is
-    /// appended.
-    pub fn put(&mut self, count: u64, weight: u64, bytes: u64, item: E) -> Result<(), OutOfMemory>
+    /// Gives up so much of what is reserved, and appends an item. It takes no memory.
+    pub fn put(&mut self, count: u64, weight: u64, bytes: u64, item: E)
         requires reserved { (1 ≤ count) × (count ≤ self.old.reserved) × (weight ≤ self.old.reserved_weight) }
         requires bytes { (bytes ≡ E.bytes item) × (bytes ≤ weight) }
+        requires notes { E.noted item ≤ most_notes }
         requires fits { R.fits self.old.items → R.fits (self.old.items ++ item ∷ []) }
-        ensures ok { OnOk result (self.new ≡ record self.old { items = self.old.items ++ item ∷ []; reserved = self.old.reserved - count; reserved_weight = self.old.reserved_weight - weight }) }
-        ensures err { OnErr result (self.new ≡ record self.old { reserved = self.old.reserved - count; reserved_weight = self.old.reserved_weight - weight }) }
+        ensures put { self.new ≡ record self.old { items = self.old.items ++ item ∷ []; reserved = self.old.reserved - count; reserved_weight = self.old.reserved_weight - weight } }
         ensures within { IsWithin E.bytes R.fits self.new }
         ensures fits { R.fits self.old.items }
     {
-        if E::prepare(&mut self.items, &item).is_err() {
-            self.release(count, weight);
-            return Err(OutOfMemory);
-        }
         let place = E::len(&self.items);
         let sent = item.sent();
         note_taking(&mut self.posts, &item);
@@ -146,15 +161,15 @@ impl<E: Posted, R: Rules<E>> Board<E, R> {
         self.weight += bytes;
         self.reserved -= count;
         self.reserved_weight -= weight;
-        Ok(())
     }
 
-    /// Gives up so much of what is reserved, and appends items one behind another, up to one for which `put` is refused.
-    pub fn put_all(&mut self, count: u64, weight: u64, entering: Vec<E>) -> Result<(), OutOfMemory>
+    /// Gives up so much of what is reserved, and appends items one behind another. It takes no memory.
+    pub fn put_all(&mut self, count: u64, weight: u64, entering: Vec<E>)
         requires reserved { (length entering.items ≤ count) × (count ≤ self.old.reserved) × (weight ≤ self.old.reserved_weight) }
         requires bytes { All E.weighs entering.items × (sum_by E.bytes entering.items ≤ weight) }
+        requires notes { All (λ item. E.noted item ≤ most_notes) entering.items }
         requires fits { R.fits self.old.items → (k : ℕ) → R.fits (self.old.items ++ take k entering.items) }
-        ensures front { (k : ℕ) × (self.new ≡ record self.old { items = self.old.items ++ take k entering.items; reserved = self.old.reserved - count; reserved_weight = self.old.reserved_weight - weight }) × OnOk result (take k entering.items ≡ entering.items) × OnErr result (k < length entering.items) }
+        ensures put { self.new ≡ record self.old { items = self.old.items ++ entering.items; reserved = self.old.reserved - count; reserved_weight = self.old.reserved_weight - weight } }
         ensures within { IsWithin E.bytes R.fits self.new }
         ensures fits { R.fits self.old.items }
     {
@@ -165,13 +180,9 @@ impl<E: Posted, R: Rules<E>> Board<E, R> {
             let bytes = item.weight();
             items_left -= 1;
             weight_left -= bytes;
-            if self.put(1, bytes, bytes, item).is_err() {
-                self.release(items_left, weight_left);
-                return Err(OutOfMemory);
-            }
+            self.put(1, bytes, bytes, item);
         }
         self.release(items_left, weight_left);
-        Ok(())
     }
 
     // What stands in the slot is within the limits and fits the rules.

@@ -8,7 +8,7 @@ ghost use Rattle.acc_tape.specs.ItemViews.{sign_of_item};
 use crate::first::FIRST_ROOM;
 use crate::posted::Posted;
 use acc_base::OutOfMemory;
-use acc_message::{Event, GrowingItems, Item, Message, Note, Shown, notes_of, sent_by};
+use acc_message::{Event, GrowingItems, Item, Message, Note, Shown, sent_by};
 use acc_message_code::messages_length;
 use acc_stamp::TxnId;
 use std::alloc::Global;
@@ -70,9 +70,11 @@ impl Posted for Item {
 
     ghost in_list = { λ list. list.items };
 
+    ghost noted = { λ item. length (noted_in item) };
+
     ghost room = { λ list. list.room };
 
-    ghost is_ready = { λ list item. length (noted_in item) ≤ list.notes_room };
+    ghost notes_room = { λ list. list.notes_room };
 
     fn actor(&self) -> u32 {
         match self {
@@ -132,8 +134,8 @@ impl Posted for Item {
         list.release(less as usize);
     }
 
-    fn prepare(list: &mut GrowingItems, item: &Item) -> Result<(), OutOfMemory> {
-        list.reserve_notes(notes_of(item).len())
+    fn reserve_notes(list: &mut GrowingItems, all: u64) -> Result<(), OutOfMemory> {
+        list.reserve_notes(all as usize)
     }
 
     fn push(list: &mut GrowingItems, item: Item) {

@@ -8,6 +8,7 @@ mod error;
 mod first;
 mod item;
 mod law;
+mod laws;
 mod posted;
 mod rules;
 mod seat;
@@ -17,6 +18,7 @@ mod view;
 
 pub use acc_message_index::Post;
 pub use error::{PlaceError, TapeError};
+pub use laws::reserve_at_new_tape;
 pub use posted::Posted;
 pub use rules::Rules;
 pub use seat::{Seat, Seats};

@@ -43,11 +43,14 @@ pub trait Posted: Drop {
     /// The items of a list.
     ghost in_list: { Self.List → List Self };
 
+    /// How many notes the item has. They stand in the list beside the item and its messages.
+    ghost noted: { Self → ℕ };
+
     /// For how many more items and messages a list has room.
     ghost room: { Self.List → ℕ };
 
-    /// The list has all room that the item wants beside that for itself and its messages.
-    ghost is_ready: { Self.List → Self → Type 0 };
+    /// For how many more notes a list has room at least.
+    ghost notes_room: { Self.List → ℕ };
 
     fn actor(&self) -> u32
         ensures { result ≡ actor_of self.now };
@@ -81,6 +84,7 @@ pub trait Posted: Drop {
     /// Makes room for so many more items and messages in all, beside what there is room for already.
     fn reserve(list: &mut Self::List, more: u64) -> Result<(), OutOfMemory>
         ensures items { in_list list.new ≡ in_list list.old }
+        ensures notes { notes_room list.new ≡ notes_room list.old }
         ensures ok { OnOk result (room list.new ≡ room list.old + more) }
         ensures err { OnErr result (room list.new ≡ room list.old) };
 
@@ -88,20 +92,23 @@ pub trait Posted: Drop {
     fn release(list: &mut Self::List, less: u64)
         requires { less ≤ room list.old }
         ensures items { in_list list.new ≡ in_list list.old }
+        ensures notes { notes_room list.new ≡ notes_room list.old }
         ensures room { room list.new ≡ room list.old - less };
 
-    /// Makes the room that the item wants beside that for itself and its messages.
-    fn prepare(list: &mut Self::List, item: &Self) -> Result<(), OutOfMemory>
+    /// Makes room for so many more notes in all.
+    fn reserve_notes(list: &mut Self::List, all: u64) -> Result<(), OutOfMemory>
         ensures items { in_list list.new ≡ in_list list.old }
         ensures room { room list.new ≡ room list.old }
-        ensures ok { OnOk result (is_ready list.new item.now) };
+        ensures ok { OnOk result (all ≤ notes_room list.new) }
+        ensures err { OnErr result (notes_room list.old ≤ notes_room list.new) };
 
-    /// Appends an item. It uses up room for itself and each of its messages.
+    /// Appends an item. It uses up room for itself, for each of its messages and for each of its notes.
     fn push(list: &mut Self::List, item: Self)
         requires room { length (sent_to item) < room list.old }
-        requires ready { is_ready list.old item }
+        requires notes { noted item ≤ notes_room list.old }
         ensures items { in_list list.new ≡ in_list list.old ++ item ∷ [] }
-        ensures room { room list.new ≡ room list.old - (1 + length (sent_to item)) };
+        ensures room { room list.new ≡ room list.old - (1 + length (sent_to item)) }
+        ensures notes { notes_room list.old ≤ notes_room list.new + noted item };
 
     /// The message with this index among those that the item at a place sent.
     fn message(list: &Self::List, place: u64, index: u64) -> Result<Self::Message, OutOfMemory>

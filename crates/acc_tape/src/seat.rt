@@ -10,8 +10,8 @@ use std::marker::Model;
 pub(crate) type Token<E, R> = atomic_table::Seat<Board<E, R>, View<E>>;
 
 /// A seat of a tape. Contracts see its tape, its actor, the list that it has seen, the items that it entered, how many items
-/// and bytes are reserved for it, and how many were reserved for all seats at its last call. The first seat has actor 0, and is
-/// also seen as the actors for which it was split.
+/// and bytes are reserved for it, how many were reserved for all seats at its last call, and the visits of all seats and its own
+/// up to then. The first seat has actor 0, and is also seen as the actors for which it was split.
 #[derive(Drop)]
 pub struct Seat<E: Posted, R: Rules<E>> {
     pub(crate) token: Token<E, R>,

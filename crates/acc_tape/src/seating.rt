@@ -3,7 +3,8 @@ ghost use Rattle.std.specs.Prelude.{◌≡◌, ◌≢◌, ◌++◌, [], ◌∷�
 ghost use mathlib.Core.List.{IsPrefix};
 ghost use Rattle.acc_tape.specs.Lists.{items_of};
 ghost use Rattle.acc_tape.specs.Rule.{gone_of};
-ghost use Rattle.acc_tape.specs.Seats.{Turns};
+ghost use Rattle.acc_tape.specs.Seats.{Turns, Visited, InOneOrder};
+ghost use Rattle.acc_tape.specs.Visits.{plain_visit};
 ghost use Rattle.acc_tape.specs.Turn.{IsResting, with_joined, gone_seat};
 
 use crate::law::{Gather, Part};
@@ -27,8 +28,9 @@ impl<E: Posted, R: Rules<E>> Tape<E, R> {
         requires actor { (actor ≢ 0) × (¬ Contains first.old.made actor) }
         ensures turn { Turns E.actor_of E.bytes R.fits first.old first.new }
         ensures same { (first.new.mine ≡ first.old.mine) × (first.new.held_items ≡ first.old.held_items) × (first.new.held_weight ≡ first.old.held_weight) }
+        ensures visit { Visited first.old first.new (plain_visit first.old.actor) }
         ensures made { first.new.made ≡ first.old.made ++ actor ∷ [] }
-        ensures seat { IfOk result (λ seat. seat ≡ record first.new { actor = actor; mine = []; held_items = 0; held_weight = 0; made = [] }) }
+        ensures seat { IfOk result (λ seat. seat ≡ record first.new { actor = actor; mine = []; held_items = 0; held_weight = 0; own = []; made = [] }) }
         ensures ok { IsOk result }
     {
         self.begin(rt, &mut first.token);
@@ -39,7 +41,7 @@ impl<E: Posted, R: Rules<E>> Tape<E, R> {
     }
 
     /// Ends the tape. The other seats are all that were split, and hold nothing; so all items come back, each of a seat
-    /// that entered it. It takes no memory.
+    /// that entered it, and all visits were those of the seats. It takes no memory.
     pub fn close(
         self,
         first: Seat<E, R>,
@@ -51,6 +53,7 @@ impl<E: Posted, R: Rules<E>> Tape<E, R> {
         ensures first { IfOk result (λ list. IsPrefix first.seen (E.in_list list)) }
         ensures seats { IfOk result (λ list. All (λ seat. IsPrefix seat.seen (E.in_list list) × (items_of E.actor_of seat.actor (E.in_list list) ≡ seat.mine) × Contains first.made seat.actor) others) }
         ensures owned { IfOk result (λ list. All (λ item. Any (λ seat. seat.actor ≡ E.actor_of item) others) (E.in_list list)) }
+        ensures visits { InOneOrder first others }
         ensures fits { IfOk result (λ list. R.fits (E.in_list list)) }
         ensures ok { IsOk result }
     {

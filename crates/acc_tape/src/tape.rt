@@ -1,7 +1,8 @@
 //! The tape.
-ghost use Rattle.std.specs.Prelude.{◌≡◌, ℕ, true, [], ◌∷◌, None, Some, IfOk};
+ghost use Rattle.std.specs.Prelude.{◌≡◌, ℕ, true, List, [], ◌∷◌, None, Some, IfOk};
 ghost use Rattle.acc_tape.specs.declared.content.Content.{Content};
-ghost use Rattle.acc_tape.specs.Turn.{IsResting, CanLeave, Learns, waiting, turning, left};
+ghost use Rattle.acc_tape.specs.declared.view.Visit.{Visit};
+ghost use Rattle.acc_tape.specs.Turn.{IsResting, HasTurn, CanLeave, Learns, waiting, turning, left};
 
 use crate::board::Board;
 use crate::content::Limits;
@@ -55,7 +56,7 @@ impl<E: Posted, R: Rules<E>> Tape<E, R> {
     ) -> Result<(Tape<E, R>, Seat<E, R>), OutOfMemory>
         requires { R.fits [] }
         ensures limits { IfOk result (λ made. made.0.limits ≡ record { items = items; weight = weight }) }
-        ensures seat { IfOk result (λ made. made.1 ≡ record { tape = made.0; actor = 0; seen = []; mine = []; held_items = 0; held_weight = 0; out_count = 0; out_weight = 0; made = [] }) }
+        ensures seat { IfOk result (λ made. made.1 ≡ record { tape = made.0; actor = 0; seen = []; mine = []; held_items = 0; held_weight = 0; out_count = 0; out_weight = 0; visits = []; own = []; made = [] }) }
     {
         let limits = Limits { items, weight };
         let board = Board::new(alloc, limits)?;
@@ -117,7 +118,7 @@ impl<E: Posted, R: Rules<E>> Tape<E, R> {
         requires tape { (token.old.table_id ≡ self.now.table) × (token.old.me.0.limits ≡ self.now.limits) }
         requires ticket { (token.old.me.0.is_live ≡ true) × (token.old.me.0.ticket ≡ Some ticket) × (token.old.me.0.taken ≡ None) × (token.old.me.1 ≡ []) }
         ensures tape { token.new.table_id ≡ token.old.table_id }
-        ensures turn { (c : Content E) × (token.new.me ≡ (turning token.old.me.0 c, (0, c) ∷ [])) × Learns E.actor_of token.old.me.0 c }
+        ensures turn { (c : Content E) × (log : List Visit) × (token.new.me ≡ (turning token.old.me.0 c log, (0, c) ∷ [])) × Learns E.actor_of token.old.me.0 c log }
     {
         if self.table.shared.load::<Look>(token, SERVED) != ticket {
             self.wait_long(rt, token, ticket);
@@ -130,7 +131,7 @@ impl<E: Posted, R: Rules<E>> Tape<E, R> {
         requires tape { (token.old.table_id ≡ self.now.table) × (token.old.me.0.limits ≡ self.now.limits) }
         requires ticket { (token.old.me.0.is_live ≡ true) × (token.old.me.0.ticket ≡ Some ticket) × (token.old.me.0.taken ≡ None) × (token.old.me.1 ≡ []) }
         ensures tape { token.new.table_id ≡ token.old.table_id }
-        ensures turn { (c : Content E) × (token.new.me ≡ (turning token.old.me.0 c, (0, c) ∷ [])) × Learns E.actor_of token.old.me.0 c }
+        ensures turn { (c : Content E) × (log : List Visit) × (token.new.me ≡ (turning token.old.me.0 c log, (0, c) ∷ [])) × Learns E.actor_of token.old.me.0 c log }
     {
         for _ in rt.forever() {
             if self.table.shared.load::<Look>(token, SERVED) == ticket {
@@ -146,7 +147,7 @@ impl<E: Posted, R: Rules<E>> Tape<E, R> {
         requires tape { (token.old.table_id ≡ self.now.table) × (token.old.me.0.limits ≡ self.now.limits) }
         requires rests { IsResting token.old.me }
         ensures tape { token.new.table_id ≡ token.old.table_id }
-        ensures turn { (ticket : ℕ) × (c : Content E) × (token.new.me ≡ (turning (waiting token.old.me.0 ticket) c, (0, c) ∷ [])) × Learns E.actor_of token.old.me.0 c }
+        ensures turn { HasTurn E.actor_of token.old.me.0 token.new.me }
     {
         let ticket = self.draw(rt, token);
         self.wait(rt, token, ticket);

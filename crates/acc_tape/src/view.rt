@@ -2,11 +2,22 @@
 use crate::content::{Content, Limits};
 use std::collections::LinkedList;
 
-/// A seat that was joined to the first one: its actor, what it had seen, and what it entered.
+/// A visit of a seat at the tape: the actor of the seat, how many items and bytes it reserved, and how many it gave up.
+pub struct Visit {
+    pub actor: u32,
+    pub items: u64,
+    pub weight: u64,
+    pub items_back: u64,
+    pub weight_back: u64,
+}
+
+/// A seat that was joined to the first one: its actor, what it had seen, what it entered, the visits that it knew, and its own.
 pub struct Gone<E> {
     pub actor: u32,
     pub seen: LinkedList<E>,
     pub mine: LinkedList<E>,
+    pub visits: LinkedList<Visit>,
+    pub own: LinkedList<Visit>,
 }
 
 /// What a seat knows. One that was joined to the first seat isn't live.
@@ -23,6 +34,9 @@ pub struct View<E> {
     // The numbers of all reserved items and bytes at the last call.
     pub out_count: u64,
     pub out_weight: u64,
+    // The visits of all seats up to its last one, and its own.
+    pub visits: LinkedList<Visit>,
+    pub own: LinkedList<Visit>,
     // The actor that the slot named at the last call.
     pub named: u32,
     // Of the first seat, the actors for which it was split and the seats that were joined to it.

@@ -60,7 +60,7 @@ pub fn take<W: Wait>(
     match act {
         Act::Reserve { items, bytes } => { reserved(alloc, chair.reserve(rt, tape, items, bytes)) }
         Act::Release { items, bytes } => given(alloc, chair.release(rt, tape, items, bytes)),
-        Act::Enter { weight, draft } => entered(alloc, chair.enter(rt, tape, weight, draft)),
+        Act::Enter { weight, draft } => given(alloc, chair.enter(rt, tape, weight, draft)),
         Act::EnterAll {
             items,
             weight,

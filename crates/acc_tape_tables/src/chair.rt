@@ -68,28 +68,21 @@ impl Chair {
 
     /// Enters an item in place of one and so many bytes that are reserved, and tells whether there was so much and the item weighs no
     /// more.
-    pub fn enter<W: Wait>(
-        &mut self,
-        rt: &W,
-        tape: &Reel,
-        weight: u64,
-        draft: Draft,
-    ) -> Result<bool, OutOfMemory>
+    pub fn enter<W: Wait>(&mut self, rt: &W, tape: &Reel, weight: u64, draft: Draft) -> bool
         requires { IsChair tape.now self.old }
         ensures { IsChair tape.now self.new }
     {
         if self.items < 1 || self.bytes < weight {
-            return Ok(false);
+            return false;
         }
         let Some(sample) = sample(self.actor, self.entered, weight, draft) else {
-            return Ok(false);
+            return false;
         };
-        let put = tape.put(rt, &mut self.seat, 1, weight, sample);
+        tape.put(rt, &mut self.seat, 1, weight, sample);
         self.items -= 1;
         self.bytes -= weight;
-        put?;
         self.entered = self.entered.saturating_add(1);
-        Ok(true)
+        true
     }
 
     /// Enters items one behind another in place of so much that is reserved, and tells whether there was so much and they are and weigh
@@ -116,10 +109,9 @@ impl Chair {
         if items < count {
             return Ok(false);
         }
-        let put = tape.put_all(rt, &mut self.seat, items, weight, samples);
+        tape.put_all(rt, &mut self.seat, items, weight, samples);
         self.items -= items;
         self.bytes -= weight;
-        put?;
         self.entered = self.entered.saturating_add(count);
         Ok(true)
     }

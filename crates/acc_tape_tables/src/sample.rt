@@ -32,7 +32,7 @@ pub struct Samples {
 }
 
 impl Posted for Sample {
-    ghost use Rattle.std.specs.Prelude.{◌≡◌, ◌+◌, ◌<◌, length, vec_len, vec_capacity};
+    ghost use Rattle.std.specs.Prelude.{◌≡◌, ◌+◌, ◌-◌, length, vec_len, vec_capacity};
     ghost use Rattle.acc_tape_tables.specs.Samples.{bytes_of, has_enough};
 
     type List = Samples;
@@ -59,9 +59,12 @@ impl Posted for Sample {
 
     ghost in_list = { λ samples. samples.items.items };
 
+    // An item takes the place of a note in the list.
+    ghost noted = { λ _. 1 };
+
     ghost room = { λ samples. samples.room };
 
-    ghost is_ready = { λ samples _. vec_len samples.items < vec_capacity samples.items };
+    ghost notes_room = { λ samples. vec_capacity samples.items - vec_len samples.items };
 
     fn actor(&self) -> u32 {
         self.actor
@@ -107,8 +110,8 @@ impl Posted for Sample {
         list.room -= less;
     }
 
-    fn prepare(list: &mut Samples, _item: &Sample) -> Result<(), OutOfMemory> {
-        list.items.reserve(1)?;
+    fn reserve_notes(list: &mut Samples, all: u64) -> Result<(), OutOfMemory> {
+        list.items.reserve(all as usize)?;
         Ok(())
     }
 

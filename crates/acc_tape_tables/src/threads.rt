@@ -168,7 +168,7 @@ fn attempt<W: Wait>(
         to,
         is_lost: false,
     };
-    match chair.enter(rt, tape, weight, draft)? {
+    match chair.enter(rt, tape, weight, draft) {
         true => Ok(()),
         false => Err(TapeError::OutOfMemory),
     }

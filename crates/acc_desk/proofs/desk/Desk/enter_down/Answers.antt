@@ -1,21 +1,12 @@
-use Rattle.std.proofs.Common.{Result, Ok, Err, sym, subst}
-use Rattle.std.specs.Prelude.{OnOk, OnErr}
+use Rattle.std.proofs.Common.{sym, subst, arith}
 use Rattle.acc_message.specs.declared.item.Item.TheVariants.{Down}
 use Rattle.acc_message_code.specs.Weight.{weight_of}
 use Rattle.acc_tape.specs.ItemViews.{actor_of_item}
 use Rattle.acc_tape.specs.Seats.{Turns, FitsBehind, ComesLast}
 use Rattle.acc_desk.specs.Fits.{fits_plan}
 use Rattle.acc_desk.proofs.Seating.{holds_items, holds_weight, held_none}
-use Rattle.acc_desk.proofs.Puts.{down_own, down_short, down_weighs, down_fits_behind, down_on, released_seat}
+use Rattle.acc_desk.proofs.Puts.{down_own, down_short, down_weighs, down_fits_behind, down_on}
 use Rattle.acc_desk.proofs.desk.Desk.enter_down.Goals as goal
-
-then_ok : {A E P Q : Type 0} (r : Result A E) → (P → Q) → OnOk r P → OnOk r Q
-then_ok (Ok a) f h = f h
-then_ok (Err e) f h = h
-
-on_err : {A E P : Type 0} (r : Result A E) → P → OnErr r P
-on_err (Ok a) h = tt
-on_err (Err e) h = h
 
 pub put-requires-clause-held : goal.put-requires-clause-held
 put-requires-clause-held g c =
@@ -41,21 +32,14 @@ put-requires-clause-fits g c =
     let q = c.requires.group in
     subst (λ p. FitsBehind actor_of_item (fits_plan p) self.seat (Down self.actor)) c.requires.plan (down_fits_behind g.D.Disk g.J.Planned.strict c.args.plan.now c.args.tape.now c.requires.limits self.actor self.commands self.gone q.0 self.slot q.1 c.args.hold self.seat q.2)
 
-pub returns-clause-ok : goal.returns-clause-ok
-returns-clause-ok g c =
+pub put-requires-clause-notes : goal.put-requires-clause-notes
+put-requires-clause-notes g c = omega arith
+
+pub returns-clause-sound : goal.returns-clause-sound
+returns-clause-sound g c =
     let self = c.args.self.now in
     let q = c.requires.group in
     let turns = subst (λ p. Turns actor_of_item weight_of (fits_plan p) self.seat c.put.new.seat) (sym c.requires.plan) c.put.ensures.turn in
-    then_ok c.put.result
-    (λ last.
     down_on g.D.Disk g.J.Planned.strict c.args.plan.now c.args.tape.now c.requires.limits self.actor self.commands self.gone q.0 self.slot q.1 c.args.hold self.seat q.2 c.put.new.seat turns
     (held_none self.seat c.put.new.seat c.args.hold q.2.desk.seated.held_is c.put.ensures.held.0 c.put.ensures.held.1)
-    (subst (λ p. ComesLast actor_of_item (fits_plan p) self.seat c.put.new.seat.seen (Down self.actor)) (sym c.requires.plan) last))
-    c.put.ensures.behind
-
-pub returns-clause-err : goal.returns-clause-err
-returns-clause-err g c =
-    let self = c.args.self.now in
-    let q = c.requires.group in
-    let turns = subst (λ p. Turns actor_of_item weight_of (fits_plan p) self.seat c.put.new.seat) (sym c.requires.plan) c.put.ensures.turn in
-    on_err c.put.result (released_seat g.D.Disk g.J.Planned.strict c.args.plan.now c.args.tape.now c.requires.limits self.actor self.commands self.gone c.args.hold self.seat c.put.new.seat turns c.put.ensures.held.0 c.put.ensures.held.1 q.2.desk.seated)
+    (subst (λ p. ComesLast actor_of_item (fits_plan p) self.seat c.put.new.seat.seen (Down self.actor)) (sym c.requires.plan) c.put.ensures.behind)

@@ -1,14 +1,14 @@
 use Rattle.std.proofs.Common.{◌≡◌, ◌≤◌, List, length, sym, ap, subst, arith}
 use Rattle.std.specs.Prelude.{All, sum_by}
 use Rattle.acc_message.specs.declared.item.Item.{Item}
-use Rattle.acc_message.specs.Items.{sent_in}
+use Rattle.acc_message.specs.Items.{sent_in, noted_in}
 use Rattle.acc_message_code.specs.Short.{IsShortMessage}
 use Rattle.acc_message_code.specs.Weight.{weight_of}
 use Rattle.acc_tape.specs.ItemViews.{actor_of_item}
 use Rattle.acc_tape.specs.Seats.{Turns, FitAllBehind, ComeLast}
 use Rattle.acc_desk.specs.Fits.{fits_plan}
 use Rattle.acc_desk.proofs.Seating.{holds_items, holds_weight, held_none}
-use Rattle.acc_desk.proofs.Puts.{puts_few, puts_own, puts_short, puts_weigh, puts_fit, puts_on}
+use Rattle.acc_desk.proofs.Puts.{puts_few, puts_own, puts_short, puts_noted, puts_weigh, puts_fit, puts_on}
 use Rattle.acc_desk.proofs.desk.Desk.enter_group.Goals as goal
 
 pub let_go-requires-clause-seated : goal.let_go-requires-clause-seated
@@ -39,6 +39,12 @@ put_all-requires-clause-bytes g c =
       subst (λ (items : List Item). sum_by weight_of items ≤ c.args.hold.weight) (sym c.in-Ok.ensures) (puts_weigh g.D.Disk g.J.Planned.strict c.args.plan.now c.args.tape.now c.requires.limits self.actor self.commands self.gone self.slot c.args.hold q.0 c.args.unsent self.seat q.1),
     )
 
+pub put_all-requires-clause-notes : goal.put_all-requires-clause-notes
+put_all-requires-clause-notes g c =
+    let self = c.args.self.now in
+    let q = c.requires.group in
+    subst (All (λ item. length (noted_in item) ≤ 2)) (sym c.in-Ok.ensures) (puts_noted g.D.Disk.is_image g.D.Disk.faults g.D.Disk.strict g.D.Disk.armed g.D.Disk.content g.D.Disk.synced g.D.Disk.written g.J.Planned.strict c.args.plan.now c.args.tape.now c.requires.limits self.actor self.commands self.gone self.slot c.args.hold q.0 c.args.unsent self.seat q.1)
+
 pub put_all-requires-clause-fits : goal.put_all-requires-clause-fits
 put_all-requires-clause-fits g c =
     let self = c.args.self.now in
@@ -52,7 +58,7 @@ returns-clause-ok g c =
     let q = c.requires.group in
     let new = c.put_all.new.seat in
     let turns = subst (λ p. Turns actor_of_item weight_of (fits_plan p) self.seat new) (sym c.requires.plan) c.put_all.ensures.turn in
-    let last = subst (λ p. ComeLast actor_of_item (fits_plan p) self.seat new.seen c.in-Ok.items.items) (sym c.requires.plan) c.in_ok-put_all.ensures.behind in
+    let last = subst (λ p. ComeLast actor_of_item (fits_plan p) self.seat new.seen c.in-Ok.items.items) (sym c.requires.plan) c.put_all.ensures.behind in
     puts_on g.D.Disk g.J.Planned.strict c.args.plan.now c.args.tape.now c.requires.limits self.actor self.commands self.gone self.slot c.args.hold q.0 c.args.unsent self.seat q.1 new turns
     (held_none self.seat new c.args.hold q.1.seated.held_is c.put_all.ensures.held.0 c.put_all.ensures.held.1)
     (subst (ComeLast actor_of_item (fits_plan c.args.plan.now) self.seat new.seen) c.in-Ok.ensures last)

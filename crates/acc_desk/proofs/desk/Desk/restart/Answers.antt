@@ -7,7 +7,7 @@ use Rattle.acc_desk.specs.declared.hold.Hold.{Hold}
 use Rattle.acc_desk.specs.Desks.{newest, no_hold}
 use Rattle.acc_desk.specs.Fits.{fits_plan}
 use Rattle.acc_desk.proofs.Seating.{desk_on, holds_items, holds_weight, held_same, held_first, held_none}
-use Rattle.acc_desk.proofs.Restarts.{restart_short, restart_weighs, restart_silent, restart_owned, restart_fits_behind, restart_taken}
+use Rattle.acc_desk.proofs.Restarts.{restart_short, restart_noted, restart_weighs, restart_silent, restart_owned, restart_fits_behind, restart_taken}
 use Rattle.acc_desk.proofs.desk.Desk.restart.Goals as goal
 
 pub returns-in-Err-Full-clause-ok : goal.returns-in-Err-Full-clause-ok
@@ -45,6 +45,17 @@ put-requires-clause-item g c =
       restart_weighs a c.in-Ok-reopen.given silent,
     )
 
+pub put-requires-clause-notes : goal.put-requires-clause-notes
+put-requires-clause-notes g c =
+    let a = c.args.self.now.actor in
+    let turns = subst (λ p. Turns actor_of_item weight_of (fits_plan p) c.args.self.now.seat c.reserve.new.seat) (sym c.requires.plan) c.reserve.ensures.turn in
+    let hold : Hold = record { items = 1; weight = 0 } in
+    let held = held_first c.args.self.now.seat c.reserve.new.seat hold c.requires.desk.seated.held_is c.in-Ok.ensures.ok.0 c.in-Ok.ensures.ok.1 in
+    let desk = desk_on c.args.plan.now c.args.tape.now c.requires.limits a g.D.Disk.is_image g.D.Disk.faults g.D.Disk.strict g.D.Disk.armed g.D.Disk.content g.D.Disk.synced g.D.Disk.written g.J.Planned.strict c.args.self.now.commands c.args.self.now.gone c.args.self.now.slot no_hold hold c.args.self.now.seat c.reserve.new.seat c.requires.desk turns c.reserve.ensures.same.0 held in
+    let item_is = c.item_for-item.ensures in
+    let silent = restart_silent g.D.Disk.is_image g.D.Disk.faults g.D.Disk.strict g.D.Disk.armed g.D.Disk.content g.D.Disk.synced g.D.Disk.written g.J.Planned.strict c.args.plan.now c.args.tape.now c.requires.limits a c.args.self.now.commands c.args.self.now.gone c.args.self.now.slot c.reopen.new.slot hold c.reserve.new.seat c.requires.next.0 desk c.requires.next.1 c.requires.next.2 c.in-Ok-reopen.given c.in-Ok-reopen.ensures.ok in
+    rw item_is (restart_noted a c.in-Ok-reopen.given silent)
+
 pub put-requires-clause-fits : goal.put-requires-clause-fits
 put-requires-clause-fits g c =
     let a = c.args.self.now.actor in
@@ -66,6 +77,6 @@ returns-clause-ok g c =
     let desk = desk_on c.args.plan.now c.args.tape.now c.requires.limits a g.D.Disk g.J.Planned.strict c.args.self.now.commands c.args.self.now.gone c.args.self.now.slot no_hold hold c.args.self.now.seat c.reserve.new.seat c.requires.desk turns c.reserve.ensures.same.0 held in
     let item_is = c.item_for-item.ensures in
     let turns' = subst (λ p. Turns actor_of_item weight_of (fits_plan p) c.reserve.new.seat c.put.new.seat) (sym c.requires.plan) c.put.ensures.turn in
-    let last = subst (λ p. ComesLast actor_of_item (fits_plan p) c.reserve.new.seat c.put.new.seat.seen c.item_for-item.result) (sym c.requires.plan) c.in_ok-put.ensures.behind in
+    let last = subst (λ p. ComesLast actor_of_item (fits_plan p) c.reserve.new.seat c.put.new.seat.seen c.item_for-item.result) (sym c.requires.plan) c.put.ensures.behind in
     let free = held_none c.reserve.new.seat c.put.new.seat hold held c.put.ensures.held.0 c.put.ensures.held.1 in
     restart_taken g.D.Disk g.J.Planned.strict c.args.plan.now c.args.tape.now c.requires.limits a c.args.self.now.commands c.args.self.now.gone c.args.self.now.slot c.reopen.new.slot hold c.reserve.new.seat c.requires.next.0 desk c.requires.next.1 c.requires.next.2 c.in-Ok-reopen.given c.in-Ok-reopen.ensures.ok c.in-Ok-reopen.ensures.strict c.put.new.seat turns' free (subst (λ item. ComesLast actor_of_item (fits_plan c.args.plan.now) c.reserve.new.seat c.put.new.seat.seen item) item_is last)

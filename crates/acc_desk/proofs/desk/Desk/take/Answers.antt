@@ -8,7 +8,7 @@ use Rattle.acc_desk.specs.Asks.{event_of, act_of_ask}
 use Rattle.acc_desk.specs.declared.hold.Hold.{Hold}
 use Rattle.acc_desk.specs.Desks.{no_hold, item_of}
 use Rattle.acc_desk.specs.Fits.{fits_plan}
-use Rattle.acc_desk.proofs.Seating.{desk_on, may_on, asks, own, short, weighs, fits, taken, holds_items, holds_weight, held_same, held_first, held_none}
+use Rattle.acc_desk.proofs.Seating.{desk_on, may_on, asks, own, short, noted, weighs, fits, taken, holds_items, holds_weight, held_same, held_first, held_none}
 use Rattle.acc_desk.proofs.Rooms.{asked_no_room}
 use Rattle.acc_desk.proofs.desk.Desk.take.Goals as goal
 
@@ -65,6 +65,20 @@ put-requires-clause-item g c =
       weighs c.args.plan.now c.args.tape.now c.requires.limits a g.D.Disk g.J.Planned.strict c.args.self.now.commands c.args.self.now.gone c.args.self.now.slot event act c.args.gone hold c.reserve.new.seat desk may c.in-Ok-step.given c.step.new.slot c.in-Ok-step.ensures.ok w c.in_ok-weight.ensures,
     )
 
+pub put-requires-clause-notes : goal.put-requires-clause-notes
+put-requires-clause-notes g c =
+    let a = c.args.self.now.actor in
+    let w = c.in_ok-weight.weight in
+    let event = event_of c.args.ask in
+    let act = act_of_ask c.args.ask in
+    let turns = subst (λ p. Turns actor_of_item weight_of (fits_plan p) c.args.self.now.seat c.reserve.new.seat) (sym c.requires.plan) c.reserve.ensures.turn in
+    let hold : Hold = record { items = 1; weight = w } in
+    let held = held_first c.args.self.now.seat c.reserve.new.seat hold c.requires.desk.seated.held_is c.in-Ok.ensures.ok.0 c.in-Ok.ensures.ok.1 in
+    let desk = desk_on c.args.plan.now c.args.tape.now c.requires.limits a g.D.Disk.is_image g.D.Disk.faults g.D.Disk.strict g.D.Disk.armed g.D.Disk.content g.D.Disk.synced g.D.Disk.written g.J.Planned.strict c.args.self.now.commands c.args.self.now.gone c.args.self.now.slot no_hold hold c.args.self.now.seat c.reserve.new.seat c.requires.desk turns c.reserve.ensures.same.0 held in
+    let may = may_on c.args.plan.now c.args.tape.now c.requires.limits a g.D.Disk.is_image g.D.Disk.faults g.D.Disk.strict g.D.Disk.armed g.D.Disk.content g.D.Disk.synced g.D.Disk.written g.J.Planned.strict c.args.self.now.commands c.args.self.now.gone c.args.self.now.slot event act c.args.gone no_hold c.args.self.now.seat c.reserve.new.seat c.requires.desk turns c.reserve.ensures.same.0 c.requires.may in
+    let item_is = c.item_for-item.ensures ∙ ap (λ e. item_of a e c.in-Ok-step.given) c.event.ensures in
+    rw item_is (noted c.args.plan.now c.args.tape.now c.requires.limits a g.D.Disk.is_image g.D.Disk.faults g.D.Disk.strict g.D.Disk.armed g.D.Disk.content g.D.Disk.synced g.D.Disk.written g.J.Planned.strict c.args.self.now.commands c.args.self.now.gone c.args.self.now.slot event act c.args.gone hold c.reserve.new.seat desk may c.in-Ok-step.given c.step.new.slot c.in-Ok-step.ensures.ok)
+
 pub put-requires-clause-fits : goal.put-requires-clause-fits
 put-requires-clause-fits g c =
     let a = c.args.self.now.actor in
@@ -93,7 +107,7 @@ returns-clause-ok g c =
     let may = may_on c.args.plan.now c.args.tape.now c.requires.limits a g.D.Disk g.J.Planned.strict c.args.self.now.commands c.args.self.now.gone c.args.self.now.slot event act c.args.gone no_hold c.args.self.now.seat c.reserve.new.seat c.requires.desk turns c.reserve.ensures.same.0 c.requires.may in
     let item_is = c.item_for-item.ensures ∙ ap (λ e. item_of a e c.in-Ok-step.given) c.event.ensures in
     let turns' = subst (λ p. Turns actor_of_item weight_of (fits_plan p) c.reserve.new.seat c.put.new.seat) (sym c.requires.plan) c.put.ensures.turn in
-    let last = subst (λ p. ComesLast actor_of_item (fits_plan p) c.reserve.new.seat c.put.new.seat.seen c.item_for-item.result) (sym c.requires.plan) c.in_ok-put.ensures.behind in
+    let last = subst (λ p. ComesLast actor_of_item (fits_plan p) c.reserve.new.seat c.put.new.seat.seen c.item_for-item.result) (sym c.requires.plan) c.put.ensures.behind in
     let free = held_none c.reserve.new.seat c.put.new.seat hold held c.put.ensures.held.0 c.put.ensures.held.1 in
     taken c.args.plan.now c.args.tape.now c.requires.limits a g.D.Disk g.J.Planned.strict c.args.self.now.commands c.args.self.now.gone c.args.self.now.slot event act c.args.gone hold c.reserve.new.seat desk may c.in-Ok-step.given c.step.new.slot c.in-Ok-step.ensures.ok c.in-Ok-step.ensures.strict c.put.new.seat turns' free (subst (λ item. ComesLast actor_of_item (fits_plan c.args.plan.now) c.reserve.new.seat c.put.new.seat.seen item) item_is last)
 

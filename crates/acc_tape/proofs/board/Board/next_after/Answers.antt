@@ -3,4 +3,4 @@ use Rattle.acc_tape.proofs.Mailing.{next_waits}
 use Rattle.acc_tape.proofs.board.Board.next_after.Goals as goal
 
 pub returns-clause-next : goal.returns-clause-next
-returns-clause-next g c = let p = g.E.Posted in rw (ap (λ v. v.items) (sym c.self.view_is)) (next_waits p.took p.sent_to p.is_lost _ _ c.self.invariant.index c.args.actor (c.args.number + 1) c.next_after.result c.next_after.ensures.next)
+returns-clause-next g c = let p = g.E.Posted in rw (ap (λ v. v.items) (sym c.self.view_is)) (next_waits p.took p.sent_to p.is_lost _ _ c.self.invariant.0.index c.args.actor (c.args.number + 1) c.next_after.result c.next_after.ensures.next)

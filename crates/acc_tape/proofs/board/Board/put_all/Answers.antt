@@ -7,8 +7,5 @@ put-requires-clause-fits g c =
     let l = c.loop-item.invariant in
     λ fit. next_fits g.R.Rules.fits c.args.self.now.items c.args.entering.items c.loop-item.yielded _ _ c.in-Some.item l.rest c.in-Some.ensures.steps.0 c.loop-item.self.items (ap (λ b. b.items) l.board) (c.requires.fits c.confirm.ensures.within.fitting)
 
-pub returns-then-is_err-clause-fits : goal.returns-then-is_err-clause-fits
-returns-then-is_err-clause-fits g c = c.confirm.ensures.within.fitting
-
 pub returns-clause-fits : goal.returns-clause-fits
 returns-clause-fits g c = c.confirm.ensures.within.fitting

@@ -1,5 +1,5 @@
 use Rattle.std.proofs.Common.{sym, subst}
-use Rattle.acc_tape.proofs.Closing.{closes}
+use Rattle.acc_tape.proofs.Closing.{closes, closes_visits}
 use Rattle.acc_tape.proofs.tape.Tape.close.Goals as goal
 
 pub returns-clause-first : goal.returns-clause-first
@@ -17,3 +17,7 @@ returns-clause-owned g c =
 pub returns-clause-fits : goal.returns-clause-fits
 returns-clause-fits g c =
     subst g.R.Rules.fits (sym c.into_items.ensures.items) c.into_items.ensures.fits
+
+pub returns-clause-visits : goal.returns-clause-visits
+returns-clause-visits g c =
+    closes_visits g.E.Posted.actor_of _ _ c.first.inside.token.me c.gather.new.first.me _ c.args.first c.args.others c.first.invariant c.first.view_is c.requires.first.1 c.gather.ensures.joined c.requires.all _ _ c.close_with-closed.ensures.values.2

@@ -1,5 +1,5 @@
 use Rattle.std.proofs.Common.{ap, ◌∙◌}
-use Rattle.acc_tape.proofs.Visits.{bare, still_may, learns_of, may_leave, visits}
+use Rattle.acc_tape.proofs.Visits.{bare, still_may, learns_of, may_leave, visits, visit_plain}
 use Rattle.acc_tape.proofs.tape.Tape.next_for.Goals as goal
 
 pub leave-requires-clause-turn : goal.leave-requires-clause-turn
@@ -18,3 +18,19 @@ returns-clause-next g c =
     let learns = learns_of p.actor_of p.bytes g.R.Rules.fits m c.begin.new.token.me c.begin.ensures.turn x c.slot_mut.ensures.value in
     let after = (visits p.actor_of p.bytes g.R.Rules.fits m _ _ c.seat.invariant c.seat.view_is c.begin.new.token.me c.begin.ensures.turn x c.slot_mut.ensures.value c.next_for-next.new.self (still_may p.actor_of p.bytes g.R.Rules.fits m.0 x c.next_for-next.new.self (bare p.actor_of p.bytes g.R.Rules.fits m c.seat.invariant) c.next_for-next.ensures.same) c.next_for-next.ensures.within _ (c.leave.ensures.tape ∙ c.begin.ensures.tape) c.leave.new.token.me c.leave.ensures.left).1 in
     rw (after.seen ∙ ap (λ k. k.items) c.next_for-next.ensures.same) c.next_for-next.ensures.next
+
+pub returns-clause-turn : goal.returns-clause-turn
+returns-clause-turn g c =
+    let p = g.E.Posted in
+    let m = c.seat.inside.token.me in
+    let x = c.slot_mut.result.now in
+    let after = (visits p.actor_of p.bytes g.R.Rules.fits m _ _ c.seat.invariant c.seat.view_is c.begin.new.token.me c.begin.ensures.turn x c.slot_mut.ensures.value c.next_for-next.new.self (still_may p.actor_of p.bytes g.R.Rules.fits m.0 x c.next_for-next.new.self (bare p.actor_of p.bytes g.R.Rules.fits m c.seat.invariant) c.next_for-next.ensures.same) c.next_for-next.ensures.within _ (c.leave.ensures.tape ∙ c.begin.ensures.tape) c.leave.new.token.me c.leave.ensures.left).1 in
+    after.turns
+
+pub returns-clause-visit : goal.returns-clause-visit
+returns-clause-visit g c =
+    let p = g.E.Posted in
+    let m = c.seat.inside.token.me in
+    let x = c.slot_mut.result.now in
+    let after = (visits p.actor_of p.bytes g.R.Rules.fits m _ _ c.seat.invariant c.seat.view_is c.begin.new.token.me c.begin.ensures.turn x c.slot_mut.ensures.value c.next_for-next.new.self (still_may p.actor_of p.bytes g.R.Rules.fits m.0 x c.next_for-next.new.self (bare p.actor_of p.bytes g.R.Rules.fits m c.seat.invariant) c.next_for-next.ensures.same) c.next_for-next.ensures.within _ (c.leave.ensures.tape ∙ c.begin.ensures.tape) c.leave.new.token.me c.leave.ensures.left).1 in
+    visit_plain p.actor_of p.bytes g.R.Rules.fits _ _ x c.next_for-next.new.self after (ap (λ k. k.reserved) c.next_for-next.ensures.same) (ap (λ k. k.reserved_weight) c.next_for-next.ensures.same)

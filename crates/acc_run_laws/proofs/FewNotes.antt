@@ -86,7 +86,7 @@ module _ (layout : Layout) (node start : ℕ) (past : List Deed) where
   node_few (Takes m) = taking_few m
   node_few Restarts = omega arith
 
-emitted_few : (b : Bool) (cluster : Cluster) (a : Actor) (past : List Deed) (act : Act) → length (emits_by b cluster a past act).notes ≤ 2
+pub emitted_few : (b : Bool) (cluster : Cluster) (a : Actor) (past : List Deed) (act : Act) → length (emits_by b cluster a past act).notes ≤ 2
 emitted_few true cluster a past act = node_few cluster.layout (node_of a) (clock_start cluster.starts (node_of a)) past act
 emitted_few false cluster a past (Begins txn body) = omega arith
 emitted_few false cluster a past (Recovers x body) = omega arith
