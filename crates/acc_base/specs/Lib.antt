@@ -3,3 +3,4 @@ pub mod Numbers
 pub mod Shared
 pub mod Inline
 pub mod Short
+pub mod ShortList

@@ -3,17 +3,21 @@
 #![tactic(auto)]
 
 mod inline;
+mod kept;
 mod memory;
 mod numbers;
 mod sequence;
 mod shared;
 mod short;
+mod short_list;
 
 pub use inline::InlineText;
+pub use kept::Kept;
 pub use memory::{Duplicate, OutOfMemory};
 pub use numbers::{push_number, push_signed_number};
 pub use sequence::Sequence;
 pub use shared::SharedSequence;
+pub use short_list::ShortList;
 
 /// A list of bytes.
 pub type Bytes = Sequence<u8>;

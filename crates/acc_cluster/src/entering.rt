@@ -17,13 +17,8 @@ ghost use Rattle.acc_cluster.specs.Entering.{HasPlace, IsPastOf, step_item};
 use acc_history::History;
 use acc_message::{Emitted, Entry, Event, Item, RunError, Skip, Which};
 use acc_message_code::messages_length;
+use acc_schedule_runs::limits::{MOST_BYTES, MOST_ITEMS};
 use acc_stamp::Actor;
-
-/// A run has at most so many items.
-const MOST_ITEMS: usize = 1_000_000;
-
-/// The messages of a run have at most so many bytes together.
-const MOST_BYTES: u64 = 268_435_456;
 
 // The limit of items is reached.
 #[cold]
@@ -33,7 +28,7 @@ fn too_many_items() -> RunError
 {
     RunError::Limit {
         which: Which::Items,
-        number: MOST_ITEMS as u64,
+        number: MOST_ITEMS,
     }
 }
 
@@ -43,7 +38,7 @@ pub(crate) fn check_place(history: &History) -> Result<(), RunError>
     ensures ok { OnOk result ((s : Situation) → StandsFor history.now s → HasPlace s) }
     ensures limit { IfErr result (λ error. (error ≡ AnError.Limit AWhich.Items most_items) × ((s : Situation) → StandsFor history.now s → most_items ≤ length s.own)) }
 {
-    if history.len() >= MOST_ITEMS {
+    if history.len() as u64 >= MOST_ITEMS {
         return Err(too_many_items());
     }
     Ok(())

@@ -12,12 +12,12 @@ ghost use Rattle.acc_tally.specs.Stands.{StandsFor as Tallies};
 ghost use Rattle.acc_coord.specs.Stands.{own_of, attempt_in, attempt_at, IsPlaced, Keeps, Follows};
 
 use crate::coord::Coord;
-use crate::kept::KeptTally;
 use crate::step::{Next, Stage, Step, silent};
-use acc_base::OutOfMemory;
+use acc_base::{Kept, OutOfMemory};
 use acc_deps::{Deps, Settled};
 use acc_message::Path;
 use acc_stamp::{Actor, Ballot, Stamp};
+use acc_tally::Tally;
 use acc_topology::Topology;
 
 impl Coord {
@@ -37,7 +37,7 @@ impl Coord {
         &self,
         topology: &Topology,
         settled: &Settled,
-        tally: KeptTally,
+        tally: Kept<Tally>,
     ) -> Result<Step, OutOfMemory>
         ensures { IfOk result (λ step. (answers more : List Letter) → IsPlaced topology.now self.now →
             Tallies tally (shards_used topology.now self.now.body) (plainly self.now.id more) →
@@ -84,7 +84,7 @@ impl Coord {
         &self,
         topology: &Topology,
         settled: &Settled,
-        tally: KeptTally,
+        tally: Kept<Tally>,
     ) -> Result<Step, OutOfMemory>
         ensures { IfOk result (λ step. (answers more : List Letter) → IsPlaced topology.now self.now →
             Tallies tally (shards_used topology.now self.now.body) (plainly self.now.id more) →

@@ -9,8 +9,8 @@ ghost use Rattle.acc_message.specs.Coordinator.{begun, ask_for_votes, go, reacti
 ghost use Rattle.acc_coord.specs.declared.error.SlowError.{SlowError as Refused};
 ghost use Rattle.acc_coord.specs.Stands.{StandsFor, Answers, MakesFastQuorum, DecidesFast, Slows, IsNew, is_voting, is_voting_phase, after_step, is_end};
 
+use crate::counted::no_answers;
 use crate::error::SlowError;
-use crate::kept::KeptTally;
 use crate::step::{Next, Stage, Step};
 use acc_base::{OutOfMemory, Sequence};
 use acc_deps::Choice;
@@ -45,7 +45,7 @@ impl Coord {
         let shards = topology.shards_of(body.uses());
         let stores = stores(alloc, topology, shards)?;
         let body = body.copy()?;
-        let tally = KeptTally::new(alloc, shards)?;
+        let tally = no_answers(alloc, shards)?;
         let _ = topology.shards();
         Ok(Coord {
             id,

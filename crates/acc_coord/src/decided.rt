@@ -6,7 +6,7 @@ ghost use Rattle.acc_message.specs.Coordinator.{propose, commit, decide, go, on_
 ghost use Rattle.acc_coord.specs.Stands.{own_of, attempt_in, has_decided_in, may_adopt_in, IsPlaced, Follows};
 
 use crate::coord::Coord;
-use crate::kept::KeptTally;
+use crate::counted::no_answers;
 use crate::reads::Reads;
 use crate::rounds::Round;
 use crate::step::{Next, Stage, Step, silent};
@@ -32,7 +32,7 @@ impl Coord {
             Follows layout self.now answers step (propose layout (own_of self.now) self.now.id (attempt_in self.now answers) settled)) }
     {
         let out = self.send(Round::Propose, &settled)?;
-        let tally = KeptTally::new(self.allocator(), self.shards)?;
+        let tally = no_answers(self.allocator(), self.shards)?;
         Ok(Step {
             emitted: Emitted {
                 notes: Notes::new(self.allocator()),
@@ -49,7 +49,7 @@ impl Coord {
             Follows layout self.now answers step (commit layout (own_of self.now) self.now.id (attempt_in self.now answers) settled)) }
     {
         let out = self.send(Round::Fix, &settled)?;
-        let tally = KeptTally::new(self.allocator(), self.shards)?;
+        let tally = no_answers(self.allocator(), self.shards)?;
         Ok(Step {
             emitted: Emitted {
                 notes: Notes::new(self.allocator()),

@@ -7,7 +7,6 @@ mod coord;
 mod counted;
 mod decided;
 mod error;
-mod kept;
 mod outcome;
 mod reads;
 mod rounds;

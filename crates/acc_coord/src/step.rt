@@ -3,21 +3,22 @@
 ghost use Rattle.std.specs.Prelude.{◌≡◌};
 ghost use Rattle.acc_message.specs.Coordinator.{silence};
 
-use crate::kept::KeptTally;
 use crate::reads::Reads;
+use acc_base::Kept;
 use acc_deps::Settled;
 use acc_message::{Emitted, Messages, Notes};
+use acc_tally::Tally;
 use std::alloc::Global;
 
 /// What a coordinator waits for.
 #[derive(Debug, Drop)]
 pub(crate) enum Stage {
     /// Votes.
-    Votes(KeptTally),
+    Votes(Kept<Tally>),
     /// Stores that accept the proposal.
-    Accepts(Settled, KeptTally),
+    Accepts(Settled, Kept<Tally>),
     /// Stores that have committed.
-    Commits(Settled, KeptTally),
+    Commits(Settled, Kept<Tally>),
     /// The cells that the decided transaction reads.
     Reads(Settled, Reads),
 }

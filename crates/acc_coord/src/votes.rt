@@ -15,9 +15,8 @@ ghost use Rattle.acc_coord.specs.Stands.{own_of, attempt_in, attempt_at, is_voti
 
 use crate::coord::Coord;
 use crate::error::SlowError;
-use crate::kept::KeptTally;
 use crate::step::{Next, Stage, Step, silent};
-use acc_base::OutOfMemory;
+use acc_base::{Kept, OutOfMemory};
 use acc_deps::{Deps, Settled};
 use acc_message::Path;
 use acc_stamp::{Actor, Stamp};
@@ -39,7 +38,7 @@ impl Coord {
     }
 
     // What the votes with the newest one make.
-    fn after_vote(&self, topology: &Topology, tally: KeptTally) -> Result<Step, OutOfMemory>
+    fn after_vote(&self, topology: &Topology, tally: Kept<Tally>) -> Result<Step, OutOfMemory>
         ensures { IfOk result (λ step. (answers more : List Letter) → IsPlaced topology.now self.now →
             Tallies tally (shards_used topology.now self.now.body) (plainly self.now.id more) →
             Follows topology.now self.now answers step (after_vote topology.now (own_of self.now) self.now.id (attempt_at self.now Voting more))) }

@@ -11,10 +11,10 @@ use Rattle.acc_message.specs.NodeRules.{Act}
 use Rattle.acc_message.specs.Run.{Cluster, act_of, deeds_of, is_node}
 use Rattle.acc_run_laws.proofs.FewNotes.{emitted_few}
 use Rattle.acc_run_laws.specs.Asks.{emits_if}
-use Rattle.acc_actors.specs.declared.stops.Unsent.{Unsent}
+use Rattle.acc_payloads.specs.declared.stops.Unsent.{Unsent}
 use Rattle.acc_schedule_runs.specs.Situations.{Situation, whole}
 use Rattle.acc_schedule_runs.specs.Moves.{event_in, entered}
-use Rattle.acc_cluster.specs.Asked.{IsEmitted, AreSteps}
+use Rattle.acc_actors.specs.Asked.{IsEmitted, AreSteps}
 use Rattle.acc_desk.specs.Desks.{item_of}
 use Rattle.acc_desk.specs.Groups.{item_of_unsent}
 

@@ -11,12 +11,10 @@ use crate::rules::{PlanTape, Planned};
 use acc_base::OutOfMemory;
 use acc_ports::Rig;
 use acc_schedule::Plan;
+use acc_schedule_runs::limits::MOST_ITEMS;
 use acc_stamp::TxnId;
 use acc_tape::PlaceError;
 use std::sync::Wait;
-
-// The most items that a desk looks through.
-const MOST: u64 = 1_000_000;
 
 // The id of the transaction, where an item of which this is told begins it.
 fn id_begun(sign: Option<(u32, Option<TxnId>)>, txn: u32) -> Option<TxnId>
@@ -52,7 +50,7 @@ impl<D: Rig + Drop, J: Planned> Desk<D, J> {
         ensures found { IfOk result (λ found. IfSome found (λ id. id_of_txn (newest self.new.seat) txn ≡ Some id)) }
     {
         let _plan = plan;
-        for place in self.looked..MOST {
+        for place in self.looked..MOST_ITEMS {
             let sign = match tape.fetch(rt, &mut self.seat, place) {
                 Ok(sign) => sign,
                 Err(PlaceError::NoPlace) => return Ok(None),

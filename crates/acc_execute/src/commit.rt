@@ -8,8 +8,9 @@ ghost use Rattle.acc_opening.specs.Turns.{changes_in};
 ghost use Rattle.acc_execute.specs.Opened.{executed};
 ghost use Rattle.acc_execute.specs.Executed.{after_turn};
 
+use acc_base::ShortList;
 use acc_opening::Turn;
-use acc_record::{KeptRecord, Record, Records, Waiters};
+use acc_record::{KeptRecord, Record, Records};
 use acc_stamp::TxnId;
 
 /// Keeps the own record in place of the one that is kept.
@@ -84,7 +85,7 @@ fn change(there: &mut Record, turn: Turn)
 {
     if turn.opens {
         there.opened = true;
-        there.waiters = Waiters::new(there.waiters.allocator());
+        there.waiters = ShortList::new(there.waiters.allocator());
     }
     if turn.applies {
         there.applied = true;

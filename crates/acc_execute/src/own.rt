@@ -3,15 +3,14 @@ ghost use Rattle.std.specs.Prelude.{◌≡◌, drop, Some, IfOk, OnOk};
 ghost use Rattle.std.specs.Option.{option_copied};
 ghost use Rattle.acc_stamp.specs.Stamp.{ballot_lt};
 ghost use Rattle.acc_stamp.specs.Rising.{ballots_with};
-ghost use Rattle.acc_record.specs.Steps.{fresh};
 ghost use Rattle.acc_record.specs.Learning.{known_or_fresh};
 ghost use Rattle.acc_execute.specs.Owned.{with_proposed, with_decided, with_settled, with_waiter, with_outcome, is_first, IsSplit};
 
-use acc_base::{Duplicate, OutOfMemory};
+use acc_base::{Duplicate, OutOfMemory, ShortList};
 use acc_deps::{Deps, Settled};
 use acc_message::SharedOutcome;
-use acc_record::{KeptRecord, Record, Waiters};
-use acc_stamp::{Ballot, Ballots, Stamp, TxnId};
+use acc_record::{KeptRecord, Record, fresh};
+use acc_stamp::{Ballot, Stamp, TxnId};
 use acc_txn::Body;
 
 /// The record with which a step begins, in the place where it will be kept: a copy of the one that is kept, or else one that
@@ -28,30 +27,6 @@ pub(crate) fn begun(
         Some(there) => copy_of(there),
         None => fresh(id, body),
     }
-}
-
-#[inline(always)]
-fn fresh(id: TxnId, body: &Body) -> Result<KeptRecord, OutOfMemory>
-    ensures { IfOk result (λ made. made ≡ fresh id body.now) }
-{
-    let alloc = body.parts().lets.allocator();
-    let body = body.copy()?;
-    let made = Record {
-        id,
-        body,
-        vote: None,
-        vote_deps: Deps::new(alloc),
-        promised: Ballot::ZERO,
-        accepted: None,
-        committed: None,
-        stable: None,
-        waiters: Waiters::new(alloc),
-        opened: false,
-        outcome: None,
-        applied: false,
-    };
-    let kept = KeptRecord::new(alloc, made)?;
-    Ok(kept)
 }
 
 #[inline(always)]
@@ -127,21 +102,14 @@ pub(crate) fn wait(own: &mut Record, ballot: Ballot) -> Result<(), OutOfMemory>
 }
 
 // Adds a ballot in its place, unless it is there.
-fn add_waiter(waiters: &mut Waiters, ballot: Ballot) -> Result<(), OutOfMemory>
+fn add_waiter(waiters: &mut ShortList<Ballot>, ballot: Ballot) -> Result<(), OutOfMemory>
     ensures { OnOk result (waiters.new ≡ ballots_with ballot waiters.old) }
 {
-    let alloc = waiters.allocator();
-    if waiters.is_empty() {
-        *waiters = Waiters::one(alloc, ballot);
-        return Ok(());
-    }
     let place = place_of(waiters.as_slice(), ballot);
     if is_at(waiters.as_slice(), place, ballot) {
         return Ok(());
     }
-    let mut ballots = Ballots::from_slice(alloc, waiters.as_slice())?;
-    ballots.insert(place, ballot)?;
-    *waiters = Waiters::many(alloc, ballots)?;
+    waiters.insert(place, ballot)?;
     Ok(())
 }
 

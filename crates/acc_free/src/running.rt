@@ -24,16 +24,12 @@ use acc_message::{GrowingItems, Items, RunError};
 use acc_ports::{DiskMaker, Gate};
 use acc_run::give_back;
 use acc_schedule::Plan;
+use acc_schedule_runs::limits::{MOST_BYTES, MOST_ITEMS};
 use acc_tape::Tape;
 use std::alloc::Global;
 use std::marker::Brand;
 use std::sync::Wait;
 use std::thread::Threads;
-
-// The most items of a run, and the most bytes of its messages.
-const MOST_ITEMS: u64 = 1_000_000;
-
-const MOST_BYTES: u64 = 268_435_456;
 
 /// Lets so many threads take the turns of a plan's actors over new disks, brings what they leave to its end, and gives the disks back, in
 /// rising order of the actors' numbers, and what the actors knew to `remains`. Each turn on a thread comes through the gate. A run past a limit, or without memory, has no items,

@@ -15,4 +15,5 @@ pub use acc_base::OutOfMemory;
 pub use acc_stamp::{Ids, Stamp, TxnId};
 pub use acc_value::{Footprint, Key};
 pub use index::Index;
+pub use order::rising;
 pub use share::Share;

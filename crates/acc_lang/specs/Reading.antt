@@ -2,7 +2,7 @@
 -- the flag `texts` tells.
 use Rattle.std.specs.Prelude.{ℕ, zero, suc, ◌-◌, Bool, true, false, not, ◌&&◌, ◌||◌, ◌==◌, nat_lt, pos, neg_ℤ, List, [], ◌∷◌, ◌++◌, length, codes, Option, Some, None, is_some, unwrap_or, position, Result, Ok, Err, if◌then◌else◌}
 use Rattle.std.specs.Str.{bytes_eq}
-use Rattle.acc_token.specs.Tokens.{Token, Word, Mark, Number, Quoted, Strange, End, token_at, left_at, behind, says_word, says_mark}
+use Rattle.acc_token.specs.Tokens.{Token, Word, Number, Quoted, token_at, left_at, behind, says_word, says_mark}
 use Rattle.acc_value.specs.declared.key.Key.{Key}
 use Rattle.acc_value.specs.Footprint.{used}
 use Rattle.acc_txn.specs.declared.parts.Let.{Let}
@@ -37,54 +37,30 @@ abbrev pub ◌>>=◌ : {A B : Type 0} → Result A Fault → (A → Result B Fau
 -- Tokens
 
 abbrev pub is_number : Token → Bool
-is_number (Word letters) = false
-is_number (Mark mark) = false
 is_number (Number number) = true
-is_number (Quoted text closed) = false
-is_number Strange = false
-is_number End = false
+is_number _ = false
 
 abbrev pub is_quoted : Token → Bool
-is_quoted (Word letters) = false
-is_quoted (Mark mark) = false
-is_quoted (Number number) = false
 is_quoted (Quoted text closed) = true
-is_quoted Strange = false
-is_quoted End = false
+is_quoted _ = false
 
 -- the letters of a word, the number of digits and what a quoted text says; nothing for other tokens
 abbrev pub word_of : Token → List ℕ
 word_of (Word letters) = letters
-word_of (Mark mark) = []
-word_of (Number number) = []
-word_of (Quoted text closed) = []
-word_of Strange = []
-word_of End = []
+word_of _ = []
 
 abbrev pub number_of : Token → ℕ
-number_of (Word letters) = 0
-number_of (Mark mark) = 0
 number_of (Number number) = unwrap_or number 0
-number_of (Quoted text closed) = 0
-number_of Strange = 0
-number_of End = 0
+number_of _ = 0
 
 abbrev pub text_of : Token → List ℕ
-text_of (Word letters) = []
-text_of (Mark mark) = []
-text_of (Number number) = []
 text_of (Quoted text closed) = text
-text_of Strange = []
-text_of End = []
+text_of _ = []
 
 -- a word that isn't reserved, so that it may name a LET or a table
 abbrev pub is_free : Token → Bool
 is_free (Word letters) = not (is_reserved letters)
-is_free (Mark mark) = false
-is_free (Number number) = false
-is_free (Quoted text closed) = false
-is_free Strange = false
-is_free End = false
+is_free _ = false
 
 -- One token
 

@@ -57,7 +57,7 @@ impl Running {
         match self {
             Running::Coordinating(coord) => coordinate(coord, topology, is_open, m),
             Running::Recovering(recovery) => {
-                let judged = recovery.on_answer(topology, m)?;
+                let judged = recovery.get_mut().on_answer(topology, m)?;
                 let (heard, coord) = follow(recovery.get(), topology, id, judged)?;
                 self.turn(coord);
                 Ok(heard)

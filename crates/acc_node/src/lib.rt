@@ -5,7 +5,6 @@
 mod clients;
 mod error;
 mod heard;
-mod kept;
 mod node;
 mod running;
 mod step_weight;

@@ -16,9 +16,8 @@ ghost use Rattle.acc_node.specs.Stands.{StandsFor, Takes, Runs, IsSame, Enters, 
 use crate::clients::{one_note, reply_note};
 use crate::error::NodeError;
 use crate::heard::{Heard, silent};
-use crate::kept::{KeptRecovery, KeptRunning};
 use crate::running::Running;
-use acc_base::{OutOfMemory, Sequence};
+use acc_base::{Kept, OutOfMemory, Sequence};
 use acc_coord::Coord;
 use acc_message::{Emitted, Message, Messages, Note, Notes, top};
 use acc_recover::Recovery;
@@ -35,7 +34,7 @@ pub struct Node {
     alloc: Global,
     pub(crate) clock: Clock,
     begun: BTreeMap<u32, TxnId>,
-    attempts: BTreeMap<TxnId, KeptRunning>,
+    attempts: BTreeMap<TxnId, Kept<Running>>,
     clients: BTreeMap<TxnId, ()>,
 }
 
@@ -134,7 +133,7 @@ impl Node {
         let id = TxnId(self.clock.peek());
         let (coord, out) = Coord::begin(topology, id, body)?;
         let notes = one_note(out.allocator(), Note::Begin { id })?;
-        let running = KeptRunning::new(self.alloc, Running::Coordinating(coord))?;
+        let running = Kept::new(self.alloc, Running::Coordinating(coord))?;
         self.enter(txn, id, running)?;
         self.clock.draw();
         Ok(Emitted { notes, out })
@@ -158,8 +157,8 @@ impl Node {
         let ballot = Ballot(self.clock.peek());
         let (recovery, out) = Recovery::begin(topology, id, ballot, body.copy()?)?;
         let notes = one_note(out.allocator(), Note::Recover { id, ballot })?;
-        let kept = KeptRecovery::new(self.alloc, recovery)?;
-        let running = KeptRunning::new(self.alloc, Running::Recovering(kept))?;
+        let kept = Kept::new(self.alloc, recovery)?;
+        let running = Kept::new(self.alloc, Running::Recovering(kept))?;
         self.attempts.insert(id, running)?;
         self.clock.draw();
         Ok(Emitted { notes, out })
@@ -313,7 +312,7 @@ impl Node {
         ensures err { OnErr result (IsSame self.old self.new) }
     {
         match self.attempts.get_mut(&id) {
-            Some(running) => running.hear(topology, id, is_open, m),
+            Some(running) => running.get_mut().hear(topology, id, is_open, m),
             None => Ok(silent(self.alloc)),
         }
     }
@@ -326,13 +325,13 @@ impl Node {
         ensures err { OnErr result (IsSame self.old self.new) }
     {
         match self.attempts.get_mut(&id) {
-            Some(running) => running.go_slow(topology),
+            Some(running) => running.get_mut().go_slow(topology),
             None => Err(NodeError::Unknown),
         }
     }
 
     // Enters a begun transaction with its first attempt, and opens its client. After an error the node is as before.
-    fn enter(&mut self, txn: u32, id: TxnId, running: KeptRunning) -> Result<(), OutOfMemory>
+    fn enter(&mut self, txn: u32, id: TxnId, running: Kept<Running>) -> Result<(), OutOfMemory>
         requires { get nat_cmp self.old.begun txn ≡ None }
         ensures ok { OnOk result (Enters self.old self.new txn id running) }
         ensures err { OnErr result (IsSame self.old self.new) }
@@ -346,7 +345,7 @@ impl Node {
     }
 
     // Opens the client of a transaction and enters its first attempt. After an error the node is as before.
-    fn open_first(&mut self, id: TxnId, running: KeptRunning) -> Result<(), OutOfMemory>
+    fn open_first(&mut self, id: TxnId, running: Kept<Running>) -> Result<(), OutOfMemory>
         ensures ok { OnOk result (Opens self.old self.new id running) }
         ensures err { OnErr result (IsSame self.old self.new) }
         ensures begun { self.new.begun ≡ self.old.begun }

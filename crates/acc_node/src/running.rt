@@ -7,16 +7,18 @@ ghost use Rattle.acc_node.specs.declared.running.Running.TheVariants.{Coordinati
 ghost use Rattle.acc_node.specs.Stands.{RunsAs, Refuses, SlowsDown};
 
 use crate::error::NodeError;
-use crate::kept::KeptRecovery;
+use acc_base::Kept;
 use acc_coord::{Coord, SlowError};
 use acc_message::Messages;
+use acc_recover::Recovery;
 use acc_topology::Topology;
 
-/// An attempt that a node runs: one that asks for evidence, or one that is past that or is the first at its transaction.
+/// An attempt that a node runs: one that asks for evidence, or one that is past that or is the first at its transaction. Few
+/// attempts ask for evidence, and one that does takes more memory than any other.
 #[derive(Debug, Drop)]
 pub(crate) enum Running {
     Coordinating(Coord),
-    Recovering(KeptRecovery),
+    Recovering(Kept<Recovery>),
 }
 
 impl Running {

@@ -8,5 +8,4 @@ pub mod Release
 pub mod Scan
 pub mod State
 pub mod Touched
-pub mod TurnList
 pub mod Turns

@@ -12,7 +12,6 @@ pub mod read_laws;
 mod releasing;
 mod scan;
 mod touched;
-mod turn_list;
 mod turns;
 
 pub use lookup::record_of;
@@ -20,5 +19,4 @@ pub use plan::{Known, Plan, planned};
 pub use read::{Place, read_here};
 pub use releasing::{Released, release};
 pub use touched::{Touched, TouchedWaits};
-pub use turn_list::TurnList;
 pub use turns::Turn;

@@ -12,9 +12,8 @@ use crate::lookup::record_of;
 use crate::queue::insert;
 use crate::scan::last_held;
 use crate::touched::{TouchedWaits, add_watch, take_watches};
-use crate::turn_list::TurnList;
 use crate::turns::{Turn, turn_of};
-use acc_base::OutOfMemory;
+use acc_base::{OutOfMemory, ShortList};
 use acc_record::{Record, Records, Waits, Watch};
 use acc_stamp::TxnId;
 use std::alloc::Global;
@@ -37,7 +36,7 @@ pub struct Known<'a> {
 #[derive(Debug, Drop)]
 pub struct Plan {
     /// The turns.
-    pub done: TurnList,
+    pub done: ShortList<Turn>,
     /// What changes in the lists of who waits for whom.
     pub touched: TouchedWaits,
 }
@@ -46,9 +45,9 @@ pub struct Plan {
 #[derive(Debug, Drop)]
 pub(crate) struct Planning {
     /// The turns so far.
-    done: TurnList,
+    done: ShortList<Turn>,
     /// The transactions whose turn comes.
-    queue: TurnList,
+    queue: ShortList<Turn>,
     /// What changes in the lists of who waits for whom.
     touched: TouchedWaits,
 }
@@ -182,8 +181,8 @@ pub fn planned(alloc: Global, known: &Known<'_>, was_stable: bool) -> Result<Pla
     ensures { IfOk result (IsPlanned known.now.shard known.now.records.now known.now.own.now known.now.waits.now) }
 {
     let mut plan = Planning {
-        done: TurnList::new(alloc),
-        queue: TurnList::new(alloc),
+        done: ShortList::new(alloc),
+        queue: ShortList::new(alloc),
         touched: BTreeMap::new(alloc),
     };
     if was_stable {

@@ -5,5 +5,4 @@ pub mod Refusal
 pub mod Shelf
 pub mod Stands
 pub mod Steps
-pub mod Waiters
 pub mod Waits

@@ -10,8 +10,7 @@ ghost use Rattle.acc_record.specs.Learning.{IsLearnt, is_covered_by, is_below_ac
 use crate::record::{KeptRecord, Record, Records};
 use crate::shared_accepted::SharedAccepted;
 use crate::shelf::Shelf;
-use crate::waiters::Waiters;
-use acc_base::OutOfMemory;
+use acc_base::{OutOfMemory, ShortList};
 use acc_deps::{Deps, Settled};
 use acc_index::{Index, Share};
 use acc_stamp::{Ballot, Stamp, TxnId};
@@ -123,8 +122,9 @@ impl Shelf {
     }
 }
 
-// The record of a transaction that was just heard of.
-fn fresh(id: TxnId, body: &Body) -> Result<KeptRecord, OutOfMemory>
+/// The record of a transaction that was just heard of, which knows its body alone, in the place where it will be kept.
+#[inline(always)]
+pub fn fresh(id: TxnId, body: &Body) -> Result<KeptRecord, OutOfMemory>
     ensures { IfOk result (λ made. made ≡ fresh id body.now) }
 {
     let alloc = body.parts().lets.allocator();
@@ -138,7 +138,7 @@ fn fresh(id: TxnId, body: &Body) -> Result<KeptRecord, OutOfMemory>
         accepted: None,
         committed: None,
         stable: None,
-        waiters: Waiters::new(alloc),
+        waiters: ShortList::new(alloc),
         opened: false,
         outcome: None,
         applied: false,

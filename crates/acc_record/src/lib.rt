@@ -10,13 +10,11 @@ mod share;
 mod shared_accepted;
 mod shelf;
 mod vote;
-mod waiters;
 
 pub use cells::Cells;
-pub use learn::Noting;
+pub use learn::{Noting, fresh};
 pub use record::{KeptRecord, Record, Records};
 pub use refusals::{answering, refusal, refusal_by};
 pub use shared_accepted::SharedAccepted;
 pub use shelf::{Shelf, Waits, Watch};
 pub use vote::Vote;
-pub use waiters::Waiters;

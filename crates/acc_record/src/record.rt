@@ -6,8 +6,7 @@ ghost use Rattle.acc_record.specs.contracts.record.Record.{the_row as record_row
 ghost use Rattle.acc_record.specs.Over.{is_over};
 
 use crate::shared_accepted::SharedAccepted;
-use crate::waiters::Waiters;
-use acc_base::OutOfMemory;
+use acc_base::{OutOfMemory, ShortList};
 use acc_deps::{Deps, Settled};
 use acc_message::SharedOutcome;
 use acc_stamp::{Ballot, Stamp, TxnId};
@@ -36,7 +35,7 @@ pub struct Record {
     /// What is stable at it.
     pub stable: Option<Settled>,
     /// The ballots whose attempts wait for the cells, rising.
-    pub waiters: Waiters,
+    pub waiters: ShortList<Ballot>,
     /// The outcome that it heard first.
     pub outcome: Option<SharedOutcome>,
     /// Whether the transaction may execute here: all that goes before it is applied.

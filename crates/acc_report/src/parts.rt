@@ -1,31 +1,14 @@
 //! The parts of a line, as they are printed.
-ghost use Rattle.std.specs.Prelude.{◌≡◌, ◌++◌, codes, decimal, flat_map, map, OnOk};
-ghost use Rattle.std.specs.Fmt.{signed_decimal};
+ghost use Rattle.std.specs.Prelude.{◌≡◌, ◌++◌, codes, flat_map, map, OnOk};
 ghost use Rattle.acc_report.specs.Numbers.{name_in};
 ghost use Rattle.acc_report_line.specs.Texts.{stamp_text, actor_text, names_text, path_text, verdict_text, quoted_byte, quoted, cell_text, values_text, reply_text};
 
 use crate::names::Directory;
-use acc_base::OutOfMemory;
+use acc_base::{OutOfMemory, push_number, push_signed_number};
 use acc_message::Path;
 use acc_stamp::{Actor, Stamp, TxnId};
 use acc_txn::{Reply, Verdict};
 use acc_value::{Cells, Value};
-use itoa::Buffer;
-
-/// Appends a number in decimal. It takes no memory but the text's.
-pub(crate) fn push_number(text: &mut Vec<u8>, number: u64) -> Result<(), OutOfMemory>
-    ensures { OnOk result (text.new.items ≡ text.old.items ++ decimal number) }
-{
-    text.extend_from_slice(Buffer::new().format(number).as_bytes())?;
-    Ok(())
-}
-
-fn push_signed_number(text: &mut Vec<u8>, number: i64) -> Result<(), OutOfMemory>
-    ensures { OnOk result (text.new.items ≡ text.old.items ++ signed_decimal number) }
-{
-    text.extend_from_slice(Buffer::new().format(number).as_bytes())?;
-    Ok(())
-}
 
 /// Appends a timestamp.
 pub(crate) fn push_stamp(text: &mut Vec<u8>, stamp: Stamp) -> Result<(), OutOfMemory>

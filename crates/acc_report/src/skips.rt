@@ -5,8 +5,8 @@ ghost use Rattle.acc_report_line.specs.declared.line.Line.TheVariants.{Down as D
 ghost use Rattle.acc_report_line.specs.Texts.{full_text, lines_text};
 
 use crate::names::name_of_number;
-use crate::parts::{push_actor, push_number};
-use acc_base::OutOfMemory;
+use crate::parts::push_actor;
+use acc_base::{OutOfMemory, push_number};
 use acc_message::{Event, Skip};
 use acc_report_line::Names;
 use acc_stamp::Actor;

@@ -9,8 +9,7 @@ ghost use Rattle.acc_report.specs.Counts.{is_counted as counts, counted, counts_
 ghost use Rattle.acc_report.specs.Report.{last_line, decided_line};
 ghost use Rattle.acc_report_line.specs.Texts.{full_text};
 
-use crate::parts::push_number;
-use acc_base::OutOfMemory;
+use acc_base::{OutOfMemory, push_number};
 use acc_message::{Items, Note, Path, Shown};
 
 /// What is counted.

@@ -1,4 +1,5 @@
-//! What holds of fronts of runs, and of where a limit ends them. Each law is the contract of a function that does nothing.
+//! The limits of a run, and what holds of fronts of runs and of where a limit ends them. Each law is the contract of a function
+//! that does nothing.
 ghost use Rattle.std.specs.Prelude.{◌≡◌, ◌⊎◌, ℕ, ◌+◌, ◌≤◌, List, [], ◌∷◌, ◌++◌, length};
 ghost use Rattle.acc_message.specs.declared.error.Which.{Which};
 ghost use Rattle.acc_message.specs.declared.item.Item.{Item};
@@ -14,6 +15,12 @@ ghost use Rattle.acc_schedule_runs.specs.StrictSchedules.{FollowsStrictly, Obeys
 ghost use Rattle.acc_schedule_runs.specs.Limits.{IsWithin};
 ghost use Rattle.acc_schedule_runs.specs.Fronts.{ComesTo, Reaches, Begins, IsFront, LimitEnds};
 ghost use Rattle.acc_schedule_runs.specs.StrictFronts.{StrictlyComesTo, StrictlyReaches, IsStrictFront, StrictLimitEnds};
+
+/// A run has at most so many items.
+pub const MOST_ITEMS: u64 = 1_000_000;
+
+/// The messages of a run have at most so many bytes together.
+pub const MOST_BYTES: u64 = 268_435_456;
 
 /// The fronts of a plan's run with given answers of the disks stand in one line: of two, the longer one begins with the other. Where the
 /// run has an end, its items are the longest.

@@ -4,3 +4,4 @@ pub mod Heights
 pub mod Refused
 pub mod Planned
 pub mod Weighed
+pub mod Unapplied

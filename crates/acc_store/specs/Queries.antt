@@ -1,5 +1,5 @@
--- What a store tells of a key without a message.
-use Rattle.std.specs.Prelude.{ℕ, Bool, false, cond, List, [], Option, None, Some, map, filter}
+-- What a store tells without a message.
+use Rattle.std.specs.Prelude.{ℕ, Bool, false, not, cond, List, [], Option, None, Some, map, filter}
 use Rattle.std.specs.List.{list_all}
 use Rattle.acc_stamp.specs.declared.stamps.TxnId.{TxnId}
 use Rattle.acc_stamp.specs.Rising.{ids_union}
@@ -8,6 +8,7 @@ use Rattle.acc_topology.specs.Keys.{share_of}
 use Rattle.acc_value.specs.declared.key.Key.{Key}
 use Rattle.acc_value.specs.declared.value.Value.{Value}
 use Rattle.acc_value.specs.Footprint.{is_written}
+use Rattle.acc_txn.specs.declared.parts.BodyParts.{BodyParts}
 use Rattle.acc_txn.specs.Uses.{footprint_of}
 use Rattle.acc_message.specs.Taken.{Taken, Heard, known}
 use Rattle.acc_message.specs.Opening.{is_applied, cells_at}
@@ -27,11 +28,27 @@ known_writers layout shard history key = ids_union [] (map (λ (k : Heard). k.id
 abbrev pub cell_if_applied : Layout → ℕ → List Taken → List TxnId → Key → Option (Option Value)
 cell_if_applied layout shard history ids key = cond (list_all (is_applied shard history) ids) (Some (cells_at layout shard history key)) None
 
+-- the known transactions that aren't applied, rising
+abbrev pub unapplied : ℕ → List Taken → List TxnId
+unapplied shard history = ids_union [] (map (λ (k : Heard). k.id) (filter (λ (k : Heard). not (is_applied shard history k.id)) (known history)))
+
 -- ---- the same by the records
+
+abbrev pub body_in : Option Record → Option BodyParts
+body_in None = None
+body_in (Some r) = Some r.body
 
 abbrev pub applied_in : Option Record → Bool
 applied_in None = false
 applied_in (Some r) = r.applied
+
+abbrev pub is_unapplied_in : Option Record → Bool
+is_unapplied_in None = false
+is_unapplied_in (Some r) = not r.applied
+
+-- of these transactions and their records those that aren't applied
+abbrev pub unapplied_among : List (TxnId × Record) → List TxnId
+unapplied_among entries = map (λ (e : TxnId × Record). e.0) (filter (λ (e : TxnId × Record). not e.1.applied) entries)
 
 abbrev pub all_applied_at : Shelf → List TxnId → Bool
 all_applied_at shelf ids = list_all (λ y. applied_in (record_at shelf.records y)) ids

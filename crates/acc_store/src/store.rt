@@ -7,19 +7,21 @@ ghost use Rattle.acc_topology.specs.Layout.{Layout};
 ghost use Rattle.acc_message.specs.declared.message.Message.{Message};
 ghost use Rattle.acc_message.specs.Fields.{top_of};
 ghost use Rattle.acc_message.specs.StoreRules.{store_answer, replay};
+ghost use Rattle.acc_message.specs.Taken.{body_known};
 ghost use Rattle.acc_message_code.specs.Short.{IsShortMessage};
 ghost use Rattle.acc_message_code.specs.Weight.{weight_of_all};
 ghost use Rattle.acc_record.specs.Stands.{IsFor};
 
-use crate::queries::are_applied;
+use crate::queries::{are_applied, body_in, unapplied};
 use crate::quiet::answers_quiet;
 use crate::steps::{Prepared, prepare, take};
 use acc_base::OutOfMemory;
 use acc_message::{Message, Messages};
 use acc_message_code::messages_length;
 use acc_record::Shelf;
-use acc_stamp::{Actor, Ids};
+use acc_stamp::{Actor, Ids, TxnId};
 use acc_topology::Topology;
+use acc_txn::Body;
 use acc_value::{Key, Value};
 use std::alloc::Global;
 
@@ -31,7 +33,7 @@ pub struct Store {
 }
 
 impl Store {
-    ghost use Rattle.acc_store.specs.Queries.{known_writers, cell_if_applied};
+    ghost use Rattle.acc_store.specs.Queries.{known_writers, cell_if_applied, unapplied};
     ghost use Rattle.acc_store.specs.Stands.{actor_of, greatest_in, StandsFor, IsStanding, Answers, IsAsBefore};
     ghost use Rattle.acc_store.specs.Weighing.{SendsShort};
     ghost use Rattle.acc_store.specs.Prepared.{IsPrepared};
@@ -133,6 +135,22 @@ impl Store {
         ensures rises { IfOk result IsRising }
     {
         self.shelf.index.writers(key)
+    }
+
+    /// The body of a transaction, as the store heard it first. `None` exactly where the store doesn't know the transaction. Takes
+    /// no memory.
+    pub fn body_of(&self, id: TxnId) -> Option<&Body>
+        ensures { (layout : Layout) (messages : List Message) → StandsFor layout self.now (replay layout (actor_of self.now) messages) → option_copied result ≡ body_known (replay layout (actor_of self.now) messages) id }
+    {
+        body_in(self.shelf.find(id))
+    }
+
+    /// The transactions that the store knows and hasn't applied, rising. It looks at each known transaction.
+    pub fn unapplied(&self) -> Result<Ids, OutOfMemory>
+        ensures ids { IfOk result (λ ids. (layout : Layout) (messages : List Message) → StandsFor layout self.now (replay layout (actor_of self.now) messages) → ids ≡ unapplied (shard_of (actor_of self.now)) (replay layout (actor_of self.now) messages)) }
+        ensures rises { IfOk result IsRising }
+    {
+        unapplied(&self.shelf)
     }
 
     /// The cell of a key, where each of these transactions is applied here. `None` exactly where one of them isn't. Takes no

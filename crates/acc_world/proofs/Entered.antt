@@ -31,11 +31,12 @@ use Rattle.acc_world.specs.declared.world.World.{World}
 use Rattle.acc_world.specs.Held.{cluster_of, past_of, IsPast}
 use Rattle.acc_world.specs.Stands.{AreHeld, Stands}
 use Rattle.acc_world.specs.Keeping.{IsReady, came_back}
+use Rattle.acc_schedule_runs.specs.Limits.{most_items}
 use Rattle.acc_world.specs.Steps.{HasPlace, IsTried, HasEntered}
 
 -- ---- before it
 
-few_of : (n : ℕ) → n < 1000000 → n < 2 ^ 31
+few_of : (n : ℕ) → n < most_items → n < 2 ^ 31
 few_of n low = omega (arith, low)
 
 pub past_at : (w : World) (items : List Item) → Stands w items → HasPlace items → IsPast (cluster_of w.setup) w.history items

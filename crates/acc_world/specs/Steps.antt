@@ -17,6 +17,7 @@ use Rattle.acc_run_laws.specs.declared.ask.Ask.{Ask}
 use Rattle.acc_run_laws.specs.declared.ask.Ask.TheVariants.{Begin, Recover, Slow as SlowAsk, Deliver, Restart}
 use Rattle.acc_run_laws.specs.Asks.{stepper, event_for, skip_of, item_for}
 use Rattle.acc_run_laws.specs.AskLaws.{IsAskOf}
+use Rattle.acc_schedule_runs.specs.Limits.{most_items}
 use Rattle.acc_pasts.specs.Entries.{entering, MayTake}
 use Rattle.acc_world.specs.declared.error.WorldError.{WorldError}
 use Rattle.acc_world.specs.declared.error.WorldError.TheVariants.{Skip as SkipError, OutOfMemory}
@@ -26,7 +27,7 @@ use Rattle.acc_world.specs.Stands.{Stands, StandsFor}
 
 -- so few that one more is within a run's limit
 abbrev pub HasPlace : List Item → Type 0
-HasPlace items = length items < 1000000
+HasPlace items = length items < most_items
 
 -- ---- one event
 

@@ -6,4 +6,4 @@ use Rattle.acc_opening.proofs.queue.put.Goals as goal
 pub returns : goal.returns
 returns c =
     let turns = c.args.queue.now in
-    subst (HasTurn c.args.turn turns) (sym c.in_ok-insert.ensures) (has_new c.args.turn turns c.args.place c.requires.rises c.requires.gap)
+    subst (HasTurn c.args.turn turns) (sym c.in_ok-insert.ensures.ok) (has_new c.args.turn turns c.args.place c.requires.rises c.requires.gap)

@@ -43,7 +43,7 @@ pub put_all-requires-clause-notes : goal.put_all-requires-clause-notes
 put_all-requires-clause-notes g c =
     let self = c.args.self.now in
     let q = c.requires.group in
-    subst (All (λ item. length (noted_in item) ≤ 2)) (sym c.in-Ok.ensures) (puts_noted g.D.Disk.is_image g.D.Disk.faults g.D.Disk.strict g.D.Disk.armed g.D.Disk.content g.D.Disk.synced g.D.Disk.written g.J.Planned.strict c.args.plan.now c.args.tape.now c.requires.limits self.actor self.commands self.gone self.slot c.args.hold q.0 c.args.unsent self.seat q.1)
+    subst (All (λ item. length (noted_in item) ≤ 2)) (sym c.in-Ok.ensures) (puts_noted g.D.Disk g.J.Planned.strict c.args.plan.now c.args.tape.now c.requires.limits self.actor self.commands self.gone self.slot c.args.hold q.0 c.args.unsent self.seat q.1)
 
 pub put_all-requires-clause-fits : goal.put_all-requires-clause-fits
 put_all-requires-clause-fits g c =

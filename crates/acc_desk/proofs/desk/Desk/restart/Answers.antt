@@ -51,9 +51,9 @@ put-requires-clause-notes g c =
     let turns = subst (λ p. Turns actor_of_item weight_of (fits_plan p) c.args.self.now.seat c.reserve.new.seat) (sym c.requires.plan) c.reserve.ensures.turn in
     let hold : Hold = record { items = 1; weight = 0 } in
     let held = held_first c.args.self.now.seat c.reserve.new.seat hold c.requires.desk.seated.held_is c.in-Ok.ensures.ok.0 c.in-Ok.ensures.ok.1 in
-    let desk = desk_on c.args.plan.now c.args.tape.now c.requires.limits a g.D.Disk.is_image g.D.Disk.faults g.D.Disk.strict g.D.Disk.armed g.D.Disk.content g.D.Disk.synced g.D.Disk.written g.J.Planned.strict c.args.self.now.commands c.args.self.now.gone c.args.self.now.slot no_hold hold c.args.self.now.seat c.reserve.new.seat c.requires.desk turns c.reserve.ensures.same.0 held in
+    let desk = desk_on c.args.plan.now c.args.tape.now c.requires.limits a g.D.Disk g.J.Planned.strict c.args.self.now.commands c.args.self.now.gone c.args.self.now.slot no_hold hold c.args.self.now.seat c.reserve.new.seat c.requires.desk turns c.reserve.ensures.same.0 held in
     let item_is = c.item_for-item.ensures in
-    let silent = restart_silent g.D.Disk.is_image g.D.Disk.faults g.D.Disk.strict g.D.Disk.armed g.D.Disk.content g.D.Disk.synced g.D.Disk.written g.J.Planned.strict c.args.plan.now c.args.tape.now c.requires.limits a c.args.self.now.commands c.args.self.now.gone c.args.self.now.slot c.reopen.new.slot hold c.reserve.new.seat c.requires.next.0 desk c.requires.next.1 c.requires.next.2 c.in-Ok-reopen.given c.in-Ok-reopen.ensures.ok in
+    let silent = restart_silent g.D.Disk g.J.Planned.strict c.args.plan.now c.args.tape.now c.requires.limits a c.args.self.now.commands c.args.self.now.gone c.args.self.now.slot c.reopen.new.slot hold c.reserve.new.seat c.requires.next.0 desk c.requires.next.1 c.requires.next.2 c.in-Ok-reopen.given c.in-Ok-reopen.ensures.ok in
     rw item_is (restart_noted a c.in-Ok-reopen.given silent)
 
 pub put-requires-clause-fits : goal.put-requires-clause-fits

@@ -13,6 +13,6 @@ returns-in-Some-clause-err c =
       clients = λ _. refl;
       attempts =
           written_same c.args.self.now.attempts (c.get_mut.follows.lender c.go_slow.new.self) c.args.id c.go_slow.new.self (c.get_mut.follows.holds c.go_slow.new.self).0
-          (sym c.in-Some.ensures.value ∙ ap Some (sym same));
+          (sym c.in-Some.ensures.value ∙ ap Some (sym (same ∙ c.get_mut-in-Some.ensures.value)));
     })
     c.go_slow.ensures.err

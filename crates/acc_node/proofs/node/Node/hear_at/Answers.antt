@@ -12,6 +12,6 @@ returns-in-Some-clause-err c =
       clock = refl;
       begun = λ _. refl;
       clients = λ _. refl;
-      attempts = written_same c.args.self.now.attempts (c.get_mut.follows.lender c.hear.new.self) c.args.id c.hear.new.self (c.get_mut.follows.holds c.hear.new.self).0 (sym c.in-Some.ensures.value ∙ ap Some (sym same));
+      attempts = written_same c.args.self.now.attempts (c.get_mut.follows.lender c.hear.new.self) c.args.id c.hear.new.self (c.get_mut.follows.holds c.hear.new.self).0 (sym c.in-Some.ensures.value ∙ ap Some (sym (same ∙ c.get_mut-in-Some.ensures.value)));
     })
     c.hear.ensures.err

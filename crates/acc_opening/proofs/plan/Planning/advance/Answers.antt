@@ -18,7 +18,7 @@ wake_all-requires c =
     record {
       before =
           subst (λ list. IsUnderWay known.shard at (watches_now c.take_watches.new.touched known.waits.now) list c.push.new.self rest) (sym c.deref.ensures.value)
-          (subst (λ list. IsUnderWay known.shard at (watches_now c.take_watches.new.touched known.waits.now) c.in_ok-woken.woken.items list rest) (sym c.in_ok-push.ensures) taken);
+          (subst (λ list. IsUnderWay known.shard at (watches_now c.take_watches.new.touched known.waits.now) c.in_ok-woken.woken.items list rest) (sym c.in_ok-push.ensures.ok) taken);
     }
 
 pub returns-else-turn-clause-after : goal.returns-else-turn-clause-after
@@ -28,5 +28,5 @@ returns-else-turn-clause-after c =
     let done : List Turn = c.args.self.now.done in
     let rest : List Turn = c.args.self.now.queue in
     let watching = watches_now c.args.self.now.touched known.waits.now in
-    subst (λ list. IsUnderWay known.shard at watching [] list rest) (sym c.in_ok-push.ensures)
+    subst (λ list. IsUnderWay known.shard at watching [] list rest) (sym c.in_ok-push.ensures.ok)
     (taken_idle known.shard at watching done c.args.turn rest c.requires c.if-turn.false)
