@@ -1,0 +1,12 @@
+mod AnswerFacts
+mod DecisionFacts
+mod FaultFacts
+mod LeastFacts
+mod MarkFacts
+mod MissedFacts
+mod NumberFacts
+mod OutcomeFacts
+mod RuleFacts
+mod StepFacts
+mod TableFacts
+mod UserFacts

@@ -1,0 +1,5 @@
+pub mod Said
+pub mod Fronts
+pub mod Rules
+pub mod Users
+pub mod Kept

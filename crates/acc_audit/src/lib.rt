@@ -1,0 +1,20 @@
+//! Judges a report, whoever wrote it: whether its lines keep the rules that the lines of every run keep.
+#![tactic(auto)]
+
+mod answers;
+mod decisions;
+mod ends;
+mod error;
+mod front;
+mod index;
+mod judge;
+mod marks;
+mod numbers;
+mod outcomes;
+mod replies;
+mod step;
+mod steps;
+mod users;
+
+pub use error::AuditError;
+pub use judge::audit;

@@ -1,0 +1,5 @@
+mod Agreement
+mod Coverage
+mod Kept
+mod SameReply
+mod SerialLines

@@ -1,0 +1,3 @@
+mod NameFacts
+mod PathFacts
+mod TextFacts
