@@ -209,7 +209,7 @@ module _ {D : Type 0} (port : Ghosts D) (plan : Content) (s : Situation) (a : Ac
           version = plan.version;
           past = past;
           stands = is.stands.stands;
-          short = told.short;
+          short = told.short is.sound.few_bodies;
           goes_here = record { goes_to = here; brings = told.brings (ap is_node here ∙ kind) };
           top = told.top;
           greatest = subst (λ (p : Past Message). greatest_h a (replay plan.topology a p.acts) < 2 ^ 62) (sym taken_is) meets.greatest;
@@ -223,7 +223,7 @@ module _ {D : Type 0} (port : Ghosts D) (plan : Content) (s : Situation) (a : Ac
     sends_behind : AreSendable (store.emits_next plan.topology a (kept_with stops past) m).out
     sends_behind =
         subst (λ (e : Emitted). AreSendable e.out) emits_behind
-        (next_sendable cluster (whole behind) a (Takes m) standing (record { event = event_in behind (TakesMessage number); act_is = next_behind.act_is; place = next_behind.place }) few)
+        (next_sendable cluster (whole behind) a (Takes m) standing (record { event = event_in behind (TakesMessage number); act_is = next_behind.act_is; place = next_behind.place }) is.sound.few_bodies few)
 
     pub weighs_more : NumbersAlone port plan a number m → IsPlan plan → StoreMayWeigh port plan.topology t m
     weighs_more numbers_alone valid =

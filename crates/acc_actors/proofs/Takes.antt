@@ -145,7 +145,7 @@ module _ {D : Type 0} (port : Ghosts D) (plan : Content) (a : Actor) (number : â
             version = plan.version;
             past = store_past (cluster_of plan) s a;
             stands = asked.stands.stands;
-            short = told.short;
+            short = told.short asked.sound.few_bodies;
             goes_here = record { goes_to = here; brings = told.brings (ap is_node here âˆ™ asked.stands.kind) };
             top = told.top;
             greatest = meets.greatest;

@@ -57,7 +57,7 @@ module _ {D : Type 0} (port : Ghosts D) (plan : Content) (a : Actor) (slot : Slo
         let asked : IsAsked port plan s a (MessageEvent number) (Takes m) (Node n) = there s (MessageEvent number) (Takes m) may.1 in
         let sends : AreSendable (node.emits_next plan.topology (node_of a) start (node_past (cluster_of plan) s a) (Takes m)).out =
         (node_meets (cluster_of plan) (whole s) a (sound_standing (cluster_of plan) s asked.sound) (few_whole s asked.few) asked.stands.kind).sends
-        (Takes m) (may_do s (MessageEvent number) (Takes m) (Node n) asked) in
+        asked.sound.few_bodies (Takes m) (may_do s (MessageEvent number) (Takes m) (Node n) asked) in
         subst (λ (l : Layout). NodeMayWeigh port l n m) (sym layout_is) (record {
           number = node_of a;
           start = start;

@@ -23,7 +23,7 @@ use Rattle.acc_safety.specs.Places.{StandsAt, Back}
 use Rattle.acc_safety.specs.NodeMoves.{Move, Wait, Propose, CommitTo, DecideBy, FinishWith, BlockBy, EndBy, made, Moves, DecidesFast, AdoptsStable, DecidesCommitted, Hears, Ignores, Counts, IsEnded, TakesOver}
 use Rattle.acc_safety.specs.Attempted.{Origin, FromBegin, FromRecover}
 use Rattle.acc_safety_laws.proofs.Ranks.{rank, proposes_low, commits_low}
-use Rattle.acc_safety_laws.proofs.Draws.{IsDraw, DrawsId, DrawsBallot, draw_differs, not_zero}
+use Rattle.acc_safety.proofs.Draws.{IsDraw, DrawsId, DrawsBallot, draw_differs, not_zero}
 use Rattle.acc_calm.specs.MessageCounts.{is_of_attempt}
 
 -- ---- counts

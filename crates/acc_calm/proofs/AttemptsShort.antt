@@ -38,7 +38,7 @@ use Rattle.acc_safety.proofs.BodiesBegun.{begin_body, recover_body, attempt_body
 use Rattle.acc_safety.proofs.Bridge.{same, same_itself, each_emits, node_is_actor}
 use Rattle.acc_safety.proofs.Frame.{homes_are_one}
 use Rattle.acc_safety_laws.proofs.Ranks.{rank}
-use Rattle.acc_safety_laws.proofs.Draws.{IsDraw, DrawsId, DrawsBallot}
+use Rattle.acc_safety.proofs.Draws.{IsDraw, DrawsId, DrawsBallot}
 use Rattle.acc_safety_laws.proofs.Steps.{Told, Outcome_told, Other_told, told, told_stays, node_emitted}
 use Rattle.acc_calm.proofs.ZeroBallots.{home_is_node}
 use Rattle.acc_calm.specs.MessageCounts.{is_of_attempt, sent_for_attempt, AttemptsAreShort}

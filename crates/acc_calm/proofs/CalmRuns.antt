@@ -43,7 +43,7 @@ use Rattle.acc_safety.proofs.Frame.{node_noted, past_of}
 use Rattle.acc_safety.proofs.BodiesBegun.{begin_body, attempt_body}
 use Rattle.acc_safety_laws.proofs.Noted.{noting}
 use Rattle.acc_safety_laws.proofs.Shown.{committed_is_seen}
-use Rattle.acc_safety_laws.proofs.Draws.{node_of_draw}
+use Rattle.acc_safety.proofs.Draws.{node_of_draw}
 use Rattle.acc_safety_laws.proofs.Stages.{one_proposal, one_commit, never_both}
 use Rattle.acc_safety_laws.proofs.Last.{committed_last}
 use Rattle.acc_safety_laws.proofs.Proposals.{proposals_have_roots}

@@ -17,7 +17,7 @@ use Rattle.acc_message.specs.NodeRules.{Act, Takes}
 use Rattle.acc_message_code.specs.Weight.{weight_of}
 use Rattle.acc_message.specs.Run.{Cluster as RunCluster, act_of, Stands, EachStands}
 use Rattle.acc_actor_laws.proofs.Standing.{not_none}
-use Rattle.acc_run_laws.specs.Sends.{AreFew, AreSendable}
+use Rattle.acc_run_laws.specs.Sends.{AreFew, HasFewBodies, AreSendable}
 use Rattle.acc_run_laws.proofs.Sendable.{each_sendable}
 use Rattle.acc_safety.specs.Places.{First}
 use Rattle.acc_safety.specs.Valid.{IsStanding}
@@ -154,14 +154,14 @@ module _ (before : List Item) (item : Item) (after : List Item) where
       omega (arith, all, long)
 
   -- what is asked of its messages
-  pub seam_sendable : (cluster : RunCluster) → IsStanding cluster (reverse (before ++ item ∷ after)) → AreFew (reverse (before ++ item ∷ after)) → AreSendable (sent_in item)
-  seam_sendable cluster standing few =
-      each_sendable cluster item (item ∷ reverse before) (seam_standing cluster standing) (seam_few few) (First item (reverse before))
+  pub seam_sendable : (cluster : RunCluster) → IsStanding cluster (reverse (before ++ item ∷ after)) → HasFewBodies cluster → AreFew (reverse (before ++ item ∷ after)) → AreSendable (sent_in item)
+  seam_sendable cluster standing bodies few =
+      each_sendable cluster item (item ∷ reverse before) (seam_standing cluster standing) bodies (seam_few few) (First item (reverse before))
 
   -- it can stand behind those before it
-  pub seam_follows : (cluster : RunCluster) → IsStanding cluster (reverse (before ++ item ∷ after)) → AreFew (reverse (before ++ item ∷ after)) → history.MayFollow before item
-  seam_follows cluster standing few =
-      let sendable = seam_sendable cluster standing few in
+  pub seam_follows : (cluster : RunCluster) → IsStanding cluster (reverse (before ++ item ∷ after)) → HasFewBodies cluster → AreFew (reverse (before ++ item ∷ after)) → history.MayFollow before item
+  seam_follows cluster standing bodies few =
+      let sendable = seam_sendable cluster standing bodies few in
       let light : weight_of item < 2 ^ 63 = sendable.weight in
       record {
         takes = takes_sent cluster (behind_items before []) item (seam_standing cluster standing).stands.0;

@@ -21,7 +21,7 @@ use Rattle.acc_message.specs.NodeRules.{Act, Takes}
 use Rattle.acc_message.specs.Run.{Cluster, act_of}
 use Rattle.acc_message.specs.Coordinator.{silence}
 use Rattle.acc_actor_laws.proofs.Standing.{not_none}
-use Rattle.acc_run_laws.specs.Sends.{AreSendable}
+use Rattle.acc_run_laws.specs.Sends.{HasFewBodies, AreSendable}
 use Rattle.acc_run_laws.proofs.Everywhere.{all_from}
 use Rattle.acc_message_code.specs.Short.{IsShortMessage}
 use Rattle.acc_safety.specs.Valid.{IsStanding}
@@ -120,16 +120,17 @@ lost_all cluster a (event ∷ events) s (unsent ∷ others) steps =
       ap suc rest.1,
     )
 
-steps_sendable : (cluster : Cluster) (a : Actor) (events : List Event) (s : Situation) (kept : List Unsent) → HasRoom s → IsStanding cluster (whole s) → AllMay cluster s a events true
+steps_sendable : (cluster : Cluster) (a : Actor) (events : List Event) (s : Situation) (kept : List Unsent) → HasFewBodies cluster → HasRoom s → IsStanding cluster (whole s)
+    → AllMay cluster s a events true
     → AreSteps cluster s a events true kept → AreSendableBehind a kept s
-steps_sendable cluster a [] s [] room standing may steps = tt
-steps_sendable cluster a [] s (unsent ∷ others) room standing may steps = absurd steps
-steps_sendable cluster a (event ∷ events) s [] room standing may steps = tt
-steps_sendable cluster a (event ∷ events) s (unsent ∷ others) room standing may steps = (
+steps_sendable cluster a [] s [] bodies room standing may steps = tt
+steps_sendable cluster a [] s (unsent ∷ others) bodies room standing may steps = absurd steps
+steps_sendable cluster a (event ∷ events) s [] bodies room standing may steps = tt
+steps_sendable cluster a (event ∷ events) s (unsent ∷ others) bodies room standing may steps = (
   λ place. subst (λ (e : Emitted). AreSendable e.out) (sym (steps.1 ∙ ap (emits_if cluster (whole s) a) may.0.1.act_is))
-      (next_sendable cluster (whole s) a may.0.0 standing (may_do cluster (whole s) a (event_in s event) may.0.0 may.0.1) (few_whole s (few_placed s room place))),
+      (next_sendable cluster (whole s) a may.0.0 standing (may_do cluster (whole s) a (event_in s event) may.0.0 may.0.1) bodies (few_whole s (few_placed s room place))),
   subst (λ (item : Item). AreSendableBehind a others (with_item item s)) (sym (lost_is cluster s a event unsent steps.0 steps.1))
-      (steps_sendable cluster a events (entered cluster s a event true) others room (standing_on cluster a s event may.0.0 true may.0.1 standing) may.1 steps.2),
+      (steps_sendable cluster a events (entered cluster s a event true) others bodies room (standing_on cluster a s event may.0.0 true may.0.1 standing) may.1 steps.2),
 )
 
 module _ (cluster : Cluster) (s : Situation) (a : Actor) (sound : IsSound cluster s) (kept : List Unsent) (are : AreKeptSteps cluster s a kept) where
@@ -146,7 +147,7 @@ module _ (cluster : Cluster) (s : Situation) (a : Actor) (sound : IsSound cluste
   kept_sent = steps_sent cluster s a events s kept steps (all_sent cluster s a events can)
 
   pub kept_sendable : HasRoom s → AreSendableBehind a kept s
-  kept_sendable room = steps_sendable cluster a events s kept room (sound_standing cluster s sound) (all_may cluster a events s can) steps
+  kept_sendable room = steps_sendable cluster a events s kept sound.few_bodies room (sound_standing cluster s sound) (all_may cluster a events s can) steps
 
   -- ---- the situation behind the restart
 

@@ -102,7 +102,8 @@ module _ {D : Type 0} (port : Ghosts D) (plan : Content) (old : Cluster D) (a : 
   sendable_at s h goes None is = tt
   sendable_at s h goes (Some emitted) is =
       subst (λ (e : Emitted). AreSendable e.out) (sym (is ∙ ap (emits_if (cluster_of plan) (whole s) a) goes.may.act_is))
-      (next_sendable (cluster_of plan) (whole s) a act (sound_standing (cluster_of plan) s h.sound) (may_do (cluster_of plan) (whole s) a (event_in s event) act goes.may) (few_whole s (h.room, h.past.within.few)))
+      (next_sendable (cluster_of plan) (whole s) a act (sound_standing (cluster_of plan) s h.sound) (may_do (cluster_of plan) (whole s) a (event_in s event) act goes.may) h.sound.few_bodies
+      (few_whole s (h.room, h.past.within.few)))
 
   -- no count falls
   pub taken_counted : (new : List (Slot D)) (new_slot : Slot D) → new ≡ set old.slots.items a.0 new_slot → faults_in port slot ≤ faults_in port new_slot

@@ -1,6 +1,6 @@
 //! A cluster over actors that stand already.
 ghost use Rattle.std.specs.Prelude.{◌≡◌, List, reverse, IfOk};
-ghost use Rattle.acc_run_laws.specs.Sends.{AreFew};
+ghost use Rattle.acc_run_laws.specs.Sends.{AreFew, HasFewBodies};
 ghost use Rattle.acc_safety.specs.Valid.{IsStanding};
 ghost use Rattle.acc_schedule_runs.specs.Situations.{Stopped};
 ghost use Rattle.acc_schedule_runs.specs.Schedules.{cluster_of};
@@ -65,7 +65,7 @@ fn placed<D: Rig + Drop>(alloc: Global, slots: Slots<D>) -> Result<Vec<Slot<D>>,
 
 // The past of these items.
 fn history_over(alloc: Global, plan: &Plan, items: GrowingItems) -> Result<History, OutOfMemory>
-    requires { IsStanding (cluster_of plan.now) (reverse items.items) × AreFew (reverse items.items) }
+    requires { IsStanding (cluster_of plan.now) (reverse items.items) × HasFewBodies (cluster_of plan.now) × AreFew (reverse items.items) }
     ensures { IfOk result (λ history. (stopped : List Stopped) → IsHistoryOver items.items stopped history) }
 {
     stopped_steps_are_apart();

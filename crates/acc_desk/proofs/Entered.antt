@@ -235,7 +235,7 @@ module _ {D : Type 0} (port : Ghosts D) (strict_run : Bool) (plan : Content) (a 
         ∙ ap (λ l. emits (cluster_of plan) l a h.could.0.0) (sym (alone_whole items h.stopped)) in
         subst (λ (m : Emitted). AreSendable m.out) (sym emitted)
         (next_sendable (cluster_of plan) (whole now) a h.could.0.0 (sound_standing (cluster_of plan) now h.serving.sound)
-        (record { event = event_in now event; act_is = may_now.act_is; place = may_now.place }) (subst AreFew (sym (alone_whole items h.stopped)) few))
+        (record { event = event_in now event; act_is = may_now.act_is; place = may_now.place }) h.serving.sound.few_bodies (subst AreFew (sym (alone_whole items h.stopped)) few))
 
     pub first_short : AreFew items → All IsShortMessage (sent_in first_item)
     first_short few = (sendable few).short

@@ -104,7 +104,7 @@ module _ {D : Type 0} (port : Ghosts D) (strict_run : Bool) (plan : Content) (a 
   sendable emitted is =
       subst (λ (e : Emitted). AreSendable e.out) (sym (is ∙ ap (emits_if (cluster_of plan) (whole here) a) may_here.act_is))
       (next_sendable (cluster_of plan) (whole here) a act (sound_standing (cluster_of plan) here at.serving.sound)
-      (record { event = event_in here event; act_is = may_here.act_is; place = may_here.place }) (few_whole here (few_alone items at.stopped few)))
+      (record { event = event_in here event; act_is = may_here.act_is; place = may_here.place }) at.serving.sound.few_bodies (few_whole here (few_alone items at.stopped few)))
 
   pub item_short : (given : Option Emitted) → IsEmitted (cluster_of plan) here a event given → All IsShortMessage (sent_in (item_of a event given))
   item_short None is = λ k d low. absurd (omega arith)

@@ -153,6 +153,13 @@ module _ {D : Type 0} (port : Ghosts D) (layout : Layout) (old : NodeActor D) (n
       let up : IsUp layout may.number may.start may.version may.past n = up_in layout may.number may.start may.version may.past old.state n is (may.stands.up sound) in
       record { low = low_now layout may.number may.start may.version may.past n up may.low; fresh = begun_up layout may.number may.start may.version may.past n up txn ∙ may.fresh }
 
+  -- the id of what it began
+  pub tells_id : (txn : ℕ) (r : Option TxnId) → ((acts : List Act) → durable.StandsFor layout n acts → r ≡ begun_id n.number n.start txn (node_replay layout n.number n.start acts))
+      → (number start version : ℕ) (past : Past Act) → StandsFor port layout number start version past old → r ≡ begun_id number start txn (done layout number start past)
+  tells_id txn r is_id number start version past stands =
+      let up : IsUp layout number start version past n = up_in layout number start version past old.state n is (stands.up sound) in
+      own_fact layout number start version past n (λ a b deeds. r ≡ begun_id a b txn deeds) up (is_id past.acts up.stands)
+
   pub can_recover : MayRecover port layout old → durable.IsLow n.node.clock
   can_recover may = low_now layout may.number may.start may.version may.past n (up_in layout may.number may.start may.version may.past old.state n is (may.stands.up sound)) may.low
 

@@ -4,7 +4,7 @@ ghost use Rattle.acc_topology.specs.Layout.{Layout};
 ghost use Rattle.acc_ports.specs.Disk.{CrashLeaves};
 ghost use Rattle.acc_ports.specs.Faults.{CountsFaults};
 ghost use Rattle.acc_message.specs.Fields.{top_of};
-ghost use Rattle.acc_message.specs.NodeRules.{Act, Takes as TakesMessage};
+ghost use Rattle.acc_message.specs.NodeRules.{Act, Takes as TakesMessage, begun_id};
 ghost use Rattle.acc_node.specs.declared.error.NodeError.{NodeError as Refused};
 ghost use Rattle.acc_node.specs.Stands.{may_slow, is_answered};
 ghost use Rattle.acc_payloads.specs.Appends.{fails_append, after_append, passed_in};
@@ -240,6 +240,18 @@ impl<D: Rig> NodeActor<D> {
             NodeState::Open(node) => node.arm(calls),
             NodeState::Shut(disk) => disk.arm(calls),
         }
+    }
+
+    /// The id of the transaction with this number, where the node has begun it. It takes no memory and makes no call of the disk.
+    pub fn id_of(&self, txn: u32) -> Option<TxnId>
+        requires up { is_down self.now ≡ false }
+        ensures { (layout : Layout) (number start version : ℕ) (past : Past Act) → StandsFor D.Disk layout number start version past self.now
+            → result ≡ begun_id number start txn (done layout number start past) }
+    {
+        let NodeState::Open(node) = &self.state else {
+            unreachable!()
+        };
+        node.id_of(txn)
     }
 
     /// Whether it is down.

@@ -9,6 +9,7 @@ use Rattle.acc_message.specs.Items.{same_actor}
 use Rattle.acc_message.specs.NodeRules.{Act}
 use Rattle.acc_message.specs.Run.{Cluster, EachStands, kept_of, is_down, IsRun}
 use Rattle.acc_safety.specs.Valid.{IsValidCluster}
+use Rattle.acc_run_laws.specs.Sends.{HasFewBodies}
 use Rattle.acc_safety.proofs.Bridge.{same}
 use Rattle.acc_schedule.specs.Actors.{actors}
 use Rattle.acc_schedule.specs.Content.{Content}
@@ -74,7 +75,8 @@ stand_of plan items one a h = (can plan (alone items one) h a, h.untaken a, (h.s
 none_stands : (cluster : Cluster) (items : List Item) (a : Actor) → StillStand cluster items a []
 none_stands cluster items a = (tt, tt, tt, omega arith)
 
-module _ (plan : Content) (items : List Item) (stopped : List Stopped) (valid : IsValidCluster (cluster_of plan)) (free : IsFreeRun plan items) where
+module _ (plan : Content) (items : List Item) (stopped : List Stopped) (valid : IsValidCluster (cluster_of plan)) (few_bodies : HasFewBodies (cluster_of plan))
+    (free : IsFreeRun plan items) where
   pub serving_of : ((a : Actor) → StillStand (cluster_of plan) items a (stopped_at a stopped)) → IsServing plan (alone items stopped)
   serving_of each =
       let cluster : Cluster = cluster_of plan in
@@ -84,6 +86,7 @@ module _ (plan : Content) (items : List Item) (stopped : List Stopped) (valid : 
         dropped = refl;
         sound = record {
           valid = valid;
+          few_bodies = few_bodies;
           run = subst (IsRun cluster) whole_is free.run;
           stopped = λ a. (
             each_weaker (CanGoOn cluster items a) (λ (event : Event). CanGoOn cluster (whole (alone items stopped)) a (event_in (alone items stopped) event))
@@ -116,7 +119,7 @@ module _ (plan : Content) (items : List Item) (stopped : List Stopped) (valid : 
 pub serving_over : (plan : Content) (seen others : List Item) (a : Actor) (stopped : List Stopped) → AreOthers a others → AreStopsOf a stopped
     → IsFreeRun plan (others ++ seen) → IsServing plan (alone seen stopped) → IsServing plan (alone (others ++ seen) stopped)
 serving_over plan seen others a stopped apart stops free h =
-    serving_of plan (others ++ seen) stopped h.sound.valid free (λ b. by b (same_actor a b) refl)
+    serving_of plan (others ++ seen) stopped h.sound.valid h.sound.few_bodies free (λ b. by b (same_actor a b) refl)
   where
     cluster : Cluster
     cluster = cluster_of plan

@@ -13,6 +13,7 @@ use Rattle.acc_message.specs.NodeRules.{Act}
 use Rattle.acc_message.specs.Run.{Cluster, Stands, kept_of, is_down, IsRun}
 use Rattle.acc_safety.specs.Calm.{event_takes, item_takes}
 use Rattle.acc_safety.specs.Valid.{IsValidCluster}
+use Rattle.acc_run_laws.specs.Sends.{HasFewBodies}
 use Rattle.acc_safety.proofs.Bridge.{same}
 use Rattle.acc_payloads.specs.Items.{is_item_of}
 use Rattle.acc_schedule.specs.Actors.{actors}
@@ -69,12 +70,12 @@ pub each_both : (P Q R : Event → Type 0) (events : List Event) → ((event : E
 each_both P Q R [] f p q = tt
 each_both P Q R (event ∷ events) f p q = (f event p.0 q.0, each_both P Q R events f p.1 q.1)
 
-pub serving_begins : (plan : Content) → IsValidCluster (cluster_of plan) → IsServing plan (opened [])
-serving_begins plan valid =
+pub serving_begins : (plan : Content) → IsValidCluster (cluster_of plan) → HasFewBodies (cluster_of plan) → IsServing plan (opened [])
+serving_begins plan valid few_bodies =
     record {
       earlier = refl;
       dropped = refl;
-      sound = sound_opened (cluster_of plan) [] valid (nothing_fits plan).run;
+      sound = sound_opened (cluster_of plan) [] valid few_bodies (nothing_fits plan).run;
       free = nothing_fits plan;
       untaken = λ a. tt;
       few = λ a. omega arith;

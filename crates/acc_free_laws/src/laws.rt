@@ -32,7 +32,7 @@ ghost use Rattle.acc_free_laws.specs.Serving.{IsServing, MayStop, HasGone, AreSt
 ghost use Rattle.acc_free_laws.specs.Served.{IsServed, IsQuiet, HasNoRecover, IsBegunIn};
 
 use acc_calm::laws::calm;
-use acc_plan_laws::laws::plans_are_valid;
+use acc_plan_laws::laws::{plans_are_valid, plans_have_few_bodies};
 use acc_run_laws::receivers::{messages_go_to_actors, nodes_are_actors};
 
 /// No items are a free run, and of every actor all commands are left.
@@ -42,6 +42,7 @@ pub fn free_runs_begin()
     ensures gone { (plan : Content) (a : Actor) → HasGone plan (alone [] []) a (commands_of plan a) }
 {
     plans_are_valid();
+    plans_have_few_bodies();
 }
 
 /// The items of other actors change nothing for an actor: what its next entry would be, whether it may be taken, and whether its message
@@ -104,6 +105,7 @@ pub fn turns_go_by()
         stopped_at a other ≡ stopped_at a stopped → HasGone plan (alone items stopped) a left → HasGone plan (alone items other) a left }
 {
     plans_are_valid();
+    plans_have_few_bodies();
 }
 
 /// What entering something makes of a cluster that was opened behind nothing.

@@ -15,7 +15,7 @@ use Rattle.acc_message.specs.declared.entry.Emitted.{Emitted}
 use Rattle.acc_message.specs.declared.note.Note.TheVariants.{Begin as BeginNote, Recover as RecoverNote}
 use Rattle.acc_message.specs.Coordinator.{begun, recovering, ask_for_votes, ask_for_views}
 use Rattle.acc_message.specs.NodeRules.{Act, Begins, Recovers, Deed, clock_of, next_draw, next_id, next_ballot, node_emits, node_replay}
-use Rattle.acc_safety_laws.proofs.Draws.{node_of_draw, not_zero}
+use Rattle.acc_safety.proofs.Draws.{node_of_draw, not_zero}
 use Rattle.acc_node.specs.declared.node.Node.{Node}
 use Rattle.acc_node.specs.declared.running.Running.{Running}
 use Rattle.acc_node.specs.Stands.{RunsAs, StandsFor}

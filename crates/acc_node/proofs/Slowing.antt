@@ -18,7 +18,7 @@ use Rattle.acc_message.specs.Coordinator.{Reaction, when, slow_down, slow_reacti
 use Rattle.acc_message.specs.NodeRules.{Act, Slows, Deed, begun_id, is_open, attempt_of, next_by, where_about, emitted_by, node_emits, node_replay}
 use Rattle.acc_actor_laws.proofs.PhaseFacts.{first_has_zero}
 use Rattle.acc_safety.proofs.Attempted.{origin_of}
-use Rattle.acc_safety_laws.proofs.Draws.{origin_home}
+use Rattle.acc_safety.proofs.Draws.{origin_home}
 use Rattle.acc_coord.specs.Stands.{is_voting_phase}
 use Rattle.acc_node.specs.declared.error.NodeError.{NodeError}
 use Rattle.acc_node.specs.declared.node.Node.{Node}

@@ -19,6 +19,7 @@ use Rattle.acc_safety.specs.Valid.{IsValidCluster, IsStanding}
 use Rattle.acc_safety.proofs.Bridge.{same}
 use Rattle.acc_run_laws.specs.Asks.{emits_if}
 use Rattle.acc_run_laws.specs.AskLaws.{IsLostOf, with_entries, AreLostOf, restart_at}
+use Rattle.acc_run_laws.specs.Sends.{HasFewBodies}
 use Rattle.acc_run_laws.proofs.LostFacts.{skip_is_run, down_is_run, restart_is_run}
 use Rattle.acc_payloads.specs.Items.{payload_by}
 use Rattle.acc_schedule_runs.specs.Situations.{Situation, opened, raised, whole, stopped_at}
@@ -37,8 +38,8 @@ module _ (cluster : Cluster) where
   pub sound_standing : (s : Situation) → IsSound cluster s → IsStanding cluster (whole s)
   sound_standing s h = record { valid = h.valid; stands = h.run.stands }
 
-  pub sound_opened : (earlier : List Item) → IsValidCluster cluster → IsRun cluster earlier → IsSound cluster (opened earlier)
-  sound_opened earlier valid run = record { valid = valid; run = run; stopped = λ a. (tt, tt) }
+  pub sound_opened : (earlier : List Item) → IsValidCluster cluster → HasFewBodies cluster → IsRun cluster earlier → IsSound cluster (opened earlier)
+  sound_opened earlier valid few_bodies run = record { valid = valid; few_bodies = few_bodies; run = run; stopped = λ a. (tt, tt) }
 
   -- ---- one item more
 
@@ -49,6 +50,7 @@ module _ (cluster : Cluster) where
   sound_item s item run other h =
       record {
         valid = h.valid;
+        few_bodies = h.few_bodies;
         run = run;
         stopped = λ a. (
           each_weaker _ (λ (event : Event). CanGoOn cluster (whole (with_item item s)) a (event_in s event)) (stopped_at a s.stopped)
@@ -67,7 +69,7 @@ module _ (cluster : Cluster) where
 
   pub sound_dropped : (s : Situation) (message : ℕ) → IsSound cluster s
       → IsSound cluster (record { earlier = s.earlier; own = s.own; dropped = message ∷ s.dropped; stopped = s.stopped })
-  sound_dropped s message h = record { valid = h.valid; run = h.run; stopped = h.stopped }
+  sound_dropped s message h = record { valid = h.valid; few_bodies = h.few_bodies; run = h.run; stopped = h.stopped }
 
   -- another actor is up
   up_is_other : (items : List Item) (a b : Actor) → is_down a items ≡ false → is_down b items ≡ true → not (same_actor a b) ≡ true
@@ -88,7 +90,7 @@ module _ (cluster : Cluster) where
       → AllByRecursion (λ (event : Event). (act : Act) × MayTake cluster (whole s) a (event_in s event) act × (is_journalled a event ≡ true)) events
       → AreDifferent events → IsSound cluster s → IsSound cluster (stopped_by a events s)
   sound_stopped s a events may different h =
-      record { valid = h.valid; run = down.run; stopped = λ b. by_stops (CanAllGoOn cluster (with_item (Down a) s) b) a b s.stopped events (own b) (λ is. down.stopped b) }
+      record { valid = h.valid; few_bodies = h.few_bodies; run = down.run; stopped = λ b. by_stops (CanAllGoOn cluster (with_item (Down a) s) b) a b s.stopped events (own b) (λ is. down.stopped b) }
     where
       down : IsSound cluster (with_item (Down a) s)
       down = sound_down s a h
@@ -195,6 +197,7 @@ module _ (cluster : Cluster) where
   sound_up s a kept can h =
       record {
         valid = h.valid;
+        few_bodies = h.few_bodies;
         run = run;
         stopped = λ b. by_without (CanAllGoOn cluster (entered cluster between a (RestartEvent (length kept)) false) b) a b s.stopped (λ is. (tt, tt)) (later b);
       }

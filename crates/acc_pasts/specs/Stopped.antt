@@ -9,6 +9,7 @@ use Rattle.acc_message.specs.Items.{same_actor}
 use Rattle.acc_message.specs.NodeRules.{Act}
 use Rattle.acc_message.specs.Run.{Cluster, act_of, is_down, IsRun}
 use Rattle.acc_safety.specs.Valid.{IsValidCluster}
+use Rattle.acc_run_laws.specs.Sends.{HasFewBodies}
 use Rattle.acc_schedule_runs.specs.Situations.{Situation, whole, stopped_at}
 use Rattle.acc_schedule_runs.specs.Moves.{event_in, is_journalled}
 use Rattle.acc_pasts.specs.Entries.{emitted_for, payload_for, entering, MayTake}
@@ -35,9 +36,10 @@ AreDifferent (event ∷ events) = AllByRecursion (λ (other : Event). event ≢ 
 abbrev pub CanAllGoOn : Cluster → Situation → Actor → List Event → Type 0
 CanAllGoOn cluster s a events = AllByRecursion (λ (event : Event). CanGoOn cluster (whole s) a (event_in s event)) events × AreDifferent events
 
--- The whole past of a valid cluster is a run, and the steps that were stopped can still be entered.
+-- The whole past of a valid cluster whose messages fit their format is a run, and the steps that were stopped can still be entered.
 pub record IsSound (cluster : Cluster) (s : Situation) : Type 0 where
   pub valid : IsValidCluster cluster
+  pub few_bodies : HasFewBodies cluster
   pub run : IsRun cluster (whole s)
   pub stopped : (a : Actor) → CanAllGoOn cluster s a (stopped_at a s.stopped)
 

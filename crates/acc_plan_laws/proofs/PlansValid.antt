@@ -1,4 +1,4 @@
--- The cluster of a plan is valid.
+-- The cluster of a plan is valid, and has few transactions.
 use Rattle.std.proofs.Common.{◌≡◌, ℕ, ◌≤◌, true, List, length, sym, ◌∙◌, ap, subst}
 use Rattle.std.specs.List.{AllByRecursion}
 use Rattle.std.proofs.lemmas.List.{length-map}
@@ -6,6 +6,7 @@ use Rattle.acc_topology.specs.declared.given.NodeSpec.{NodeSpec}
 use Rattle.acc_topology.specs.Faults.{ids}
 use Rattle.acc_topology.specs.Sets.{is_among, in_order}
 use Rattle.acc_safety.specs.Valid.{AreStarts, IsValidCluster}
+use Rattle.acc_run_laws.specs.Sends.{HasFewBodies}
 use Rattle.acc_schedule.specs.Content.{Content}
 use Rattle.acc_schedule.specs.Plan.{IsPlan}
 use Rattle.acc_schedule_runs.specs.Schedules.{cluster_of}
@@ -32,6 +33,8 @@ module _ (plan : Content) (h : IsPlan plan) where
         starts = starts_are;
         homes = h.homes_known;
         as_many = h.homes_as_many ∙ sym h.bodies_as_many;
-        few = subst (λ n. n ≤ 10000) (sym h.bodies_as_many) h.few;
         bodies = h.bodies;
       }
+
+  pub plan_is_small : HasFewBodies (cluster_of plan)
+  plan_is_small = subst (λ n. n ≤ 10000) (sym h.bodies_as_many) h.few

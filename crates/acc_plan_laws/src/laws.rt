@@ -8,6 +8,7 @@ ghost use Rattle.acc_safety.specs.Calm.{EachBegunIsAnswered};
 ghost use Rattle.acc_safety.specs.Coverage.{Coverage};
 ghost use Rattle.acc_safety.specs.SerialOutcomes.{SerialOutcomes};
 ghost use Rattle.acc_safety.specs.Valid.{IsValidCluster};
+ghost use Rattle.acc_run_laws.specs.Sends.{HasFewBodies};
 ghost use Rattle.acc_report.specs.Report.{is_begin, is_reply, last_line};
 ghost use Rattle.acc_report_line.specs.declared.line.Line.{Line};
 ghost use Rattle.acc_schedule.specs.Content.{Content};
@@ -19,10 +20,15 @@ ghost use Rattle.acc_schedule_runs.specs.StrictSchedules.{ObeysStrictly};
 
 use acc_calm::laws::calm;
 
-/// The cluster of a plan is valid: the layout is one that is accepted, each node has its start, each transaction has its home and a body
-/// that keeps the rules of bodies, and there aren't too many.
+/// The cluster of a plan is valid: the layout is one that is accepted, each node has its start, and each transaction has its home and a
+/// body that keeps the rules of bodies.
 pub fn plans_are_valid()
     ensures { (plan : Content) → IsPlan plan → IsValidCluster (cluster_of plan) }
+{}
+
+/// A plan has at most 10,000 transactions, so that its cluster's messages fit their format.
+pub fn plans_have_few_bodies()
+    ensures { (plan : Content) → IsPlan plan → HasFewBodies (cluster_of plan) }
 {}
 
 /// Whatever the disks answer, items that obey a plan are a safe run: two decisions of a transaction have one timestamp and those of

@@ -1,6 +1,7 @@
 mod Actors
 pub mod Alone
 mod Bodies
+mod Cases
 pub mod Called
 mod Data
 pub mod Forms

@@ -39,15 +39,10 @@ use Rattle.acc_schedule_runs.specs.Moves.{Answers, fails_in, is_journalled, trie
 use Rattle.acc_schedule_runs.specs.Schedules.{Follows, cluster_of}
 use Rattle.acc_schedule_runs.proofs.OneStop.{StopsOne, one_stopped, one_reopened}
 use Rattle.acc_report_line.specs.Forms.{IsActor, IsCount}
-use Rattle.acc_report_laws.specs.Fits.{SkipFits, EventFits}
+use Rattle.acc_report_laws.specs.Fits.{SkipFits, EventFits, PartsFit}
 use Rattle.acc_report_laws.specs.Numbers.{NumbersMessage}
 use Rattle.acc_report_laws.proofs.Actors.{actor_formed}
 use Rattle.acc_report_laws.proofs.Sent.{sent_before}
-
-abbrev pub ItemIsPlaced : List (List ℕ) → Item → Type 0
-ItemIsPlaced names (StepItem e) = EventFits e.actor e.event
-ItemIsPlaced names (Skipped step cause) = IsCount step × SkipFits names cause
-ItemIsPlaced names (Down actor) = IsActor actor
 
 -- ---- events
 
@@ -133,7 +128,7 @@ module _ (cluster : Cluster) (answers : Answers) where
   next_grows number (Fail actor calls) s next is = subst (λ (t : Situation). IsPast s.own t.own) (sym is) (Whole s.own)
   next_grows number Drain s next drains = drains_grow next s drains
 
-  follows_grow : (number : ℕ) (steps : List Step) (s last : Situation) → Follows cluster answers number steps s last → IsPast s.own last.own
+  pub follows_grow : (number : ℕ) (steps : List Step) (s last : Situation) → Follows cluster answers number steps s last → IsPast s.own last.own
   follows_grow number [] s last is = subst (λ (t : Situation). IsPast s.own t.own) (sym is) (Whole s.own)
   follows_grow number (step ∷ steps) s last follows =
       IsPast-trans s.own follows.0.own last.own (next_grows number step s follows.0 follows.1) (follows_grow (number + 1) steps follows.0 last follows.2)
@@ -147,7 +142,7 @@ there_is xs i less = ⊎_elim (λ found. (found.0, found.2)) (λ past. absurd (b
     beyond p q = omega arith
 
 pub record Placed (names : List (List ℕ)) (s : Situation) : Type 0 where
-  pub items : AllByRecursion (ItemIsPlaced names) s.own
+  pub items : AllByRecursion (PartsFit names) s.own
   pub stopped : ArePlain s.stopped
   pub one : StopsOne s
 
@@ -246,8 +241,8 @@ module _ (plan : Content) (answers : Answers) (h : IsPlan plan) (last : List Ite
   dropped_placed (Some cause) number s message skip count fine = record { items = ((count, skip), fine.items); stopped = fine.stopped; one = fine.one }
   dropped_placed None number s message skip count fine = record { items = fine.items; stopped = fine.stopped; one = fine.one }
 
-  all_placed : (s : Situation) (a : Actor) (events : List Event) → IsPlain events → AllByRecursion (ItemIsPlaced plan.names) s.own
-      → AllByRecursion (ItemIsPlaced plan.names) (entered_all cluster s a events true).own
+  all_placed : (s : Situation) (a : Actor) (events : List Event) → IsPlain events → AllByRecursion (PartsFit plan.names) s.own
+      → AllByRecursion (PartsFit plan.names) (entered_all cluster s a events true).own
   all_placed s a [] plain items = items
   all_placed s a (event ∷ events) plain items =
       all_placed (entered cluster s a event true) a events plain.1 (plain_event a event plain.0, items)

@@ -1,6 +1,7 @@
 -- Items that a report can tell: each transaction in them is known by its number, which has a name, and their other parts are
 -- such as lines may have.
 --     IsKnown names numbers x      the id has a number, and the number a name
+--     PartsFit names item      what the item has besides its notes can be told
 --     ItemFits names numbers item      the item can be told
 --     ItemsFit names roll items      each of the items can, by the numbers of the roll and of their begins
 use Rattle.std.specs.Prelude.{ℕ, ◌<◌, List, length, Option, None, Some}
@@ -52,6 +53,12 @@ EventFits actor (Recovers txn) = Unit {0}
 EventFits actor (GoesSlow txn) = Unit {0}
 EventFits actor (Takes number) = Unit {0}
 EventFits actor (Restarts kept) = IsActor actor × IsCount kept
+
+-- what is told of the item besides its notes: a restart, why a step was passed over, an actor that went down
+abbrev pub PartsFit : List (List ℕ) → Item → Type 0
+PartsFit names (Step e) = EventFits e.actor e.event
+PartsFit names (Skipped step cause) = IsCount step × SkipFits names cause
+PartsFit names (WentDown actor) = IsActor actor
 
 abbrev pub ItemFits : List (List ℕ) → (TxnId → Option ℕ) → Item → Type 0
 ItemFits names numbers (Step e) = EventFits e.actor e.event × AllByRecursion (NoteFits names numbers) e.emitted.notes

@@ -17,6 +17,7 @@ use Rattle.acc_message.specs.declared.item.Item.{Item}
 use Rattle.acc_message.specs.Run.{clock_start, is_node}
 use Rattle.acc_payloads.specs.Items.{without_marks}
 use Rattle.acc_safety.specs.Valid.{IsValidCluster}
+use Rattle.acc_run_laws.specs.Sends.{HasFewBodies}
 use Rattle.acc_safety.specs.Places.{IsIn}
 use Rattle.acc_safety.proofs.PlaceOrder.{each_from, map-IsIn, IsIn-append_right, IsIn-Contains}
 use Rattle.acc_schedule.specs.Actors.{actors, stores_from}
@@ -156,10 +157,10 @@ module _ {D : Type 0} (port : Ghosts D) (plan : Content) where
         each = λ a there. subst (λ (l : List Actor). Contains l a) (sym all) there;
       }
 
-  pub no_item : (nodes : List (DurableNode D)) (stores : List (DurableStore D)) → IsValidCluster (cluster_of plan) → AreFreshNodes port plan nodes → AreFreshStores port plan stores
+  pub no_item : (nodes : List (DurableNode D)) (stores : List (DurableStore D)) → IsValidCluster (cluster_of plan) → HasFewBodies (cluster_of plan) → AreFreshNodes port plan nodes → AreFreshStores port plan stores
       → IsEarlier plan nodes stores []
-  no_item nodes stores valid ns ts = record {
-    sound = sound_opened (cluster_of plan) [] valid (record { stands = tt; lost = λ a. refl; downs = refl });
+  no_item nodes stores valid few ns ts = record {
+    sound = sound_opened (cluster_of plan) [] valid few (record { stands = tt; lost = λ a. refl; downs = refl });
     room = omega arith;
     up = λ a. refl;
     nodes_did = each_weaker (IsFreshNode port plan) (HasDone plan []) nodes (λ n f. f.did_nothing) ns.each;

@@ -17,7 +17,7 @@ use acc_base::OutOfMemory;
 use acc_cluster::Cluster;
 use acc_durable_node::DurableNode;
 use acc_durable_store::DurableStore;
-use acc_plan_laws::laws::plans_are_valid;
+use acc_plan_laws::laws::{plans_are_valid, plans_have_few_bodies};
 use acc_ports::DiskMaker;
 use acc_schedule::Plan;
 use acc_stamp::actor;
@@ -41,6 +41,7 @@ where
     ensures kind { M.strict disks.new ≡ M.strict disks.old }
 {
     plans_are_valid();
+    plans_have_few_bodies();
     let nodes = fresh_nodes(alloc, plan, disks)?;
     let stores = fresh_stores(alloc, plan, disks)?;
     Cluster::of(alloc, plan, nodes, stores)

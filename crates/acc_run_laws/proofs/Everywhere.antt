@@ -21,6 +21,7 @@ use Rattle.acc_safety.proofs.SetsNamed.{deps_are_sets}
 use Rattle.acc_message_code.specs.Short.{IsShortMessage}
 use Rattle.acc_run_laws.specs.Next.{MayDo, sends_next}
 use Rattle.acc_run_laws.specs.Heights.{most_h, AreLow}
+use Rattle.acc_run_laws.specs.Sends.{HasFewBodies}
 use Rattle.acc_run_laws.proofs.Bounded.{IsLow, bounded_top}
 use Rattle.acc_run_laws.proofs.StoreBounds.{greatest_h_low}
 use Rattle.acc_run_laws.proofs.Begun.{begun_of, begun_few}
@@ -45,13 +46,13 @@ module _ (cluster : Cluster) (items : List Item) (standing : IsStanding cluster 
         (took_bounded cluster standing.valid items standing.stands stage a) (sent_bounded cluster standing.valid items standing.stands stage a);
   }
 
-  pub is_short : (m : Message) → Sending items m → IsShortMessage m
-  is_short m sending =
+  pub is_short : HasFewBodies cluster → (m : Message) → Sending items m → IsShortMessage m
+  is_short bodies m sending =
       short_message (begun_of items) (few (length (begun_of items)) (begun_few cluster items standing.stands)) (most_h items) m
       ((deps_are_sets cluster items standing.stands).messages m sending) (stage.messages m sending)
     where
       few : (n : ℕ) → n ≤ length cluster.bodies → n ≤ 10000
-      few n le = let bodies = standing.valid.few in omega (arith, le, bodies)
+      few n le = omega (arith, le, bodies)
 
 -- ---- what comes next
 
@@ -82,8 +83,8 @@ module _ (cluster : Cluster) (items : List Item) (a : Actor) (act : Act) (standi
       entry stands_next m there in
       bounded_top (most_h items + 1) (begun_of (Step entry ∷ items)) m new)
 
-  pub next_short : All IsShortMessage (sends_next cluster items a act)
-  next_short =
+  pub next_short : HasFewBodies cluster → All IsShortMessage (sends_next cluster items a act)
+  next_short bodies =
       all_from IsShortMessage (sends_next cluster items a act)
       (λ m there.
-      is_short cluster (Step entry ∷ items) standing_next m (sending_next m there))
+      is_short cluster (Step entry ∷ items) standing_next bodies m (sending_next m there))

@@ -17,7 +17,7 @@ use Rattle.acc_actor_laws.specs.TakenAlone.{messages_taken}
 use Rattle.acc_safety.specs.RunLaws.{acts_done}
 use Rattle.acc_message_code.specs.Short.{IsShortMessage}
 use Rattle.acc_run_laws.specs.Next.{MayDo}
-use Rattle.acc_run_laws.specs.Sends.{AreSendable}
+use Rattle.acc_run_laws.specs.Sends.{HasFewBodies, AreSendable}
 
 -- what the actor did, as a replay of what it took
 abbrev pub replayed_deeds : Cluster → Actor → List Item → List Deed
@@ -29,7 +29,7 @@ pub record NodeMeets (cluster : Cluster) (items : List Item) (a : Actor) : Type 
   pub drawn : (clock_of (node_of a) (clock_start cluster.starts (node_of a)) (replayed_deeds cluster a items)).drawn < 2 ^ 62
   pub seen : (clock_of (node_of a) (clock_start cluster.starts (node_of a)) (replayed_deeds cluster a items)).seen < 2 ^ 62
   pub sends :
-      (act : Act) → MayDo cluster items a act
+      HasFewBodies cluster → (act : Act) → MayDo cluster items a act
       → AreSendable
       (node_emits cluster.layout (node_of a) (clock_start cluster.starts (node_of a)) (replayed_deeds cluster a items) act).out
 
@@ -40,7 +40,7 @@ replayed_steps cluster a items = messages_taken (taken_of cluster a items)
 pub record StoreMeets (cluster : Cluster) (items : List Item) (a : Actor) : Type 0 where
   pub greatest : greatest_h a (replay cluster.layout a (replayed_steps cluster a items)) < 2 ^ 62
   pub sends :
-      (m : Message) → MayDo cluster items a (Takes m)
+      HasFewBodies cluster → (m : Message) → MayDo cluster items a (Takes m)
       → AreSendable (store_answer cluster.layout a (replay cluster.layout a (replayed_steps cluster a items)) m)
 
 -- a message that is there to be taken: who it goes to may take it, and where this is a store it brings a body, which is all that
@@ -48,5 +48,5 @@ pub record StoreMeets (cluster : Cluster) (items : List Item) (a : Actor) : Type
 pub record IsDeliverable (cluster : Cluster) (items : List Item) (m : Message) : Type 0 where
   pub may : MayDo cluster items (to_of m) (Takes m)
   pub top : top_of m < 2 ^ 62
-  pub short : IsShortMessage m
+  pub short : HasFewBodies cluster → IsShortMessage m
   pub brings : is_node (to_of m) ≡ false → IsTrue (is_some (body_in m))

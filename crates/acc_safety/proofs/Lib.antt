@@ -18,3 +18,4 @@ pub mod Polled
 pub mod Replays
 pub mod BegunBefore
 pub mod Underway
+pub mod Draws

@@ -14,14 +14,13 @@ pub record AreStarts (layout : Layout) (starts : List NodeSpec) : Type 0 where
   pub only : AllByRecursion (λ (s : NodeSpec). IsTrue (is_among layout.nodes s.id)) starts
   pub clocks : AllByRecursion (λ (s : NodeSpec). s.clock ≤ 1000000000000) starts
 
--- the layout is one that is accepted, each node has its start, each transaction has a home, which is a node, and a body that
--- keeps its rules, and there aren't too many
+-- the layout is one that is accepted, each node has its start, and each transaction, of which there may be any number, has a home,
+-- which is a node, and a body that keeps its rules
 pub record IsValidCluster (cluster : Cluster) : Type 0 where
   pub layout : IsLayout cluster.layout
   pub starts : AreStarts cluster.layout cluster.starts
   pub homes : AllByRecursion (λ node. IsTrue (is_among cluster.layout.nodes node)) cluster.homes
   pub as_many : length cluster.homes ≡ length cluster.bodies
-  pub few : length cluster.bodies ≤ 10000
   pub bodies : AllByRecursion IsBody cluster.bodies
 
 -- Items of a valid cluster in which each entry stands on those before it. This alone carries safety: neither the marks of lost

@@ -11,7 +11,6 @@ pub mod Covers
 pub mod Decided
 pub mod Decisions
 pub mod Drawn
-pub mod Draws
 pub mod EveryRun
 pub mod Facts
 pub mod FastCovers

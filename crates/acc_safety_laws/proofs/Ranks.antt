@@ -21,7 +21,7 @@ use Rattle.acc_safety.specs.Attempted.{Origin, FromBegin, FromRecover}
 use Rattle.acc_safety.proofs.PlaceOrder.{StandsAt-whole}
 use Rattle.acc_safety.proofs.NodeMoved.{attempt_moves}
 use Rattle.acc_safety.proofs.Attempted.{origin_of}
-use Rattle.acc_safety_laws.proofs.Draws.{IsDraw, DrawsId, DrawsBallot, draw_differs, not_zero}
+use Rattle.acc_safety.proofs.Draws.{IsDraw, DrawsId, DrawsBallot, draw_differs, not_zero}
 
 abbrev pub rank : Phase → ℕ
 rank Voting = 0

@@ -34,7 +34,7 @@ use Rattle.acc_safety.proofs.PlaceOrder.{in_order, StandsAt-IsPast, StandsAt-who
 use Rattle.acc_safety.proofs.Bridge.{each_emits, emits_at, deeds_of-past, sender, noted_by, node_is_actor}
 use Rattle.acc_safety.proofs.Attempted.{origin_of}
 use Rattle.acc_safety.proofs.Frame.{store_sent, homes_are_one}
-use Rattle.acc_safety_laws.proofs.Draws.{origin_home}
+use Rattle.acc_safety.proofs.Draws.{origin_home}
 use Rattle.acc_safety_laws.proofs.Acts.{Acts, IsLater, IsAccept, IsCommit, accept_sent, commit_sent, later_acts, IsDecision, decided_acts}
 use Rattle.acc_safety_laws.proofs.Ranks.{rank, proposes_low, commits_low, advances}
 

@@ -11,7 +11,8 @@ use Rattle.acc_cluster.proofs.over.history_over.Goals as goal
 pub over-requires : goal.over-requires
 over-requires c = λ before item after parts.
     let cluster = cluster_of c.args.plan.now in
-    seam_follows before item after cluster (subst (λ (l : List Item). IsStanding cluster (reverse l)) parts c.requires.0) (subst (λ (l : List Item). AreFew (reverse l)) parts c.requires.1)
+    seam_follows before item after cluster (subst (λ (l : List Item). IsStanding cluster (reverse l)) parts c.requires.0) c.requires.1
+    (subst (λ (l : List Item). AreFew (reverse l)) parts c.requires.2)
 
 pub returns : goal.returns
 returns c = λ stopped. record {

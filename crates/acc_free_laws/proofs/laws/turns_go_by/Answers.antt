@@ -7,6 +7,7 @@ returns c = record {
   went = went_over;
   serving = serving_over;
   gone = gone_over;
-  together = λ plan items stopped valid free each. serving_together plan items stopped (c.plans_are_valid.ensures plan valid) free each;
+  together = λ plan items stopped valid free each.
+      serving_together plan items stopped (c.plans_are_valid.ensures plan valid) (c.plans_have_few_bodies.ensures plan valid) free each;
   each = gone_each;
 }

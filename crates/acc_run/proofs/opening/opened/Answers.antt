@@ -19,13 +19,15 @@ of-requires-clause-actors g c = fresh_actors g.M.D.Disk c.args.plan.now c.in_ok-
 pub returns-clause-ok : goal.returns-clause-ok
 returns-clause-ok g c =
     let valid = c.plans_are_valid.ensures c.args.plan.now c.requires.is_plan in
-    let none = no_item g.M.D.Disk c.args.plan.now c.in_ok-nodes.nodes.items c.in_ok-stores.stores.items valid c.in_ok-nodes.ensures.ok c.in_ok-stores.ensures.ok in
+    let few = c.plans_have_few_bodies.ensures c.args.plan.now c.requires.is_plan in
+    let none = no_item g.M.D.Disk c.args.plan.now c.in_ok-nodes.nodes.items c.in_ok-stores.stores.items valid few c.in_ok-nodes.ensures.ok c.in_ok-stores.ensures.ok in
     opened_stands g.M.D.Disk c.args.plan.now c.in_ok-nodes.nodes.items c.in_ok-stores.stores.items none c.of.result c.of.ensures.ok
 
 pub returns-clause-strict : goal.returns-clause-strict
 returns-clause-strict g c =
     let valid = c.plans_are_valid.ensures c.args.plan.now c.requires.is_plan in
-    let none = no_item g.M.D.Disk c.args.plan.now c.in_ok-nodes.nodes.items c.in_ok-stores.stores.items valid c.in_ok-nodes.ensures.ok c.in_ok-stores.ensures.ok in
+    let few = c.plans_have_few_bodies.ensures c.args.plan.now c.requires.is_plan in
+    let none = no_item g.M.D.Disk c.args.plan.now c.in_ok-nodes.nodes.items c.in_ok-stores.stores.items valid few c.in_ok-nodes.ensures.ok c.in_ok-stores.ensures.ok in
     λ s.
     opened_stands_strictly g.M.D.Disk c.args.plan.now c.in_ok-nodes.nodes.items c.in_ok-stores.stores.items none
     (record { nodes_are = c.in_ok-nodes.ensures.strict s; stores_are = c.in_ok-stores.ensures.strict (c.in_ok-nodes.ensures.kind ∙ s) }) c.of.result c.of.ensures.strict

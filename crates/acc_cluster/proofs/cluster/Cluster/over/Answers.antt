@@ -11,6 +11,7 @@ history_over-requires g c =
     let stopped = c.requires.standing.0 in
     let over = c.requires.standing.1 in (
       items_standing c.args.plan.now c.args.items.items stopped (sound_standing (cluster_of c.args.plan.now) (behind_items c.args.items.items stopped) over.sound),
+      over.sound.few_bodies,
       few_items (reverse c.args.items.items) over.within,
     )
 
