@@ -5,7 +5,7 @@ ghost use Rattle.acc_index.specs.Noted.{Noted, IsGreatestStamp, rival_stamps, ri
 
 use crate::columns::{Columns, put};
 use crate::order::rising;
-use crate::questions::{all_below, all_of, greatest_and_below};
+use crate::questions::{all_below, all_of, greatest_and_below, greatest_of_all};
 use crate::share::Share;
 use crate::users::{Users, add_all, reserve_all, users_of};
 use acc_base::OutOfMemory;
@@ -63,6 +63,13 @@ impl Index {
         Ok(())
     }
 
+    /// The greatest stamp that was noted of another transaction which conflicts with this one. Takes no memory.
+    pub fn greatest_conflict(&self, id: TxnId, share: &Share) -> Option<Stamp>
+        ensures { IsGreatestStamp (rival_stamps self.now id share.now) result }
+    {
+        greatest_of_all(&self.columns, &self.users, share.pairs(), id)
+    }
+
     /// The other transactions that conflict with this one and whose own stamp is smaller than the bound, rising.
     pub fn known_below(&self, id: TxnId, share: &Share, bound: Stamp) -> Result<Ids, OutOfMemory>
         ensures ids { IfOk result (λ ids. ids ≡ rival_ids_below self.now id share.now bound) }
@@ -75,7 +82,8 @@ impl Index {
     }
 
     /// The greatest stamp that was noted of another transaction which conflicts with this one, and those of these transactions whose
-    /// own stamp is smaller than the bound, rising. The users of a key are looked for once.
+    /// own stamp is smaller than the bound, rising: what `greatest_conflict` and `known_below` answer, with one look for the users of
+    /// a key in place of two.
     pub fn rivals_below(
         &self,
         id: TxnId,

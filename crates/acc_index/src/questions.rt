@@ -58,6 +58,26 @@ pub(crate) fn all_below(
     Ok(found)
 }
 
+/// The greatest stamp of another transaction whose use of a key conflicts.
+pub(crate) fn greatest_of_all(
+    columns: &Columns,
+    users: &HashMap<Key, Users>,
+    uses: &[(Key, bool)],
+    id: TxnId,
+) -> Option<Stamp>
+    requires even { IsEven columns.now }
+    requires in_range { (k : Key) → (w : Bool) → InRange columns.now (places_at users.now k w) }
+    ensures { IsGreatestStamp (stamps_of columns.now (others columns.now id (asked (places_at users.now) uses.now))) result }
+{
+    let mut greatest = None;
+    for (key, writes) in uses {
+        let (writers, readers) = users_of(users, key, *writes);
+        greatest = columns.greatest_of(writers, id, greatest);
+        greatest = columns.greatest_of(readers, id, greatest);
+    }
+    greatest
+}
+
 /// The greatest stamp of another transaction whose use of a key conflicts, and those of them whose own stamp is smaller than the
 /// bound.
 pub(crate) fn greatest_and_below(

@@ -88,8 +88,7 @@ fn flags(alloc: Global, mask: &[bool]) -> Result<String, AllocError> {
 
 /// The greatest stamp of another transaction that conflicts with the sought one, where it uses these keys.
 fn rival(alloc: Global, index: &Index, share: &Share, sought: Stamp) -> Result<String> {
-    let (greatest, _) = index.rivals_below(TxnId(sought), share, sought)?;
-    match greatest {
+    match index.greatest_conflict(TxnId(sought), share) {
         Some(Stamp { h, origin }) => Ok(pair(alloc, Some((h, origin)))?),
         None => Ok(pair(alloc, None)?),
     }
