@@ -1,14 +1,14 @@
 -- How far a drain has come: the invariant of its loop.
-use Rattle.std.proofs.Common.{◌≡◌, ℕ, suc, ◌<◌, ◌≤◌, Bool, true, false, ◌&&◌, List, [], ◌∷◌, Option, None, Contains, length, refl, sym, ◌∙◌, ap, subst, inl, inr, arith}
+use Rattle.std.proofs.Common.{◌≡◌, ◌⊎◌, ℕ, suc, ◌<◌, ◌≤◌, Bool, true, false, ◌&&◌, List, [], ◌∷◌, Option, None, length, refl, sym, ◌∙◌, ap, subst, inl, inr, arith}
 use Rattle.acc_stamp.specs.declared.actors.Actor.{Actor}
 use Rattle.acc_ports.specs.declared.disk.Disk.{Ghosts}
 use Rattle.acc_message.specs.declared.entry.Event.{Event}
 use Rattle.acc_message.specs.declared.entry.Event.TheVariants.{Message as MessageEvent}
 use Rattle.acc_message.specs.declared.error.Which.{Which}
 use Rattle.acc_message.specs.declared.item.Item.{Item}
+use Rattle.acc_message.specs.declared.item.Skip.{Skip}
 use Rattle.acc_message.specs.Run.{Cluster as RunCluster}
 use Rattle.acc_payloads.specs.Items.{downs_in}
-use Rattle.acc_schedule.specs.Actors.{actors}
 use Rattle.acc_schedule.specs.Content.{Content}
 use Rattle.acc_schedule_runs.specs.Situations.{Situation, IsOldestWaiting, NothingWaits, receiver_in}
 use Rattle.acc_schedule_runs.specs.Moves.{Answers, is_journalled, tried_if}
@@ -22,18 +22,16 @@ use Rattle.acc_schedule_runs.specs.Fronts.{Begins, DrainsTo, comes}
 use Rattle.acc_schedule_runs.specs.StrictFronts.{StrictlyDrainsTo, comes as comes_strictly}
 use Rattle.acc_cluster.specs.declared.cluster.Cluster.{Cluster}
 use Rattle.acc_cluster.specs.Stands.{StandsFor, AreStrict, faults_at}
-use Rattle.acc_cluster.specs.Steps.{RoseByDowns}
+use Rattle.acc_cluster.specs.Limits.{NoneFell}
+use Rattle.acc_cluster.specs.Steps.{RoseByDowns, LimitLeaves}
 use Rattle.acc_cluster.specs.Tried.{fails_strictly, HasStepped, HitsLimit, HasDrained, HitsLimitInDrain}
 use Rattle.acc_cluster.proofs.Counts.{at_most, most_on, rose_on}
+use Rattle.acc_cluster.proofs.Limited.{same_downs}
 use Rattle.acc_cluster.proofs.Drained.{one_more, to_the_end, one_more_strictly, to_the_strict_end}
 
 -- a situation over strict disks
 abbrev pub over : Situation → Disks → StrictSituation
 over s disks = record { found = s; disks = disks }
-
--- no count of faults has fallen
-abbrev pub NoneFell : {D : Type 0} → Ghosts D → Content → Cluster D → Cluster D → Type 0
-NoneFell port plan old now = (a : Actor) → Contains (actors plan.topology) a → faults_at port old a ≤ faults_at port now a
 
 -- with some answers, and whatever is answered later
 abbrev pub HasComeBy : RunCluster → Situation → Situation → Answers → Type 0
@@ -75,14 +73,18 @@ next_most is = omega (arith, is)
 begins_same : (front own : List Item) → front ≡ own → Begins front own
 begins_same front own is = record { later = []; items_are = sym is }
 
--- one delivery more, with an answer for it
-come_further : (cluster : RunCluster) (reached s : Situation) (message : ℕ) (fails : Bool) → length s.own ≤ length reached.own → IsOldestWaiting reached message
-    → (fails ≡ true → is_journalled (receiver_in reached message) (MessageEvent message) ≡ true) → (answers : Answers) → HasComeBy cluster reached s answers
-    → HasComeBy cluster (tried_if fails cluster reached (receiver_in reached message) (MessageEvent message)) s answers
-come_further cluster reached s message fails grows oldest may answers come = (
-  other,
-  agree_on answers come.0 other (length s.own) count grows come.1 (agree_behind count come.0 (always fails)),
-  λ more agree. goes more agree (agree count (next_below (longer fails cluster reached a event))).0,
+-- one delivery more, with an answer for it, and the answers so far
+further_from : (cluster : RunCluster) (reached s : Situation) (message : ℕ) (fails : Bool) → length s.own ≤ length reached.own → IsOldestWaiting reached message
+    → (fails ≡ true → is_journalled (receiver_in reached message) (MessageEvent message) ≡ true) → (answers : Answers) → (come : HasComeBy cluster reached s answers)
+    → (further : HasComeBy cluster (tried_if fails cluster reached (receiver_in reached message) (MessageEvent message)) s answers)
+    × AgreeBelow come.0 further.0 (length reached.own)
+further_from cluster reached s message fails grows oldest may answers come = (
+  (
+    other,
+    agree_on answers come.0 other (length s.own) count grows come.1 (agree_behind count come.0 (always fails)),
+    λ more agree. goes more agree (agree count (next_below (longer fails cluster reached a event))).0,
+  ),
+  agree_behind count come.0 (always fails),
 )
   where
     a : Actor
@@ -157,7 +159,7 @@ module _ {D : Type 0} (port : Ghosts D)
               rose_on (faults_at port old b) (faults_at port now b) (faults_at port new b) (downs_in b s.own) (downs_in b come.reached.own) (downs_in b next.own)
               (come.counted b there) (none_fell b there) (come.rose b there) (stepped.rose b there);
           grows = most_on (length s.own) (length come.reached.own) (length next.own) come.grows (next_most (longer stepped.fails (cluster_of plan) come.reached a event));
-          answered = λ answers. come_further (cluster_of plan) come.reached s message stepped.fails come.grows oldest stepped.may answers (come.answered answers);
+          answered = λ answers. (further_from (cluster_of plan) come.reached s message stepped.fails come.grows oldest stepped.may answers (come.answered answers)).0;
           strictly = λ disks are.
               let before = come.strictly disks are in
               let answer = stepped.strictly before.0 before.2 in (
@@ -189,41 +191,91 @@ module _ {D : Type 0} (port : Ghosts D)
         → EndsAt P items which limit → EndsAt Q items which limit
     at_front P Q f items which limit h = record { next = h.next; front = f (h.next ∷ items) h.front; within = h.within; passed = h.passed }
 
-    module _ (message : ℕ) (oldest : IsOldestWaiting come.reached message) (which : Which) (limit : ℕ)
-        (hits : HitsLimit port plan None 0 (receiver_in come.reached message) (MessageEvent message) now come.reached which limit) where
+    module _ (new : Cluster D) (message : ℕ) (oldest : IsOldestWaiting come.reached message) (which : Which) (limit : ℕ)
+        (hits : HitsLimit port plan None 0 (receiver_in come.reached message) (MessageEvent message) now new come.reached which limit) where
       abbrev HitsAt : Bool → Type 0
       HitsAt fails =
           EndsAt (λ front. front ≡ (tried_if fails (cluster_of plan) come.reached (receiver_in come.reached message) (MessageEvent message)).own) come.reached.own which limit
 
-      unfailing : HitsLimit port plan None 0 (receiver_in come.reached message) (MessageEvent message) now come.reached which limit → HitsAt false
-      unfailing (inl all) = all false
-      unfailing (inr known) = known.0
+      abbrev Unasked : Type 0
+      Unasked = ((fails : Bool) → HitsAt fails) × (hits.reached ≡ come.reached)
 
-      by_disks : HitsLimit port plan None 0 (receiver_in come.reached message) (MessageEvent message) now come.reached which limit
-          → (later : Disks) → AreStrict port plan now.slots.items come.reached later
+      abbrev Passes : Option Skip → Type 0
+      Passes skip =
+          (disks : Disks) → AreStrict port plan now.slots.items come.reached disks → skip ≡ None
+          → fails_strictly disks (receiver_in come.reached message) (MessageEvent message) ≡ false
+
+      abbrev Asked : Type 0
+      Asked =
+          HitsAt false
+          × Passes None
+          × (hits.reached ≡ tried_if false (cluster_of plan) come.reached (receiver_in come.reached message) (MessageEvent message))
+
+      by_disks : Unasked ⊎ Asked → (later : Disks) → AreStrict port plan now.slots.items come.reached later
           → HitsAt (fails_strictly later (receiver_in come.reached message) (MessageEvent message))
-      by_disks (inl all) later are = all (fails_strictly later (receiver_in come.reached message) (MessageEvent message))
+      by_disks (inl all) later are = all.0 (fails_strictly later (receiver_in come.reached message) (MessageEvent message))
       by_disks (inr known) later are = subst (λ b. HitsAt b) (sym (known.1 later are refl)) known.0
 
-      pub hits_in_drain : HitsLimitInDrain port plan old s which limit
-      hits_in_drain =
-          record {
-            items = come.reached.own;
-            answered = λ answers.
-                let further = come_further (cluster_of plan) come.reached s message false come.grows oldest (λ fails. cc) answers (come.answered answers) in
-                let next : Situation = tried_if false (cluster_of plan) come.reached (receiver_in come.reached message) (MessageEvent message) in (
-                  further.0,
-                  further.1,
-                  at_front (λ front. front ≡ next.own) (λ front. (reached : Situation) × DrainsTo (cluster_of plan) further.0 reached s × Begins front reached.own)
-                      (λ front is. (next, further.2 further.0 (λ place below. (refl, refl)), begins_same front next.own is)) come.reached.own which limit (unfailing hits),
-                );
-            strictly = λ disks are.
-                let found = come.strictly disks are in
-                let reached : StrictSituation = tried_strictly (cluster_of plan) (over come.reached found.0) (receiver_in come.reached message) (MessageEvent message) in
-                at_front (λ front. front ≡ reached.found.own) (λ front. (reached : StrictSituation) × StrictlyDrainsTo (cluster_of plan) reached (over s disks) × Begins front reached.found.own)
-                (λ front is. (
-                  reached,
-                  one_more_strictly (cluster_of plan) (over come.reached found.0) message oldest (over s disks) found.1,
-                  begins_same front reached.found.own is,
-                )) come.reached.own which limit (by_disks hits found.0 found.2);
-          }
+      -- some delivery more ends it, with answers that bring the drain so far
+      abbrev EndsBy : Answers → Type 0
+      EndsBy answers = EndsAt (λ front. (later : Situation) × DrainsTo (cluster_of plan) answers later s × Begins front later.own) come.reached.own which limit
+
+      ends_by : (answers : Answers) (fails : Bool) → HitsAt fails
+          → DrainsTo (cluster_of plan) answers (tried_if fails (cluster_of plan) come.reached (receiver_in come.reached message) (MessageEvent message)) s → EndsBy answers
+      ends_by answers fails ends to =
+          let next : Situation = tried_if fails (cluster_of plan) come.reached (receiver_in come.reached message) (MessageEvent message) in
+          at_front (λ front. front ≡ next.own) (λ front. (later : Situation) × DrainsTo (cluster_of plan) answers later s × Begins front later.own)
+          (λ front is. (next, to, begins_same front next.own is)) come.reached.own which limit ends
+
+      abbrev HasLed : Answers → Type 0
+      HasLed answers =
+          (other : Answers) × AgreeBelow answers other (length s.own) × DrainsTo (cluster_of plan) other hits.reached s
+          × ((more : Answers) → AgreeBelow other more (length hits.reached.own) → EndsBy more)
+
+      led : (answers : Answers) → Unasked ⊎ Asked → HasLed answers
+      led answers (inl all) =
+          let found = come.answered answers in (
+            found.0,
+            found.1,
+            subst (λ (t : Situation). DrainsTo (cluster_of plan) found.0 t s) (sym all.1) (found.2 found.0 (λ place below. (refl, refl))),
+            λ more agree.
+                let fails : Bool = is_journalled (receiver_in come.reached message) (MessageEvent message) && more.fails (length come.reached.own) in
+                ends_by more fails (all.0 fails)
+                (one_more (cluster_of plan) more come.reached message oldest s
+                (found.2 more (subst (λ (t : Situation). AgreeBelow found.0 more (length t.own)) all.1 agree))),
+          )
+      led answers (inr known) =
+          let next : Situation = tried_if false (cluster_of plan) come.reached (receiver_in come.reached message) (MessageEvent message) in
+          let found = come.answered answers in
+          let further = further_from (cluster_of plan) come.reached s message false come.grows oldest (λ fails. cc) answers found in (
+            further.0.0,
+            further.0.1,
+            subst (λ (t : Situation). DrainsTo (cluster_of plan) further.0.0 t s) (sym known.2) (further.0.2 further.0.0 (λ place below. (refl, refl))),
+            λ more agree.
+                ends_by more false known.0 (further.0.2 more (subst (λ (t : Situation). AgreeBelow further.0.0 more (length t.own)) known.2 agree)),
+          )
+
+      pub hits_in_drain : (found : HitsLimitInDrain port plan old s which limit) × LimitLeaves port plan old new s found.items found.reached
+      hits_in_drain = (
+        record {
+          items = come.reached.own;
+          reached = hits.reached;
+          answered = λ answers. led answers hits.ends;
+          strictly = λ disks are.
+              let found = come.strictly disks are in
+              let reached : StrictSituation = tried_strictly (cluster_of plan) (over come.reached found.0) (receiver_in come.reached message) (MessageEvent message) in
+              at_front (λ front. front ≡ reached.found.own) (λ front. (reached : StrictSituation) × StrictlyDrainsTo (cluster_of plan) reached (over s disks) × Begins front reached.found.own)
+              (λ front is. (
+                reached,
+                one_more_strictly (cluster_of plan) (over come.reached found.0) message oldest (over s disks) found.1,
+                begins_same front reached.found.own is,
+              )) come.reached.own which limit (by_disks hits.ends found.0 found.2);
+        },
+        record {
+          stops = hits.stops;
+          rose = λ b there.
+              rose_on (faults_at port old b) (faults_at port now b) (faults_at port new b) (downs_in b s.own) (downs_in b come.reached.own) (downs_in b hits.reached.own)
+              (come.counted b there) (hits.none_fell b there) (come.rose b there)
+              (inl (same_downs port plan None 0 (receiver_in come.reached message) (MessageEvent message) now new come.reached which limit hits b));
+        },
+      )

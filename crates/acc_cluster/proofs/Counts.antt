@@ -28,7 +28,7 @@ by_greatest one three greatest a b end = dite (dec_lt one three) (λ less. inl l
     second a b (inl is) not_less = omega (arith, a, b, is, not_less)
     second a b (inr is) not_less = is
 
-same_most : {n k : ℕ} → n ≡ k → n ≤ k
+pub same_most : {n k : ℕ} → n ≡ k → n ≤ k
 same_most is = omega (arith, is)
 
 -- a count that rose and didn't fall afterwards

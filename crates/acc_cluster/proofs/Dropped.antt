@@ -29,7 +29,9 @@ use Rattle.acc_actors.proofs.Apart.{IsApart}
 use Rattle.acc_actors.proofs.Pasts.{stops_same}
 use Rattle.acc_cluster.specs.declared.cluster.Cluster.{Cluster}
 use Rattle.acc_cluster.specs.Stands.{StandsFor, AreActors, AreStrict}
+use Rattle.acc_cluster.specs.Limits.{StopsAt}
 use Rattle.acc_cluster.specs.Steps.{IfLimit}
+use Rattle.acc_cluster.proofs.Limited.{stops_here}
 use Rattle.acc_cluster.specs.Tried.{HasStepped, HasChanged}
 use Rattle.acc_cluster.proofs.Hits.{exit_is, full_at}
 use Rattle.acc_cluster.proofs.Written.{actors_same, strict_same}
@@ -92,14 +94,17 @@ module _ {D : Type 0} (port : Ghosts D)
 -- a limit ends the run before the skip
 abbrev pub EndsDropped : {D : Type 0} → Ghosts D → Content → ℕ → ℕ → Cluster D → Which → ℕ → Type 0
 EndsDropped port plan number message old which limit =
-    (s : Situation) → StandsFor port plan old s → EndsAt (λ front. front ≡ (dropped_unless (message_skip s message) number s message).own) s.own which limit
+    (s : Situation) → StandsFor port plan old s
+    → EndsAt (λ front. front ≡ (dropped_unless (message_skip s message) number s message).own) s.own which limit × StopsAt port plan old s.own s
 
 -- no place for the skip
 pub drop_refused : {D T : Type 0} (port : Ghosts D) (plan : Content) (number message sent : ℕ) (old : Cluster D) (r : Result T RunError) (e : RunError)
     → ((s : Situation) → history.StandsFor old.history s → sent ≡ length (sent_of s.own)) → sent ≤ message → IsErrAnd r (λ y. y ≡ e)
     → (e ≡ Limit Items most_items) × ((s : Situation) → history.StandsFor old.history s → most_items ≤ length s.own)
-    → IfErr r (IfLimit (λ which limit. (s : Situation) → StandsFor port plan old s → EndsAt (λ front. front ≡ (dropped_unless (message_skip s message) number s message).own) s.own which limit))
+    → IfErr r (IfLimit (EndsDropped port plan number message old))
 drop_refused port plan number message sent old r e sent_is more is told =
-    exit_is r e (IfLimit (EndsDropped port plan number message old)) is (subst (IfLimit (EndsDropped port plan number message old)) (sym told.0) (λ s h.
-    subst (λ (skip : Option Skip). EndsAt (λ front. front ≡ (dropped_unless skip number s message).own) s.own Items most_items) (sym (none_sent plan s message sent (sent_is s h.past.stands) more))
-    (full_at s (Skipped number (NoMessage message sent)) h.past.within (told.1 s h.past.stands))))
+    exit_is r e (IfLimit (EndsDropped port plan number message old)) is (subst (IfLimit (EndsDropped port plan number message old)) (sym told.0) (λ s h. (
+      subst (λ (skip : Option Skip). EndsAt (λ front. front ≡ (dropped_unless skip number s message).own) s.own Items most_items) (sym (none_sent plan s message sent (sent_is s h.past.stands) more))
+          (full_at s (Skipped number (NoMessage message sent)) h.past.within (told.1 s h.past.stands)),
+      stops_here port plan old s h,
+    )))

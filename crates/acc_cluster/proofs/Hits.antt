@@ -20,6 +20,7 @@ use Rattle.acc_history.specs.Stands as history
 use Rattle.acc_cluster.specs.Stands.{StandsFor}
 use Rattle.acc_cluster.specs.Steps.{IfLimit}
 use Rattle.acc_cluster.specs.Tried.{stepped_if, HitsLimit}
+use Rattle.acc_cluster.proofs.Limited.{stops_here, none_falls}
 
 pub map_limit : (P Q : Which → ℕ → Type 0) → ((which : Which) (limit : ℕ) → P which limit → Q which limit) → (e : RunError) → IfLimit P e → IfLimit Q e
 map_limit P Q f (Limit which limit) h = f which limit h
@@ -33,19 +34,14 @@ pub full_at : (s : Situation) (item : Item) → IsWithin s.own → most_items �
 full_at s item within full = record { next = item; front = refl; within = within; passed = (refl, above (length s.own) full) }
 
 module _ {D : Type 0} (port : Ghosts D) (plan : Content) (number : ℕ) (a : Actor) (event : Event) (old : Cluster D) (s : Situation) where
-  pub hits_full : (skip : Option Skip) → IsWithin s.own → most_items ≤ length s.own → HitsLimit port plan skip number a event old s Items most_items
-  hits_full skip within full = inl (λ fails. by skip fails)
+  pub hits_full : (skip : Option Skip) → StandsFor port plan old s → most_items ≤ length s.own → HitsLimit port plan skip number a event old old s Items most_items
+  hits_full skip h full =
+      record { reached = s; ends = inl (λ fails. by h.past.within skip fails, refl); stops = stops_here port plan old s h; none_fell = none_falls port plan old }
     where
-      by : (skip : Option Skip) (fails : Bool) → EndsAt (λ front. front ≡ (stepped_if skip fails (cluster_of plan) number s a event).own) s.own Items most_items
-      by (Some cause) fails = full_at s (Skipped number cause) within full
-      by None true = full_at s (Down a) within full
-      by None false = full_at s (entry_of (cluster_of plan) s a event false) within full
-
-  -- where the check of the place refuses
-  pub refused_full : (skip : Option Skip) (e : RunError) → e ≡ Limit Items most_items → IsWithin s.own → most_items ≤ length s.own
-      → IfLimit (λ which limit. HitsLimit port plan skip number a event old s which limit) e
-  refused_full skip e is within full =
-      subst (IfLimit (λ which limit. HitsLimit port plan skip number a event old s which limit)) (sym is) (hits_full skip within full)
+      by : IsWithin s.own → (skip : Option Skip) (fails : Bool) → EndsAt (λ front. front ≡ (stepped_if skip fails (cluster_of plan) number s a event).own) s.own Items most_items
+      by within (Some cause) fails = full_at s (Skipped number cause) within full
+      by within None true = full_at s (Down a) within full
+      by within None false = full_at s (entry_of (cluster_of plan) s a event false) within full
 
 -- what the exit of a `?` returns
 pub exit_is : {T : Type 0} (r : Result T RunError) (e : RunError) (P : RunError → Type 0) → IsErrAnd r (λ y. y ≡ e) → P e → IfErr r P
@@ -56,8 +52,8 @@ exit_is (Err y) e P is h = subst P (sym is) h
 pub full_refused : {D T : Type 0} (port : Ghosts D) (plan : Content) (number : ℕ)
     (old : Cluster D) (skip : Situation → Option Skip) (actor : Situation → Actor) (event : Event) (r : Result T RunError) (e : RunError) → IsErrAnd r (λ y. y ≡ e)
     → (e ≡ Limit Items most_items) × ((s : Situation) → history.StandsFor old.history s → most_items ≤ length s.own)
-    → IfErr r (IfLimit (λ which limit. (s : Situation) → StandsFor port plan old s → HitsLimit port plan (skip s) number (actor s) event old s which limit))
+    → IfErr r (IfLimit (λ which limit. (s : Situation) → StandsFor port plan old s → HitsLimit port plan (skip s) number (actor s) event old old s which limit))
 full_refused port plan number old skip actor event r e is told =
-    exit_is r e (IfLimit (λ which limit. (s : Situation) → StandsFor port plan old s → HitsLimit port plan (skip s) number (actor s) event old s which limit)) is
-    (subst (IfLimit (λ which limit. (s : Situation) → StandsFor port plan old s → HitsLimit port plan (skip s) number (actor s) event old s which limit)) (sym told.0)
-    (λ s h. hits_full port plan number (actor s) event old s (skip s) h.past.within (told.1 s h.past.stands)))
+    exit_is r e (IfLimit (λ which limit. (s : Situation) → StandsFor port plan old s → HitsLimit port plan (skip s) number (actor s) event old old s which limit)) is
+    (subst (IfLimit (λ which limit. (s : Situation) → StandsFor port plan old s → HitsLimit port plan (skip s) number (actor s) event old old s which limit)) (sym told.0)
+    (λ s h. hits_full port plan number (actor s) event old s (skip s) h (told.1 s h.past.stands)))

@@ -1,36 +1,34 @@
 -- The disks of a cluster's slots: they rise, there is one of each actor of the plan, and each keeps its actor.
-use Rattle.std.proofs.Common.{◌≡◌, ℕ, zero, suc, ◌+◌, ◌≤◌, Bool, true, false, List, [], ◌∷◌, ◌++◌, map, length, Contains, refl, sym, ◌∙◌, ap, subst, arith}
+use Rattle.std.proofs.Common.{◌≡◌, ℕ, zero, suc, ◌+◌, ◌≤◌, Bool, true, false, List, [], ◌∷◌, ◌++◌, map, length, Contains, refl, sym, ◌∙◌, ap, subst, inl, inr, arith}
 use Rattle.std.proofs.lemmas.List.{append-nil}
-use Rattle.std.proofs.lemmas.Bool.{true≢false}
 use Rattle.std.specs.List.{AllByRecursion, slice_index_or}
 use Rattle.acc_stamp.specs.declared.actors.Actor.{Actor}
 use Rattle.acc_stamp.specs.Actor.{node_of}
-use Rattle.acc_topology.specs.Layout.{Layout}
 use Rattle.acc_ports.specs.declared.disk.Disk.{Ghosts}
 use Rattle.acc_message.specs.declared.message.Message.{Message}
-use Rattle.acc_message.specs.declared.entry.Event.{Event}
-use Rattle.acc_message.specs.declared.item.Item.{Item}
 use Rattle.acc_message.specs.NodeRules.{Act}
-use Rattle.acc_message.specs.Run.{clock_start, is_down}
-use Rattle.acc_payloads.specs.Items.{Keeps, KeepsImage, AreKept, ends_down, payloads_in}
+use Rattle.acc_message.specs.Run.{clock_start, is_node}
+use Rattle.acc_payloads.specs.Items.{payloads_in}
+use Rattle.acc_payloads.specs.Stops.{Past, IsLeft, ReadsIf}
+use Rattle.acc_payloads.specs.Stops as stops
+use Rattle.acc_payloads.proofs.Marked.{node_marked, store_marked}
 use Rattle.acc_durable_node.specs.declared.actor.NodeActor.{NodeActor}
 use Rattle.acc_durable_store.specs.declared.actor.StoreActor.{StoreActor}
-use Rattle.acc_payloads.specs.Stops.{Stop, Past, some, HoldsPayloads}
 use Rattle.acc_durable_node.specs.Actor as node
 use Rattle.acc_durable_store.specs.Actor as store
 use Rattle.acc_schedule.specs.Actors.{actors}
 use Rattle.acc_schedule.specs.Content.{Content}
-use Rattle.acc_pasts.specs.Stopped.{CanAllGoOn, IsSound}
-use Rattle.acc_pasts.proofs.Downs.{ends_is_down}
-use Rattle.acc_pasts.proofs.Situations.{whole_alone}
+use Rattle.acc_pasts.specs.Stopped.{IsSound}
 use Rattle.acc_schedule_runs.specs.Situations.{Situation, whole, stopped_at}
+use Rattle.acc_schedule_runs.specs.Moves.{kept_if, with_kept}
 use Rattle.acc_schedule_runs.specs.Schedules.{cluster_of}
 use Rattle.acc_actors.specs.declared.slot.Slot.{Slot}
 use Rattle.acc_actors.specs.declared.slot.Slot.TheVariants.{Empty, Node, Store}
-use Rattle.acc_actors.specs.Pasts.{stops_at, stops_in, store_stops, node_past, store_past}
+use Rattle.acc_actors.specs.Pasts.{stops_at, store_stops, node_past, store_past}
 use Rattle.acc_actors.specs.Slots.{SlotStands, NodeStands, StoreStands, IsTaken}
+use Rattle.acc_actors.proofs.RestartPasts.{all_may, node_all, store_all}
 use Rattle.acc_cluster.specs.Stands.{AreActors, slot_at}
-use Rattle.acc_cluster.specs.Ends.{entry_of, disks_from, LeavesHeld, Rises, AreDisksOf}
+use Rattle.acc_cluster.specs.Ends.{entry_of, disks_from, HoldsIn, KeepsIn, Rises, AreDisksOf}
 
 -- ---- the list of the disks
 
@@ -39,18 +37,18 @@ numbered number = record { 0 = number }
 
 module _ {D : Type 0} where
   -- what holds of the disk of an actor, if one stands there
-  abbrev at_slot : (Actor → D → Type 0) → Actor → Slot D → Type 0
+  abbrev at_slot : (Actor × D → Type 0) → Actor → Slot D → Type 0
   at_slot Q a Empty = Unit {0}
-  at_slot Q a (Node n) = Q a (node.disk_of n)
-  at_slot Q a (Store t) = Q a (store.disk_of t)
+  at_slot Q a (Node n) = Q (a, node.disk_of n)
+  at_slot Q a (Store t) = Q (a, store.disk_of t)
 
-  all_at : (Q : Actor → D → Type 0) (number : ℕ) (slots : List (Slot D)) → ((k j : ℕ) → j ≡ number + k → at_slot Q (record { 0 = j }) (slice_index_or slots k Empty))
-      → AllByRecursion (λ (entry : Actor × D). Q entry.0 entry.1) (disks_from number slots)
+  all_at : (Q : Actor × D → Type 0) (number : ℕ) (slots : List (Slot D)) → ((k j : ℕ) → j ≡ number + k → at_slot Q (record { 0 = j }) (slice_index_or slots k Empty))
+      → AllByRecursion Q (disks_from number slots)
   all_at Q number [] h = tt
   all_at Q number (slot ∷ slots) h = by slot (h 0 number (omega arith)) (all_at Q (number + 1) slots (λ k j is. h (suc k) j (omega (arith, is))))
     where
-      by : (slot : Slot D) → at_slot Q (record { 0 = number }) slot → AllByRecursion (λ (entry : Actor × D). Q entry.0 entry.1) (disks_from (number + 1) slots)
-          → AllByRecursion (λ (entry : Actor × D). Q entry.0 entry.1) (entry_of number slot ++ disks_from (number + 1) slots)
+      by : (slot : Slot D) → at_slot Q (record { 0 = number }) slot → AllByRecursion Q (disks_from (number + 1) slots)
+          → AllByRecursion Q (entry_of number slot ++ disks_from (number + 1) slots)
       by Empty here rest = rest
       by (Node n) here rest = (here, rest)
       by (Store t) here rest = (here, rest)
@@ -87,12 +85,7 @@ module _ {D : Type 0} where
       by (Node n) there = (suc there.0, omega (arith, there.1), there.2)
       by (Store t) there = (suc there.0, omega (arith, there.1), there.2)
 
-  all_get : (P : Slot D → Type 0) (slots : List (Slot D)) (k : ℕ) → P Empty → AllByRecursion P slots → P (slice_index_or slots k Empty)
-  all_get P [] k none h = none
-  all_get P (slot ∷ slots) zero none h = h.0
-  all_get P (slot ∷ slots) (suc k) none h = all_get P slots k none h.1
-
-  taken_at : (Q : Actor → D → Type 0) (a : Actor) (slot : Slot D) → (IsTaken slot → (d : D) → Q a d) → at_slot Q a slot
+  taken_at : (Q : Actor × D → Type 0) (a : Actor) (slot : Slot D) → (IsTaken slot → (d : D) → Q (a, d)) → at_slot Q a slot
   taken_at Q a Empty h = tt
   taken_at Q a (Node n) h = h tt (node.disk_of n)
   taken_at Q a (Store t) h = h tt (store.disk_of t)
@@ -113,93 +106,66 @@ module _ {D : Type 0} where
       by (Node n) is = ap (λ es. (record { 0 = number }, node.disk_of n) ∷ es) is
       by (Store t) is = ap (λ es. (record { 0 = number }, store.disk_of t) ∷ es) is
 
-  pub all_more : (P : Slot D → Type 0) (slots : List (Slot D)) (slot : Slot D) → AllByRecursion P slots → P slot → AllByRecursion P (slots ++ slot ∷ [])
-  all_more P [] slot h one = (one, tt)
-  all_more P (first ∷ slots) slot h one = (h.0, all_more P slots slot h.1 one)
-
 -- ---- what the disks hold
 
--- payloads behind the others are allowed more often
-loosen : (b c : Bool) (payloads kept : List (List ℕ)) → (b ≡ true → c ≡ true) → AreKept b payloads kept → AreKept c payloads kept
-loosen true true payloads kept implied h = h
-loosen true false payloads kept implied h = absurd (true≢false (sym (implied refl)))
-loosen false true payloads kept implied h = ([], h ∙ sym (append-nil payloads))
-loosen false false payloads kept implied h = h
-
-some_stop : (stops : List (Stop Act)) → some (store_stops stops) ≡ true → some stops ≡ true
-some_stop [] h = h
-some_stop (stop ∷ stops) h = refl
-
--- what a node's disk holds, as it is given back
-pub node_left : {D : Type 0} (port : Ghosts D) (slot : Slot D) (n : NodeActor D) (disk : D) → slot ≡ Node n → disk ≡ node.disk_of n
-    → ((layout : Layout) (number start version : ℕ) (past : Past Act) → node.StandsFor port layout number start version past n
-    → (image : List ℕ) → port.is_image disk image → HoldsPayloads version past image)
-    → LeavesHeld port slot
-node_left {D} port slot n disk is disk_is holds =
-    subst (λ (x : Slot D). LeavesHeld port x) (sym is)
-    (λ plan s a stands image left. holds plan.topology (node_of a) (clock_start plan.starts (node_of a)) plan.version (node_past (cluster_of plan) s a) stands.stands image (subst (λ (d : D). port.is_image d image) (sym disk_is) left))
-
--- what a store's disk holds, as it is given back
-pub store_left : {D : Type 0} (port : Ghosts D) (slot : Slot D) (t : StoreActor D) (disk : D) → slot ≡ Store t → disk ≡ store.disk_of t
-    → ((layout : Layout) (own : Actor) (version : ℕ) (past : Past Message) (staged : List (Stop Message)) → store.IsStaging port layout own version past staged t
-    → (image : List ℕ) → port.is_image disk image → HoldsPayloads version past image)
-    → LeavesHeld port slot
-store_left {D} port slot t disk is disk_is holds =
-    subst (λ (x : Slot D). LeavesHeld port x) (sym is)
-    (λ plan s a stands image left. holds plan.topology a plan.version (store_past (cluster_of plan) s a) [] stands.stands image (subst (λ (d : D). port.is_image d image) (sym disk_is) left))
-
 module _ (plan : Content) (s : Situation) (sound : IsSound (cluster_of plan) s) where
-  -- an actor of which steps were stopped is down
-  stopped_down : (a : Actor) → some (stops_at (cluster_of plan) s a) ≡ true → is_down a (whole s) ≡ true
-  stopped_down a h = by (stopped_at a s.stopped) (sound.stopped a) h
-    where
-      by : (events : List Event) → CanAllGoOn (cluster_of plan) s a events → some (stops_in (cluster_of plan) s a events true) ≡ true → is_down a (whole s) ≡ true
-      by [] can h = absurd (true≢false (sym h))
-      by (event ∷ events) can h = can.0.0.down
+  -- what was journalled is what the actor's entries put there, with those of the steps that were kept
+  node_held : (a : Actor) (keeps : Bool) → (stops.kept_if keeps (node_past (cluster_of plan) s a)).held ≡ payloads_in a (whole (with_kept (cluster_of plan) s a (kept_if keeps a s)))
+  node_held a true =
+      ap (λ (past : Past Act). past.held)
+      (node_all (cluster_of plan) a (stopped_at a s.stopped) s (stops_at (cluster_of plan) s a) true (all_may (cluster_of plan) a (stopped_at a s.stopped) s (sound.stopped a)))
+  node_held a false = refl
 
-  kept_own : (a : Actor) (b : Bool) (kept : List (List ℕ)) → s.earlier ≡ [] → (b ≡ true → is_down a (whole s) ≡ true) → AreKept b (payloads_in a (whole s)) kept
-      → AreKept (ends_down a s.own) (payloads_in a s.own) kept
-  kept_own a b kept alone implied h =
-      subst (λ (items : List Item). AreKept (ends_down a items) (payloads_in a items) kept) (whole_alone s alone)
-      (subst (λ c. AreKept c (payloads_in a (whole s)) kept) (sym (ends_is_down (cluster_of plan) (whole s) a sound.run))
-      (loosen b (is_down a (whole s)) (payloads_in a (whole s)) kept implied h))
+  store_held : (a : Actor) (keeps : Bool) → is_node a ≡ false
+      → (stops.kept_if keeps (store_past (cluster_of plan) s a)).held ≡ payloads_in a (whole (with_kept (cluster_of plan) s a (kept_if keeps a s)))
+  store_held a true kind =
+      ap (λ (past : Past Message). past.held)
+      (store_all (cluster_of plan) a (stopped_at a s.stopped) s (store_stops (stops_at (cluster_of plan) s a)) true kind (all_may (cluster_of plan) a (stopped_at a s.stopped) s (sound.stopped a)))
+  store_held a false kind = refl
+
+  module _ {D : Type 0} (port : Ghosts D) (a : Actor) (image : List ℕ) where
+    node_holds : (n : NodeActor D) → NodeStands port plan s a n → port.is_image (node.disk_of n) image → HoldsIn plan s a image
+    node_holds n stands is = by (stands.stands.left image is)
+      where
+        at : (keeps : Bool) → ReadsIf (node.IsJournal plan.topology (node_of a) (clock_start plan.starts (node_of a)) plan.version) (node_past (cluster_of plan) s a) keeps image
+            → HoldsIn plan s a image
+        at keeps r =
+            record {
+              payloads = r.payloads;
+              reads = r.reads;
+              marks = node_marked plan.version (clock_start plan.starts (node_of a)) r.payloads r.journal.items r.journal.journal;
+              keeps = keeps;
+              kept = r.held_are ∙ node_held a keeps;
+            }
+
+        by : IsLeft (node.IsJournal plan.topology (node_of a) (clock_start plan.starts (node_of a)) plan.version) (node_past (cluster_of plan) s a) image → HoldsIn plan s a image
+        by (inl r) = at false r
+        by (inr r) = at true r
+
+    store_holds : (t : StoreActor D) → StoreStands port plan s a t → port.is_image (store.disk_of t) image → HoldsIn plan s a image
+    store_holds t stands is = by (stands.stands.left image is)
+      where
+        at : (keeps : Bool) → ReadsIf (store.IsJournal plan.topology a plan.version) (store_past (cluster_of plan) s a) keeps image → HoldsIn plan s a image
+        at keeps r =
+            record {
+              payloads = r.payloads;
+              reads = r.reads;
+              marks = store_marked plan.topology plan.version a r.payloads r.journal.items r.journal.journal;
+              keeps = keeps;
+              kept = r.held_are ∙ store_held a keeps stands.kind;
+            }
+
+        by : IsLeft (store.IsJournal plan.topology a plan.version) (store_past (cluster_of plan) s a) image → HoldsIn plan s a image
+        by (inl r) = at false r
+        by (inr r) = at true r
 
   module _ {D : Type 0} (port : Ghosts D) where
-    node_image : (a : Actor) (image : List ℕ) → s.earlier ≡ [] → HoldsPayloads plan.version (node_past (cluster_of plan) s a) image → KeepsImage plan.version a s.own image
-    node_image a image alone h =
-        record {
-          payloads = h.payloads;
-          reads = h.reads;
-          marks = h.marks;
-          kept = kept_own a (some (stops_at (cluster_of plan) s a)) _ alone (stopped_down a) h.kept;
-        }
-
-    store_image : (a : Actor) (image : List ℕ) → s.earlier ≡ [] → HoldsPayloads plan.version (store_past (cluster_of plan) s a) image → KeepsImage plan.version a s.own image
-    store_image a image alone h =
-        record {
-          payloads = h.payloads;
-          reads = h.reads;
-          marks = h.marks;
-          kept =
-              kept_own a (some (store_stops (stops_at (cluster_of plan) s a))) _ alone
-              (λ is. stopped_down a (some_stop (stops_at (cluster_of plan) s a) is)) h.kept;
-        }
-
-    abbrev IsKept : Actor → D → Type 0
-    IsKept a d = Keeps plan.version a s.own (port.state d).faults (port.is_image d)
-
-    keeps_at : (a : Actor) (slot : Slot D) → s.earlier ≡ [] → (IsTaken slot → SlotStands port plan s a slot) → LeavesHeld port slot → at_slot IsKept a slot
-    keeps_at a Empty alone stands left = tt
-    keeps_at a (Node n) alone stands left =
-        let here : NodeStands port plan s a n = stands tt in record {
-          counted = here.counted;
-          each = λ image i. node_image a image alone (left plan s a here image i);
-        }
-    keeps_at a (Store t) alone stands left =
-        let here : StoreStands port plan s a t = stands tt in record {
-          counted = here.counted;
-          each = λ image i. store_image a image alone (left plan s a here image i);
-        }
+    keeps_at : (a : Actor) (slot : Slot D) → (IsTaken slot → SlotStands port plan s a slot) → at_slot (KeepsIn port plan s) a slot
+    keeps_at a Empty stands = tt
+    keeps_at a (Node n) stands =
+        let here : NodeStands port plan s a n = stands tt in record { counted = here.counted; each = λ image is. node_holds port a image n here is }
+    keeps_at a (Store t) stands =
+        let here : StoreStands port plan s a t = stands tt in record { counted = here.counted; each = λ image is. store_holds port a image t here is }
 
     stands_taken : (a : Actor) (slot : Slot D) → SlotStands port plan s a slot → IsTaken slot
     stands_taken a Empty h = h
@@ -210,8 +176,7 @@ module _ (plan : Content) (s : Situation) (sound : IsSound (cluster_of plan) s) 
 
     module _ (slots : List (Slot D)) (stand : AreActors port plan slots s) where
       -- by the number of the slot
-      at_number : (Q : Actor → D → Type 0) → ((j : ℕ) → at_slot Q (record { 0 = j }) (slice_index_or slots j Empty))
-          → AllByRecursion (λ (entry : Actor × D). Q entry.0 entry.1) (disks_from 0 slots)
+      at_number : (Q : Actor × D → Type 0) → ((j : ℕ) → at_slot Q (record { 0 = j }) (slice_index_or slots j Empty)) → AllByRecursion Q (disks_from 0 slots)
       at_number Q h =
           all_at Q 0 slots
           (λ k j is. let same : j ≡ k = omega (arith, is) in subst (λ i. at_slot Q (record { 0 = j }) (slice_index_or slots i Empty)) same (h j))
@@ -221,14 +186,12 @@ module _ (plan : Content) (s : Situation) (sound : IsSound (cluster_of plan) s) 
           record {
             rise = rises 0 0 slots (omega arith);
             known =
-                at_number (λ a d. Contains (actors plan.topology) a)
-                (λ j. taken_at (λ a d. Contains (actors plan.topology) a) (record { 0 = j }) (slice_index_or slots j Empty) (λ taken d. stand.only (record { 0 = j }) taken));
+                at_number (λ entry. Contains (actors plan.topology) entry.0)
+                (λ j. taken_at (λ entry. Contains (actors plan.topology) entry.0) (record { 0 = j }) (slice_index_or slots j Empty) (λ taken d. stand.only (record { 0 = j }) taken));
             each = λ a member. names_at 0 slots a.0 a.0 (omega arith) (stands_taken a (slot_at slots a) (stand.each a member));
           }
 
-      pub disks_keep : AllByRecursion (LeavesHeld port) slots → s.earlier ≡ []
-          → AllByRecursion (λ (entry : Actor × D). Keeps plan.version entry.0 s.own (port.state entry.1).faults (port.is_image entry.1)) (disks_from 0 slots)
-      disks_keep left alone =
-          at_number IsKept
-          (λ j. keeps_at (record { 0 = j }) (slice_index_or slots j Empty) alone (λ taken. stand.each (record { 0 = j }) (stand.only (record { 0 = j }) taken))
-          (all_get (LeavesHeld port) slots j (λ plan s a none. tt) left))
+      pub disks_keep : AllByRecursion (KeepsIn port plan s) (disks_from 0 slots)
+      disks_keep =
+          at_number (KeepsIn port plan s)
+          (λ j. keeps_at (record { 0 = j }) (slice_index_or slots j Empty) (λ taken. stand.each (record { 0 = j }) (stand.only (record { 0 = j }) taken)))

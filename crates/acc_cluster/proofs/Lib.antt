@@ -8,6 +8,7 @@ pub mod Hits
 pub mod Homes
 pub mod HomesTell
 pub mod LeftDisks
+pub mod Limited
 pub mod Next
 pub mod RestartClusters
 pub mod RestartItems

@@ -43,13 +43,19 @@ use Rattle.acc_history.specs.declared.history.History.{History}
 use Rattle.acc_history.specs.Stands as history
 use Rattle.acc_cluster.specs.Entering.{HasPlace, IsPastOf}
 use Rattle.acc_cluster.specs.Stands.{slot_at, StandsFor}
-use Rattle.acc_cluster.specs.Steps.{IfLimit}
-use Rattle.acc_cluster.specs.Tried.{HasRestarted, HitsLimitInRestart}
+use Rattle.acc_cluster.specs.Steps.{IfLimit, LimitLeaves}
+use Rattle.acc_cluster.specs.Tried.{restarted_by, HasRestarted, HitsLimitInRestart}
 use Rattle.acc_cluster.specs.Restarting.{AreSendableBehind, CanComeBack, HasReopened, come_up, EndsInRestart}
+use Rattle.acc_cluster.proofs.Limited.{stops_here}
 use Rattle.acc_cluster.proofs.Room.{few_placed}
 use Rattle.acc_cluster.proofs.RestartItems.{kept_sent, kept_sendable, limit_weaker, on_err, Enters, Ends}
 use Rattle.acc_cluster.proofs.Stepped.{turned}
 use Rattle.acc_cluster.proofs.Written.{IsWritten, write_is, AllApart, actors_written, strict_written, rose_written}
+
+-- a limit ends it, and the cluster stops there
+abbrev pub EndedAt : {D : Type 0} → Ghosts D → Content → Actor → ℕ → Cluster D → Cluster D → Situation → Which → ℕ → Type 0
+EndedAt port plan a choice old new s which limit =
+    (hits : HitsLimitInRestart port plan a choice old s which limit) × LimitLeaves port plan old new s hits.items hits.reached
 
 room_reopened : (plan : Content) (s : Situation) (a : Actor) (kept : List Event) → HasRoom s → HasRoom (reopened (cluster_of plan) s a kept)
 room_reopened plan s a kept room = subst (λ (earlier : List Item). length earlier + most_items < 2 ^ 31) (sym (all_earlier (cluster_of plan) a true s kept)) room
@@ -143,18 +149,55 @@ module _ {D : Type 0} (port : Ghosts D)
       record { next = found.0; front = record { later = found.1; items_are = found.2 }; within = within; passed = (refl, above (length s.own) full) }
 
   -- no place for anything
-  pub refused_first : (e : RunError) → e ≡ Limit Items most_items → most_items ≤ length s.own
-      → IfLimit (λ which limit. HitsLimitInRestart port plan a choice old s which limit) e
-  refused_first e is full =
-      subst (IfLimit (λ which limit. HitsLimitInRestart port plan a choice old s which limit)) (sym is)
-      (record { items = s.own; ends = inl (λ keeps. ends_first h.past.within full (kept_if keeps a s)) })
+  pub refused_first : most_items ≤ length s.own → EndedAt port plan a choice old old s Items most_items
+  refused_first full = (
+    record { items = s.own; reached = s; ends = inl (λ fails keeps. by fails keeps, refl) },
+    record { stops = stops_here port plan old s h; rose = λ b there. inl refl },
+  )
+    where
+      by : (fails keeps : Bool) → EndsAt (λ front. Begins front (restarted_by fails keeps (cluster_of plan) s a).own) s.own Items most_items
+      by true keeps =
+          record {
+            next = WentDown a;
+            front = record { later = []; items_are = refl };
+            within = h.past.within;
+            passed = (refl, above (length s.own) full);
+          }
+      by false keeps = ends_first h.past.within full (kept_if keeps a s)
 
   -- behind the crash
   pub refused_up : (kept : List Unsent)
       → HasReopened port plan a choice old.slots.items new.slots.items (Up kept) s
-      → (which : Which) (limit : ℕ) → EndsInRestart (cluster_of plan) s a kept which limit → HitsLimitInRestart port plan a choice old s which limit
-  refused_up kept found which limit ends =
-      record { items = ends.items; ends = inr (some kept, ends.ends, λ disks are. (found.strictly disks (are a known)).0) }
+      → (which : Which) (limit : ℕ) → EndsInRestart new.history (cluster_of plan) s a kept which limit → EndedAt port plan a choice old new s which limit
+  refused_up kept found which limit ends = (
+    record {
+      items = ends.entered.own;
+      reached = next;
+      ends = inr (some kept, ends.ends, λ disks are. (found.strictly disks (are a known)).0, refl);
+    },
+    record {
+      stops = record {
+        entered = ends.entered;
+        past = ends.past;
+        items_are = refl;
+        sound = sound_restarted (cluster_of plan) (some kept) s a h.sound;
+        actors = actors_written plan old.slots.items new.slots.items s next a (slot_at new.slots.items a) written known apart port h.actors found.restarted.1;
+        ahead = ends.ahead;
+      };
+      rose = λ b there.
+          rose_written plan old.slots.items new.slots.items s next a (slot_at new.slots.items a) written known apart port
+          (inl (downs_reopened (cluster_of plan) s a (kept_if (some kept) a s))) b;
+    },
+  )
+    where
+      next : Situation
+      next = come_up (cluster_of plan) s a kept
+
+      written : IsWritten old.slots.items new.slots.items a (slot_at new.slots.items a)
+      written = record { here = refl; there = found.others }
+
+      apart : AllApart plan s next a
+      apart b e = apart_reopened (cluster_of plan) s h.sound a b (kept_if (some kept) a s) e (kept_can (cluster_of plan) s a (some kept) h.sound)
 
 -- ---- the slot is taken out, and put back
 
@@ -183,16 +226,16 @@ module _ {D : Type 0} (port : Ghosts D)
 
 module _ {D : Type 0} (port : Ghosts D)
     (plan : Content) (a : Actor) (choice : ℕ) (old : Cluster D) (known : Contains (actors plan.topology) a) where
-  abbrev Ended : Which → ℕ → Type 0
-  Ended which limit = (s : Situation) → StandsFor port plan old s → HitsLimitInRestart port plan a choice old s which limit
+  abbrev Ended : Cluster D → Which → ℕ → Type 0
+  Ended new which limit = (s : Situation) → StandsFor port plan old s → EndedAt port plan a choice old new s which limit
 
   -- no place for anything
   pub place_ends : {T : Type 0} (r : Result T RunError) (e : RunError) → IsErrAnd r (λ y. y ≡ e)
-      → (e ≡ Limit Items most_items) × ((s : Situation) → history.StandsFor old.history s → most_items ≤ length s.own) → IfErr r (IfLimit Ended)
+      → (e ≡ Limit Items most_items) × ((s : Situation) → history.StandsFor old.history s → most_items ≤ length s.own) → IfErr r (IfLimit (Ended old))
   place_ends r e is told =
-      on_err r e (IfLimit Ended) is
-      (subst (IfLimit Ended) (sym told.0)
-      (λ s h. refused_first port plan a choice old old s h known (Limit Items most_items) refl (told.1 s h.past.stands)))
+      on_err r e (IfLimit (Ended old)) is
+      (subst (IfLimit (Ended old)) (sym told.0)
+      (λ s h. refused_first port plan a choice old old s h known (told.1 s h.past.stands)))
 
   module _ (middle : Cluster D) (same : middle.history ≡ old.history) (place : (s : Situation) → history.StandsFor old.history s → HasPlace s) (found : Restarted)
       (opened : (s : Situation) → StandsFor port plan old s → HasPlace s
@@ -238,12 +281,12 @@ module _ {D : Type 0} (port : Ghosts D)
           has_come_up port plan a choice old (with_history now) s h known kept (reopened_up s h)
           (told (cluster_of plan) s h.sound (past_middle s h) (place s h.past.stands) (reopened_up s h).restarted.0))
 
-      pub up_ends : {T : Type 0} (r : Result T RunError) → IfErr r (IfLimit (Ends middle.history a kept)) → IfErr r (IfLimit Ended)
-      up_ends r =
-          IfErr-weaker r (IfLimit (Ends middle.history a kept)) (IfLimit Ended)
-          (λ e. limit_weaker (Ends middle.history a kept) Ended e
+      pub up_ends : {T : Type 0} (r : Result T RunError) (now : History) → IfErr r (IfLimit (Ends middle.history now a kept)) → IfErr r (IfLimit (Ended (with_history now)))
+      up_ends r now =
+          IfErr-weaker r (IfLimit (Ends middle.history now a kept)) (IfLimit (Ended (with_history now)))
+          (λ e. limit_weaker (Ends middle.history now a kept) (Ended (with_history now)) e
           (λ which limit told. λ s h.
-          refused_up port plan a choice old middle s h known kept (reopened_up s h) which limit
+          refused_up port plan a choice old (with_history now) s h known kept (reopened_up s h) which limit
           (told (cluster_of plan) s h.sound (past_middle s h) (place s h.past.stands) (reopened_up s h).restarted.0)))
 
 module _ {D : Type 0} (port : Ghosts D)

@@ -1,9 +1,11 @@
 -- What a restart enters, and the limits that end it.
-use Rattle.std.proofs.Common.{◌≡◌, ℕ, suc, ◌<◌, ◌≤◌, true, false, List, [], ◌∷◌, ◌++◌, length, length-append, Option, None, Some, Result, Ok, Err, OnOk, IfErr, IsErrAnd, refl, sym, ◌∙◌, ap, subst, arith}
+use Rattle.std.proofs.Common.{◌≡◌, ℕ, suc, ◌<◌, ◌≤◌, true, false, IsTrue, List, [], ◌∷◌, ◌++◌, length, length-append, Option, None, Some, Result, Ok, Err, OnOk, IfErr, IsErrAnd, refl, sym, ◌∙◌, ap, subst, inr, arith}
+use Rattle.std.proofs.lemmas.Bool.{and_from}
 use Rattle.std.proofs.lemmas.List.{append_assoc}
+use Rattle.std.proofs.lemmas.List.Folds.{list_all-append}
 use Rattle.std.proofs.lemmas.Option.{slice_get_within}
 use Rattle.std.proofs.lemmas.Result.{on_ok_weaker, IfErr-weaker}
-use Rattle.std.specs.List.{AllByRecursion}
+use Rattle.std.specs.List.{AllByRecursion, list_all}
 use Rattle.std.specs.Option.{option_map}
 use Rattle.acc_stamp.specs.declared.actors.Actor.{Actor}
 use Rattle.acc_stamp.proofs.Rising.{each_weaker}
@@ -35,7 +37,7 @@ use Rattle.acc_pasts.proofs.Situations.{message_whole}
 use Rattle.acc_pasts.proofs.Standing.{may_do}
 use Rattle.acc_pasts.proofs.Replayed.{restart_emits}
 use Rattle.acc_pasts.proofs.Sound.{sound_standing}
-use Rattle.acc_schedule_runs.specs.Situations.{Situation, whole, without}
+use Rattle.acc_schedule_runs.specs.Situations.{Situation, whole, without, is_lost}
 use Rattle.acc_schedule_runs.specs.Moves.{with_item, with_stopped, event_in, entry_of, entered, kept_if, with_kept}
 use Rattle.acc_schedule_runs.specs.Limits.{IsWithin, EndsAt, most_items}
 use Rattle.acc_schedule_runs.specs.Fronts.{Begins}
@@ -48,7 +50,7 @@ use Rattle.acc_actors.proofs.Few.{few_whole}
 use Rattle.acc_actors.proofs.RestartPasts.{AllMay, all_may, standing_on, kept_can, kept_steps}
 use Rattle.acc_cluster.specs.Entering.{HasPlace, IsPastOf, step_item}
 use Rattle.acc_cluster.specs.Steps.{IfLimit}
-use Rattle.acc_cluster.specs.Restarting.{lost_item, with_lost, AreSendableBehind, CanComeBack, EndsInLost, come_up, EndsInRestart}
+use Rattle.acc_cluster.specs.Restarting.{lost_item, with_lost, AreSendableBehind, CanComeBack, AreMissing, EndsInLost, come_up, EndsInRestart}
 use Rattle.acc_cluster.proofs.Room.{few_placed}
 use Rattle.acc_cluster.proofs.Filled.{all_seam}
 
@@ -172,17 +174,21 @@ module _ (cluster : Cluster) (s : Situation) (a : Actor) (sound : IsSound cluste
   own_is = ap (λ (x : Situation). x.own) reopened_is
 
   -- a limit ends it before an entry that is lost, or before the restart
-  pub ends_kept : (which : Which) (limit : ℕ) → EndsInLost s a kept which limit → EndsInRestart cluster s a kept which limit
-  ends_kept which limit told =
-      let found = told (entry_of cluster between a (Restart (length kept)) false) in record {
-        items = found.0;
-        ends = subst (λ (own : List Item). EndsAt (λ front. Begins front own) found.0 which limit) own_is found.1;
+  pub ends_kept : (h : History) (which : Which) (limit : ℕ) → EndsInLost h s a kept which limit → EndsInRestart h cluster s a kept which limit
+  ends_kept h which limit told =
+      let last : Item = entry_of cluster between a (Restart (length kept)) false in record {
+        entered = told.entered;
+        past = told.past;
+        ahead = inr (last, told.ahead.missing, sym own_is ∙ ap (λ (own : List Item). last ∷ own) told.ahead.all_are, told.ahead.lost);
+        ends = subst (λ (own : List Item). EndsAt (λ front. Begins front own) told.entered.own which limit) own_is (told.ends last);
       }
 
-  pub ends_up : (which : Which) (limit : ℕ) → EndsAt (λ front. front ≡ behind.own) between.own which limit → EndsInRestart cluster s a kept which limit
-  ends_up which limit ends =
+  pub ends_up : (h : History) → IsPastOf h between → (which : Which) (limit : ℕ) → EndsAt (λ front. front ≡ behind.own) between.own which limit → EndsInRestart h cluster s a kept which limit
+  ends_up h past which limit ends =
       record {
-        items = between.own;
+        entered = between;
+        past = past;
+        ahead = inr (entry_of cluster between a (Restart (length kept)) false, [], sym own_is, refl);
         ends = record { next = ends.next; front = record { later = []; items_are = sym own_is ∙ sym ends.front }; within = ends.within; passed = ends.passed };
       }
 
@@ -192,19 +198,31 @@ above : (n : ℕ) → most_items ≤ n → most_items < suc n
 above n high = omega (arith, high)
 
 module _ (s : Situation) (a : Actor) (unsent : Unsent) where
-  ends_before : (which : Which) (limit : ℕ) → EndsAt (λ front. front ≡ lost_item a unsent ∷ s.own) s.own which limit → EndsInLost s a (unsent ∷ []) which limit
-  ends_before which limit ends = λ next. (
-    s.own,
-    record { next = ends.next; front = record { later = next ∷ []; items_are = ap (λ (l : List Item). next ∷ l) (sym ends.front) }; within = ends.within; passed = ends.passed },
-  )
+  ends_before : (h : History) → IsPastOf h s → (which : Which) (limit : ℕ) → EndsAt (λ front. front ≡ lost_item a unsent ∷ s.own) s.own which limit
+      → EndsInLost h s a (unsent ∷ []) which limit
+  ends_before h past which limit ends =
+      record {
+        entered = s;
+        past = past;
+        ahead = record { missing = lost_item a unsent ∷ []; all_are = refl; lost = refl };
+        ends = λ next.
+            record { next = ends.next; front = record { later = next ∷ []; items_are = ap (λ (l : List Item). next ∷ l) (sym ends.front) }; within = ends.within; passed = ends.passed };
+      }
 
-  ends_full : IsWithin (lost_item a unsent ∷ s.own) → most_items ≤ length (lost_item a unsent ∷ s.own) → EndsInLost s a (unsent ∷ []) Items most_items
-  ends_full within full = λ next. (
-    lost_item a unsent ∷ s.own,
-    record { next = next; front = record { later = []; items_are = refl }; within = within; passed = (refl, above (length (lost_item a unsent ∷ s.own)) full) },
-  )
+  ends_full : (h : History) → IsPastOf h (with_item (lost_item a unsent) s) → most_items ≤ length (lost_item a unsent ∷ s.own) → EndsInLost h s a (unsent ∷ []) Items most_items
+  ends_full h past full =
+      record {
+        entered = with_item (lost_item a unsent) s;
+        past = past;
+        ahead = record { missing = []; all_are = refl; lost = refl };
+        ends = λ next.
+            record { next = next; front = record { later = []; items_are = refl }; within = past.within; passed = (refl, above (length (lost_item a unsent ∷ s.own)) full) };
+      }
 
 -- ---- one behind another
+
+all_lost : (items others : List Item) → IsTrue (list_all is_lost items) → IsTrue (list_all is_lost others) → IsTrue (list_all is_lost (items ++ others))
+all_lost items others h more = list_all-append is_lost items others ∙ and_from (list_all is_lost items) (list_all is_lost others) h more
 
 module _ (a : Actor) where
   lost_on : (before after : List Unsent) (s : Situation) → with_lost a (before ++ after) s ≡ with_lost a after (with_lost a before s)
@@ -221,27 +239,49 @@ module _ (a : Actor) where
       let rest = later_items others (with_item (lost_item a unsent) s) next in
       (lost_item a unsent, rest.1 ++ rest.0 ∷ [], rest.2 ∙ sym (append_assoc rest.1 (rest.0 ∷ []) (lost_item a unsent ∷ s.own)))
 
-  pub ends_among : (before : List Unsent) (unsent : Unsent) (others : List Unsent) (s : Situation) (which : Which) (limit : ℕ)
-      → EndsInLost (with_lost a before s) a (unsent ∷ []) which limit → EndsInLost s a (before ++ unsent ∷ others) which limit
-  ends_among before unsent others s which limit told next =
+  -- the lost entries of others are missing
+  missing_others : (others : List Unsent) (s : Situation) → AreMissing s.own (with_lost a others s).own
+  missing_others [] s = record { missing = []; all_are = refl; lost = refl }
+  missing_others (unsent ∷ others) s =
+      let rest = missing_others others (with_item (lost_item a unsent) s) in
+      record {
+        missing = rest.missing ++ lost_item a unsent ∷ [];
+        all_are = rest.all_are ∙ sym (append_assoc rest.missing (lost_item a unsent ∷ []) s.own);
+        lost = all_lost rest.missing (lost_item a unsent ∷ []) rest.lost refl;
+      }
+
+  pub ends_among : (h : History) (before : List Unsent) (unsent : Unsent) (others : List Unsent) (s : Situation) (which : Which) (limit : ℕ)
+      → EndsInLost h (with_lost a before s) a (unsent ∷ []) which limit → EndsInLost h s a (before ++ unsent ∷ others) which limit
+  ends_among h before unsent others s which limit told =
       let here : Situation = with_item (lost_item a unsent) (with_lost a before s) in
-      let rest = later_items others here next in
-      let found = told rest.0 in
-      let front = found.1.front in (
-        found.0,
-        record {
-          next = found.1.next;
-          front = record {
-            later = rest.1 ++ front.later;
-            items_are =
-                ap (λ (x : Situation). next ∷ x.own) (lost_on before (unsent ∷ others) s) ∙ rest.2
-                ∙ ap (λ (l : List Item). rest.1 ++ l) front.items_are
-                ∙ sym (append_assoc rest.1 front.later (found.1.next ∷ found.0));
-          };
-          within = found.1.within;
-          passed = found.1.passed;
-        },
-      )
+      let more = missing_others others here in
+      record {
+        entered = told.entered;
+        past = told.past;
+        ahead = record {
+          missing = more.missing ++ told.ahead.missing;
+          all_are =
+              ap (λ (x : Situation). x.own) (lost_on before (unsent ∷ others) s) ∙ more.all_are
+              ∙ ap (λ (l : List Item). more.missing ++ l) told.ahead.all_are
+              ∙ sym (append_assoc more.missing told.ahead.missing told.entered.own);
+          lost = all_lost more.missing told.ahead.missing more.lost told.ahead.lost;
+        };
+        ends = λ next.
+            let rest = later_items others here next in
+            let found = told.ends rest.0 in
+            let front = found.front in record {
+              next = found.next;
+              front = record {
+                later = rest.1 ++ front.later;
+                items_are =
+                    ap (λ (x : Situation). next ∷ x.own) (lost_on before (unsent ∷ others) s) ∙ rest.2
+                    ∙ ap (λ (l : List Item). rest.1 ++ l) front.items_are
+                    ∙ sym (append_assoc rest.1 front.later (found.next ∷ told.entered.own));
+              };
+              within = found.within;
+              passed = found.passed;
+            };
+      }
 
   sent_more : (s : Situation) (item : Item) (event : Event) → EventTakesSent s event → EventTakesSent (with_item item s) event
   sent_more s item (Begin txn) h = tt
@@ -278,6 +318,17 @@ pub limit_weaker : (P Q : Which → ℕ → Type 0) (e : RunError) → ((which :
 limit_weaker P Q (Limit which limit) f h = f which limit h
 limit_weaker P Q OutOfMemory f h = tt
 
+-- by two facts
+pub limits_weaker : (P R Q : Which → ℕ → Type 0) (e : RunError) → ((which : Which) (limit : ℕ) → P which limit → R which limit → Q which limit)
+    → IfLimit P e → IfLimit R e → IfLimit Q e
+limits_weaker P R Q (Limit which limit) f h k = f which limit h k
+limits_weaker P R Q OutOfMemory f h k = tt
+
+pub if_limits : {T : Type 0} (r : Result T RunError) (P R Q : Which → ℕ → Type 0) → ((which : Which) (limit : ℕ) → P which limit → R which limit → Q which limit)
+    → IfErr r (IfLimit P) → IfErr r (IfLimit R) → IfErr r (IfLimit Q)
+if_limits (Ok x) P R Q f h k = tt
+if_limits (Err e) P R Q f h k = limits_weaker P R Q e f h k
+
 -- what the exit of a `?` returns
 pub on_err : {T : Type 0} (r : Result T RunError) (e : RunError) (P : RunError → Type 0) → IsErrAnd r (λ y. y ≡ e) → P e → IfErr r P
 on_err (Ok x) e P is h = absurd is
@@ -289,28 +340,30 @@ abbrev pub EntersLost : History → History → Actor → Unsent → Type 0
 EntersLost before now a unsent =
     (s : Situation) → IsPastOf before s → HasPlace s → EventTakesSent s unsent.event → IsPastOf now (with_item (lost_item a unsent) s) × HasPlace (with_item (lost_item a unsent) s)
 
-abbrev pub EndsLost : History → Actor → List Unsent → Unsent → Which → ℕ → Type 0
-EndsLost before a kept unsent which limit = (s : Situation) → IsPastOf before s → HasPlace s → EventTakesSent s unsent.event → EndsInLost s a kept which limit
+abbrev pub EndsLost : History → History → Actor → List Unsent → Unsent → Which → ℕ → Type 0
+EndsLost before now a kept unsent which limit = (s : Situation) → IsPastOf before s → HasPlace s → EventTakesSent s unsent.event → EndsInLost now s a kept which limit
 
 module _ {T : Type 0} (r : Result T RunError) (before middle : History) (a : Actor) (unsent : Unsent) where
   -- no place for what is lost
   pub lost_ends : (e : RunError) → IsErrAnd r (λ y. y ≡ e)
       → IfLimit (λ which limit. (s : Situation) → IsPastOf before s → HasPlace s → EndsAt (λ front. front ≡ step_item a unsent.event unsent.emitted true ∷ s.own) s.own which limit) e
-      → IfErr r (IfLimit (EndsLost before a (unsent ∷ []) unsent))
-  lost_ends e is told =
-      on_err r e (IfLimit (EndsLost before a (unsent ∷ []) unsent)) is
-      (limit_weaker _ (EndsLost before a (unsent ∷ []) unsent) e (λ which limit h. λ s past place sent. ends_before s a unsent which limit (h s past place)) told)
+      → IfLimit (λ which limit. middle ≡ before) e → IfErr r (IfLimit (EndsLost before middle a (unsent ∷ []) unsent))
+  lost_ends e is told same =
+      on_err r e (IfLimit (EndsLost before middle a (unsent ∷ []) unsent)) is
+      (limits_weaker _ _ (EndsLost before middle a (unsent ∷ []) unsent) e
+      (λ which limit h as_before. λ s past place sent.
+      ends_before s a unsent middle (subst (λ (x : History). IsPastOf x s) (sym as_before) past) which limit (h s past place)) told same)
 
   module _ (enters : (s : Situation) → IsPastOf before s → HasPlace s → EventTakesSent s unsent.event → IsPastOf middle (with_item (step_item a unsent.event unsent.emitted true) s)) where
     -- or none behind it
-    pub full_ends : IfErr r (λ e. (e ≡ Limit Items most_items) × ((s : Situation) → history.StandsFor middle s → most_items ≤ length s.own)) → IfErr r (IfLimit (EndsLost before a (unsent ∷ []) unsent))
+    pub full_ends : IfErr r (λ e. (e ≡ Limit Items most_items) × ((s : Situation) → history.StandsFor middle s → most_items ≤ length s.own)) → IfErr r (IfLimit (EndsLost before middle a (unsent ∷ []) unsent))
     full_ends =
-        IfErr-weaker r _ (IfLimit (EndsLost before a (unsent ∷ []) unsent))
+        IfErr-weaker r _ (IfLimit (EndsLost before middle a (unsent ∷ []) unsent))
         (λ e (told : (e ≡ Limit Items most_items) × ((s : Situation) → history.StandsFor middle s → most_items ≤ length s.own)).
-        subst (IfLimit (EndsLost before a (unsent ∷ []) unsent)) (sym told.0)
+        subst (IfLimit (EndsLost before middle a (unsent ∷ []) unsent)) (sym told.0)
         (λ s past place sent.
         let mid = enters s past place sent in
-        ends_full s a unsent mid.within (told.1 (with_item (lost_item a unsent) s) mid.stands)))
+        ends_full s a unsent middle mid (told.1 (with_item (lost_item a unsent) s) mid.stands)))
 
     pub lost_enters : OnOk r ((s : Situation) → history.StandsFor middle s → HasPlace s) → OnOk r (EntersLost before middle a unsent)
     lost_enters =
@@ -342,15 +395,15 @@ module _ (a : Actor) where
     pub lost_goes_on : (now : History) → EntersLost middle now a unsent → HasEntered (done ++ unsent ∷ []) kept old now
     lost_goes_on now enters s come = lost_more a done unsent after s old middle now (parted s come) (was s come) enters
 
-    pub lost_ends_among : {T : Type 0} (r : Result T RunError) (e : RunError) → IsErrAnd r (λ y. y ≡ e) → IfLimit (EndsLost middle a (unsent ∷ []) unsent) e
-        → IfErr r (IfLimit (λ which limit. (s : Situation) → CanComeBack old a kept s → EndsInLost s a kept which limit))
-    lost_ends_among r e is told =
-        on_err r e (IfLimit (λ which limit. (s : Situation) → CanComeBack old a kept s → EndsInLost s a kept which limit)) is
-        (limit_weaker (EndsLost middle a (unsent ∷ []) unsent) (λ which limit. (s : Situation) → CanComeBack old a kept s → EndsInLost s a kept which limit) e
-        (λ which limit (h : EndsLost middle a (unsent ∷ []) unsent which limit). λ s come.
+    pub lost_ends_among : (now : History) {T : Type 0} (r : Result T RunError) (e : RunError) → IsErrAnd r (λ y. y ≡ e) → IfLimit (EndsLost middle now a (unsent ∷ []) unsent) e
+        → IfErr r (IfLimit (λ which limit. (s : Situation) → CanComeBack old a kept s → EndsInLost now s a kept which limit))
+    lost_ends_among now r e is told =
+        on_err r e (IfLimit (λ which limit. (s : Situation) → CanComeBack old a kept s → EndsInLost now s a kept which limit)) is
+        (limit_weaker (EndsLost middle now a (unsent ∷ []) unsent) (λ which limit. (s : Situation) → CanComeBack old a kept s → EndsInLost now s a kept which limit) e
+        (λ which limit (h : EndsLost middle now a (unsent ∷ []) unsent which limit). λ s come.
         let here = was s come in
-        subst (λ (all : List Unsent). EndsInLost s a all which limit) seam
-        (ends_among a done unsent after s which limit (h (with_lost a done s) here.0 here.1 (sent_at a done unsent after s old (parted s come))))) told)
+        subst (λ (all : List Unsent). EndsInLost now s a all which limit) seam
+        (ends_among a now done unsent after s which limit (h (with_lost a done s) here.0 here.1 (sent_at a done unsent after s old (parted s come))))) told)
 
 -- ---- all of them, and the restart
 
@@ -359,9 +412,9 @@ abbrev pub Enters : History → History → Actor → List Unsent → Type 0
 Enters before now a kept =
     (cluster : Cluster) (s : Situation) → IsSound cluster s → IsPastOf before s → HasPlace s → AreKeptSteps cluster s a kept → IsPastOf now (come_up cluster s a kept)
 
-abbrev pub Ends : History → Actor → List Unsent → Which → ℕ → Type 0
-Ends before a kept which limit =
-    (cluster : Cluster) (s : Situation) → IsSound cluster s → IsPastOf before s → HasPlace s → AreKeptSteps cluster s a kept → EndsInRestart cluster s a kept which limit
+abbrev pub Ends : History → History → Actor → List Unsent → Which → ℕ → Type 0
+Ends before now a kept which limit =
+    (cluster : Cluster) (s : Situation) → IsSound cluster s → IsPastOf before s → HasPlace s → AreKeptSteps cluster s a kept → EndsInRestart now cluster s a kept which limit
 
 abbrev pub EntersRestart : History → History → Actor → ℕ → Type 0
 EntersRestart before now a count = (cluster : Cluster) (s : Situation) → IsPastOf before s → HasPlace s → IsPastOf now (entered cluster s a (Restart count) false)
@@ -375,12 +428,12 @@ module _ {T : Type 0} (r : Result T RunError) (before middle now : History) (a :
   come_back cluster s sound past place are = record { past = past; place = place; taken = kept_sent cluster s a sound kept are }
 
   -- no place for one that is lost
-  pub kept_ends : (e : RunError) → IsErrAnd r (λ y. y ≡ e) → IfLimit (λ which limit. (s : Situation) → CanComeBack before a kept s → EndsInLost s a kept which limit) e
-      → IfErr r (IfLimit (Ends before a kept))
+  pub kept_ends : (e : RunError) → IsErrAnd r (λ y. y ≡ e) → IfLimit (λ which limit. (s : Situation) → CanComeBack before a kept s → EndsInLost now s a kept which limit) e
+      → IfErr r (IfLimit (Ends before now a kept))
   kept_ends e is told =
-      on_err r e (IfLimit (Ends before a kept)) is
-      (limit_weaker _ (Ends before a kept) e
-      (λ which limit h. λ cluster s sound past place are. ends_kept cluster s a sound kept are which limit (h s (come_back cluster s sound past place are))) told)
+      on_err r e (IfLimit (Ends before now a kept)) is
+      (limit_weaker _ (Ends before now a kept) e
+      (λ which limit h. λ cluster s sound past place are. ends_kept cluster s a sound kept are now which limit (h s (come_back cluster s sound past place are))) told)
 
   module _ (count : ℕ) (count_is : count ≡ length kept)
       (enters : (s : Situation) → CanComeBack before a kept s → IsPastOf middle (with_lost a kept s) × HasPlace (with_lost a kept s)) where
@@ -391,12 +444,11 @@ module _ {T : Type 0} (r : Result T RunError) (before middle now : History) (a :
         let mid = enters s (come_back cluster s sound past place are) in
         past_up cluster s a sound kept are now (subst (λ n. IsPastOf now (entered cluster (with_lost a kept s) a (Restart n) false)) count_is (told cluster (with_lost a kept s) mid.0 mid.1)))
 
-    pub up_ends : IfErr r (IfLimit (EndsRestart middle a count)) → IfErr r (IfLimit (Ends before a kept))
-    up_ends =
-        IfErr-weaker r (IfLimit (EndsRestart middle a count)) (IfLimit (Ends before a kept))
-        (λ e. limit_weaker (EndsRestart middle a count) (Ends before a kept) e
-        (λ which limit (told : EndsRestart middle a count which limit). λ cluster s sound past place are.
+    pub up_ends : IfErr r (IfLimit (λ which limit. now ≡ middle)) → IfErr r (IfLimit (EndsRestart middle a count)) → IfErr r (IfLimit (Ends before now a kept))
+    up_ends same ends =
+        if_limits r (λ which limit. now ≡ middle) (EndsRestart middle a count) (Ends before now a kept)
+        (λ which limit (as_before : now ≡ middle) (told : EndsRestart middle a count which limit). λ cluster s sound past place are.
         let mid = enters s (come_back cluster s sound past place are) in
-        ends_up cluster s a sound kept are which limit
+        ends_up cluster s a sound kept are now (subst (λ (x : History). IsPastOf x (with_lost a kept s)) (sym as_before) mid.0) which limit
         (subst (λ n. EndsAt (λ front. front ≡ (entered cluster (with_lost a kept s) a (Restart n) false).own) (with_lost a kept s).own which limit) count_is
-        (told cluster (with_lost a kept s) mid.0 mid.1))))
+        (told cluster (with_lost a kept s) mid.0 mid.1))) same ends

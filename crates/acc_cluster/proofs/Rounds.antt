@@ -25,8 +25,9 @@ use Rattle.acc_history.specs.Stands as history
 use Rattle.acc_cluster.specs.declared.cluster.Cluster.{Cluster}
 use Rattle.acc_cluster.specs.Entering.{HasPlace}
 use Rattle.acc_cluster.specs.Stands.{StandsFor}
-use Rattle.acc_cluster.specs.Steps.{IfLimit}
+use Rattle.acc_cluster.specs.Steps.{IfLimit, LimitLeaves}
 use Rattle.acc_cluster.specs.Tried.{HasStepped, HitsLimit, HitsLimitInDrain}
+use Rattle.acc_cluster.proofs.Hits.{hits_full}
 use Rattle.acc_cluster.proofs.Coming.{longer, HasCome, hits_in_drain}
 
 -- a message that waits isn't passed over
@@ -55,54 +56,42 @@ smaller port plan now new s message stands place stepped =
 
 -- ---- limits
 
-above : (n : ℕ) → most_items ≤ n → most_items < suc n
-above n full = omega (arith, full)
-
--- no place for one item more
-at_full : (s : Situation) (item : Item) → IsWithin s.own → most_items ≤ length s.own → EndsAt (λ front. front ≡ item ∷ s.own) s.own Items most_items
-at_full s item within full = record { next = item; front = refl; within = within; passed = (refl, above (length s.own) full) }
-
 -- the limits that end a round, where its error is passed on
 module _ {D : Type 0} (port : Ghosts D)
     (plan : Content) (old now : Cluster D) (message : ℕ) (come : (s : Situation) → StandsFor port plan old s → HasCome port plan old now s)
     (oldest : (s : Situation) → history.StandsFor now.history s → IsOldestWaiting s message) where
-  abbrev Hits : Which → ℕ → Type 0
-  Hits which most = (s : Situation) → StandsFor port plan old s → HitsLimitInDrain port plan old s which most
+  abbrev Hits : Cluster D → Which → ℕ → Type 0
+  Hits new which most =
+      (s : Situation) → StandsFor port plan old s → (hits : HitsLimitInDrain port plan old s which most) × LimitLeaves port plan old new s hits.items hits.reached
 
-  passed_on : (e : RunError) → IfLimit Hits e → (r : Result (Unit {0}) RunError) → IsErrAnd r (λ x. x ≡ e) → IfErr r (IfLimit Hits)
-  passed_on e h r is =
+  passed_on : (new : Cluster D) (e : RunError) → IfLimit (Hits new) e → (r : Result (Unit {0}) RunError) → IsErrAnd r (λ x. x ≡ e) → IfErr r (IfLimit (Hits new))
+  passed_on new e h r is =
       let found = err_from_is_err_and r is in
-      subst (λ (x : Result (Unit {0}) RunError). IfErr x (IfLimit Hits)) (sym (found.1 ∙ ap Err found.2)) h
+      subst (λ (x : Result (Unit {0}) RunError). IfErr x (IfLimit (Hits new))) (sym (found.1 ∙ ap Err found.2)) h
 
   -- there is no place
   pub ends_full : (e : RunError) → (e ≡ Limit Items most_items) × ((s : Situation) → history.StandsFor now.history s → most_items ≤ length s.own)
-      → (r : Result (Unit {0}) RunError) → IsErrAnd r (λ x. x ≡ e) → IfErr r (IfLimit Hits)
-  ends_full e full = passed_on e (subst (IfLimit Hits) (sym full.0) hits)
+      → (r : Result (Unit {0}) RunError) → IsErrAnd r (λ x. x ≡ e) → IfErr r (IfLimit (Hits now))
+  ends_full e full = passed_on now e (subst (IfLimit (Hits now)) (sym full.0) hits)
     where
-      by : (s : Situation) (a : Actor) (event : Event) (fails : Bool) → IsWithin s.own → most_items ≤ length s.own
-          → EndsAt (λ front. front ≡ (tried_if fails (cluster_of plan) s a event).own) s.own Items most_items
-      by s a event true within less = at_full s (Down a) within less
-      by s a event false within less = at_full s (entry_of (cluster_of plan) s a event false) within less
-
-      hits : Hits Items most_items
+      hits : Hits now Items most_items
       hits s stands =
           let reached : HasCome port plan old now s = come s stands in
-          hits_in_drain port plan old s now reached message (oldest reached.reached reached.stands.past.stands) Items most_items
-          (inl (λ fails.
-          by reached.reached (receiver_in reached.reached message) (MessageEvent message) fails reached.stands.past.within
-          (full.1 reached.reached reached.stands.past.stands)))
+          hits_in_drain port plan old s now reached now message (oldest reached.reached reached.stands.past.stands) Items most_items
+          (hits_full port plan 0 (receiver_in reached.reached message) (MessageEvent message) now reached.reached None reached.stands
+          (full.1 reached.reached reached.stands.past.stands))
 
   -- the step hits one
-  pub ends_taken : (e : RunError)
+  pub ends_taken : (new : Cluster D) (e : RunError)
       → IfLimit (λ which most. (number : ℕ) (s : Situation) → StandsFor port plan now s → HasPlace s → deliver_skip s message ≡ None
-      → HitsLimit port plan None number (receiver_in s message) (MessageEvent message) now s which most) e
-      → ((s : Situation) → history.StandsFor now.history s → HasPlace s) → (r : Result (Unit {0}) RunError) → IsErrAnd r (λ x. x ≡ e) → IfErr r (IfLimit Hits)
-  ends_taken OutOfMemory h place = passed_on OutOfMemory tt
-  ends_taken (Limit which most) h place = passed_on (Limit which most) hits
+      → HitsLimit port plan None number (receiver_in s message) (MessageEvent message) now new s which most) e
+      → ((s : Situation) → history.StandsFor now.history s → HasPlace s) → (r : Result (Unit {0}) RunError) → IsErrAnd r (λ x. x ≡ e) → IfErr r (IfLimit (Hits new))
+  ends_taken new OutOfMemory h place = passed_on new OutOfMemory tt
+  ends_taken new (Limit which most) h place = passed_on new (Limit which most) hits
     where
-      hits : Hits which most
+      hits : Hits new which most
       hits s stands =
           let reached : HasCome port plan old now s = come s stands in
           let first : IsOldestWaiting reached.reached message = oldest reached.reached reached.stands.past.stands in
-          hits_in_drain port plan old s now reached message first which most
+          hits_in_drain port plan old s now reached new message first which most
           (h 0 reached.reached reached.stands (place reached.reached reached.stands.past.stands) (waiting_is_taken (cluster_of plan) reached.reached message first.0))

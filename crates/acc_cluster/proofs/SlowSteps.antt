@@ -45,8 +45,10 @@ use Rattle.acc_cluster.specs.Stands.{slot_at, faults_at, StandsFor, AreStrict}
 use Rattle.acc_cluster.specs.Steps.{IfLimit}
 use Rattle.acc_cluster.specs.Tried.{HasStepped, HitsLimit}
 use Rattle.acc_cluster.proofs.Going.{there_is}
-use Rattle.acc_cluster.proofs.Stepped.{has_stepped}
-use Rattle.acc_cluster.proofs.Taken.{Goes, on_ok, if_limit, within_any, sendable_at}
+use Rattle.acc_cluster.proofs.Counts.{same_most}
+use Rattle.acc_cluster.proofs.Limited.{both_limits}
+use Rattle.acc_cluster.proofs.Stepped.{has_stepped, stops_stepped}
+use Rattle.acc_cluster.proofs.Taken.{Goes, on_ok, if_limit, within_any, sendable_at, taken_counted}
 use Rattle.acc_cluster.proofs.Written.{IsWritten, AllApart, write_is, actors_written, strict_written}
 
 -- the home of a transaction of the plan
@@ -124,15 +126,25 @@ module _ {D : Type 0} (port : Ghosts D)
           (λ none. absurd (not_none emitted (sym none)))
           (λ disks are. strictly s disks up_there (subst (λ (x : Slot D). IsStrictSlot port plan s disks a x) (sym slot_is) are))))
 
-      pub slowed_limit : IfErr r (IfLimit (λ which limit. (cluster : RunCluster) (s : Situation) → IsPastOf old.history s → HasPlace s → IsEmitted cluster s a (SlowEvent txn) (Some emitted)
+      pub slowed_limit : (new : Cluster D) → new.slots.items ≡ set old.slots.items a.0 new_slot → faults_in port new_slot ≡ faults_in port slot
+          → IfErr r (IfLimit (λ which limit. new.history ≡ old.history))
+          → IfErr r (IfLimit (λ which limit. (cluster : RunCluster) (s : Situation) → IsPastOf old.history s → HasPlace s → IsEmitted cluster s a (SlowEvent txn) (Some emitted)
           → (is_none (Some emitted) ≡ false) × EndsAt (λ front. front ≡ (tried_if false cluster s a (SlowEvent txn)).own) s.own which limit))
           → IfErr r (IfLimit (λ which limit. (s : Situation) → StandsFor port plan old s → HasPlace s → is_down a (whole s) ≡ false
-          → HitsLimit port plan (skips_slow plan s txn) number a (SlowEvent txn) old s which limit))
-      slowed_limit = if_limit _ _ r (λ which limit enter s h place up.
+          → HitsLimit port plan (skips_slow plan s txn) number a (SlowEvent txn) old new s which limit))
+      slowed_limit new set_is same_count same entered = if_limit _ _ r (λ which limit told s h place up.
           let answer = ok s (home_up s h up) in
-          let ends = enter (cluster_of plan) s h.past place answer.1.emitted in
-          subst (λ skip. HitsLimit port plan skip number a (SlowEvent txn) old s which limit) (sym answer.0)
-          (inr (ends.1, λ disks are skipped. refl)))
+          let go = goes_slow s h up answer.0 in
+          let ends = told.1 (cluster_of plan) s h.past place answer.1.emitted in
+          subst (λ skip. HitsLimit port plan skip number a (SlowEvent txn) old new s which limit) (sym answer.0)
+          (record {
+            reached = tried_if false (cluster_of plan) s a (SlowEvent txn);
+            ends = inr (ends.1, λ disks are skipped. refl, refl);
+            stops =
+                stops_stepped port plan old new s number a (SlowEvent txn) h (Slows go.0) new_slot go.1.known
+                (write_is old.slots.items new.slots.items a a.0 new_slot refl within set_is) go.1.may go.1.none go.1.up told.0 answer.1.stands;
+            none_fell = λ b there. taken_counted port plan old a (SlowEvent txn) (Slows go.0) slot here within new.slots.items new_slot set_is (same_most (sym same_count)) b;
+          })) (both_limits _ _ r same entered)
 
     -- ---- it refuses
 
@@ -188,7 +200,7 @@ module _ {D : Type 0} (port : Ghosts D)
             strictly = λ disks are. step.strictly disks (still_strict s h up (λ some_disks. strictly s some_disks) disks are);
           }))
 
-      pub refused_limit : IfErr r (IfLimit (λ which limit. (s : Situation) → StandsFor port plan between s → HasPlace s → ⊥))
+      pub refused_limit : (new : Cluster D) → IfErr r (IfLimit (λ which limit. (s : Situation) → StandsFor port plan between s → HasPlace s → ⊥))
           → IfErr r (IfLimit (λ which limit. (s : Situation) → StandsFor port plan old s → HasPlace s → is_down a (whole s) ≡ false
-          → HitsLimit port plan (skips_slow plan s txn) number a (SlowEvent txn) old s which limit))
-      refused_limit = if_limit _ _ r (λ which limit never s h place up. absurd (never s (still_stands s h up) place))
+          → HitsLimit port plan (skips_slow plan s txn) number a (SlowEvent txn) old new s which limit))
+      refused_limit new = if_limit _ _ r (λ which limit never s h place up. absurd (never s (still_stands s h up) place))

@@ -1,5 +1,5 @@
 -- The cluster behind a step of one actor.
-use Rattle.std.proofs.Common.{◌≡◌, ◌⊎◌, ℕ, Bool, true, false, List, Option, None, Some, Contains, is_none, refl, sym, ◌∙◌, ap, subst, inl, inr}
+use Rattle.std.proofs.Common.{◌≡◌, ◌⊎◌, ℕ, Bool, true, false, List, [], Option, None, Some, Contains, is_none, refl, sym, ◌∙◌, ap, subst, inl, inr}
 use Rattle.std.proofs.lemmas.Bool.{true≢false, eq-eqb}
 use Rattle.acc_safety.proofs.Bridge.{same}
 use Rattle.acc_stamp.specs.declared.actors.Actor.{Actor}
@@ -20,18 +20,20 @@ use Rattle.acc_pasts.specs.Entries.{MayTake}
 use Rattle.acc_pasts.specs.Stopped.{IsSound}
 use Rattle.acc_pasts.proofs.Sound.{sound_entered, sound_stopped_one, sound_skip}
 use Rattle.acc_schedule_runs.specs.Situations.{Situation, whole}
-use Rattle.acc_schedule_runs.specs.Moves.{with_item, event_in, is_journalled, tried_if}
+use Rattle.acc_schedule_runs.specs.Moves.{with_item, entry_of, event_in, is_journalled, tried_if}
 use Rattle.acc_schedule_runs.specs.Schedules.{cluster_of}
 use Rattle.acc_payloads.specs.Appends.{after_append, passed_in}
 use Rattle.acc_schedule_runs.specs.Disks.{Disks, after_step}
 use Rattle.acc_actors.specs.declared.slot.Slot.{Slot}
-use Rattle.acc_actors.specs.Slots.{IsStrictSlot, faults_in}
+use Rattle.acc_actors.specs.Slots.{SlotStands, IsStrictSlot, faults_in}
 use Rattle.acc_actors.specs.Asked.{HasRoom, IsEmitted, HasTried, HasTriedStrictly}
 use Rattle.acc_actors.proofs.Apart.{IsApart, apart_skip, apart_tried}
 use Rattle.acc_actors.proofs.Few.{entry_other}
 use Rattle.acc_cluster.specs.declared.cluster.Cluster.{Cluster}
+use Rattle.acc_history.specs.declared.history.History.{History}
 use Rattle.acc_cluster.specs.Entering.{IsPastOf}
 use Rattle.acc_cluster.specs.Stands.{slot_at, AreActors, StandsFor, AreStrict}
+use Rattle.acc_cluster.specs.Limits.{StopsAt}
 use Rattle.acc_cluster.specs.Tried.{HasStepped}
 use Rattle.acc_cluster.proofs.Written.{IsWritten, AllApart, actors_written, strict_written, rose_written, actors_same, strict_same}
 
@@ -122,3 +124,24 @@ module _ {D : Type 0} (port : Ghosts D)
     where
       apart : (b : Actor) → IsApart (cluster_of plan) s (with_item (Skipped number cause) s) b
       apart b = apart_skip (cluster_of plan) s h.sound number cause b
+
+  -- taken, and kept out by a limit
+  pub stops_stepped : (act : Act) (slot : Slot D) → Contains (actors plan.topology) a → IsWritten old.slots.items new.slots.items a slot
+      → MayTake (cluster_of plan) (whole s) a (event_in s event) act → kept_of (event_in s event) ≡ 0 → is_down a (whole s) ≡ false
+      → new.history ≡ old.history → SlotStands port plan (tried_if false (cluster_of plan) s a event) a slot
+      → StopsAt port plan new s.own (tried_if false (cluster_of plan) s a event)
+  stops_stepped act slot known written may none up same stands =
+      record {
+        entered = s;
+        past = subst (λ (past : History). IsPastOf past s) (sym same) h.past;
+        items_are = refl;
+        sound = sound_tried plan false s a event act may none up (λ fails. cc) h.sound;
+        actors = actors_written plan old.slots.items new.slots.items s next a slot written known apart port h.actors stands;
+        ahead = inr (entry_of (cluster_of plan) s a event false, [], refl, refl);
+      }
+    where
+      next : Situation
+      next = tried_if false (cluster_of plan) s a event
+
+      apart : AllApart plan s next a
+      apart b e = apart_tried (cluster_of plan) s h.sound false a b event act e may

@@ -40,7 +40,8 @@ use Rattle.acc_cluster.proofs.Hits.{map_limit}
 use Rattle.acc_message.specs.Items.{same_actor}
 use Rattle.acc_safety.proofs.Bridge.{same}
 use Rattle.acc_cluster.proofs.Written.{IsWritten, write_is}
-use Rattle.acc_cluster.proofs.Stepped.{has_stepped}
+use Rattle.acc_cluster.proofs.Stepped.{has_stepped, stops_stepped}
+use Rattle.acc_cluster.proofs.Limited.{both_limits}
 
 -- ---- results
 
@@ -143,18 +144,30 @@ module _ {D : Type 0} (port : Ghosts D) (plan : Content) (old : Cluster D) (a : 
         (λ none. subst (λ (x : Slot D). Rose (faults_in port x) (faults_in port new_slot)) slot_is (cause none))
         (λ disks are. strictly s disks asked (subst (λ (x : Slot D). IsStrictSlot port plan s disks a x) (sym slot_is) are))) entered
 
-    pub taken_limit : IfErr r (IfLimit (λ which limit. (cluster : RunCluster) (s : Situation) → IsPastOf old.history s → HasPlace s → IsEmitted cluster s a event given
+    pub taken_limit : (new : Cluster D) → new.slots.items ≡ set old.slots.items a.0 new_slot → faults_in port slot ≤ faults_in port new_slot
+        → IfErr r (IfLimit (λ which limit. new.history ≡ old.history))
+        → IfErr r (IfLimit (λ which limit. (cluster : RunCluster) (s : Situation) → IsPastOf old.history s → HasPlace s → IsEmitted cluster s a event given
         → (is_none given ≡ false) × EndsAt (λ front. front ≡ (tried_if false cluster s a event).own) s.own which limit))
         → IfErr r (IfLimit (λ which limit. (number : ℕ) (s : Situation) → StandsFor port plan old s → HasPlace s → P s
-        → HitsLimit port plan None number a event old s which limit))
-    taken_limit entered = if_limit _ _ r (λ which limit enter number s h place p.
+        → HitsLimit port plan None number a event old new s which limit))
+    taken_limit new set_is counted same entered = if_limit _ _ r (λ which limit told number s h place p.
         let go : Goes plan s a event act = goes s h p in
         let asked : IsAsked port plan s a event act slot = asked_at s h go in
-        let ends = enter (cluster_of plan) s h.past place (ok s asked).emitted in
-        inr (
-          ends.1,
-          λ disks are skipped.
-              let answer : HasTriedStrictly port plan s disks a event new_slot given =
-              strictly s disks asked (subst (λ (x : Slot D). IsStrictSlot port plan s disks a x) (sym slot_is) (are a go.known)) in
-              sym answer.fails ∙ ends.0,
-        )) entered
+        let tried : HasTried port plan s a event new_slot given = ok s asked in
+        let ends = told.1 (cluster_of plan) s h.past place tried.emitted in
+        record {
+          reached = tried_if false (cluster_of plan) s a event;
+          ends = inr (
+            ends.1,
+            λ disks are skipped.
+                let answer : HasTriedStrictly port plan s disks a event new_slot given =
+                strictly s disks asked (subst (λ (x : Slot D). IsStrictSlot port plan s disks a x) (sym slot_is) (are a go.known)) in
+                sym answer.fails ∙ ends.0,
+            refl,
+          );
+          stops =
+              stops_stepped port plan old new s number a event h act new_slot go.known
+              (write_is old.slots.items new.slots.items a a.0 new_slot refl within set_is) go.may go.none go.up told.0
+              (subst (λ b. SlotStands port plan (tried_if b (cluster_of plan) s a event) a new_slot) ends.0 tried.stands);
+          none_fell = λ b known. taken_counted new.slots.items new_slot set_is counted b;
+        }) (both_limits _ _ r same entered)

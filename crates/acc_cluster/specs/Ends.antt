@@ -1,18 +1,18 @@
 -- What is left of a cluster.
-use Rattle.std.specs.Prelude.{◌≡◌, ℕ, ◌+◌, ◌≤◌, List, [], ◌∷◌, ◌++◌, map, reverse, Contains}
+use Rattle.std.specs.Prelude.{◌≡◌, ℕ, ◌+◌, ◌≤◌, Bool, List, [], ◌∷◌, ◌++◌, map, reverse, Contains}
 use Rattle.std.specs.List.{AllByRecursion}
 use Rattle.acc_stamp.specs.declared.actors.Actor.{Actor}
 use Rattle.acc_ports.specs.declared.disk.Disk.{Ghosts}
-use Rattle.acc_payloads.specs.Items.{Keeps}
-use Rattle.acc_payloads.specs.Stops.{HoldsPayloads}
+use Rattle.acc_journal.specs.Layout.{Reads}
+use Rattle.acc_message.specs.declared.item.Item.{Item}
+use Rattle.acc_payloads.specs.Items.{payloads_in, downs_in, without_marks, AreMarked}
 use Rattle.acc_durable_node.specs.Actor as node
 use Rattle.acc_durable_store.specs.Actor as store
 use Rattle.acc_schedule.specs.Actors.{actors}
 use Rattle.acc_schedule.specs.Content.{Content}
-use Rattle.acc_schedule_runs.specs.Situations.{Situation}
+use Rattle.acc_schedule_runs.specs.Situations.{Situation, whole}
+use Rattle.acc_schedule_runs.specs.Moves.{kept_if, with_kept}
 use Rattle.acc_schedule_runs.specs.Schedules.{cluster_of}
-use Rattle.acc_actors.specs.Pasts.{node_past, store_past}
-use Rattle.acc_actors.specs.Slots.{SlotStands}
 use Rattle.acc_actors.specs.declared.slot.Slot.{Slot}
 use Rattle.acc_actors.specs.declared.slot.Slot.TheVariants.{Empty, Node, Store}
 use Rattle.acc_cluster.specs.declared.ending.Ended.{Ended}
@@ -29,14 +29,22 @@ abbrev pub disks_from : {D : Type 0} → ℕ → List (Slot D) → List (Actor �
 disks_from number [] = []
 disks_from number (slot ∷ slots) = entry_of number slot ++ disks_from (number + 1) slots
 
--- each image of the disk holds the payloads of the past for which the actor stands
-abbrev pub SlotHolds : {D : Type 0} → Ghosts D → Content → Situation → Actor → Slot D → Type 0
-SlotHolds port plan s a Empty = Unit {0}
-SlotHolds port plan s a (Node n) = (image : List ℕ) → port.is_image (node.disk_of n) image → HoldsPayloads plan.version (node_past (cluster_of plan) s a) image
-SlotHolds port plan s a (Store t) = (image : List ℕ) → port.is_image (store.disk_of t) image → HoldsPayloads plan.version (store_past (cluster_of plan) s a) image
+-- ---- what a disk keeps
 
-abbrev pub LeavesHeld : {D : Type 0} → Ghosts D → Slot D → Type 0
-LeavesHeld port slot = (plan : Content) (s : Situation) (a : Actor) → SlotStands port plan s a slot → SlotHolds port plan s a slot
+-- An image reads as the payloads of the actor's entries, with those of the steps that a fault of its disk stopped, if it kept them: all or
+-- none. It breaks no rule on marks.
+pub record HoldsIn (plan : Content) (s : Situation) (a : Actor) (image : List ℕ) : Type 0 where
+  pub payloads : List (List ℕ)
+  pub reads : Reads image payloads
+  pub marks : AreMarked plan.version payloads
+  pub keeps : Bool
+  pub kept : without_marks payloads ≡ payloads_in a (whole (with_kept (cluster_of plan) s a (kept_if keeps a s)))
+
+-- A disk keeps its actor in a situation: it has counted as many faults as the actor went down, or more, and each of its images holds the
+-- actor's payloads.
+pub record KeepsIn {D : Type 0} (port : Ghosts D) (plan : Content) (s : Situation) (entry : Actor × D) : Type 0 where
+  pub counted : downs_in entry.0 s.own ≤ (port.state entry.1).faults
+  pub each : (image : List ℕ) → port.is_image entry.1 image → HoldsIn plan s entry.0 image
 
 -- ---- the whole
 
@@ -50,7 +58,8 @@ pub record AreDisksOf {D : Type 0} (plan : Content) (disks : List (Actor × D)) 
   pub known : AllByRecursion (λ (entry : Actor × D). Contains (actors plan.topology) entry.0) disks
   pub each : (a : Actor) → Contains (actors plan.topology) a → Contains (map (λ (entry : Actor × D). entry.0) disks) a
 
-pub record IsEndOf {D : Type 0} (port : Ghosts D) (plan : Content) (s : Situation) (ended : Ended D) : Type 0 where
-  pub items_are : ended.items ≡ reverse s.own
+-- these items, newest first, and the disks of the plan's actors, each of which keeps its actor in the situation
+pub record IsEndOf {D : Type 0} (port : Ghosts D) (plan : Content) (items : List Item) (s : Situation) (ended : Ended D) : Type 0 where
+  pub items_are : ended.items ≡ reverse items
   pub disks_are : AreDisksOf plan ended.disks.items
-  pub kept : s.earlier ≡ [] → AllByRecursion (λ (entry : Actor × D). Keeps plan.version entry.0 s.own (port.state entry.1).faults (port.is_image entry.1)) ended.disks.items
+  pub kept : AllByRecursion (KeepsIn port plan s) ended.disks.items

@@ -1,4 +1,5 @@
 pub mod Stands
+pub mod Limits
 pub mod Steps
 pub mod Entering
 pub mod Tried

@@ -1,6 +1,6 @@
 -- What a restart finds at the actor's number, and what entering it comes to.
-use Rattle.std.specs.Prelude.{◌≡◌, ℕ, Bool, true, false, List, [], ◌∷◌, Option}
-use Rattle.std.specs.List.{AllByRecursion}
+use Rattle.std.specs.Prelude.{◌≡◌, ℕ, Bool, true, false, IsTrue, List, [], ◌∷◌, ◌++◌, Option}
+use Rattle.std.specs.List.{AllByRecursion, list_all}
 use Rattle.acc_stamp.specs.declared.actors.Actor.{Actor}
 use Rattle.acc_ports.specs.declared.disk.Disk.{Ghosts}
 use Rattle.acc_ports.specs.Faults.{Rose}
@@ -14,7 +14,7 @@ use Rattle.acc_payloads.specs.declared.stops.Restarted.{Restarted}
 use Rattle.acc_payloads.specs.declared.stops.Restarted.TheVariants.{Down}
 use Rattle.acc_run_laws.specs.Sends.{AreSendable}
 use Rattle.acc_schedule.specs.Content.{Content}
-use Rattle.acc_schedule_runs.specs.Situations.{Situation}
+use Rattle.acc_schedule_runs.specs.Situations.{Situation, is_lost}
 use Rattle.acc_schedule_runs.specs.Moves.{with_item, kept_if, reopened}
 use Rattle.acc_history.specs.declared.history.History.{History}
 use Rattle.acc_history.specs.Stands.{EventTakesSent}
@@ -25,6 +25,7 @@ use Rattle.acc_actors.specs.declared.slot.Slot.{Slot}
 use Rattle.acc_actors.specs.Slots.{IsStrictSlot, faults_in}
 use Rattle.acc_actors.specs.Asked.{HasRestartedAt, HasRestartedStrictlyAt}
 use Rattle.acc_cluster.specs.Entering.{HasPlace, IsPastOf, step_item}
+use Rattle.acc_cluster.specs.Limits.{IsMoveAhead}
 use Rattle.acc_cluster.specs.Stands.{slot_at}
 
 -- The actor has restarted in its slot, and the other slots are as before.
@@ -40,10 +41,12 @@ pub record HasReopened {D : Type 0} (port : Ghosts D) (plan : Content) (a : Acto
 abbrev pub come_up : Cluster → Situation → Actor → List Unsent → Situation
 come_up cluster s a kept = reopened cluster s a (kept_if (some kept) a s)
 
--- a limit ends the run behind some items of the restart's
-pub record EndsInRestart (cluster : Cluster) (s : Situation) (a : Actor) (kept : List Unsent) (which : Which) (limit : ℕ) : Type 0 where
-  pub items : List Item
-  pub ends : EndsAt (λ front. Begins front (come_up cluster s a kept).own) items which limit
+-- A limit ends the run behind some items of the restart's, which the history has entered. The others are lost entries and the restart.
+pub record EndsInRestart (h : History) (cluster : Cluster) (s : Situation) (a : Actor) (kept : List Unsent) (which : Which) (limit : ℕ) : Type 0 where
+  pub entered : Situation
+  pub past : IsPastOf h entered
+  pub ahead : IsMoveAhead entered.own (come_up cluster s a kept).own
+  pub ends : EndsAt (λ front. Begins front (come_up cluster s a kept).own) entered.own which limit
 
 -- ---- what was kept, as it is entered
 
@@ -67,7 +70,15 @@ pub record CanComeBack (h : History) (a : Actor) (kept : List Unsent) (s : Situa
   pub place : HasPlace s
   pub taken : AllByRecursion (λ unsent. EventTakesSent s unsent.event) kept
 
--- a limit ends it before one of them, or before the item behind them
-abbrev pub EndsInLost : Situation → Actor → List Unsent → Which → ℕ → Type 0
-EndsInLost s a kept which limit =
-    (next : Item) → (items : List Item) × EndsAt (λ front. Begins front (next ∷ (with_lost a kept s).own)) items which limit
+-- these lost entries are missing, newest first
+pub record AreMissing (items all : List Item) : Type 0 where
+  pub missing : List Item
+  pub all_are : all ≡ missing ++ items
+  pub lost : IsTrue (list_all is_lost missing)
+
+-- A limit ends it before one of them, or before the item behind them. The history has entered those before it.
+pub record EndsInLost (h : History) (s : Situation) (a : Actor) (kept : List Unsent) (which : Which) (limit : ℕ) : Type 0 where
+  pub entered : Situation
+  pub past : IsPastOf h entered
+  pub ahead : AreMissing entered.own (with_lost a kept s).own
+  pub ends : (next : Item) → EndsAt (λ front. Begins front (next ∷ (with_lost a kept s).own)) entered.own which limit

@@ -21,6 +21,7 @@ use Rattle.acc_schedule_runs.specs.Fronts.{ComesTo, Begins}
 use Rattle.acc_schedule_runs.specs.StrictFronts.{StrictlyComesTo}
 use Rattle.acc_cluster.specs.declared.cluster.Cluster.{Cluster}
 use Rattle.acc_cluster.specs.Stands.{StandsFor, StandsStrictly, faults_at}
+use Rattle.acc_cluster.specs.Limits.{StopsAt}
 
 -- an actor goes down only where its disk failed
 abbrev pub RoseByDowns : {D : Type 0} → Ghosts D → Content → Cluster D → Cluster D → Situation → Situation → Type 0
@@ -47,12 +48,22 @@ abbrev pub IfLimit : (Which → ℕ → Type 0) → RunError → Type 0
 IfLimit Holds (Limit which number) = Holds which number
 IfLimit Holds OutOfMemory = Unit {0}
 
--- With some answers, those given so far among them, the limit ends the run inside the step.
+-- With some answers, those given so far among them, the actors have been led to a situation: the step has not begun, or comes to it. There
+-- the limit ends the run inside the step, behind these items, whatever disks answer from there on.
 pub record EndsIn (plan : Content) (answers : Answers) (number : ℕ) (step : Step) (s : Situation) (which : Which) (limit : ℕ) : Type 0 where
   pub other : Answers
   pub items : List Item
+  pub reached : Situation
   pub agree : AgreeBelow answers other (length s.own)
-  pub ends : EndsAt (λ front. (reached : Situation) × ComesTo (cluster_of plan) other number step s reached × Begins front reached.own) items which limit
+  pub led : (reached ≡ s) ⊎ ComesTo (cluster_of plan) other number step s reached
+  pub ends :
+      (more : Answers) → AgreeBelow other more (length reached.own)
+      → EndsAt (λ front. (later : Situation) × ComesTo (cluster_of plan) more number step s later × Begins front later.own) items which limit
+
+-- The cluster stops there, and an actor is down in what its disks have only where its disk failed.
+pub record LimitLeaves {D : Type 0} (port : Ghosts D) (plan : Content) (old new : Cluster D) (s : Situation) (items : List Item) (reached : Situation) : Type 0 where
+  pub stops : StopsAt port plan new items reached
+  pub rose : RoseByDowns port plan old new s reached
 
 pub record EndsStrictlyIn (plan : Content) (number : ℕ) (step : Step) (s : StrictSituation) (which : Which) (limit : ℕ) : Type 0 where
   pub items : List Item

@@ -22,6 +22,7 @@ use Rattle.acc_schedule_runs.specs.Fronts.{Begins, DrainsTo}
 use Rattle.acc_schedule_runs.specs.StrictFronts.{StrictlyDrainsTo}
 use Rattle.acc_cluster.specs.declared.cluster.Cluster.{Cluster}
 use Rattle.acc_cluster.specs.Stands.{StandsFor, AreStrict}
+use Rattle.acc_cluster.specs.Limits.{StopsAt, NoneFell}
 use Rattle.acc_cluster.specs.Steps.{RoseByDowns}
 
 -- ---- one actor's step
@@ -57,12 +58,17 @@ pub record HasChanged {D : Type 0} (port : Ghosts D) (plan : Content) (old new :
       (disks : Disks) → AreStrict port plan old.slots.items s disks
       → AreStrict port plan new.slots.items next disks
 
--- A limit ends the run before the step's item: whatever the disk would answer, or behind a step that the disk didn't stop.
-abbrev pub HitsLimit : {D : Type 0} → Ghosts D → Content → Option Skip → ℕ → Actor → Event → Cluster D → Situation → Which → ℕ → Type 0
-HitsLimit port plan skip number a event old s which limit =
-    ((fails : Bool) → EndsAt (λ front. front ≡ (stepped_if skip fails (cluster_of plan) number s a event).own) s.own which limit)
-    ⊎ (EndsAt (λ front. front ≡ (stepped_if skip false (cluster_of plan) number s a event).own) s.own which limit
-    × ((disks : Disks) → AreStrict port plan old.slots.items s disks → skip ≡ None → fails_strictly disks a event ≡ false))
+-- A limit ends the run before the step's item: whatever the disk would answer, and then it wasn't asked, or behind a step that the disk
+-- didn't stop.
+pub record HitsLimit {D : Type 0} (port : Ghosts D) (plan : Content) (skip : Option Skip) (number : ℕ) (a : Actor) (event : Event) (old new : Cluster D) (s : Situation) (which : Which) (limit : ℕ) : Type 0 where
+  pub reached : Situation
+  pub ends :
+      (((fails : Bool) → EndsAt (λ front. front ≡ (stepped_if skip fails (cluster_of plan) number s a event).own) s.own which limit) × (reached ≡ s))
+      ⊎ (EndsAt (λ front. front ≡ (stepped_if skip false (cluster_of plan) number s a event).own) s.own which limit
+      × ((disks : Disks) → AreStrict port plan old.slots.items s disks → skip ≡ None → fails_strictly disks a event ≡ false)
+      × (reached ≡ stepped_if skip false (cluster_of plan) number s a event))
+  pub stops : StopsAt port plan new s.own reached
+  pub none_fell : NoneFell port plan old new
 
 -- ---- restarts
 
@@ -85,13 +91,15 @@ pub record HasRestarted {D : Type 0} (port : Ghosts D) (plan : Content) (a : Act
       → (fails ≡ false) × (kept_if keeps a s ≡ kept_strictly disks choice a s)
       × AreStrict port plan new.slots.items (restarted_by fails keeps (cluster_of plan) s a) (after_restart a disks)
 
--- a limit ends the run inside a restart
+-- A limit ends the run inside a restart: before the disk crashes, or behind its reopening, which led to the situation.
 pub record HitsLimitInRestart {D : Type 0} (port : Ghosts D) (plan : Content) (a : Actor) (choice : ℕ) (old : Cluster D) (s : Situation) (which : Which) (limit : ℕ) : Type 0 where
   pub items : List Item
+  pub reached : Situation
   pub ends :
-      ((keeps : Bool) → EndsAt (λ front. Begins front (restarted_by false keeps (cluster_of plan) s a).own) items which limit)
+      (((fails keeps : Bool) → EndsAt (λ front. Begins front (restarted_by fails keeps (cluster_of plan) s a).own) items which limit) × (reached ≡ s))
       ⊎ ((keeps : Bool) × EndsAt (λ front. Begins front (restarted_by false keeps (cluster_of plan) s a).own) items which limit
-      × ((disks : Disks) → AreStrict port plan old.slots.items s disks → kept_if keeps a s ≡ kept_strictly disks choice a s))
+      × ((disks : Disks) → AreStrict port plan old.slots.items s disks → kept_if keeps a s ≡ kept_strictly disks choice a s)
+      × (reached ≡ restarted_by false keeps (cluster_of plan) s a))
 
 -- ---- drains
 
@@ -107,10 +115,12 @@ pub record HasDrained {D : Type 0} (port : Ghosts D) (plan : Content) (old new :
 
 pub record HitsLimitInDrain {D : Type 0} (port : Ghosts D) (plan : Content) (old : Cluster D) (s : Situation) (which : Which) (limit : ℕ) : Type 0 where
   pub items : List Item
+  pub reached : Situation
   pub answered :
       (answers : Answers)
-      → (other : Answers) × AgreeBelow answers other (length s.own)
-      × EndsAt (λ front. (reached : Situation) × DrainsTo (cluster_of plan) other reached s × Begins front reached.own) items which limit
+      → (other : Answers) × AgreeBelow answers other (length s.own) × DrainsTo (cluster_of plan) other reached s
+      × ((more : Answers) → AgreeBelow other more (length reached.own)
+      → EndsAt (λ front. (later : Situation) × DrainsTo (cluster_of plan) more later s × Begins front later.own) items which limit)
   pub strictly :
       (disks : Disks) → AreStrict port plan old.slots.items s disks
       → EndsAt (λ front. (reached : StrictSituation) × StrictlyDrainsTo (cluster_of plan) reached (record { found = s; disks = disks }) × Begins front reached.found.own) items which limit

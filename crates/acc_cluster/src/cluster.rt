@@ -31,11 +31,13 @@ pub struct Cluster<D: Rig> {
 impl<D: Rig + Drop> Cluster<D> {
     ghost use Rattle.acc_actors.specs.Stores.{IsStoreUp, IsStoreOf};
     ghost use Rattle.acc_cluster.specs.Stands.{StandsFor, StandsStrictly};
-    ghost use Rattle.acc_cluster.specs.Steps.{StepsTo, StepsStrictly, IfLimit, EndsIn, EndsStrictlyIn};
+    ghost use Rattle.acc_cluster.specs.Limits.{HasEntered};
+    ghost use Rattle.acc_cluster.specs.Steps.{StepsTo, StepsStrictly, IfLimit, EndsIn, EndsStrictlyIn, LimitLeaves};
 
     /// Takes the step of the schedule that has this number. After an error no step may follow. Where the step enters an item, one more has
     /// to be within the limit of items, which is asked first; then the step is passed over by its first cause, or its actor takes it over
-    /// its disk; and what that gave is entered within the limit of bytes.
+    /// its disk; and what that gave is entered within the limit of bytes. After a limit the items that were entered stay, and `finish`
+    /// gives them and the disks back.
     pub fn step(&mut self, plan: &Plan, number: u32, step: &Step) -> Result<(), RunError>
         requires standing { (s : Situation) × StandsFor D.Disk plan.now self.old s }
         requires known { IsStep (length plan.now.names) plan.now.topology step.now }
@@ -46,9 +48,10 @@ impl<D: Rig + Drop> Cluster<D> {
             → StepsStrictly D.Disk plan.now number step.now self.new s) }
 
         ensures limit { IfErr result (IfLimit (λ which most. (s : Situation) (answers : Answers) → StandsFor D.Disk plan.now self.old s
-            → EndsIn plan.now answers number step.now s which most)) }
+            → (ends : EndsIn plan.now answers number step.now s which most)
+            × LimitLeaves D.Disk plan.now self.old self.new s ends.items ends.reached)) }
         ensures strict_limit { IfErr result (IfLimit (λ which most. (s : StrictSituation) → StandsStrictly D.Disk plan.now self.old s
-            → EndsStrictlyIn plan.now number step.now s which most)) }
+            → (ends : EndsStrictlyIn plan.now number step.now s which most) × HasEntered self.new ends.items)) }
     {
         match *step {
             Step::Begin { txn } => self.begin(plan, number, txn),

@@ -10,7 +10,7 @@ use acc_schedule::Plan;
 
 impl<D: Rig + Drop> Cluster<D> {
     ghost use Rattle.acc_cluster.specs.Stands.{StandsFor};
-    ghost use Rattle.acc_cluster.specs.Steps.{IfLimit};
+    ghost use Rattle.acc_cluster.specs.Steps.{IfLimit, LimitLeaves};
     ghost use Rattle.acc_cluster.specs.Tried.{HasDrained, HitsLimitInDrain};
 
     /// All messages that wait are delivered, the oldest first, and those that come meanwhile. Each delivery enters an item, so that the limit
@@ -20,7 +20,8 @@ impl<D: Rig + Drop> Cluster<D> {
         ensures ok { OnOk result ((s : Situation) → StandsFor D.Disk plan.now self.old s
             → HasDrained D.Disk plan.now self.old self.new s) }
         ensures limit { IfErr result (IfLimit (λ which most. (s : Situation) → StandsFor D.Disk plan.now self.old s
-            → HitsLimitInDrain D.Disk plan.now self.old s which most)) }
+            → (hits : HitsLimitInDrain D.Disk plan.now self.old s which most)
+            × LimitLeaves D.Disk plan.now self.old self.new s hits.items hits.reached)) }
     {
         while let Some(message) = self.history.oldest_waiting() {
             check_place(&self.history)?;

@@ -1,6 +1,6 @@
 //! The end of a cluster.
-ghost use Rattle.std.specs.Prelude.{◌≡◌, ℕ, ◌+◌, ◌++◌, IfOk, OnOk};
-ghost use Rattle.std.specs.List.{AllByRecursion};
+ghost use Rattle.std.specs.Prelude.{◌≡◌, ℕ, ◌+◌, ◌++◌, List, IfOk, OnOk};
+ghost use Rattle.acc_message.specs.declared.item.Item.{Item};
 ghost use Rattle.acc_schedule.specs.Content.{Content};
 ghost use Rattle.acc_schedule_runs.specs.Situations.{Situation};
 
@@ -60,11 +60,15 @@ pub struct Ended<D: Rig> {
 
 impl<D: Rig + Drop> Cluster<D> {
     ghost use Rattle.acc_cluster.specs.Stands.{StandsFor};
+    ghost use Rattle.acc_cluster.specs.Limits.{StopsAt};
     ghost use Rattle.acc_cluster.specs.Ends.{IsEndOf};
 
-    /// Gives the items and the disks back, and what its actors knew to `remains`.
+    /// Gives the items and the disks back, and what its actors knew to `remains`. After a limit too: then the disks may keep their actors in
+    /// what the items would have gone on with.
     pub fn finish(self, remains: &mut Remains) -> Result<Ended<D>, OutOfMemory>
-        ensures ok { IfOk result (λ ended. (plan : Content) (s : Situation) → StandsFor D.Disk plan self s → IsEndOf D.Disk plan s ended) }
+        ensures ok { IfOk result (λ ended. (plan : Content) (s : Situation) → StandsFor D.Disk plan self s → IsEndOf D.Disk plan s.own s ended) }
+        ensures limited { IfOk result (λ ended. (plan : Content) (items : List Item) (s : Situation) → StopsAt D.Disk plan self items s
+            → IsEndOf D.Disk plan items s ended) }
     {
         let Cluster {
             alloc,
@@ -78,7 +82,7 @@ impl<D: Rig + Drop> Cluster<D> {
     }
 }
 
-ghost use Rattle.acc_cluster.specs.Ends.{disks_from, entry_of, LeavesHeld};
+ghost use Rattle.acc_cluster.specs.Ends.{disks_from, entry_of};
 
 // The disks of the slots, each with its number.
 fn disks_of<D: Rig + Drop>(
@@ -87,7 +91,6 @@ fn disks_of<D: Rig + Drop>(
     remains: &mut Remains,
 ) -> Result<Disks<D>, OutOfMemory>
     ensures disks { IfOk result (λ disks. disks.items ≡ disks_from 0 slots.items) }
-    ensures left { OnOk result (AllByRecursion (LeavesHeld D.Disk) slots.items) }
 {
     let mut disks = Vec::new(alloc);
     let mut number = 0;
@@ -113,7 +116,6 @@ fn put_disk<D: Rig + Drop>(
     remains: &mut Remains,
 ) -> Result<(), OutOfMemory>
     ensures disks { OnOk result (disks.new.items ≡ disks.old.items ++ entry_of number slot) }
-    ensures left { OnOk result (LeavesHeld D.Disk slot) }
 {
     match slot {
         Slot::Empty => {}

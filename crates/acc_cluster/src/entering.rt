@@ -50,6 +50,7 @@ fn enter(history: &mut History, item: Item, weight: u64) -> Result<(), RunError>
     ensures ok { OnOk result ((s : Situation) → IsPastOf history.old s → HasPlace s → TakesSent s item → weight ≡ weight_of item → IsPastOf history.new (with_item item s)) }
     ensures limit { IfErr result (IfLimit (λ which number. (s : Situation) → IsPastOf history.old s → HasPlace s → weight ≡ weight_of item
         → (0 < weight) × EndsAt (λ front. front ≡ item ∷ s.own) s.own which number)) }
+    ensures as_before { IfErr result (IfLimit (λ which number. history.new ≡ history.old)) }
 {
     if history.weight().saturating_add(weight) > MOST_BYTES {
         return Err(RunError::Limit {
@@ -80,6 +81,7 @@ pub(crate) fn enter_skip(history: &mut History, number: u32, cause: Skip) -> Res
 pub(crate) fn enter_down(history: &mut History, actor: Actor) -> Result<(), RunError>
     ensures ok { OnOk result ((s : Situation) → IsPastOf history.old s → HasPlace s → IsPastOf history.new (with_item (AnItem.Down actor) s)) }
     ensures never { IfErr result (IfLimit (λ which most. (s : Situation) → IsPastOf history.old s → HasPlace s → ⊥)) }
+    ensures as_before { IfErr result (IfLimit (λ which number. history.new ≡ history.old)) }
 {
     enter(history, Item::Down { actor }, 0)
 }
@@ -97,6 +99,7 @@ pub(crate) fn enter_entry(
     ensures ok { OnOk result ((s : Situation) → IsPastOf history.old s → HasPlace s → EventTakesSent s event → IsPastOf history.new (with_item (step_item actor event emitted lost) s)) }
     ensures limit { IfErr result (IfLimit (λ which number. (s : Situation) → IsPastOf history.old s → HasPlace s
         → EndsAt (λ front. front ≡ step_item actor event emitted lost ∷ s.own) s.own which number)) }
+    ensures as_before { IfErr result (IfLimit (λ which number. history.new ≡ history.old)) }
 {
     let weight = messages_length(emitted.out.as_slice());
     let entry = Entry {
@@ -121,6 +124,7 @@ pub(crate) fn enter_given(
         → IsPastOf history.new (tried_if (is_none given) cluster s actor event)) }
     ensures limit { IfErr result (IfLimit (λ which number. (cluster : RunCluster) (s : Situation) → IsPastOf history.old s → HasPlace s → IsEmitted cluster s actor event given
         → (is_none given ≡ false) × EndsAt (λ front. front ≡ (tried_if false cluster s actor event).own) s.own which number)) }
+    ensures as_before { IfErr result (IfLimit (λ which number. history.new ≡ history.old)) }
 {
     match given {
         Some(emitted) => enter_entry(history, actor, event, emitted, false),

@@ -10,7 +10,7 @@ ghost use Rattle.acc_schedule_runs.specs.Moves.{with_item, entered};
 ghost use Rattle.acc_history.specs.Stands.{EventTakesSent};
 ghost use Rattle.acc_schedule_runs.specs.Limits.{EndsAt};
 ghost use Rattle.acc_actors.specs.Asked.{AreKeptSteps};
-ghost use Rattle.acc_cluster.specs.Steps.{IfLimit};
+ghost use Rattle.acc_cluster.specs.Steps.{IfLimit, LimitLeaves};
 ghost use Rattle.acc_cluster.specs.Entering.{HasPlace, IsPastOf};
 ghost use Rattle.acc_cluster.specs.Restarting.{lost_item, with_lost, AreSendableBehind, CanComeBack, EndsInLost, EndsInRestart};
 ghost use Rattle.acc_cluster.specs.Restarting.{come_up as behind_restart};
@@ -38,6 +38,7 @@ fn enter_restart(
     ensures ok { OnOk result ((cluster : RunCluster) (s : Situation) → IsPastOf history.old s → HasPlace s → IsPastOf history.new (entered cluster s actor (AnEvent.Restart count) false)) }
     ensures limit { IfErr result (IfLimit (λ which most. (cluster : RunCluster) (s : Situation) → IsPastOf history.old s → HasPlace s
         → EndsAt (λ front. front ≡ (entered cluster s actor (AnEvent.Restart count) false).own) s.own which most)) }
+    ensures as_before { IfErr result (IfLimit (λ which most. history.new ≡ history.old)) }
 {
     let silence = Emitted {
         notes: Notes::new(alloc),
@@ -58,7 +59,7 @@ fn enter_lost(history: &mut History, actor: Actor, unsent: Unsent) -> Result<(),
     ensures ok { OnOk result ((s : Situation) → IsPastOf history.old s → HasPlace s → EventTakesSent s unsent.event
         → IsPastOf history.new (with_item (lost_item actor unsent) s) × HasPlace (with_item (lost_item actor unsent) s)) }
     ensures limit { IfErr result (IfLimit (λ which most. (s : Situation) → IsPastOf history.old s → HasPlace s → EventTakesSent s unsent.event
-        → EndsInLost s actor (unsent ∷ []) which most)) }
+        → EndsInLost history.new s actor (unsent ∷ []) which most)) }
 {
     let Unsent { event, emitted } = unsent;
     enter_entry(history, actor, event, emitted, true)?;
@@ -70,7 +71,7 @@ fn enter_kept(history: &mut History, actor: Actor, kept: Unsents) -> Result<(), 
     requires back { (s : Situation) × CanComeBack history.old actor kept s × AreSendableBehind actor kept s }
     ensures ok { OnOk result ((s : Situation) → CanComeBack history.old actor kept s
         → IsPastOf history.new (with_lost actor kept s) × HasPlace (with_lost actor kept s)) }
-    ensures limit { IfErr result (IfLimit (λ which most. (s : Situation) → CanComeBack history.old actor kept s → EndsInLost s actor kept which most)) }
+    ensures limit { IfErr result (IfLimit (λ which most. (s : Situation) → CanComeBack history.old actor kept s → EndsInLost history.new s actor kept which most)) }
 {
     for unsent in kept.into_vec() {
         enter_lost(history, actor, unsent)?;
@@ -96,7 +97,7 @@ fn come_up(
     ensures ok { OnOk result ((cluster : RunCluster) (s : Situation) → IsSound cluster s → IsPastOf history.old s → HasPlace s → AreKeptSteps cluster s actor kept
         → IsPastOf history.new (behind_restart cluster s actor kept)) }
     ensures limit { IfErr result (IfLimit (λ which most. (cluster : RunCluster) (s : Situation) → IsSound cluster s → IsPastOf history.old s → HasPlace s → AreKeptSteps cluster s actor kept
-        → EndsInRestart cluster s actor kept which most)) }
+        → EndsInRestart history.new cluster s actor kept which most)) }
 {
     let count = count_of(&kept)?;
     enter_kept(history, actor, kept)?;
@@ -116,7 +117,8 @@ impl<D: Rig + Drop> Cluster<D> {
         ensures ok { OnOk result ((s : Situation) → StandsFor D.Disk plan.now self.old s
             → HasRestarted D.Disk plan.now actor choice self.old self.new s) }
         ensures limit { IfErr result (IfLimit (λ which most. (s : Situation) → StandsFor D.Disk plan.now self.old s
-            → HitsLimitInRestart D.Disk plan.now actor choice self.old s which most)) }
+            → (hits : HitsLimitInRestart D.Disk plan.now actor choice self.old s which most)
+            × LimitLeaves D.Disk plan.now self.old self.new s hits.items hits.reached)) }
     {
         check_place(&self.history)?;
         match self.reopen(plan, actor, choice)? {

@@ -37,6 +37,7 @@ impl<D: Rig + Drop> Cluster<D> {
     ghost use Rattle.acc_cluster.specs.Stands.{StandsFor, AreStrict, faults_at};
     ghost use Rattle.acc_cluster.specs.Steps.{IfLimit};
     ghost use Rattle.acc_cluster.specs.Entering.{HasPlace};
+    ghost use Rattle.acc_cluster.specs.Limits.{StopsAt};
     ghost use Rattle.acc_cluster.specs.Tried.{HasStepped, HasChanged, HitsLimit};
 
     // Enters that the step was passed over.
@@ -56,7 +57,7 @@ impl<D: Rig + Drop> Cluster<D> {
         ensures ok { OnOk result ((s : Situation) → StandsFor D.Disk plan.now self.old s
             → HasStepped D.Disk plan.now (begin_skip (cluster_of plan.now) s txn) number (home_of_txn (cluster_of plan.now) txn) (AnEvent.Begin txn) self.old self.new s) }
         ensures limit { IfErr result (IfLimit (λ which most. (s : Situation) → StandsFor D.Disk plan.now self.old s
-            → HitsLimit D.Disk plan.now (begin_skip (cluster_of plan.now) s txn) number (home_of_txn (cluster_of plan.now) txn) (AnEvent.Begin txn) self.old s which most)) }
+            → HitsLimit D.Disk plan.now (begin_skip (cluster_of plan.now) s txn) number (home_of_txn (cluster_of plan.now) txn) (AnEvent.Begin txn) self.old self.new s which most)) }
     {
         let home = home_of(plan, txn);
         check_place(&self.history)?;
@@ -77,7 +78,7 @@ impl<D: Rig + Drop> Cluster<D> {
         ensures ok { OnOk result ((number : ℕ) (s : Situation) → StandsFor D.Disk plan.now self.old s → HasPlace s → begin_skip (cluster_of plan.now) s txn ≡ None
             → HasStepped D.Disk plan.now None number home (AnEvent.Begin txn) self.old self.new s) }
         ensures limit { IfErr result (IfLimit (λ which most. (number : ℕ) (s : Situation) → StandsFor D.Disk plan.now self.old s → HasPlace s → begin_skip (cluster_of plan.now) s txn ≡ None
-            → HitsLimit D.Disk plan.now None number home (AnEvent.Begin txn) self.old s which most)) }
+            → HitsLimit D.Disk plan.now None number home (AnEvent.Begin txn) self.old self.new s which most)) }
     {
         let place = home.0 as usize;
         if place >= self.slots.len() {
@@ -101,7 +102,7 @@ impl<D: Rig + Drop> Cluster<D> {
         ensures ok { OnOk result ((s : Situation) → StandsFor D.Disk plan.now self.old s
             → HasStepped D.Disk plan.now (recover_skip s txn node) number (actor_of node 0) (AnEvent.Recover txn) self.old self.new s) }
         ensures limit { IfErr result (IfLimit (λ which most. (s : Situation) → StandsFor D.Disk plan.now self.old s
-            → HitsLimit D.Disk plan.now (recover_skip s txn node) number (actor_of node 0) (AnEvent.Recover txn) self.old s which most)) }
+            → HitsLimit D.Disk plan.now (recover_skip s txn node) number (actor_of node 0) (AnEvent.Recover txn) self.old self.new s which most)) }
     {
         let actor = Actor(node * 64);
         check_place(&self.history)?;
@@ -122,7 +123,7 @@ impl<D: Rig + Drop> Cluster<D> {
         ensures ok { OnOk result ((number : ℕ) (s : Situation) → StandsFor D.Disk plan.now self.old s → HasPlace s → is_down actor (whole s) ≡ false → id_of_txn (whole s) txn ≡ Some id
             → HasStepped D.Disk plan.now None number actor (AnEvent.Recover txn) self.old self.new s) }
         ensures limit { IfErr result (IfLimit (λ which most. (number : ℕ) (s : Situation) → StandsFor D.Disk plan.now self.old s → HasPlace s → is_down actor (whole s) ≡ false → id_of_txn (whole s) txn ≡ Some id
-            → HitsLimit D.Disk plan.now None number actor (AnEvent.Recover txn) self.old s which most)) }
+            → HitsLimit D.Disk plan.now None number actor (AnEvent.Recover txn) self.old self.new s which most)) }
     {
         let place = actor.0 as usize;
         if place >= self.slots.len() {
@@ -140,7 +141,7 @@ impl<D: Rig + Drop> Cluster<D> {
         ensures ok { OnOk result ((s : Situation) → StandsFor D.Disk plan.now self.old s
             → HasStepped D.Disk plan.now (slowing_skip (cluster_of plan.now) s txn) number (home_of_txn (cluster_of plan.now) txn) (AnEvent.Slow txn) self.old self.new s) }
         ensures limit { IfErr result (IfLimit (λ which most. (s : Situation) → StandsFor D.Disk plan.now self.old s
-            → HitsLimit D.Disk plan.now (slowing_skip (cluster_of plan.now) s txn) number (home_of_txn (cluster_of plan.now) txn) (AnEvent.Slow txn) self.old s which most)) }
+            → HitsLimit D.Disk plan.now (slowing_skip (cluster_of plan.now) s txn) number (home_of_txn (cluster_of plan.now) txn) (AnEvent.Slow txn) self.old self.new s which most)) }
     {
         let home = home_of(plan, txn);
         check_place(&self.history)?;
@@ -158,7 +159,7 @@ impl<D: Rig + Drop> Cluster<D> {
         ensures ok { OnOk result ((s : Situation) → StandsFor D.Disk plan.now self.old s → HasPlace s → is_down home (whole s) ≡ false
             → HasStepped D.Disk plan.now (slow_skip (cluster_of plan.now) (whole s) txn (id_of_txn (whole s) txn)) number home (AnEvent.Slow txn) self.old self.new s) }
         ensures limit { IfErr result (IfLimit (λ which most. (s : Situation) → StandsFor D.Disk plan.now self.old s → HasPlace s → is_down home (whole s) ≡ false
-            → HitsLimit D.Disk plan.now (slow_skip (cluster_of plan.now) (whole s) txn (id_of_txn (whole s) txn)) number home (AnEvent.Slow txn) self.old s which most)) }
+            → HitsLimit D.Disk plan.now (slow_skip (cluster_of plan.now) (whole s) txn (id_of_txn (whole s) txn)) number home (AnEvent.Slow txn) self.old self.new s which most)) }
     {
         if txn as usize >= plan.homes.as_slice().len() {
             return Err(RunError::OutOfMemory);
@@ -181,7 +182,7 @@ impl<D: Rig + Drop> Cluster<D> {
         ensures ok { OnOk result ((s : Situation) → StandsFor D.Disk plan.now self.old s
             → HasStepped D.Disk plan.now (deliver_skip s message) number (receiver_in s message) (AnEvent.Message message) self.old self.new s) }
         ensures limit { IfErr result (IfLimit (λ which most. (s : Situation) → StandsFor D.Disk plan.now self.old s
-            → HitsLimit D.Disk plan.now (deliver_skip s message) number (receiver_in s message) (AnEvent.Message message) self.old s which most)) }
+            → HitsLimit D.Disk plan.now (deliver_skip s message) number (receiver_in s message) (AnEvent.Message message) self.old self.new s which most)) }
     {
         check_place(&self.history)?;
         let Some(m) = self.history.message(message) else {
@@ -209,7 +210,7 @@ impl<D: Rig + Drop> Cluster<D> {
         ensures ok { OnOk result ((number : ℕ) (s : Situation) → StandsFor D.Disk plan.now self.old s → HasPlace s → deliver_skip s message ≡ None
             → HasStepped D.Disk plan.now None number (receiver_in s message) (AnEvent.Message message) self.old self.new s) }
         ensures limit { IfErr result (IfLimit (λ which most. (number : ℕ) (s : Situation) → StandsFor D.Disk plan.now self.old s → HasPlace s → deliver_skip s message ≡ None
-            → HitsLimit D.Disk plan.now None number (receiver_in s message) (AnEvent.Message message) self.old s which most)) }
+            → HitsLimit D.Disk plan.now None number (receiver_in s message) (AnEvent.Message message) self.old self.new s which most)) }
         ensures counted { OnOk result ((a : AnActor) → Contains (actors plan.now.topology) a → faults_at D.Disk self.old a ≤ faults_at D.Disk self.new a) }
     {
         let Some(m) = self.history.message(message) else {
@@ -239,7 +240,7 @@ impl<D: Rig + Drop> Cluster<D> {
         ensures ok { OnOk result ((s : Situation) → StandsFor D.Disk plan.now self.old s
             → HasChanged D.Disk plan.now self.old self.new s (dropped_unless (message_skip s message) number s message)) }
         ensures limit { IfErr result (IfLimit (λ which most. (s : Situation) → StandsFor D.Disk plan.now self.old s
-            → EndsAt (λ front. front ≡ (dropped_unless (message_skip s message) number s message).own) s.own which most)) }
+            → EndsAt (λ front. front ≡ (dropped_unless (message_skip s message) number s message).own) s.own which most × StopsAt D.Disk plan.now self.new s.own s)) }
     {
         if message < self.history.sent() {
             self.history.drop_message(message);

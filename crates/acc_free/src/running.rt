@@ -5,8 +5,8 @@ ghost use Rattle.acc_message.specs.declared.error.RunError.{RunError as Why};
 ghost use Rattle.acc_schedule.specs.Plan.{IsPlan};
 ghost use Rattle.acc_schedule_runs.specs.Laws.{NobodyIsDown};
 ghost use Rattle.acc_schedule_runs.specs.Limits.{IsWithin};
-ghost use Rattle.acc_run.specs.Given.{GivesBack};
 ghost use Rattle.acc_free_laws.specs.Served.{IsServed};
+ghost use Rattle.acc_free.specs.Given.{GivesBackFreely};
 ghost use Rattle.acc_free_ending.specs.Finish.{HaveRested};
 ghost use Rattle.acc_free_ending.specs.Moves.{EndsFreely};
 ghost use Rattle.acc_free_ending.specs.Queues.{rest_actor, AreAllActors};
@@ -54,7 +54,7 @@ where
     ensures limit { IfErr result (λ e. (which : Which) (number : ℕ) → e ≡ Why.Limit which number → EndsFreely (M.strict disks.old) plan.now [] which number) }
     ensures stayed { IsTrue (M.strict disks.old) → IfOk result (λ items. NobodyIsDown (reverse items)) }
 
-    ensures given { IfOk result (λ items. GivesBack M.D.Disk plan.now (reverse items) (M.given disks.old) (M.given disks.new)) }
+    ensures given { IfOk result (λ items. GivesBackFreely M.D.Disk plan.now (reverse items) (M.given disks.old) (M.given disks.new)) }
     ensures kind { M.strict disks.new ≡ M.strict disks.old }
 {
     run_on::<R, M, G, Brand>(rt, alloc, plan, workers, disks, gate, remains)
@@ -80,7 +80,7 @@ where
     ensures within { IfOk result (λ items. IsWithin (reverse items)) }
     ensures limit { IfErr result (λ e. (which : Which) (number : ℕ) → e ≡ Why.Limit which number → EndsFreely J.strict plan.now [] which number) }
     ensures stayed { J.strict ≡ true → IfOk result (λ items. NobodyIsDown (reverse items)) }
-    ensures given { IfOk result (λ items. GivesBack M.D.Disk plan.now (reverse items) (M.given disks.old) (M.given disks.new)) }
+    ensures given { IfOk result (λ items. GivesBackFreely M.D.Disk plan.now (reverse items) (M.given disks.old) (M.given disks.new)) }
     ensures kind { M.strict disks.new ≡ M.strict disks.old }
 {
     let (rests, entered) = entered_by::<R, M, G, J>(rt, alloc, plan, workers, disks, gate)?;

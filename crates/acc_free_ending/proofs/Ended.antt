@@ -5,7 +5,6 @@ use Rattle.std.proofs.lemmas.List.{reverse-append, reverse-reverse}
 use Rattle.acc_stamp.specs.declared.actors.Actor.{Actor}
 use Rattle.acc_ports.specs.declared.disk.Disk.{Ghosts}
 use Rattle.acc_message.specs.declared.item.Item.{Item}
-use Rattle.acc_payloads.specs.Items.{Keeps}
 use Rattle.acc_schedule.specs.Actors.{actors}
 use Rattle.acc_schedule.specs.Content.{Content}
 use Rattle.acc_schedule.specs.declared.plan.Step.{Step}
@@ -77,10 +76,10 @@ module _ {D : Type 0} (port : Ghosts D) (strict_run : Bool) (plan : Content) (en
       let q = queue_of plan queues names named are a member in
       (left_in q.1, subst (λ (b : Actor). HasGone plan h.last b (left_in q.1)) q.3 (h.gone q.0 q.1 q.2), h.held q.0 q.1 q.2)
 
-  pub has_finished : EndLaw → (ended : Ended D) → ((plan : Content) (s : Situation) → StandsFor port plan cluster s → IsEndOf port plan s ended)
+  pub has_finished : EndLaw → (ended : Ended D) → ((plan : Content) (s : Situation) → StandsFor port plan cluster s → IsEndOf port plan s.own s ended)
       → HasFinished port plan entered ended
   has_finished law ended ends =
-      let e : IsEndOf port plan h.last ended = ends plan h.last h.serves.stands in
+      let e : IsEndOf port plan h.last.own h.last ended = ends plan h.last h.serves.stands in
       let own_is : reverse ended.items ≡ h.last.own = ap reverse e.items_are ∙ reverse-reverse h.last.own in
       record {
         later = reverse h.behind.later;
@@ -88,13 +87,14 @@ module _ {D : Type 0} (port : Ghosts D) (strict_run : Bool) (plan : Content) (en
         served = subst (IsServed plan) (sym own_is) (law plan h.last h.serves.serving h.nothing each_held);
         within = subst IsWithin (sym own_is) h.serves.stands.past.within;
         disks_are = e.disks_are;
-        kept =
-            subst (λ (items : List Item). AllByRecursion (λ (entry : Actor × D). Keeps plan.version entry.0 items (port.state entry.1).faults (port.is_image entry.1)) ended.disks.items) (sym own_is)
-            (e.kept h.serves.serving.earlier);
+        last = h.last;
+        serving = h.serves.serving;
+        last_is = own_is;
+        kept = e.kept;
       }
 
   -- in a strict run
-  pub nobody_down : (ended : Ended D) → ((plan : Content) (s : Situation) → StandsFor port plan cluster s → IsEndOf port plan s ended)
+  pub nobody_down : (ended : Ended D) → ((plan : Content) (s : Situation) → StandsFor port plan cluster s → IsEndOf port plan s.own s ended)
       → strict_run ≡ true → NobodyIsDown (reverse ended.items)
   nobody_down ended ends on =
       let e = ends plan h.last h.serves.stands in

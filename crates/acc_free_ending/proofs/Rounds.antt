@@ -70,13 +70,14 @@ module _ (plan : Content) (valid : IsPlan plan) where
       where
         by : (test : Bool) → strict_run ≡ test → EndsFreely strict_run plan s.own which number
         by false off =
-            let f = e.ends.front in
+            let ends = e.ends e.other (λ place below. (refl, refl)) in
+            let f = ends.front in
             let part = part_serves law e.other f.0 s f.1 serves.serving in
             record {
               items = e.items;
               ends =
                   record {
-                    next = e.ends.next;
+                    next = ends.next;
                     front =
                         record {
                           reached = f.0;
@@ -86,8 +87,8 @@ module _ (plan : Content) (valid : IsPlan plan) where
                           begins = f.2;
                           stayed = λ on. absurd (true≢false (sym on ∙ off));
                         };
-                    within = e.ends.within;
-                    passed = e.ends.passed;
+                    within = ends.within;
+                    passed = ends.passed;
                   };
             }
         by true on =

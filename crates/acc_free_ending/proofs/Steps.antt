@@ -307,17 +307,18 @@ module _ {D : Type 0} (port : Ghosts D) (strict_run : Bool) (plan : Content) (a 
       where
         by : (test : Bool) → strict_run ≡ test → EndsFreely strict_run plan s.own which number
         by false off =
-            let f = e.ends.front in
+            let ends = e.ends e.other (λ place below. (refl, refl)) in
+            let f = ends.front in
             record {
               items = e.items;
               ends =
                   record {
-                    next = e.ends.next;
+                    next = ends.next;
                     front =
-                        front_of law valid there serves.serving turn each (e.ends.next ∷ e.items) e.other f.0 (comes_next e.other f.0 turn f.1) f.2
+                        front_of law valid there serves.serving turn each (ends.next ∷ e.items) e.other f.0 (comes_next e.other f.0 turn f.1) f.2
                         (λ on. absurd (true≢false (sym on ∙ off)));
-                    within = e.ends.within;
-                    passed = e.ends.passed;
+                    within = ends.within;
+                    passed = ends.passed;
                   };
             }
         by true on =

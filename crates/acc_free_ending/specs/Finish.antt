@@ -4,14 +4,13 @@ use Rattle.std.specs.List.{AllByRecursion}
 use Rattle.acc_stamp.specs.declared.actors.Actor.{Actor}
 use Rattle.acc_ports.specs.declared.disk.Disk.{Ghosts}
 use Rattle.acc_message.specs.declared.item.Item.{Item}
-use Rattle.acc_payloads.specs.Items.{Keeps}
 use Rattle.acc_schedule.specs.Content.{Content}
-use Rattle.acc_schedule_runs.specs.Situations.{Stopped}
+use Rattle.acc_schedule_runs.specs.Situations.{Stopped, Situation}
 use Rattle.acc_schedule_runs.specs.Laws.{NobodyIsDown}
 use Rattle.acc_schedule_runs.specs.Disks.{fresh_disks}
 use Rattle.acc_schedule_runs.specs.Limits.{IsWithin}
 use Rattle.acc_cluster.specs.declared.ending.Ended.{Ended}
-use Rattle.acc_cluster.specs.Ends.{AreDisksOf}
+use Rattle.acc_cluster.specs.Ends.{KeepsIn, AreDisksOf}
 use Rattle.acc_cluster.specs.Over.{behind_items, IsOver, AreStrictSlots}
 use Rattle.acc_free_laws.specs.Served.{IsServed}
 use Rattle.acc_free_laws.specs.Serving.{IsServing, HasGone}
@@ -26,14 +25,17 @@ pub record AreResting {D : Type 0} (port : Ghosts D) (plan : Content) (rests : L
   pub gone : AllByRecursion (λ (rest : Rest D). HasGone plan (behind_items entered stopped) rest.actor (left_in (queue_in rest))) rests
 
 -- The items begin with those that were entered, are served, and are within the limits; the disks are those of the actors, rising, and
--- each keeps its actor in the items.
+-- each keeps its actor in the situation that the items came to.
 pub record HasFinished {D : Type 0} (port : Ghosts D) (plan : Content) (entered : List Item) (ended : Ended D) : Type 0 where
   pub later : List Item
   pub items_are : ended.items ≡ entered ++ later
   pub served : IsServed plan (reverse ended.items)
   pub within : IsWithin (reverse ended.items)
   pub disks_are : AreDisksOf plan ended.disks.items
-  pub kept : AllByRecursion (λ (entry : Actor × D). Keeps plan.version entry.0 (reverse ended.items) (port.state entry.1).faults (port.is_image entry.1)) ended.disks.items
+  pub last : Situation
+  pub serving : IsServing plan last
+  pub last_is : reverse ended.items ≡ last.own
+  pub kept : AllByRecursion (KeepsIn port plan last) ended.disks.items
 
 -- Such actors, after turns that they took by themselves. Where all their disks are strict and nothing was armed on any, nobody went down.
 pub record HaveRested {D : Type 0} (port : Ghosts D) (strict_run : Bool) (plan : Content) (rests : List (Rest D)) (entered : List Item) : Type 0 where

@@ -18,7 +18,7 @@ use Rattle.acc_schedule_runs.specs.Moves.{is_journalled}
 use Rattle.acc_schedule_runs.specs.Schedules.{cluster_of}
 use Rattle.acc_pasts.specs.Entries.{entering, MayTake}
 use Rattle.acc_pasts.proofs.Standing.{entry_run}
-use Rattle.acc_free_laws.specs.FreeRun.{is_plain_event, is_plain, AreKnown, IsUntaken, TakenOnce, LostBehindDowns, KeepsSixteen, IsFreeRun}
+use Rattle.acc_free_laws.specs.FreeRun.{is_plain_event, is_plain, AreKnown, IsUntaken, TakenOnce, LostBehindDowns, IsJournalledIfLost, KeepsSixteen, IsFreeRun}
 
 pub plain_if_journalled : (a : Actor) (event : Event) → is_journalled a event ≡ true → is_plain_event event ≡ true
 plain_if_journalled a (Begin txn) journalled = refl
@@ -39,7 +39,7 @@ few_if_none count none = omega (arith, none)
 
 module _ (plan : Content) where
   pub nothing_fits : IsFreeRun plan []
-  nothing_fits = record { run = (nothing_is_run (cluster_of plan)).run; plain = refl; known = tt; once = tt; behind = tt; kept = tt }
+  nothing_fits = record { run = (nothing_is_run (cluster_of plan)).run; plain = refl; known = tt; once = tt; behind = tt; journalled = tt; kept = tt }
 
   module _ (items : List Item) (a : Actor) (there : Contains (actors plan.topology) a) (h : IsFreeRun plan items) where
     -- an entry that isn't lost, of an actor that is up
@@ -52,6 +52,7 @@ module _ (plan : Content) where
           known = (there, h.known);
           once = (untaken, h.once);
           behind = (λ lost. absurd (true≢false (sym lost)), h.behind);
+          journalled = (λ lost. absurd (true≢false (sym lost)), h.journalled);
           kept = (few_if_none (kept_of event) none, h.kept);
         }
 
@@ -63,6 +64,7 @@ module _ (plan : Content) where
           known = (there, h.known);
           once = (tt, h.once);
           behind = (tt, h.behind);
+          journalled = (tt, h.journalled);
           kept = (tt, h.kept);
         }
 
@@ -72,14 +74,15 @@ pub record IsFree (plan : Content) (items : List Item) : Type 0 where
   pub known : AreKnown plan.topology items
   pub once : TakenOnce items
   pub behind : LostBehindDowns items
+  pub journalled : AllByRecursion IsJournalledIfLost items
   pub kept : AllByRecursion KeepsSixteen items
 
 module _ (plan : Content) where
   pub free_part : (items : List Item) → IsFreeRun plan items → IsFree plan items
-  free_part items h = record { plain = h.plain; known = h.known; once = h.once; behind = h.behind; kept = h.kept }
+  free_part items h = record { plain = h.plain; known = h.known; once = h.once; behind = h.behind; journalled = h.journalled; kept = h.kept }
 
   pub free_whole : (items : List Item) → IsRun (cluster_of plan) items → IsFree plan items → IsFreeRun plan items
-  free_whole items run h = record { run = run; plain = h.plain; known = h.known; once = h.once; behind = h.behind; kept = h.kept }
+  free_whole items run h = record { run = run; plain = h.plain; known = h.known; once = h.once; behind = h.behind; journalled = h.journalled; kept = h.kept }
 
   module _ (items : List Item) (e : Entry) (there : Contains (actors plan.topology) e.actor) (h : IsFree plan items) where
     -- a step that was kept, of an actor that is down
@@ -90,6 +93,7 @@ module _ (plan : Content) where
           known = (there, h.known);
           once = (untaken, h.once);
           behind = (λ lost. down, h.behind);
+          journalled = (λ lost. journalled, h.journalled);
           kept = (few_if_none (kept_of e.event) (kept_if_journalled e.actor e.event journalled), h.kept);
         }
 
@@ -101,5 +105,6 @@ module _ (plan : Content) where
           known = (there, h.known);
           once = (subst (IsUntaken items) (sym event_is) tt, h.once);
           behind = (λ lost. absurd (true≢false (sym lost ∙ kept)), h.behind);
+          journalled = (λ lost. absurd (true≢false (sym lost ∙ kept)), h.journalled);
           kept = (subst (λ event. kept_of event ≤ 16) (sym event_is) few, h.kept);
         }

@@ -14,6 +14,7 @@ use Rattle.acc_schedule.specs.Actors.{actors}
 use Rattle.acc_schedule.specs.Content.{Content}
 use Rattle.acc_schedule_runs.specs.Schedules.{cluster_of}
 use Rattle.acc_schedule_runs.specs.Situations.{Stopped, Situation}
+use Rattle.acc_schedule_runs.specs.Moves.{is_journalled}
 
 -- ---- items
 
@@ -60,6 +61,11 @@ abbrev pub LostBehindDowns : List Item → Type 0
 LostBehindDowns [] = Unit {0}
 LostBehindDowns (item ∷ earlier) = IsBehindDown earlier item × LostBehindDowns earlier
 
+-- a lost entry is one that a journal holds: a begin, a recover, or a message that a store took
+abbrev pub IsJournalledIfLost : Item → Type 0
+IsJournalledIfLost (Step e) = e.lost ≡ true → is_journalled e.actor e.event ≡ true
+IsJournalledIfLost _ = Unit {0}
+
 -- a restart kept sixteen steps at most
 abbrev pub KeepsSixteen : Item → Type 0
 KeepsSixteen (Step e) = kept_of e.event ≤ 16
@@ -72,13 +78,15 @@ AreOthers a (item ∷ items) = (is_item_of a item ≡ false) × AreOthers a item
 
 -- ---- the whole
 
--- a run of the plan's cluster, by its actors alone, in which nothing is slowed down or skipped and no message is taken twice
+-- a run of the plan's cluster, by its actors alone, in which nothing is slowed down or skipped, no message is taken twice, and only what a
+-- journal holds is entered as lost
 pub record IsFreeRun (plan : Content) (items : List Item) : Type 0 where
   pub run : IsRun (cluster_of plan) items
   pub plain : IsTrue (list_all is_plain items)
   pub known : AreKnown plan.topology items
   pub once : TakenOnce items
   pub behind : LostBehindDowns items
+  pub journalled : AllByRecursion IsJournalledIfLost items
   pub kept : AllByRecursion KeepsSixteen items
 
 -- a cluster that was opened behind nothing, with these items and these stopped steps

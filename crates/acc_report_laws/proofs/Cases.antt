@@ -68,20 +68,26 @@ module _ (plan : Content) (answers : Answers) (h : IsPlan plan) (numbered : IsNu
   pub gone_on : CanBeTold plan last.own
   gone_on = record { is_plan = h; bodies = numbered.bodies; run = run; within = within; parts = placed.items }
 
+no_more : (n : ℕ) → n ≤ 200000 → n + 0 < 2 ^ 64
+no_more n few = omega (arith, few)
+
 pub obeyed : (plan : Content) (answers : Answers) (items : List Item) → IsPlan plan → IsNumbered plan → IsValidCluster (cluster_of plan) → Obeys plan answers items
     → IsWithin items → CanBeTold plan items
 obeyed plan answers items h numbered valid obeys within =
     subst (CanBeTold plan) (sym obeys.items_are)
-    (gone_on plan answers h numbered valid [] obeys.last obeys.last obeys.follows refl tt tt (omega (arith, h.few_steps)) (subst IsWithin obeys.items_are within))
+    (gone_on plan answers h numbered valid [] obeys.last obeys.last obeys.follows refl tt tt (no_more (length plan.steps) h.few_steps) (subst IsWithin obeys.items_are within))
 
 -- ---- free runs
+
+kept_few : (n : ℕ) → n ≤ 16 → n < 2 ^ 64
+kept_few n few = omega (arith, few)
 
 event_fits : (a : Actor) (event : Event) → IsActor a → kept_of event ≤ 16 → EventFits a event
 event_fits a (BeginEvent txn) actor kept = tt
 event_fits a (RecoverEvent txn) actor kept = tt
 event_fits a (SlowEvent txn) actor kept = tt
 event_fits a (MessageEvent number) actor kept = tt
-event_fits a (RestartEvent count) actor kept = (actor, omega (arith, kept))
+event_fits a (RestartEvent count) actor kept = (actor, kept_few count kept)
 
 module _ (names : List (List ℕ)) (layout : Layout) (h : IsLayout layout) where
   formed : (a : Actor) → Contains (actors layout) a → IsActor a

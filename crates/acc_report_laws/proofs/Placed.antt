@@ -16,7 +16,7 @@ use Rattle.acc_message.specs.declared.entry.Event.TheVariants.{Begin as BeginEve
 use Rattle.acc_message.specs.declared.item.Skip.{Skip}
 use Rattle.acc_message.specs.declared.item.Skip.TheVariants.{NoMessage, Down as IsDown, Begun, Unknown, NoQuorum}
 use Rattle.acc_message.specs.declared.item.Item.{Item}
-use Rattle.acc_message.specs.declared.item.Item.TheVariants.{Step as StepItem, Skipped, Down}
+use Rattle.acc_message.specs.declared.item.Item.TheVariants.{Skipped, Down}
 use Rattle.acc_message.specs.Items.{same_actor, sent_of, is_begun, id_of_txn}
 use Rattle.acc_message.specs.Attempts.{Attempt, Phase, Voting, Recovering, Accepting, Committing, Executing, majority_everywhere}
 use Rattle.acc_message.specs.Run.{Cluster, is_down, is_restart_event, attempt_at}

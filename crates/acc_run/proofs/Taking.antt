@@ -1,5 +1,5 @@
 -- A cluster has taken the steps so far, and takes one more.
-use Rattle.std.proofs.Common.{◌≡◌, ℕ, ◌+◌, ◌<◌, ◌≤◌, Bool, List, [], ◌∷◌, ◌++◌, length, take, drop, get_or, length-take-le, take_all, Result, Err, Option, refl, sym, ◌∙◌, ap, subst, arith}
+use Rattle.std.proofs.Common.{◌≡◌, ◌⊎◌, ℕ, ◌+◌, ◌<◌, ◌≤◌, Bool, List, [], ◌∷◌, ◌++◌, length, take, drop, get_or, length-append, length-take-le, take_all, Result, Err, Option, refl, sym, ◌∙◌, ap, subst, inl, inr, ⊎_elim, arith}
 use Rattle.std.specs.Prelude.{IfErr, IsErrAnd}
 use Rattle.std.proofs.lemmas.List.{append_assoc, take-append-drop, take_more}
 use Rattle.std.proofs.lemmas.Result.{err_from_is_err_and}
@@ -18,12 +18,15 @@ use Rattle.acc_schedule_runs.specs.Laws.{AgreeBelow}
 use Rattle.acc_schedule_runs.specs.StrictMoves.{StrictSituation, opened_strictly, IsStrictNext}
 use Rattle.acc_schedule_runs.specs.StrictSchedules.{FollowsStrictly}
 use Rattle.acc_schedule_runs.specs.StrictLaws.{no_faults}
-use Rattle.acc_schedule_runs.specs.Fronts.{ComesTo, Reaches, LimitEnds}
+use Rattle.acc_schedule_runs.proofs.Reached.{comes_adds}
+use Rattle.acc_schedule_runs.specs.Fronts.{ComesTo, Reaches}
 use Rattle.acc_schedule_runs.specs.StrictFronts.{StrictlyComesTo, StrictlyReaches, StrictLimitEnds}
 use Rattle.acc_cluster.specs.declared.cluster.Cluster.{Cluster}
 use Rattle.acc_cluster.specs.Stands.{StandsFor, StandsStrictly}
-use Rattle.acc_cluster.specs.Steps.{StepsTo, StepsStrictly, IfLimit, EndsIn, EndsStrictlyIn}
-use Rattle.acc_run.specs.Taken.{HasTaken, HasTakenStrictly}
+use Rattle.acc_cluster.specs.Limits.{HasEntered}
+use Rattle.acc_cluster.specs.Steps.{StepsTo, StepsStrictly, IfLimit}
+use Rattle.acc_cluster.proofs.Next.{EndsHere, EndsStrictlyHere}
+use Rattle.acc_run.specs.Taken.{HasTaken, HasTakenStrictly, IsStopped}
 
 -- the laws of runs and fronts that are made step by step
 pub record GoOn : Type 0 where
@@ -39,6 +42,23 @@ pub record GoOnStrictly : Type 0 where
       → IsStrictNext cluster (number + length steps) step between last → FollowsStrictly cluster number (steps ++ step ∷ []) s last
   pub front : (cluster : Of) (number : ℕ) (steps more : List Step) (step : Step) (s between reached : StrictSituation) → FollowsStrictly cluster number steps s between
       → StrictlyComesTo cluster (number + length steps) step between reached → StrictlyReaches cluster number (steps ++ step ∷ more) s reached
+
+-- what was reached has the items before it
+on_to : (place first second : ℕ) → place < first → first ≤ second → place < second
+on_to place first second less more = omega (arith, less, more)
+
+added : (n k : ℕ) → n ≤ k + n
+added n k = omega arith
+
+as_long : (n : ℕ) → n ≤ n
+as_long n = omega arith
+
+led_longer : (cluster : Of) (answers : Answers) (number : ℕ) (step : Step) (s reached : Situation) → (reached ≡ s) ⊎ ComesTo cluster answers number step s reached
+    → length s.own ≤ length reached.own
+led_longer cluster answers number step s reached (inl is) = subst (λ (t : Situation). length s.own ≤ length t.own) (sym is) (as_long (length s.own))
+led_longer cluster answers number step s reached (inr comes) =
+    let begins = comes_adds cluster answers number step s reached comes in
+    subst (λ n. length s.own ≤ n) (sym (ap length begins.items_are ∙ length-append begins.later s.own)) (added (length s.own) (length begins.later))
 
 module _ {D : Type 0} (port : Ghosts D) (plan : Content) where
   pub none_taken : (cluster : Cluster D) → StandsFor port plan cluster (opened []) → HasTaken port plan cluster []
@@ -61,36 +81,53 @@ module _ {D : Type 0} (port : Ghosts D) (plan : Content) where
         }
 
     -- a limit inside the step ends the plan's run
-    pub limit_ends : (more : List Step) → plan.steps ≡ steps ++ step ∷ more → (cluster : Cluster D) → HasTaken port plan cluster steps → (which : Which) (most : ℕ)
-        → ((s : Situation) (answers : Answers) → StandsFor port plan cluster s → EndsIn plan answers number step s which most)
-        → (answers : Answers) × (front : List Item) × LimitEnds plan answers front which most
-    limit_ends more whole cluster taken which most ends_in =
-        let e = ends_in taken.last taken.answers taken.stands in
-        let f = e.ends.front in (
-          e.other,
+    pub limit_ends : (more : List Step) → plan.steps ≡ steps ++ step ∷ more → (cluster new : Cluster D) → HasTaken port plan cluster steps → (which : Which) (most : ℕ)
+        → ((s : Situation) (answers : Answers) → StandsFor port plan cluster s → EndsHere port plan number step cluster new s which most answers)
+        → (items : List Item) × IsStopped port plan new items which most
+    limit_ends more whole cluster new taken which most ends_in =
+        let here = ends_in taken.last taken.answers taken.stands in
+        let e = here.0 in
+        let follows : Follows (cluster_of plan) e.other 0 steps (opened []) taken.last =
+        law.answers (cluster_of plan) taken.answers e.other 0 steps (opened []) taken.last e.agree taken.follows in (
           e.items,
           record {
-            next = e.ends.next;
-            front =
+            answers = e.other;
+            reached = e.reached;
+            is_reached =
+                ⊎_elim (λ is. inl (steps, step ∷ more, whole, subst (λ (s : Situation). Follows (cluster_of plan) e.other 0 steps (opened []) s) (sym is) follows))
+                (λ comes. inr (reaches e.other e.reached follows comes)) e.led;
+            ends = λ answers agree.
+                let ends = e.ends answers agree in
+                let f = ends.front in
                 record {
-                  reached = f.0;
-                  reaches =
-                      subst (λ all. Reaches (cluster_of plan) e.other 0 all (opened []) f.0) (sym whole)
-                      (law.front (cluster_of plan) e.other 0 steps more step (opened []) taken.last f.0
-                      (law.answers (cluster_of plan) taken.answers e.other 0 steps (opened []) taken.last e.agree taken.follows)
-                      (subst (λ k. ComesTo (cluster_of plan) e.other k step taken.last f.0) numbered f.1));
-                  begins = f.2;
+                  next = ends.next;
+                  front = record {
+                    reached = f.0;
+                    reaches =
+                        reaches answers f.0
+                        (law.answers (cluster_of plan) e.other answers 0 steps (opened []) taken.last
+                        (λ place less. agree place (on_to place (length taken.last.own) (length e.reached.own) less (led_longer (cluster_of plan) e.other number step taken.last e.reached e.led))) follows) f.1;
+                    begins = f.2;
+                  };
+                  within = ends.within;
+                  passed = ends.passed;
                 };
-            within = e.ends.within;
-            passed = e.ends.passed;
+            stops = here.1.stops;
           },
         )
+      where
+        reaches : (answers : Answers) (reached : Situation) → Follows (cluster_of plan) answers 0 steps (opened []) taken.last → ComesTo (cluster_of plan) answers number step taken.last reached
+            → Reaches (cluster_of plan) answers 0 plan.steps (opened []) reached
+        reaches answers reached follows comes =
+            subst (λ all. Reaches (cluster_of plan) answers 0 all (opened []) reached) (sym whole)
+            (law.front (cluster_of plan) answers 0 steps more step (opened []) taken.last reached follows
+            (subst (λ k. ComesTo (cluster_of plan) answers k step taken.last reached) numbered comes))
 
-    pub if_limit_ends : (more : List Step) → plan.steps ≡ steps ++ step ∷ more → (cluster : Cluster D) → HasTaken port plan cluster steps → (error : RunError)
-        → IfLimit (λ which most. (s : Situation) (answers : Answers) → StandsFor port plan cluster s → EndsIn plan answers number step s which most) error
-        → IfLimit (λ which most. (answers : Answers) × (front : List Item) × LimitEnds plan answers front which most) error
-    if_limit_ends more whole cluster taken (Limit which most) ends_in = limit_ends more whole cluster taken which most ends_in
-    if_limit_ends more whole cluster taken OutOfMemory ends_in = tt
+    pub if_limit_ends : (more : List Step) → plan.steps ≡ steps ++ step ∷ more → (cluster new : Cluster D) → HasTaken port plan cluster steps → (error : RunError)
+        → IfLimit (λ which most. (s : Situation) (answers : Answers) → StandsFor port plan cluster s → EndsHere port plan number step cluster new s which most answers) error
+        → IfLimit (λ which most. (items : List Item) × IsStopped port plan new items which most) error
+    if_limit_ends more whole cluster new taken (Limit which most) ends_in = limit_ends more whole cluster new taken which most ends_in
+    if_limit_ends more whole cluster new taken OutOfMemory ends_in = tt
 
   pub none_taken_strictly : (cluster : Cluster D) → StandsStrictly port plan cluster (opened_strictly [])
       → HasTakenStrictly port plan cluster []
@@ -110,13 +147,14 @@ module _ {D : Type 0} (port : Ghosts D) (plan : Content) where
           stands = n.stands;
         }
 
-    pub if_limit_ends_strictly : (more : List Step) → plan.steps ≡ steps ++ step ∷ more → (cluster : Cluster D) → HasTakenStrictly port plan cluster steps
+    pub if_limit_ends_strictly : (more : List Step) → plan.steps ≡ steps ++ step ∷ more → (cluster new : Cluster D) → HasTakenStrictly port plan cluster steps
         → (error : RunError)
-        → IfLimit (λ which most. (s : StrictSituation) → StandsStrictly port plan cluster s → EndsStrictlyIn plan number step s which most) error
-        → IfLimit (λ which most. (front : List Item) × StrictLimitEnds plan front which most) error
-    if_limit_ends_strictly more whole cluster taken OutOfMemory ends_in = tt
-    if_limit_ends_strictly more whole cluster taken (Limit which most) ends_in =
-        let e = ends_in taken.last taken.stands in
+        → IfLimit (λ which most. (s : StrictSituation) → StandsStrictly port plan cluster s → EndsStrictlyHere plan number step new s which most) error
+        → IfLimit (λ which most. (items : List Item) × StrictLimitEnds plan items which most × HasEntered new items) error
+    if_limit_ends_strictly more whole cluster new taken OutOfMemory ends_in = tt
+    if_limit_ends_strictly more whole cluster new taken (Limit which most) ends_in =
+        let here = ends_in taken.last taken.stands in
+        let e = here.0 in
         let f = e.ends.front in (
           e.items,
           record {
@@ -133,6 +171,7 @@ module _ {D : Type 0} (port : Ghosts D) (plan : Content) where
             within = e.ends.within;
             passed = e.ends.passed;
           },
+          here.1,
         )
 
 -- ---- the steps

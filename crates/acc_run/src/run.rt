@@ -4,13 +4,10 @@ ghost use Rattle.acc_message.specs.declared.error.Which.{Which};
 ghost use Rattle.acc_message.specs.declared.error.RunError.{RunError as Why};
 ghost use Rattle.acc_message.specs.declared.item.Item.{Item};
 ghost use Rattle.acc_schedule.specs.Plan.{IsPlan};
-ghost use Rattle.acc_schedule_runs.specs.Moves.{Answers};
-ghost use Rattle.acc_schedule_runs.specs.Schedules.{Obeys};
 ghost use Rattle.acc_schedule_runs.specs.StrictSchedules.{ObeysStrictly};
 ghost use Rattle.acc_schedule_runs.specs.Limits.{IsWithin};
-ghost use Rattle.acc_schedule_runs.specs.Fronts.{LimitEnds};
 ghost use Rattle.acc_schedule_runs.specs.StrictFronts.{StrictLimitEnds};
-ghost use Rattle.acc_run.specs.Given.{GivesBack};
+ghost use Rattle.acc_run.specs.Given.{HasRun, HasStopped};
 
 use crate::ending::give_back;
 use crate::opening::opened;
@@ -22,7 +19,8 @@ use acc_schedule::Plan;
 use std::alloc::Global;
 
 /// Takes all steps of a plan over new disks, from actors that have done nothing, and gives the disks back at the end, in rising order of
-/// the actors' numbers, and what the actors knew to `remains`. A run past a limit, or without memory, has no items, and its disks may be gone.
+/// the actors' numbers, and what the actors knew to `remains`. A run past a limit gives them back too, and has no items. Without memory the
+/// disks may be gone.
 pub fn run_plan<M: DiskMaker>(
     alloc: Global,
     plan: &Plan,
@@ -33,23 +31,23 @@ where
     M::D: Drop,
     requires is_plan { IsPlan plan.now }
 
-    // Whatever the disks answered, the items are those of the schedule with these answers, and within the limits.
-    ensures obeys { IfOk result (λ items. (answers : Answers) × Obeys plan.now answers (reverse items)) }
+    // Whatever the disks answered, the items are those of the schedule with these answers, and within the limits; and each disk keeps its
+    // actor where these answers led, after a limit too.
+    ensures ran { IfOk result (λ items. HasRun M.D.Disk plan.now (reverse items) (M.given disks.old) (M.given disks.new)) }
     ensures within { IfOk result (λ items. IsWithin (reverse items)) }
     ensures limit { IfErr result (λ e. (which : Which) (number : ℕ) → e ≡ Why.Limit which number →
-        (answers : Answers) × (front : List Item) × LimitEnds plan.now answers front which number) }
+        (front : List Item) × HasStopped M.D.Disk plan.now front which number (M.given disks.old) (M.given disks.new)
+        × (IsTrue (M.strict disks.old) → StrictLimitEnds plan.now front which number)) }
 
-    // Over strict disks the plan alone fixes them, and where a limit ends them.
+    // Over strict disks the plan alone fixes them.
     ensures strict { IsTrue (M.strict disks.old) → IfOk result (λ items. ObeysStrictly plan.now (reverse items)) }
-    ensures strict_limit { IsTrue (M.strict disks.old) → IfErr result (λ e. (which : Which) (number : ℕ) → e ≡ Why.Limit which number →
-        (front : List Item) × StrictLimitEnds plan.now front which number) }
 
-    ensures given { IfOk result (λ items. GivesBack M.D.Disk plan.now (reverse items) (M.given disks.old) (M.given disks.new)) }
     ensures kind { M.strict disks.new ≡ M.strict disks.old }
 {
     let mut cluster = opened(alloc, plan, disks)?;
-    take_all(&mut cluster, plan)?;
+    let taken = take_all(&mut cluster, plan);
     let ended = cluster.finish(remains)?;
     give_back(disks, ended.disks)?;
+    taken?;
     Ok(ended.items)
 }

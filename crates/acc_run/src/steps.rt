@@ -1,15 +1,14 @@
 //! The steps of a plan.
-ghost use Rattle.std.specs.Prelude.{ℕ, List, [], IfErr, OnOk};
+ghost use Rattle.std.specs.Prelude.{List, [], IfErr, OnOk};
 ghost use Rattle.acc_message.specs.declared.item.Item.{Item};
 ghost use Rattle.acc_schedule.specs.Plan.{IsPlan};
 ghost use Rattle.acc_schedule_runs.specs.Situations.{opened as opened_behind};
-ghost use Rattle.acc_schedule_runs.specs.Moves.{Answers};
 ghost use Rattle.acc_schedule_runs.specs.StrictMoves.{opened_strictly};
-ghost use Rattle.acc_schedule_runs.specs.Fronts.{LimitEnds};
 ghost use Rattle.acc_schedule_runs.specs.StrictFronts.{StrictLimitEnds};
 ghost use Rattle.acc_cluster.specs.Stands.{StandsFor, StandsStrictly};
+ghost use Rattle.acc_cluster.specs.Limits.{HasEntered};
 ghost use Rattle.acc_cluster.specs.Steps.{IfLimit};
-ghost use Rattle.acc_run.specs.Taken.{HasTaken, HasTakenStrictly};
+ghost use Rattle.acc_run.specs.Taken.{HasTaken, HasTakenStrictly, IsStopped};
 
 use acc_cluster::Cluster;
 use acc_message::RunError;
@@ -21,18 +20,18 @@ use acc_schedule_runs::limits::{
 };
 use acc_schedule_runs::strict::strict_runs_are_made_step_by_step;
 
-/// Takes all steps of a plan, numbered from 0.
+/// Takes all steps of a plan, numbered from 0. After a limit the items that were entered stay.
 pub fn take_all<D: Rig + Drop>(cluster: &mut Cluster<D>, plan: &Plan) -> Result<(), RunError>
     requires is_plan { IsPlan plan.now }
     requires stands { StandsFor D.Disk plan.now cluster.old (opened_behind []) }
 
     ensures ok { OnOk result (HasTaken D.Disk plan.now cluster.new plan.now.steps) }
-    ensures limit { IfErr result (IfLimit (λ which most. (answers : Answers) × (front : List Item) × LimitEnds plan.now answers front which most)) }
+    ensures limit { IfErr result (IfLimit (λ which most. (items : List Item) × IsStopped D.Disk plan.now cluster.new items which most)) }
 
     ensures strict { StandsStrictly D.Disk plan.now cluster.old (opened_strictly [])
         → OnOk result (HasTakenStrictly D.Disk plan.now cluster.new plan.now.steps) }
     ensures strict_limit { StandsStrictly D.Disk plan.now cluster.old (opened_strictly [])
-        → IfErr result (IfLimit (λ which most. (front : List Item) × StrictLimitEnds plan.now front which most)) }
+        → IfErr result (IfLimit (λ which most. (items : List Item) × StrictLimitEnds plan.now items which most × HasEntered cluster.new items)) }
 {
     runs_are_made_step_by_step();
     strict_runs_are_made_step_by_step();

@@ -1,10 +1,9 @@
 -- The disks of the slots so far, and of one more.
-use Rattle.std.proofs.Common.{rules, ◌≡◌, ◌+◌, List, [], ◌∷◌, ◌++◌, length, length-append, sym, ◌∙◌, ap, subst, arith}
-use Rattle.std.specs.List.{AllByRecursion}
+use Rattle.std.proofs.Common.{rules, ◌≡◌, ◌+◌, List, [], ◌∷◌, ◌++◌, length, length-append, sym, ◌∙◌, ap, arith}
 use Rattle.acc_actors.specs.declared.slot.Slot.{Slot}
-use Rattle.acc_cluster.specs.Ends.{disks_from, entry_of, LeavesHeld}
+use Rattle.acc_cluster.specs.Ends.{disks_from, entry_of}
 use Rattle.std.specs.Vec.Iter.{into_iter_items}
-use Rattle.acc_cluster.proofs.LeftDisks.{disks_more, all_more}
+use Rattle.acc_cluster.proofs.LeftDisks.{disks_more}
 use Rattle.acc_cluster.proofs.Turns.{one_more, all_out}
 use Rattle.acc_cluster.proofs.ending.disks_of.Goals as goal
 
@@ -22,17 +21,10 @@ loop-slot-preserved g c =
       disks =
           c.in_ok-put_disk.ensures.disks ∙ ap (λ es. es ++ entry_of c.loop-slot.number slot) before.disks
           ∙ ap (λ n. disks_from 0 slots ++ entry_of n slot) place ∙ sym (disks_more 0 slots slot);
-      left = all_more (LeavesHeld g.D.Disk) slots slot before.left c.in_ok-put_disk.ensures.left;
     }
 
-pub returns-clause-disks : goal.returns-clause-disks
-returns-clause-disks g c =
+pub returns : goal.returns
+returns g c =
     let left = c.loop-slot.slot-iterator in
     let all = all_out c.loop-slot.yielded (into_iter_items left) c.args.slots.items left.rest.len c.loop-slot.invariant.rest left.rest.ok.0 c.in-None.ensures.steps.0 in
-    c.loop-slot.invariant.disks ∙ ap (λ (slots : List (Slot g.row.D.Denot)). disks_from 0 slots) all
-
-pub returns-clause-left : goal.returns-clause-left
-returns-clause-left g c =
-    let left = c.loop-slot.slot-iterator in
-    let all = all_out c.loop-slot.yielded (into_iter_items left) c.args.slots.items left.rest.len c.loop-slot.invariant.rest left.rest.ok.0 c.in-None.ensures.steps.0 in
-    subst (AllByRecursion (LeavesHeld g.D.Disk)) all c.loop-slot.invariant.left
+    record { disks = c.loop-slot.invariant.disks ∙ ap (λ (slots : List (Slot g.row.D.Denot)). disks_from 0 slots) all }

@@ -1,7 +1,6 @@
 use Rattle.std.proofs.Common.{◌≡◌, ◌++◌, length}
-use Rattle.std.specs.List.{AllByRecursion}
 use Rattle.std.specs.Vec.Iter.{into_iter_items}
-use Rattle.acc_cluster.specs.Ends.{disks_from, LeavesHeld}
+use Rattle.acc_cluster.specs.Ends.{disks_from}
 use Rattle.acc_cluster.proofs.ending.disks_of.Given as goal
 
 abbrev pub invariant-loop-slot : goal.invariant-loop-slot
@@ -11,5 +10,4 @@ invariant-loop-slot g l = record {
   rest : l.yielded ++ into_iter_items l.slot-iterator ≡ l.fn.slots.items;
   number : l.number ≡ length l.yielded;
   disks : l.disks.items ≡ disks_from 0 l.yielded;
-  left : AllByRecursion (LeavesHeld g.D.Disk) l.yielded;
 }

@@ -1,10 +1,14 @@
-use Rattle.acc_cluster.proofs.LeftDisks.{node_left, store_left}
+-- No actor stands there, and no disk comes.
+use Rattle.std.proofs.Common.{◌++◌, sym, ◌∙◌, ap}
+use Rattle.std.proofs.lemmas.List.{append-nil}
+use Rattle.acc_actors.specs.declared.slot.Slot.{Slot}
+use Rattle.acc_cluster.specs.Ends.{entry_of}
 use Rattle.acc_cluster.proofs.ending.put_disk.Goals as goal
 
-pub returns-in_ok-push-in-Node-clause-left : goal.returns-in_ok-push-in-Node-clause-left
-returns-in_ok-push-in-Node-clause-left g c =
-    node_left g.D.Disk c.args.slot c.in-Node.node c.into_parts-disk.result.0 c.in-Node.is c.into_parts-disk.ensures.disk c.into_parts-disk.ensures.holds
-
-pub returns-in_ok-push-in-Store-clause-left : goal.returns-in_ok-push-in-Store-clause-left
-returns-in_ok-push-in-Store-clause-left g c =
-    store_left g.D.Disk c.args.slot c.in-Store.store c.into_parts-disk-in-Store.result.0 c.in-Store.is c.into_parts-disk-in-Store.ensures.disk c.into_parts-disk-in-Store.ensures.holds
+pub returns-in-Empty : goal.returns-in-Empty
+returns-in-Empty g c =
+    record {
+      disks =
+          sym (append-nil c.args.disks.now.items)
+          ∙ ap (λ (slot : Slot g.row.D.Denot). c.args.disks.now.items ++ entry_of c.args.number slot) (sym c.in-Empty.is);
+    }

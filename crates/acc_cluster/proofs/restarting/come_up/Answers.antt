@@ -14,4 +14,4 @@ returns-clause-ok c =
 pub returns-clause-limit : goal.returns-clause-limit
 returns-clause-limit c =
     up_ends c.enter_restart.result c.args.history.now c.enter_kept.new.history c.enter_restart.new.history c.args.actor c.args.kept
-    c.in_ok-count.count c.in_ok-count.ensures c.in_ok-enter_kept.ensures.ok c.enter_restart.ensures.limit
+    c.in_ok-count.count c.in_ok-count.ensures c.in_ok-enter_kept.ensures.ok c.enter_restart.ensures.as_before c.enter_restart.ensures.limit

@@ -38,4 +38,4 @@ pub returns-in_err-enter_lost-clause-limit : goal.returns-in_err-enter_lost-clau
 returns-in_err-enter_lost-clause-limit c =
     let seam = ap (λ l. c.loop-unsent.yielded ++ l) (sym c.in-Some.ensures.steps.0) ∙ c.loop-unsent.invariant.rest in
     lost_ends_among c.args.actor c.loop-unsent.yielded c.in-Some.unsent (into_iter_items c.next.new.self) c.args.kept c.args.history.now c.loop-unsent.history seam c.loop-unsent.invariant.past
-    c.from_residual.result c.in_err-enter_lost.field-0.0 c.from_residual.ensures.1 c.in_err-enter_lost.ensures.limit
+    c.enter_lost.new.history c.from_residual.result c.in_err-enter_lost.field-0.0 c.from_residual.ensures.1 c.in_err-enter_lost.ensures.limit

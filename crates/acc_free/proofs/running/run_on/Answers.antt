@@ -34,10 +34,15 @@ pub returns-clause-given : goal.returns-clause-given
 returns-clause-given g c =
     let f = c.in_ok-ended.ensures.ok in
     record {
-      disks = c.in_ok-ended.ended.disks.items;
-      given = c.in_ok-give_back.ensures.given ∙ ap (λ before. before ++ map numbered c.in_ok-ended.ended.disks.items) c.entered_by.ensures.given;
-      disks_are = f.disks_are;
-      kept = f.kept;
+      last = f.last;
+      serving = f.serving;
+      items_are = f.last_is;
+      back = record {
+        disks = c.in_ok-ended.ended.disks.items;
+        given = c.in_ok-give_back.ensures.given ∙ ap (λ before. before ++ map numbered c.in_ok-ended.ended.disks.items) c.entered_by.ensures.given;
+        disks_are = f.disks_are;
+        kept = f.kept;
+      };
     }
 
 pub returns-in_err-ended-clause-limit : goal.returns-in_err-ended-clause-limit

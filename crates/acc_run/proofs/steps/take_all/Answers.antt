@@ -29,7 +29,7 @@ returns-in_err-step-clause-limit g c =
     (if_limit_ends g.D.Disk c.args.plan.now
     (record { answers = c.runs_are_made_step_by_step.ensures.answers; step = c.runs_are_made_step_by_step.ensures.step; front = c.fronts_are_made_step_by_step.ensures.step })
     (take i xs) (get_or xs i (Begin 0)) c.loop-step.number (place_is xs i c.loop-step.number c.loop-step.invariant.number c.loop-step-test.true) (drop (i + 1) xs)
-    (sym c.loop-step.invariant.items ∙ split_at xs i (Begin 0) c.loop-step-test.true) c.loop-step.cluster c.loop-step.invariant.taken c.in_err-step.field-0.0 c.in_err-step.ensures.limit)
+    (sym c.loop-step.invariant.items ∙ split_at xs i (Begin 0) c.loop-step-test.true) c.loop-step.cluster c.step.new.self c.loop-step.invariant.taken c.in_err-step.field-0.0 c.in_err-step.ensures.limit)
 
 pub returns-in_err-step-clause-strict_limit : goal.returns-in_err-step-clause-strict_limit
 returns-in_err-step-clause-strict_limit g c = λ stands.
@@ -39,7 +39,7 @@ returns-in_err-step-clause-strict_limit g c = λ stands.
     (if_limit_ends_strictly g.D.Disk c.args.plan.now
     (record { step = c.strict_runs_are_made_step_by_step.ensures; front = c.a_limit_or_the_whole_over_strict_disks.ensures.step })
     (take i xs) (get_or xs i (Begin 0)) c.loop-step.number (place_is xs i c.loop-step.number c.loop-step.invariant.number c.loop-step-test.true) (drop (i + 1) xs)
-    (sym c.loop-step.invariant.items ∙ split_at xs i (Begin 0) c.loop-step-test.true) c.loop-step.cluster (c.loop-step.invariant.strictly stands) c.in_err-step.field-0.0 c.in_err-step.ensures.strict_limit)
+    (sym c.loop-step.invariant.items ∙ split_at xs i (Begin 0) c.loop-step-test.true) c.loop-step.cluster c.step.new.self (c.loop-step.invariant.strictly stands) c.in_err-step.field-0.0 c.in_err-step.ensures.strict_limit)
 
 pub overflow_add-number : goal.overflow_add-number
 overflow_add-number g c = omega (arith, c.loop-step.invariant.number, c.loop-step-test.true, c.loop-step.invariant.few)

@@ -25,7 +25,7 @@ returns-clause-limit g c =
     let down = sym (c.is_down.ensures s h.past.stands ∙ ap (λ (a : Actor). is_down a (whole s)) c.home_of-home.ensures) ∙ c.if-is_down.false in
     let begun = sym (c.is_begun.ensures s h.past.stands) ∙ c.if-is_begun.false in
     let none : begin_skip (cluster_of c.args.plan.now) s c.args.txn ≡ None = begin_skip_is (cluster_of c.args.plan.now) s c.args.txn false false down begun in
-    subst (λ (skip : Option Skip). HitsLimit g.D.Disk c.args.plan.now skip c.args.number (home_of_txn (cluster_of c.args.plan.now) c.args.txn) (BeginEvent c.args.txn) c.args.self.now s which limit) (sym none)
-    (subst (λ (a : Actor). HitsLimit g.D.Disk c.args.plan.now None c.args.number a (BeginEvent c.args.txn) c.args.self.now s which limit) c.home_of-home.ensures
+    subst (λ (skip : Option Skip). HitsLimit g.D.Disk c.args.plan.now skip c.args.number (home_of_txn (cluster_of c.args.plan.now) c.args.txn) (BeginEvent c.args.txn) c.args.self.now c.begin_at.new.self s which limit) (sym none)
+    (subst (λ (a : Actor). HitsLimit g.D.Disk c.args.plan.now None c.args.number a (BeginEvent c.args.txn) c.args.self.now c.begin_at.new.self s which limit) c.home_of-home.ensures
     (f c.args.number s h (c.in_ok-check_place.ensures.ok s h.past.stands) none)))
     c.begin_at.ensures.limit

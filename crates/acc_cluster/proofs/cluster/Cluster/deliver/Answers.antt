@@ -67,6 +67,6 @@ returns-clause-limit g c =
     let up = sym (c.is_down.ensures s h.past.stands ∙ ap (λ (a : Actor). is_down a (whole s)) to) ∙ c.if-is_down.false in
     let none : deliver_skip s c.args.message ≡ None =
     deliver_skip_is (cluster_of c.args.plan.now) s c.args.message true false (less_is c.args.message (length (sent_of s.own)) (slice_get_within (sent_of s.own) c.args.message c.in-Some.m.now found)) up in
-    subst (λ (skip : Option Skip). HitsLimit g.D.Disk c.args.plan.now skip c.args.number (receiver_in s c.args.message) (MessageEvent c.args.message) c.args.self.now s which limit) (sym none)
+    subst (λ (skip : Option Skip). HitsLimit g.D.Disk c.args.plan.now skip c.args.number (receiver_in s c.args.message) (MessageEvent c.args.message) c.args.self.now c.take.new.self s which limit) (sym none)
     (f c.args.number s h (c.in_ok-check_place.ensures.ok s h.past.stands) none))
     c.take.ensures.limit

@@ -41,5 +41,5 @@ returns-in_err-check_place-clause-limit g c =
 pub returns-in_err-take-clause-limit : goal.returns-in_err-take-clause-limit
 returns-in_err-take-clause-limit g c =
     ends_taken g.D.Disk c.args.plan.now c.args.self.now
-    c.loop-message.self c.in-Some.message c.loop-message.invariant c.in-Some.ensures c.in_err-take.field-0.0 c.in_err-take.ensures.limit
+    c.loop-message.self c.in-Some.message c.loop-message.invariant c.in-Some.ensures c.take.new.self c.in_err-take.field-0.0 c.in_err-take.ensures.limit
     c.in_ok-check_place.ensures.ok c.from_residual-in_err-take.result c.from_residual-in_err-take.ensures.1

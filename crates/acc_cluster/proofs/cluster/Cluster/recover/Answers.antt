@@ -60,7 +60,7 @@ returns-clause-limit g c =
     let id = sym (c.id_of.ensures s h.past.stands) ∙ c.in-Some.is in
     let none : recover_skip s c.args.txn c.args.node ≡ None =
     recover_skip_is (cluster_of c.args.plan.now) s c.args.txn c.args.node false true (sym (ap (λ (a : Actor). is_down a (whole s)) (at_is c.args.node)) ∙ up) (id_was_begun (whole s) c.args.txn c.in-Some.id id) in
-    subst (λ (skip : Option Skip). HitsLimit g.D.Disk c.args.plan.now skip c.args.number (actor_of c.args.node 0) (RecoverEvent c.args.txn) c.args.self.now s which limit) (sym none)
-    (subst (λ (a : Actor). HitsLimit g.D.Disk c.args.plan.now None c.args.number a (RecoverEvent c.args.txn) c.args.self.now s which limit) (at_is c.args.node)
+    subst (λ (skip : Option Skip). HitsLimit g.D.Disk c.args.plan.now skip c.args.number (actor_of c.args.node 0) (RecoverEvent c.args.txn) c.args.self.now c.recover_at.new.self s which limit) (sym none)
+    (subst (λ (a : Actor). HitsLimit g.D.Disk c.args.plan.now None c.args.number a (RecoverEvent c.args.txn) c.args.self.now c.recover_at.new.self s which limit) (at_is c.args.node)
     (f c.args.number s h (c.in_ok-check_place.ensures.ok s h.past.stands) up id)))
     c.recover_at.ensures.limit

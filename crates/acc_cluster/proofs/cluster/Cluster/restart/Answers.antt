@@ -35,4 +35,4 @@ returns-in-Up-clause-limit g c =
     up_ends g.D.Disk
     c.args.plan.now c.args.actor c.args.choice c.args.self.now c.requires.known
     c.reopen.new.self c.in_ok-reopen.ensures.history c.in_ok-check_place.ensures.ok c.in_ok-reopen.field-0 c.in_ok-reopen.ensures.ok
-    c.in-Up.kept c.in-Up.is c.come_up.result c.come_up.ensures.limit
+    c.in-Up.kept c.in-Up.is c.come_up.result c.come_up.new.history c.come_up.ensures.limit

@@ -36,8 +36,8 @@ returns-clause-limit g c =
     if_limit _ _ c.slow_at.result (λ which limit f s h.
     let up_here = sym (c.is_down.ensures s h.past.stands) ∙ c.if-is_down.false in
     let up = ap (λ (a : Actor). is_down a (whole s)) (sym c.home_of-home.ensures) ∙ up_here in
-    subst (λ (skip : Option Skip). HitsLimit g.D.Disk c.args.plan.now skip c.args.number (home_of_txn (cluster_of c.args.plan.now) c.args.txn) (SlowEvent c.args.txn) c.args.self.now s which limit)
+    subst (λ (skip : Option Skip). HitsLimit g.D.Disk c.args.plan.now skip c.args.number (home_of_txn (cluster_of c.args.plan.now) c.args.txn) (SlowEvent c.args.txn) c.args.self.now c.slow_at.new.self s which limit)
     (sym (slowing_skip_is (cluster_of c.args.plan.now) s c.args.txn false (skips_slow c.args.plan.now s c.args.txn) up refl))
-    (subst (λ (a : Actor). HitsLimit g.D.Disk c.args.plan.now (skips_slow c.args.plan.now s c.args.txn) c.args.number a (SlowEvent c.args.txn) c.args.self.now s which limit)
+    (subst (λ (a : Actor). HitsLimit g.D.Disk c.args.plan.now (skips_slow c.args.plan.now s c.args.txn) c.args.number a (SlowEvent c.args.txn) c.args.self.now c.slow_at.new.self s which limit)
     c.home_of-home.ensures (f s h (c.in_ok-check_place.ensures.ok s h.past.stands) up_here)))
     c.slow_at.ensures.limit

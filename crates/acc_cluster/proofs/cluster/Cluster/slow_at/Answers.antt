@@ -38,7 +38,7 @@ returns-in-Ok-clause-limit g c =
     slowed_limit g.D.Disk c.args.plan.now c.args.self.now c.args.home c.args.txn
     c.index_mut.result.now c.index_mut.ensures.value (omega (arith, c.if-place-len.false, c.len.ensures))
     (home_of_plan c.args.plan.now (subst IsPlan c.plan.view_is c.plan.invariant) c.args.txn c.requires.known c.args.home c.requires.home)
-    c.slow.new.self c.args.number c.enter_given.result c.in-Ok.emitted c.in-Ok.ensures.ok c.enter_given.ensures.limit
+    c.slow.new.self c.args.number c.enter_given.result c.in-Ok.emitted c.in-Ok.ensures.ok _ refl c.in-Ok.ensures.faults c.enter_given.ensures.as_before c.enter_given.ensures.limit
 
 pub returns-in-Err-Unknown-clause-ok : goal.returns-in-Err-Unknown-clause-ok
 returns-in-Err-Unknown-clause-ok g c =
@@ -60,7 +60,7 @@ returns-in-Err-Unknown-clause-limit g c =
     (record { alloc = c.args.self.now.alloc; history = c.args.self.now.history; slots = with_item c.args.self.now.slots c.args.home.0 c.slow.new.self }) refl refl
     c.in-Err-Unknown.ensures.as_before (Unknown c.args.txn)
     (λ s home. subst (λ (e : NodeError). IsSlowRefused c.args.plan.now s c.args.txn e) c.in-Err-Unknown.field-0-is (c.in-Err-Unknown.ensures.refused s home))
-    c.pass_over.ensures.never
+    c.pass_over.new.self c.pass_over.ensures.never
 
 pub returns-in-Err-NoQuorum-clause-ok : goal.returns-in-Err-NoQuorum-clause-ok
 returns-in-Err-NoQuorum-clause-ok g c =
@@ -82,4 +82,4 @@ returns-in-Err-NoQuorum-clause-limit g c =
     (record { alloc = c.args.self.now.alloc; history = c.args.self.now.history; slots = with_item c.args.self.now.slots c.args.home.0 c.slow.new.self }) refl refl
     c.in-Err-NoQuorum.ensures.as_before (NoQuorum c.args.txn)
     (λ s home. subst (λ (e : NodeError). IsSlowRefused c.args.plan.now s c.args.txn e) c.in-Err-NoQuorum.field-0-is (c.in-Err-NoQuorum.ensures.refused s home))
-    c.pass_over-in-Err-NoQuorum.ensures.never
+    c.pass_over-in-Err-NoQuorum.new.self c.pass_over-in-Err-NoQuorum.ensures.never

@@ -44,12 +44,14 @@ returns-clause-ok g c =
 
 pub returns-clause-limit : goal.returns-clause-limit
 returns-clause-limit g c =
+    let new : Cluster g.row.D.Denot =
+    record { alloc = c.args.self.now.alloc; history = c.enter_given.new.history; slots = with_item c.args.self.now.slots c.to-actor.result.0 c.take.new.self } in
     if_limit _ _ c.enter_given.result
     (λ which limit f number s h place none.
-    subst (λ (a : Actor). HitsLimit g.D.Disk c.args.plan.now None number a (MessageEvent c.args.message) c.args.self.now s which limit)
+    subst (λ (a : Actor). HitsLimit g.D.Disk c.args.plan.now None number a (MessageEvent c.args.message) c.args.self.now new s which limit)
     (c.to-actor.ensures ∙ sym (ap receiver (sym (c.message.ensures s h.past.stands) ∙ ap option_copied c.in-Some.is))) (f number s h place none))
     (taken_limit g.D.Disk c.args.plan.now c.args.self.now c.to-actor.result (MessageEvent c.args.message) (Takes c.in-Some.m.now) c.index_mut.result.now c.index_mut.ensures.value (omega (arith, c.if-place-len.false, c.len.ensures)) c.take.new.self c.in_ok-given.given c.in_ok-given.ensures.ok c.in_ok-given.ensures.strict
-    (λ s. deliver_skip s c.args.message ≡ None) (λ s h p. goes_take c.args.plan.now c.args.message c.in-Some.m.now c.to-actor.result c.to-actor.ensures s h.sound (sym (c.message.ensures s h.past.stands) ∙ ap option_copied c.in-Some.is) p) c.enter_given.result c.enter_given.ensures.limit)
+    (λ s. deliver_skip s c.args.message ≡ None) (λ s h p. goes_take c.args.plan.now c.args.message c.in-Some.m.now c.to-actor.result c.to-actor.ensures s h.sound (sym (c.message.ensures s h.past.stands) ∙ ap option_copied c.in-Some.is) p) c.enter_given.result new refl (steps_up {E = NoMemory} (Ok c.in_ok-given.given) _ _ c.in_ok-given.ensures.faults) c.enter_given.ensures.as_before c.enter_given.ensures.limit)
 
 pub returns-clause-counted : goal.returns-clause-counted
 returns-clause-counted g c =
