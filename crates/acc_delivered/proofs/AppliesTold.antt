@@ -30,7 +30,7 @@ use Rattle.acc_safety.proofs.PlaceOrder.{none_is_in, IsIn-map, StandsAt-whole}
 use Rattle.acc_safety.proofs.Bridge.{EachEmits-past, each_emits, emits_at, node_step, sender}
 use Rattle.acc_safety.proofs.Frame.{past_of, store_sent, node_sent}
 use Rattle.acc_calm.proofs.ZeroBallots.{store_asks_nothing}
-use Rattle.acc_delivered.specs.Ends.{is_decided, has_outcome}
+use Rattle.acc_delivered.specs.Ends.{was_decided, had_outcome}
 use Rattle.acc_delivered.specs.Laws.{AppliesAreTold}
 use Rattle.acc_delivered.proofs.Courses.{is_inform}
 use Rattle.acc_delivered.proofs.Asked.{asked, taking_reacts}
@@ -62,11 +62,11 @@ module _ (layout : Layout) (own : Actor) (x : TxnId) (before : Attempt) (m : Mes
 
 module _ (cluster : Cluster) (items : List Item) (h : EachStands cluster items) (x : TxnId) where
   abbrev IsTold : Type 0
-  IsTold = (is_decided x items ≡ true) × (has_outcome x items ≡ true)
+  IsTold = (was_decided x items ≡ true) × (had_outcome x items ≡ true)
 
   module _ (a : Actor) (node : is_node a ≡ true) (deed : Deed) (past : List Deed) (at : StandsAt deed past (deeds_of cluster a items)) where
     -- an attempt that executes is decided
-    decided : (k : Attempt) (s : Settled) → attempt_of cluster.layout (node_of a) (clock_start cluster.starts (node_of a)) x past ≡ Some k → k.phase ≡ Executing s → is_decided x items ≡ true
+    decided : (k : Attempt) (s : Settled) → attempt_of cluster.layout (node_of a) (clock_start cluster.starts (node_of a)) x past ≡ Some k → k.phase ≡ Executing s → was_decided x items ≡ true
     decided k s is phase =
         let q = asked cluster.layout (node_of a) (clock_start cluster.starts (node_of a)) x past
         (EachEmits-past cluster.layout (node_of a) (clock_start cluster.starts (node_of a)) past (deeds_of cluster a items) (past_of deed past (deeds_of cluster a items) at)
@@ -138,10 +138,10 @@ module _ (cluster : Cluster) (items : List Item) (h : EachStands cluster items) 
     by_sending m f g b body t deps outcome act act_is is there (Informs on y k s o reacts) = absurd (grind arith)
 
   pub told : (f g : Actor) (b : Ballot) (body : BodyParts) (t : Stamp) (deps : List ShardDeps) (outcome : Outcome) → Sending items (Apply f g x b body t deps outcome)
-      → (is_decided x items ≡ true) × (has_outcome x items ≡ true)
+      → (was_decided x items ≡ true) × (had_outcome x items ≡ true)
   told f g b body t deps outcome s = by (sender cluster items (Apply f g x b body t deps outcome) h s)
     where
-      by : Sender cluster items (Apply f g x b body t deps outcome) → (is_decided x items ≡ true) × (has_outcome x items ≡ true)
+      by : Sender cluster items (Apply f g x b body t deps outcome) → (was_decided x items ≡ true) × (had_outcome x items ≡ true)
       by (IsStore k) =
           absurd (true≢false
           (store_asks_nothing cluster.layout f k.past k.step.message (Apply f g x b body t deps outcome) (store_sent cluster items f (Apply f g x b body t deps outcome) h k)))

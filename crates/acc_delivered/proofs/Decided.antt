@@ -35,7 +35,7 @@ use Rattle.acc_calm.proofs.Finished.{noted_there}
 use Rattle.acc_calm.proofs.ReadsAnswered.{waits_there}
 use Rattle.acc_delivered.specs.Stretches.{TakesAll}
 use Rattle.acc_delivered.specs.Rounds.{IsRecover}
-use Rattle.acc_delivered.specs.Ends.{is_decided, has_outcome, took_stable, IsDecidedAt}
+use Rattle.acc_delivered.specs.Ends.{was_decided, had_outcome, took_stable, IsDecidedAt}
 use Rattle.acc_delivered.proofs.Courses.{request}
 use Rattle.acc_delivered.proofs.Asked.{Asked, asked}
 use Rattle.acc_delivered.proofs.Started.{start, deeds, is_of_node}
@@ -44,7 +44,7 @@ use Rattle.acc_delivered.proofs.Resting.{deeds_here, delivered}
 -- ---- notes
 
 pub decide_noted : (items earlier : List Item) (e : Entry) (x : TxnId) (s : Settled) (path : Path) → StandsAt (Step e) earlier items
-    → IsIn (DecideNote x s.t path s.deps) e.emitted.notes → is_decided x items ≡ true
+    → IsIn (DecideNote x s.t path s.deps) e.emitted.notes → was_decided x items ≡ true
 decide_noted items earlier e x s path at there =
     let d : Decision = record { id = x; t = s.t; deps = s.deps } in
     any_from (λ (k : Decision). id_eq k.id x) d (decisions_of (notes_of items))
@@ -52,7 +52,7 @@ decide_noted items earlier e x s path at there =
     (eq_itself id_order x)
 
 pub outcome_noted : (items earlier : List Item) (e : Entry) (x : TxnId) (reply : Reply) → StandsAt (Step e) earlier items
-    → IsIn (OutcomeNote x reply) e.emitted.notes → has_outcome x items ≡ true
+    → IsIn (OutcomeNote x reply) e.emitted.notes → had_outcome x items ≡ true
 outcome_noted items earlier e x reply at there =
     let d : Answered = record { id = x; reply = reply } in
     any_from (λ (k : Answered). id_eq k.id x) d (outcomes_of (notes_of items))

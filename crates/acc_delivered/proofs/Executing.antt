@@ -35,7 +35,7 @@ use Rattle.acc_safety.specs.Valid.{IsStanding}
 use Rattle.acc_safety.proofs.PlaceOrder.{in_order, any_from, IsPast-trans, StandsAt-whole, StandsAt-behind, StandsAt-IsPast, StandsAt-IsIn}
 use Rattle.acc_safety.proofs.Bridge.{store_step, each_answers, answers_at}
 use Rattle.acc_safety.proofs.Frame.{past_of}
-use Rattle.acc_safety_laws.proofs.Draws.{IsDraw, DrawsBallot, draw_differs}
+use Rattle.acc_safety.proofs.Draws.{IsDraw, DrawsBallot, draw_differs}
 use Rattle.acc_safety_laws.proofs.Ranks.{rank, advances}
 use Rattle.acc_safety_laws.proofs.Stages.{Stage, accept_stage, commit_stage}
 use Rattle.acc_calm.proofs.Delivered.{entry_deed, took_step}

@@ -31,7 +31,7 @@ use Rattle.acc_safety.proofs.PlaceOrder.{StandsAt-whole, StandsAt-IsPast, IsPast
 use Rattle.acc_safety.proofs.Bridge.{EachStands-past, node_step, taking_deed, taken_was_sent, sender, emits_at, each_emits, taken_of-past, deeds_of-past, TakingDeed}
 use Rattle.acc_safety.proofs.BodiesBegun.{recover_body}
 use Rattle.acc_safety.proofs.Frame.{past_of, bodies_are_begun, store_sent}
-use Rattle.acc_safety_laws.proofs.Draws.{DrawsBallot, earlier_draw}
+use Rattle.acc_safety.proofs.Draws.{DrawsBallot, earlier_draw}
 use Rattle.acc_calm.proofs.Delivered.{get-past, mapped, entry_deed, all_in}
 use Rattle.acc_calm.proofs.ZeroBallots.{is_request, store_asks_nothing}
 use Rattle.std.specs.Option.{option_map}

@@ -39,7 +39,7 @@ use Rattle.acc_safety.proofs.Bridge.{same_itself, EachStands-past, stands_at, no
 use Rattle.acc_safety.proofs.BodiesBegun.{distinct_draws}
 use Rattle.acc_safety.proofs.DrawFacts.{is_node-node}
 use Rattle.acc_safety.proofs.Frame.{past_of}
-use Rattle.acc_safety_laws.proofs.Draws.{node_of_draw, not_zero}
+use Rattle.acc_safety.proofs.Draws.{node_of_draw, not_zero}
 use Rattle.acc_calm.proofs.Delivered.{entry_deed}
 use Rattle.acc_delivered.specs.Rounds.{IsRecover}
 use Rattle.acc_delivered.specs.Ends.{starts, disturbs}

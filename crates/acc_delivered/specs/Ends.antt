@@ -36,6 +36,12 @@ starts x (Decide id t path deps) = false
 starts x (OutcomeNote id reply) = false
 starts x (ReplyNote id reply) = false
 
+-- the item is an entry that restarts the actor
+abbrev pub restarts : Actor → Item → Bool
+restarts a (Step e) = same_actor e.actor a && is_restart_event e.event
+restarts a (Skipped step cause) = false
+restarts a (Down actor) = false
+
 -- the item restarts the actor, or starts an attempt of it at x
 abbrev pub disturbs : Actor → TxnId → Item → Bool
 disturbs a x (Step e) = same_actor e.actor a && (is_restart_event e.event || list_any (starts x) e.emitted.notes)
@@ -69,11 +75,11 @@ abbrev pub is_blocked : TxnId → Ballot → List Item → Bool
 is_blocked x b items = list_any (tells_blocked x b) (notes_of items)
 
 -- x is among the decisions
-abbrev pub is_decided : TxnId → List Item → Bool
-is_decided x items = list_any (λ (d : Decision). id_eq d.id x) (decisions_of (notes_of items))
+abbrev pub was_decided : TxnId → List Item → Bool
+was_decided x items = list_any (λ (d : Decision). id_eq d.id x) (decisions_of (notes_of items))
 
-abbrev pub has_outcome : TxnId → List Item → Bool
-has_outcome x items = is_answered x (outcomes_of (notes_of items))
+abbrev pub had_outcome : TxnId → List Item → Bool
+had_outcome x items = is_answered x (outcomes_of (notes_of items))
 
 -- a fact of each store of x
 abbrev pub AtEachStore : Cluster → List Item → TxnId → (Actor → Type 0) → Type 0
@@ -93,12 +99,12 @@ has_opened cluster items x store = is_opened (shard_of store) (taken_of cluster 
 
 -- x is decided, and each of its stores took a Stable with the ballot
 pub record IsDecidedAt (cluster : Cluster) (items : List Item) (x : TxnId) (b : Ballot) : Type 0 where
-  pub decided : is_decided x items ≡ true
+  pub decided : was_decided x items ≡ true
   pub stable : AtEachStore cluster items x (λ store. took_stable cluster items x b store ≡ true)
 
 -- x has an outcome, and each of its stores took an Apply of it
 pub record IsFinished (cluster : Cluster) (items : List Item) (x : TxnId) : Type 0 where
-  pub outcome : has_outcome x items ≡ true
+  pub outcome : had_outcome x items ≡ true
   pub applies : AtEachStore cluster items x (λ store. took_apply cluster items x store ≡ true)
 
 -- the attempt at x with the ballot was ended, was blocked, or decided

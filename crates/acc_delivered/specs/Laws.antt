@@ -1,6 +1,6 @@
 -- What the laws of delivered attempts say.
 --     AttemptsLack      an attempt waits for what it lacks
---     BallotsAreDrawn      a ballot is drawn before it is used
+--     BallotsAreDrawn      a ballot was drawn by a recover of the transaction
 --     AttemptsEnd      an attempt all of whose messages are taken was ended, was blocked, or decided
 --     OpenedAttemptsFinish      and where each store has opened the transaction it has finished
 --     StablesAreAnswered      a store that has opened a transaction has answered each Stable about it
@@ -42,7 +42,7 @@ use Rattle.acc_safety.specs.Polls.{IsBody}
 use Rattle.acc_safety.specs.Valid.{IsStanding}
 use Rattle.acc_delivered.specs.Stretches.{TakesAll}
 use Rattle.acc_delivered.specs.Rounds.{IsRound}
-use Rattle.acc_delivered.specs.Ends.{disturbs, IsAttempt, is_decided, has_outcome, is_ended, is_blocked, AtEachStore, has_opened, IsFinished, HasEnd}
+use Rattle.acc_delivered.specs.Ends.{disturbs, IsAttempt, was_decided, had_outcome, is_ended, is_blocked, AtEachStore, has_opened, IsFinished, HasEnd}
 
 -- ---- what an attempt lacks
 
@@ -54,14 +54,14 @@ LacksIn layout x a (Accepting s) = majority_everywhere layout x a.body a.answers
 LacksIn layout x a (Committing s) = majority_everywhere layout x a.body a.answers ≡ false
 LacksIn layout x a (Executing s) = outcome_from layout a.body a.answers ≡ None
 
--- no answers, or too few. Of the first phase this says nothing
+-- it has no answers, or too few. In the first phase this says nothing
 abbrev pub AttemptsLack : Layout → ℕ → ℕ → TxnId → List Deed → Type 0
 AttemptsLack layout node start x deeds =
     (a : Attempt) → EachEmits layout node start deeds → attempt_of layout node start x deeds ≡ Some a → (a.answers ≡ []) ⊎ LacksIn layout x a a.phase
 
 -- ---- ballots
 
--- a message of a ballot other than zero was sent when a recover of its transaction had drawn the ballot
+-- a message has ballot zero, or a recover of its transaction has drawn its ballot
 abbrev pub BallotsAreDrawn : List Item → Type 0
 BallotsAreDrawn items =
     (m : Message) → Sending items m → ballot_eq (ballot_of m) zero_ballot ≡ false → Noting items (RecoverNote (id_of m) (ballot_of m))
@@ -164,4 +164,4 @@ BlockedHaveWaited cluster =
 abbrev pub AppliesAreTold : Cluster → Type 0
 AppliesAreTold cluster =
     (items : List Item) (x : TxnId) (from to : Actor) (b : Ballot) (body : BodyParts) (t : Stamp) (deps : List ShardDeps) (outcome : Outcome) → IsStanding cluster items
-    → Sending items (Apply from to x b body t deps outcome) → (is_decided x items ≡ true) × (has_outcome x items ≡ true)
+    → Sending items (Apply from to x b body t deps outcome) → (was_decided x items ≡ true) × (had_outcome x items ≡ true)

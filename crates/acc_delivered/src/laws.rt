@@ -8,13 +8,13 @@ ghost use Rattle.acc_message.specs.Run.{Cluster, EachStands};
 ghost use Rattle.acc_safety.specs.StoreFactStatements.{OfEachStore};
 ghost use Rattle.acc_delivered.specs.Laws.{AttemptsLack, BallotsAreDrawn, AttemptsEnd, OpenedAttemptsFinish, StablesAreAnswered, RoundsSendTheirOwn, RoundsStartOne, RoundsLeaveOthersAlone, SecondsAreNotEnded, BlockedHaveWaited, AppliesAreTold};
 
-/// An attempt of any ballot waits for what it lacks: behind its first phase it never rests with a majority everywhere of its phase's
-/// answers, nor with reads everywhere.
+/// After its first phase an attempt of any ballot that has answers never rests with a majority everywhere of its phase's answers, nor with
+/// all the reads that it waits for.
 pub fn attempts_wait_for_what_they_lack()
     ensures { (layout : Layout) (node start : ℕ) (x : TxnId) (deeds : List Deed) → AttemptsLack layout node start x deeds }
 {}
 
-/// A ballot other than zero is drawn by a recover before a message of it is sent.
+/// The ballot of a message, if it isn't zero, was drawn by a recover of the message's transaction.
 pub fn ballots_are_drawn()
     ensures { (cluster : Cluster) (items : List Item) → EachStands cluster items → BallotsAreDrawn items }
 {}

@@ -17,13 +17,13 @@ use Rattle.acc_heal_laws.specs.Laws.{HealingGoesOn}
 use Rattle.acc_heal_laws.proofs.Reopened.{goes_goes}
 use Rattle.acc_heal_laws.proofs.HealingTurns.{healing_comes}
 
-goes_follows : (plan : Content) (answers : Answers) (number : ℕ) (steps : List Step) (from to : Standing Situation) → Goes (moving_with plan answers) number steps from to
+pub goes_follows : (plan : Content) (answers : Answers) (number : ℕ) (steps : List Step) (from to : Standing Situation) → Goes (moving_with plan answers) number steps from to
     → Follows (cluster_of plan) answers number steps from.at to.at
 goes_follows plan answers number [] from to g = ap (λ (k : Standing Situation). k.at) g
 goes_follows plan answers number (step ∷ steps) from to g =
     (g.0, g.2, goes_follows plan answers (number + 1) steps (standing_after (moving_with plan answers) from g.0) to g.3)
 
-follows_both : (cluster : Cluster) (answers : Answers) (number : ℕ) (steps more : List Step) (s between last : Situation)
+pub follows_both : (cluster : Cluster) (answers : Answers) (number : ℕ) (steps more : List Step) (s between last : Situation)
     → Follows cluster answers number steps s between → Follows cluster answers (number + length steps) more between last
     → Follows cluster answers number (steps ++ more) s last
 follows_both cluster answers number [] more s between last f g =

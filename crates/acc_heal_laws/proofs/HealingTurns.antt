@@ -1,6 +1,6 @@
 -- A healing in which nobody goes down gives each transaction that was begun its turn.
 use Rattle.std.proofs.Common.{◌≡◌, ℕ, zero, suc, ◌+◌, ◌<◌, ◌≤◌, Bool, true, false, not, cond, List, [], ◌∷◌, ◌++◌, length, Option, None, Some, refl, sym, ◌∙◌, ap, subst, arith, ⊎_elim}
-use Rattle.std.specs.List.{list_all, AllByRecursion}
+use Rattle.std.specs.List.{list_all}
 use Rattle.std.specs.Option.{option_map}
 use Rattle.std.specs.Prelude.{Contains, IsTrue}
 use Rattle.std.proofs.lemmas.Bool.{true≢false, and_parts}
@@ -34,14 +34,15 @@ use Rattle.acc_safety.proofs.PlaceOrder.{IsPast-trans, IsIn-cases}
 use Rattle.acc_safety.proofs.Bridge.{EachStands-past}
 use Rattle.acc_calm.proofs.Delivered.{all_in}
 use Rattle.acc_schedule.specs.declared.plan.Step.{Step}
-use Rattle.acc_schedule.specs.declared.plan.Step.TheVariants.{Begin, Deliver, Drop, Recover, Slow, Restart, Fail, Drain}
+use Rattle.acc_schedule.specs.declared.plan.Step.TheVariants.{Recover, Drain}
 use Rattle.acc_schedule.specs.Actors.{actors}
 use Rattle.acc_schedule.specs.Content.{Content}
 use Rattle.acc_schedule.specs.Plan.{IsPlan}
 use Rattle.acc_schedule_runs.specs.Situations.{Situation, opened, whole, is_lost}
 use Rattle.acc_schedule_runs.specs.Moves.{Answers, entered, tried, stepped_unless, recover_skip, Drains, IsNext}
-use Rattle.acc_schedule_runs.specs.Schedules.{cluster_of}
-use Rattle.acc_schedule_runs.specs.Laws.{IsStepOf, NobodyIsDown}
+use Rattle.acc_schedule_runs.specs.Schedules.{Follows, cluster_of}
+use Rattle.acc_schedule_runs.specs.Fronts.{Begins}
+use Rattle.acc_schedule_runs.specs.Laws.{NobodyIsDown}
 use Rattle.acc_schedule_runs.proofs.GivesRuns.{Sound, sound_last, sound_opened, sound_run, sound_earlier, steps_of_plan}
 use Rattle.acc_pasts.proofs.Situations.{whole_alone}
 use Rattle.acc_delivered.proofs.Deliveries.{append_is_past}
@@ -54,9 +55,17 @@ use Rattle.acc_heal_laws.specs.Turned.{EachTookApply, Turned, NoneLeft, PassedOv
 use Rattle.acc_heal_laws.specs.Laws.{HealingTurns}
 use Rattle.acc_heal_laws.proofs.Growing.{GoesTo, next_goes, drained_goes, follows_goes}
 use Rattle.acc_heal_laws.proofs.Delivering.{IsSane, Through, drained, entered_sane, entered_through, tried_enters, all_through, all_taken, all_append}
-use Rattle.acc_heal_laws.proofs.Reopened.{IsReopen, each_reopens, down_is_reopened, goes_goes, reopens, TurnsBegin}
+use Rattle.acc_heal_laws.proofs.Reopened.{each_reopens, down_is_reopened, goes_goes, reopens, TurnsBegin}
+use Rattle.acc_heal_laws.proofs.KnownSteps.{reopening_known}
 use Rattle.acc_heal_laws.proofs.Numbers.{Numbered, numbered, numbered_past, NotesRecover, recover_notes}
 use Rattle.acc_heal_laws.proofs.SoundHealing.{one_step, is_turn, goes_sound}
+
+-- ---- items that others begin with
+
+pub past_begins : (past items : List Item) → IsPast past items → Begins past items
+past_begins past items (Whole ys) = record { later = []; items_are = refl }
+past_begins past items (Behind item ys zs there) =
+    let rest = past_begins ys zs there in record { later = item ∷ rest.later; items_are = ap (λ k. item ∷ k) rest.items_are }
 
 -- ---- turns that are passed over
 
@@ -345,10 +354,11 @@ module _ (plan : Content) (answers : Answers) (bound final later : List Item) (f
   walks (suc most) ids number steps s to few quiet inside g done = one_turn most (walks most) ids number steps s to few quiet inside g done
 
   pub walks_all : (to : Standing Situation) → TurnsBegin plan answers bound final later final_is nobody standing receivers to → IsPast to.at.own final
-      → IsDone to → HasTurned cluster to.at.own
+      → IsDone to → HasTurned cluster bound to.at.own
   walks_all to t inside done =
       record {
         base = t.quiet.own;
+        begins = past_begins bound t.quiet.own t.behind;
         turned =
             walks (suc (length t.steps)) (begun_ids t.quiet.own) t.number t.steps t.quiet to (omega arith)
             (record { sane = t.sane; through = t.through; behind = t.behind }) inside t.goes done;
@@ -356,38 +366,26 @@ module _ (plan : Content) (answers : Answers) (bound final later : List Item) (f
 
 -- ---- all of it
 
-reopen_known : (c : Cluster) (step : Step) → IsReopen step → IsStepOf c step
-reopen_known c (Restart actor choice) h = tt
-reopen_known c (Fail actor calls) h = tt
-reopen_known c (Begin txn) h = absurd h
-reopen_known c (Deliver message) h = absurd h
-reopen_known c (Drop message) h = absurd h
-reopen_known c (Recover txn node) h = absurd h
-reopen_known c (Slow txn) h = absurd h
-reopen_known c Drain h = absurd h
-
-all_known : (c : Cluster) (steps : List Step) → ((step : Step) → IsIn step steps → IsReopen step) → AllByRecursion (IsStepOf c) steps
-all_known c [] each = tt
-all_known c (step ∷ steps) each =
-    (reopen_known c step (each step (First step steps)), all_known c steps (λ k there. each k (Later k step steps there)))
-
 -- what a healing comes to
 pub record Comes (plan : Content) (between last : Situation) : Type 0 where
   pub starts : Sound (cluster_of plan) [] between
   pub ends : Sound (cluster_of plan) [] last
 
+pub between_sound : (plan : Content) (answers : Answers) (between : Situation) → IsPlan plan → Follows (cluster_of plan) answers 0 plan.steps (opened []) between
+    → Sound (cluster_of plan) [] between
+between_sound plan answers between is_plan follows =
+    sound_last (cluster_of plan) [] answers 0 plan.steps (opened []) between (steps_of_plan plan is_plan plan.steps is_plan.steps_known) follows
+    (sound_opened (cluster_of plan) [] (nothing_is_run (cluster_of plan)).run)
+
 pub healing_comes : (plan : Content) (answers : Answers) (steps : List Step) (between last : Situation) → IsPlan plan → IsValidCluster (cluster_of plan)
     → IsHealing plan answers steps between last → Comes plan between last
 healing_comes plan answers steps between last is_plan valid h =
-    let cluster : Cluster = cluster_of plan in
-    let first =
-    sound_last cluster [] answers 0 plan.steps (opened []) between (steps_of_plan plan is_plan plan.steps is_plan.steps_known) h.follows
-    (sound_opened cluster [] (nothing_is_run cluster).run) in
+    let first = between_sound plan answers between is_plan h.follows in
     record {
       starts = first;
       ends =
-          goes_sound plan answers valid (length plan.steps) steps (beginning plan between) (record { stage = h.heals.stage; at = last })
-          (all_known cluster (reopening plan (whole between)) (each_reopens plan (whole between))) first h.heals.goes;
+          (goes_sound plan answers is_plan valid (length plan.steps) steps (beginning plan between) (record { stage = h.heals.stage; at = last })
+          (record { carried = reopening_known plan (whole between); sound = first }) h.heals.goes).sound;
     }
 
 pub healing_stands : (plan : Content) (answers : Answers) (steps : List Step) (between last : Situation) → IsPlan plan → IsValidCluster (cluster_of plan)

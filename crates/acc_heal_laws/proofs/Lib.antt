@@ -6,9 +6,21 @@ pub mod Growing
 pub mod Delivering
 pub mod Reopened
 pub mod Numbers
+pub mod KnownSteps
 pub mod SoundHealing
 pub mod HealingTurns
 pub mod Healed
 pub mod Alike
 pub mod GoesOn
+pub mod Stepwise
+pub mod SameGoing
+pub mod StrictGoing
+pub mod HealingLimits
+pub mod StrictHealingLimits
+pub mod StrictDisks
+pub mod StrictAdds
+pub mod StrictWalk
+pub mod StrictHeals
+pub mod Recovers
+pub mod TwiceAtMost
 mod Smallest

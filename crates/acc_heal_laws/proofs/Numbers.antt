@@ -1,5 +1,5 @@
 -- A transaction that has a number was begun by it, at the node of its id; and what a recover of it notes.
-use Rattle.std.proofs.Common.{◌≡◌, ℕ, zero, suc, Bool, true, false, not, ◌||◌, cond, List, [], ◌∷◌, Option, None, Some, refl, sym, ◌∙◌, ap, subst}
+use Rattle.std.proofs.Common.{◌≡◌, ℕ, zero, suc, ◌<◌, length, arith, Bool, true, false, not, ◌||◌, cond, List, [], ◌∷◌, Option, None, Some, refl, sym, ◌∙◌, ap, subst}
 use Rattle.std.specs.List.{list_any, slice_get, AllByRecursion}
 use Rattle.std.specs.Option.{option_map}
 use Rattle.std.specs.Prelude.{IsTrue}
@@ -23,7 +23,7 @@ use Rattle.acc_message.specs.Items.{begins, begins_txn, event_begins, is_begun, 
 use Rattle.acc_message.specs.NodeRules.{Begins, Recovers, next_id, next_ballot, node_emits}
 use Rattle.acc_message.specs.Run.{Cluster, clock_start, act_of, recovers, deeds_of, emits, emits_by, MayStand, StandsOn, Stands, EachStands}
 use Rattle.acc_actor_laws.proofs.Standing.{not_none}
-use Rattle.acc_safety_laws.proofs.Draws.{node_of_draw}
+use Rattle.acc_safety.proofs.Draws.{node_of_draw}
 use Rattle.acc_safety.specs.Places.{IsPast, Whole, Behind}
 use Rattle.acc_safety.specs.Valid.{IsValidCluster}
 use Rattle.acc_safety.proofs.DrawFacts.{is_node-node, node_is}
@@ -33,6 +33,7 @@ use Rattle.acc_safety.proofs.DrawFacts.{is_node-node, node_is}
 pub record Numbered (cluster : Cluster) (items : List Item) (x : TxnId) (txn : ℕ) : Type 0 where
   pub id_is : id_of_txn items txn ≡ Some x
   pub begun : is_begun items txn ≡ true
+  pub low : txn < length cluster.bodies
   pub node : is_among cluster.layout.nodes (node_of_stamp x.0) ≡ true
 
 same_some : {T : Type 0} (x y : T) → Some x ≡ Some y → x ≡ y
@@ -49,6 +50,11 @@ slice_each : (Known : ℕ → Type 0) (xs : List ℕ) (n x : ℕ) → AllByRecur
 slice_each Known [] n x all e = absurd (not_none x e)
 slice_each Known (y ∷ xs) zero x all e = subst Known (same_some y x e) all.0
 slice_each Known (y ∷ xs) (suc n) x all e = slice_each Known xs n x all.1 e
+
+slice_low : {T : Type 0} (xs : List T) (n : ℕ) (x : T) → slice_get xs n ≡ Some x → n < length xs
+slice_low [] n x e = absurd (not_none x e)
+slice_low (y ∷ xs) zero x e = omega arith
+slice_low (y ∷ xs) (suc n) x e = let rest = slice_low xs n x e in omega (arith, rest)
 
 none_else : {T : Type 0} (o other : Option T) (x : T) → o ≡ None → other ≡ Some x → or_else o other ≡ Some x
 none_else None other x f g = g
@@ -71,7 +77,7 @@ not_begun_none (Down actor ∷ earlier) txn h = ap (λ o. or_else o None) (not_b
 
 numbered_later : (cluster : Cluster) (item : Item) (earlier : List Item) (x : TxnId) (txn : ℕ) → Numbered cluster earlier x txn → Numbered cluster (item ∷ earlier) x txn
 numbered_later cluster item earlier x txn n =
-    record { id_is = some_else (id_of_txn earlier txn) (id_begun txn item) x n.id_is; begun = or_right (begins_txn txn item) (is_begun earlier txn) n.begun; node = n.node }
+    record { id_is = some_else (id_of_txn earlier txn) (id_begun txn item) x n.id_is; begun = or_right (begins_txn txn item) (is_begun earlier txn) n.begun; low = n.low; node = n.node }
 
 -- what a begin of the transaction with this number emits
 begun_emits : (cluster : Cluster) (earlier : List Item) (node txn : ℕ) (body : BodyParts)
@@ -83,7 +89,7 @@ begun_emits cluster earlier node txn body =
 
 begins_here : (cluster : Cluster) (valid : IsValidCluster cluster) (earlier : List Item) (e : Entry) (x : TxnId) (txn : ℕ) → StandsOn cluster earlier e
     → list_any (begins x) e.emitted.notes ≡ true → e.event ≡ Begin txn → Numbered cluster (Step e ∷ earlier) x txn
-begins_here cluster valid earlier e x txn on noted event_is = by (slice_get cluster.bodies txn) (subst (λ event. act_of cluster earlier event ≡ Some on.act) event_is on.act_is)
+begins_here cluster valid earlier e x txn on noted event_is = by (slice_get cluster.bodies txn) refl (subst (λ event. act_of cluster earlier event ≡ Some on.act) event_is on.act_is)
   where
     place : MayStand cluster earlier e.actor on.act (Begin txn)
     place = subst (λ event. MayStand cluster earlier e.actor on.act event) event_is on.place
@@ -98,9 +104,9 @@ begins_here cluster valid earlier e x txn on noted event_is = by (slice_get clus
     not_before true h = absurd (true≢false (sym h))
     not_before false h = refl
 
-    by : (o : Option BodyParts) → option_map (Begins txn) o ≡ Some on.act → Numbered cluster (Step e ∷ earlier) x txn
-    by None act_is = absurd (not_none on.act act_is)
-    by (Some body) act_is =
+    by : (o : Option BodyParts) → slice_get cluster.bodies txn ≡ o → option_map (Begins txn) o ≡ Some on.act → Numbered cluster (Step e ∷ earlier) x txn
+    by None body_is act_is = absurd (not_none on.act act_is)
+    by (Some body) body_is act_is =
         let notes : e.emitted.notes ≡ BeginNote drawn ∷ [] =
         ap (λ (m : Emitted). m.notes) on.emitted ∙ ap (λ act. (emits cluster earlier e.actor act).notes) (sym (same_some (Begins txn body) on.act act_is))
         ∙ ap (λ a. (emits cluster earlier a (Begins txn body)).notes) place.0.2 ∙ begun_emits cluster earlier node txn body in
@@ -111,6 +117,7 @@ begins_here cluster valid earlier e x txn on noted event_is = by (slice_get clus
               none_else (id_of_txn earlier txn) (id_begun txn (Step e)) x (not_begun_none earlier txn (not_before (is_begun earlier txn) place.1))
               (ap (λ o. cond o (id_drawn e.emitted.notes) None) begun_here ∙ ap id_drawn notes ∙ ap Some is_x);
           begun = or_left (begins_txn txn (Step e)) (is_begun earlier txn) begun_here;
+          low = slice_low cluster.bodies txn body body_is;
           node =
               subst (λ k. is_among cluster.layout.nodes k ≡ true)
               (sym (ap (λ (y : TxnId). node_of_stamp y.0) (sym is_x) ∙ node_of_draw node (clock_start cluster.starts node) (deeds_of cluster (actor_of node 0) earlier)))

@@ -26,7 +26,7 @@ use Rattle.acc_schedule_runs.specs.Moves.{Answers, fails_in, entered, entered_al
 use Rattle.acc_schedule_runs.specs.Schedules.{cluster_of}
 use Rattle.acc_schedule_runs.specs.Laws.{NobodyIsDown}
 use Rattle.acc_pasts.proofs.Situations.{whole_alone}
-use Rattle.acc_heal_laws.specs.Stages.{Reopens, Turns, actor_lt, actors_rising, is_armed, armed_step, calls_enough, reopening_step, reopening, begun_ids, due}
+use Rattle.acc_heal_laws.specs.Stages.{Reopens, Turns, actor_lt, actors_rising, is_armed, step_of_armed, calls_let_pass, reopening_step, reopening, begun_ids, due}
 use Rattle.acc_heal_laws.specs.Healings.{Standing, Moving, standing_after, Goes, moving_with}
 use Rattle.acc_heal_laws.proofs.Growing.{GoesTo, stays_there, goes_trans, next_goes}
 use Rattle.acc_heal_laws.proofs.Delivering.{no_down, IsSane, Through, drained, all_through}
@@ -62,13 +62,13 @@ with_first b (x ∷ xs) = by (actor_lt b x) (actor_lt x b) refl refl (with_first
     by false true f g rest = Later b x (rising_with actor_lt b xs) rest
     by false false f g rest = subst (λ k. IsIn k (x ∷ xs)) (sym (number_is (lt_number b.0 x.0 f g))) (First x xs)
 
-union_all : (a : Actor) (ys : List Actor) → IsIn a ys → IsIn a (rising_union actor_lt [] ys)
+pub union_all : (a : Actor) (ys : List Actor) → IsIn a ys → IsIn a (rising_union actor_lt [] ys)
 union_all a [] there = elim there [ ]
 union_all a (y ∷ ys) there =
     ⊎_elim (λ is. subst (λ k. IsIn k (rising_with actor_lt y (rising_union actor_lt [] ys))) (sym is) (with_first y (rising_union actor_lt [] ys)))
     (λ more. with_itself a y (rising_union actor_lt [] ys) (union_all a ys more)) (IsIn-cases a y ys there)
 
-mapped_in : (f : Actor → Option Step) (a : Actor) (step : Step) (xs : List Actor) → IsIn a xs → f a ≡ Some step → IsIn step (filter_map f xs)
+pub mapped_in : (f : Actor → Option Step) (a : Actor) (step : Step) (xs : List Actor) → IsIn a xs → f a ≡ Some step → IsIn step (filter_map f xs)
 mapped_in f a step [] there is = elim there [ ]
 mapped_in f a step (x ∷ xs) there is =
     ⊎_elim (λ here. subst (λ o. IsIn step (cons_option o (filter_map f xs))) (sym (ap f (sym here) ∙ is)) (First step (filter_map f xs)))
@@ -85,10 +85,10 @@ IsReopen (Restart actor choice) = Unit {0}
 IsReopen (Fail actor calls) = Unit {0}
 IsReopen _ = ⊥
 
-armed_reopens : (a : Actor) → IsReopen (armed_step a)
+armed_reopens : (a : Actor) → IsReopen (step_of_armed a)
 armed_reopens a = by (is_node a)
   where
-    by : (o : Bool) → IsReopen (cond o (Fail a calls_enough) (Restart a 0))
+    by : (o : Bool) → IsReopen (cond o (Fail a calls_let_pass) (Restart a 0))
     by true = tt
     by false = tt
 
@@ -101,7 +101,7 @@ step_reopens steps items a step is = by (is_down a items) (is_armed steps a) is
     none_step : {k : Step} → None ≡ Some k → ⊥
     none_step e = cc
 
-    by : (o p : Bool) → cond o (Some (Restart a 0)) (cond p (Some (armed_step a)) None) ≡ Some step → IsReopen step
+    by : (o p : Bool) → cond o (Some (Restart a 0)) (cond p (Some (step_of_armed a)) None) ≡ Some step → IsReopen step
     by true p e = subst IsReopen (same_step e) tt
     by false true e = subst IsReopen (same_step e) (armed_reopens a)
     by false false e = absurd (none_step e)
@@ -114,7 +114,7 @@ each_reopens plan items step there =
 pub down_is_reopened : (plan : Content) (items : List Item) (a : Actor) → Contains (actors plan.topology) a → is_down a items ≡ true → IsIn (Restart a 0) (reopening plan items)
 down_is_reopened plan items a there down =
     mapped_in (reopening_step plan.steps items) a (Restart a 0) (actors_rising plan.topology) (union_all a (actors plan.topology) (Contains-IsIn a (actors plan.topology) there))
-    (ap (λ o. cond o (Some (Restart a 0)) (cond (is_armed plan.steps a) (Some (armed_step a)) None)) down)
+    (ap (λ o. cond o (Some (Restart a 0)) (cond (is_armed plan.steps a) (Some (step_of_armed a)) None)) down)
 
 -- ---- who is up
 

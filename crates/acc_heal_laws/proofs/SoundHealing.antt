@@ -1,5 +1,5 @@
--- The items of a healing are a run: what is due is a step of the cluster.
-use Rattle.std.proofs.Common.{◌≡◌, ℕ, ◌+◌, Bool, true, false, cond, List, [], ◌∷◌, Option, None, Some, refl, sym, ap, subst}
+-- The items of a healing are a run: what is due is a step of the plan's cluster.
+use Rattle.std.proofs.Common.{◌≡◌, ℕ, ◌+◌, ◌<◌, Bool, true, false, cond, List, [], ◌∷◌, Option, None, Some, refl, sym, subst}
 use Rattle.std.specs.List.{slice_get, AllByRecursion}
 use Rattle.std.specs.Option.{option_map}
 use Rattle.acc_stamp.specs.declared.stamps.TxnId.{TxnId}
@@ -13,14 +13,16 @@ use Rattle.acc_safety.specs.Valid.{IsValidCluster}
 use Rattle.acc_schedule.specs.declared.plan.Step.{Step}
 use Rattle.acc_schedule.specs.declared.plan.Step.TheVariants.{Recover, Drain}
 use Rattle.acc_schedule.specs.Content.{Content}
+use Rattle.acc_schedule.specs.Plan.{IsPlan}
 use Rattle.acc_schedule_runs.specs.Situations.{Situation, whole}
 use Rattle.acc_schedule_runs.specs.Moves.{Answers}
 use Rattle.acc_schedule_runs.specs.Schedules.{cluster_of}
 use Rattle.acc_schedule_runs.specs.Laws.{IsStepOf}
-use Rattle.acc_schedule_runs.proofs.GivesRuns.{Sound, sound_next, sound_run}
+use Rattle.acc_schedule_runs.proofs.GivesRuns.{Sound, sound_next, sound_run, steps_of_plan}
 use Rattle.acc_delivered.specs.Ends.{is_ended}
 use Rattle.acc_heal_laws.specs.Stages.{Stage, Reopens, Turns, EndsFirst, Repeats, EndsSecond, Turn, turn_or, turn_at, turn_step, recover_unless, all_took_apply, next_turn, due, stage_after, stage_after_first, stage_of_turn}
 use Rattle.acc_heal_laws.specs.Healings.{Standing, Goes, standing_after, moving_with}
+use Rattle.acc_heal_laws.proofs.KnownSteps.{IsKnown}
 use Rattle.acc_heal_laws.proofs.Numbers.{numbered}
 
 pub one_step : {T : Type 0} (x y : T) → Some x ≡ Some y → x ≡ y
@@ -53,34 +55,34 @@ is_turn cluster items (x ∷ ids) turn e = by (turn_step cluster items x) refl e
 
 -- ---- all of a healing
 
-module _ (plan : Content) (answers : Answers) (valid : IsValidCluster (cluster_of plan)) where
+module _ (plan : Content) (answers : Answers) (is_plan : IsPlan plan) (valid : IsValidCluster (cluster_of plan)) where
   abbrev cluster : Cluster
   cluster = cluster_of plan
 
   abbrev pub Carried : Stage → Type 0
-  Carried (Reopens todo) = AllByRecursion (IsStepOf cluster) todo
+  Carried (Reopens todo) = AllByRecursion (IsKnown plan) todo
   Carried (Turns ids) = Unit {0}
-  Carried (EndsFirst turn drawn) = IsStepOf cluster turn.step
-  Carried (Repeats turn) = IsStepOf cluster turn.step
+  Carried (EndsFirst turn drawn) = IsKnown plan turn.step
+  Carried (Repeats turn) = IsKnown plan turn.step
   Carried (EndsSecond turn) = Unit {0}
 
-  turn_known : (s : Situation) (ids : List TxnId) (turn : Turn) → Sound cluster [] s → next_turn cluster (whole s) ids ≡ Some turn → IsStepOf cluster turn.step
+  turn_known : (s : Situation) (ids : List TxnId) (turn : Turn) → Sound cluster [] s → next_turn cluster (whole s) ids ≡ Some turn → IsKnown plan turn.step
   turn_known s ids turn sound e =
       let t = is_turn cluster (whole s) ids turn e in
       let n = numbered cluster valid (whole s) turn.id t.txn (sound_run cluster [] s sound).stands t.txn_is in
-      subst (IsStepOf cluster) (sym t.step_is) n.node
+      subst (IsKnown plan) (sym t.step_is) (subst (λ k. t.txn < k) is_plan.bodies_as_many n.low, n.node)
 
-  step_known : (stage : Stage) (s : Situation) (step : Step) → Carried stage → Sound cluster [] s → due cluster stage (whole s) ≡ Some step → IsStepOf cluster step
-  step_known (Reopens []) s step c sound e = subst (IsStepOf cluster) (one_step Drain step e) tt
-  step_known (Reopens (r ∷ todo)) s step c sound e = subst (IsStepOf cluster) (one_step r step e) c.0
+  pub step_known : (stage : Stage) (s : Situation) (step : Step) → Carried stage → Sound cluster [] s → due cluster stage (whole s) ≡ Some step → IsKnown plan step
+  step_known (Reopens []) s step c sound e = subst (IsKnown plan) (one_step Drain step e) tt
+  step_known (Reopens (r ∷ todo)) s step c sound e = subst (IsKnown plan) (one_step r step e) c.0
   step_known (Turns ids) s step c sound e = by (next_turn cluster (whole s) ids) refl e
     where
-      by : (o : Option Turn) → next_turn cluster (whole s) ids ≡ o → option_map (λ (turn : Turn). turn.step) o ≡ Some step → IsStepOf cluster step
+      by : (o : Option Turn) → next_turn cluster (whole s) ids ≡ o → option_map (λ (turn : Turn). turn.step) o ≡ Some step → IsKnown plan step
       by None was f = absurd (not_none step f)
-      by (Some turn) was f = subst (IsStepOf cluster) (one_step turn.step step f) (turn_known s ids turn sound was)
-  step_known (EndsFirst turn drawn) s step c sound e = subst (IsStepOf cluster) (one_step Drain step e) tt
-  step_known (Repeats turn) s step c sound e = subst (IsStepOf cluster) (one_step turn.step step e) c
-  step_known (EndsSecond turn) s step c sound e = subst (IsStepOf cluster) (one_step Drain step e) tt
+      by (Some turn) was f = subst (IsKnown plan) (one_step turn.step step f) (turn_known s ids turn sound was)
+  step_known (EndsFirst turn drawn) s step c sound e = subst (IsKnown plan) (one_step Drain step e) tt
+  step_known (Repeats turn) s step c sound e = subst (IsKnown plan) (one_step turn.step step e) c
+  step_known (EndsSecond turn) s step c sound e = subst (IsKnown plan) (one_step Drain step e) tt
 
   next_carried : (stage : Stage) (s : Situation) (now : List Item) → Carried stage → Sound cluster [] s → Carried (stage_after cluster stage (whole s) now)
   next_carried (Reopens []) s now c sound = tt
@@ -102,9 +104,20 @@ module _ (plan : Content) (answers : Answers) (valid : IsValidCluster (cluster_o
   next_carried (Repeats turn) s now c sound = tt
   next_carried (EndsSecond turn) s now c sound = tt
 
-  pub goes_sound : (number : ℕ) (steps : List Step) (from to : Standing Situation) → Carried from.stage → Sound cluster [] from.at
-      → Goes (moving_with plan answers) number steps from to → Sound cluster [] to.at
-  goes_sound number [] from to c sound g = subst (Sound cluster []) (sym (ap (λ (k : Standing Situation). k.at) g)) sound
-  goes_sound number (step ∷ steps) from to c sound g =
-      goes_sound (number + 1) steps (standing_after (moving_with plan answers) from g.0) to (next_carried from.stage from.at (whole g.0) c sound)
-      (sound_next cluster [] answers number step from.at g.0 (step_known from.stage from.at step c sound g.1) g.2 sound) g.3
+  step_of : (step : Step) → IsKnown plan step → IsStepOf cluster step
+  step_of step known = (steps_of_plan plan is_plan (step ∷ []) (known, tt)).0
+
+  -- where a healing stands, its items are a run, and the steps that it still has to take are known
+  pub record IsSound (at : Standing Situation) : Type 0 where
+    pub carried : Carried at.stage
+    pub sound : Sound cluster [] at.at
+
+  pub goes_sound : (number : ℕ) (steps : List Step) (from to : Standing Situation) → IsSound from → Goes (moving_with plan answers) number steps from to → IsSound to
+  goes_sound number [] from to s g = subst IsSound (sym g) s
+  goes_sound number (step ∷ steps) from to s g =
+      goes_sound (number + 1) steps (standing_after (moving_with plan answers) from g.0) to
+      (record {
+        carried = next_carried from.stage from.at (whole g.0) s.carried s.sound;
+        sound =
+            sound_next cluster [] answers number step from.at g.0 (step_of step (step_known from.stage from.at step s.carried s.sound g.1)) g.2 s.sound;
+      }) g.3

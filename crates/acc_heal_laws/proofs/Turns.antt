@@ -30,7 +30,7 @@ use Rattle.acc_safety_laws.proofs.Within.{begun_has_store}
 use Rattle.acc_calm.proofs.ZeroBallots.{step_sending}
 use Rattle.acc_delivered.specs.Stretches.{TakesAll}
 use Rattle.acc_delivered.specs.Rounds.{IsRound}
-use Rattle.acc_delivered.specs.Ends.{disturbs, IsAttempt, is_ended, is_blocked, is_decided, has_outcome, IsDecidedAt, IsFinished}
+use Rattle.acc_delivered.specs.Ends.{disturbs, IsAttempt, is_ended, is_blocked, was_decided, had_outcome, IsDecidedAt, IsFinished}
 use Rattle.acc_delivered.specs.Laws.{AttemptsEnd, OpenedAttemptsFinish, RoundsStartOne, RoundsLeaveOthersAlone, SecondsAreNotEnded, AppliesAreTold}
 use Rattle.acc_delivered.proofs.Deliveries.{append_is_past}
 use Rattle.acc_delivered.proofs.OthersAlone.{any_append, notes_append, none_both}
@@ -336,12 +336,12 @@ module _ (cluster : Cluster) (waits : RoundsAreNotBlocked cluster) (applied : St
         (subst (λ l. is_ended x k.ballot l ≡ false) k.items_are k.unended) (subst (λ l. is_blocked x k.ballot l ≡ false) k.items_are k.unblocked))
         opened
 
-    decided : (x : TxnId) → AttemptIn cluster items standing x → is_decided x items ≡ true
+    decided : (x : TxnId) → AttemptIn cluster items standing x → was_decided x items ≡ true
     decided x k =
         ⊎_elim (λ ended. absurd (true≢false (sym ended ∙ subst (λ l. is_ended x k.ballot l ≡ false) k.items_are k.unended)))
         (λ rest.
         ⊎_elim (λ blocked. absurd (true≢false (sym blocked ∙ subst (λ l. is_blocked x k.ballot l ≡ false) k.items_are k.unblocked)))
-        (λ d. subst (λ l. is_decided x l ≡ true) (sym k.items_are) d.decided) rest)
+        (λ d. subst (λ l. was_decided x l ≡ true) (sym k.items_are) d.decided) rest)
         (ends (home_node x) x k.ballot k.base k.later (subst (IsStanding cluster) k.items_are standing) k.attempt k.all)
 
     takes_applies : OfEachBegun items (λ x. IsOpenedEverywhere cluster items x → EachTookApply cluster items x)
@@ -354,14 +354,14 @@ module _ (cluster : Cluster) (waits : RoundsAreNotBlocked cluster) (applied : St
     opened x = opened_everywhere cluster items standing stable takes_applies x
 
     -- decided, and with an outcome
-    was_told : (x : TxnId) (body : BodyParts) → IsBody cluster items x body → EachTookApply cluster items x → (is_decided x items ≡ true) × (has_outcome x items ≡ true)
+    was_told : (x : TxnId) (body : BodyParts) → IsBody cluster items x body → EachTookApply cluster items x → (was_decided x items ≡ true) × (had_outcome x items ≡ true)
     was_told x body is took =
         let store = begun_has_store cluster items x body standing.valid is in
         let k = took_apply_step (taken_of cluster store.0 items) x (took body store.0 is store.1) in
         told items x k.from k.to k.ballot k.body k.t k.deps k.outcome standing
         (subst (λ m. Sending items m) k.message_is (step_sending cluster items standing.stands store.0 k.step k.past k.at))
 
-    is_told : (x : TxnId) (body : BodyParts) → IsBody cluster items x body → was_begun x items ≡ true → (is_decided x items ≡ true) × (has_outcome x items ≡ true)
+    is_told : (x : TxnId) (body : BodyParts) → IsBody cluster items x body → was_begun x items ≡ true → (was_decided x items ≡ true) × (had_outcome x items ≡ true)
     is_told x body is begun = ⊎_elim (was_told x body is) (λ k. (decided x k, (finished x k (opened x)).outcome)) (outcome_of x begun).outcome
 
     pub healed : IsHealed cluster items

@@ -11,11 +11,11 @@ use Rattle.acc_message.specs.Shares.{stores_used}
 use Rattle.acc_message.specs.Opening.{is_applied}
 use Rattle.acc_message.specs.Run.{Cluster, taken_of}
 use Rattle.acc_safety.specs.Decisions.{body_of}
-use Rattle.acc_delivered.specs.Ends.{is_decided, has_outcome}
+use Rattle.acc_delivered.specs.Ends.{was_decided, had_outcome}
 
 pub record IsDone (cluster : Cluster) (items : List Item) (x : TxnId) : Type 0 where
-  pub decided : IsTrue (is_decided x items)
-  pub outcome : IsTrue (has_outcome x items)
+  pub decided : IsTrue (was_decided x items)
+  pub outcome : IsTrue (had_outcome x items)
   pub body : BodyParts
   pub body_is : body_of cluster items x ≡ Some body
   pub applied :

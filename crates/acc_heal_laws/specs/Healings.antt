@@ -7,8 +7,10 @@ use Rattle.acc_schedule.specs.Content.{Content}
 use Rattle.acc_schedule_runs.specs.Situations.{Situation, opened, whole}
 use Rattle.acc_schedule_runs.specs.Moves.{Answers, IsNext}
 use Rattle.acc_schedule_runs.specs.Schedules.{Follows, cluster_of}
+use Rattle.acc_schedule_runs.specs.Fronts.{ComesTo}
 use Rattle.acc_schedule_runs.specs.StrictMoves.{StrictSituation, IsStrictNext, opened_strictly}
 use Rattle.acc_schedule_runs.specs.StrictSchedules.{FollowsStrictly}
+use Rattle.acc_schedule_runs.specs.StrictFronts.{StrictlyComesTo}
 use Rattle.acc_heal_laws.specs.Stages.{Stage, Reopens, reopening, due, stage_after}
 
 -- ---- steps that are due
@@ -18,11 +20,13 @@ pub record Standing (S : Type 0) : Type 0 where
   pub stage : Stage
   pub at : S
 
--- What a step takes to what, and the situation in it.
+-- A way to take steps: the situation that is found in each place, what the step with a number takes to what, and all that it comes to on
+-- the way there.
 pub record Moving (S : Type 0) : Type 1 where
   pub cluster : Cluster
   pub found : S → Situation
   pub next : ℕ → Step → S → S → Type 0
+  pub comes : ℕ → Step → S → S → Type 0
 
 abbrev pub due_at : {S : Type 0} → Moving S → Standing S → Option Step
 due_at moving from = due moving.cluster from.stage (whole (moving.found from.at))
@@ -47,9 +51,10 @@ pub record Heals {S : Type 0} (moving : Moving S) (number : ℕ) (steps : List S
 -- ---- with given answers of the disks
 
 abbrev pub moving_with : Content → Answers → Moving Situation
-moving_with plan answers = record { cluster = cluster_of plan; found = λ s. s; next = IsNext (cluster_of plan) answers }
+moving_with plan answers =
+    record { cluster = cluster_of plan; found = λ s. s; next = IsNext (cluster_of plan) answers; comes = ComesTo (cluster_of plan) answers }
 
--- a healing begins behind the plan's schedule
+-- a healing begins after the plan's schedule
 abbrev pub beginning : Content → Situation → Standing Situation
 beginning plan s = record { stage = Reopens (reopening plan (whole s)); at = s }
 
@@ -61,7 +66,13 @@ pub record IsHealing (plan : Content) (answers : Answers) (steps : List Step) (b
 -- ---- over strict disks
 
 abbrev pub moving_strictly : Content → Moving StrictSituation
-moving_strictly plan = record { cluster = cluster_of plan; found = λ (s : StrictSituation). s.found; next = IsStrictNext (cluster_of plan) }
+moving_strictly plan =
+    record {
+      cluster = cluster_of plan;
+      found = λ (s : StrictSituation). s.found;
+      next = IsStrictNext (cluster_of plan);
+      comes = StrictlyComesTo (cluster_of plan);
+    }
 
 abbrev pub beginning_strictly : Content → StrictSituation → Standing StrictSituation
 beginning_strictly plan s = record { stage = Reopens (reopening plan (whole s.found)); at = s }

@@ -1,33 +1,32 @@
 -- What the laws of healings say.
-use Rattle.std.specs.Prelude.{◌≡◌, ◌≤◌, Bool, true, false, not, ◌&&◌, List, [], ◌∷◌, ◌++◌, length, is_some, filter}
+use Rattle.std.specs.Prelude.{◌≡◌, ◌≤◌, Bool, true, false, not, ◌&&◌, List, [], ◌++◌, length, is_some, filter}
 use Rattle.std.specs.List.{list_any, AllByRecursion}
 use Rattle.acc_stamp.specs.declared.stamps.TxnId.{TxnId}
 use Rattle.acc_stamp.specs.declared.stamps.Ballot.{Ballot}
 use Rattle.acc_stamp.specs.declared.actors.Actor.{Actor}
 use Rattle.acc_stamp.specs.Actor.{shard_of}
 use Rattle.acc_stamp.specs.Stamp.{id_eq, id_lt}
-use Rattle.acc_message.specs.declared.entry.Entry.{Entry}
 use Rattle.acc_message.specs.declared.note.Note.{Note}
 use Rattle.acc_message.specs.declared.note.Note.TheVariants.{Recover as RecoverNote}
 use Rattle.acc_message.specs.declared.item.Item.{Item}
 use Rattle.acc_message.specs.declared.item.Item.TheVariants.{Step, Skipped, Down}
-use Rattle.acc_message.specs.Items.{same_actor, notes_of, begins, replies}
 use Rattle.acc_message.specs.BallotRules.{stable_of}
 use Rattle.acc_message.specs.Opening.{is_applied}
 use Rattle.acc_message.specs.Coordinator.{home_node}
-use Rattle.acc_message.specs.Run.{Cluster, IsRun, taken_of, is_restart_event}
+use Rattle.acc_message.specs.Run.{Cluster, IsRun, taken_of}
 use Rattle.acc_schedule.specs.declared.plan.Step.{Step as PlanStep}
 use Rattle.acc_schedule.specs.Content.{Content}
 use Rattle.acc_schedule.specs.Plan.{IsPlan}
 use Rattle.acc_schedule_runs.specs.Situations.{Situation, opened}
 use Rattle.acc_schedule_runs.specs.Moves.{Answers}
 use Rattle.acc_schedule_runs.specs.Schedules.{Follows, cluster_of}
-use Rattle.acc_schedule_runs.specs.Laws.{NobodyIsDown}
+use Rattle.acc_schedule_runs.specs.Laws.{NobodyIsDown, NothingIsLost}
 use Rattle.acc_safety.specs.Valid.{IsStanding}
 use Rattle.acc_delivered.specs.Rounds.{IsRound}
 use Rattle.acc_delivered.specs.Ends.{AtEachStore, has_opened, is_blocked}
 use Rattle.acc_heal_laws.specs.Healed.{IsHealed, was_begun}
-use Rattle.acc_schedule_runs.specs.StrictMoves.{StrictSituation}
+use Rattle.acc_schedule_runs.specs.StrictMoves.{StrictSituation, opened_strictly}
+use Rattle.acc_schedule_runs.specs.StrictSchedules.{FollowsStrictly}
 use Rattle.acc_heal_laws.specs.Healings.{IsHealing, IsStrictHealing}
 use Rattle.acc_heal_laws.specs.Turned.{EachTookApply, Turned, HasTurned}
 use Rattle.acc_heal_laws.specs.Stages.{begun_ids}
@@ -49,7 +48,7 @@ IsOpenedEverywhere cluster items x = AtEachStore cluster items x (λ store. has_
 abbrev pub OfEachBegun : List Item → (TxnId → Type 0) → Type 0
 OfEachBegun items Fact = (x : TxnId) → was_begun x items ≡ true → Fact x
 
--- behind the base the transaction was stable at each of its stores
+-- when the base ended the transaction was stable at each of its stores
 abbrev pub WasStable : Cluster → List Item → List Item → TxnId → Type 0
 WasStable cluster base items x = AtEachStore cluster items x (λ store. is_some (stable_of (taken_of cluster store base) x) ≡ true)
 
@@ -74,8 +73,8 @@ TurnedIsHealed cluster =
 
 -- ---- healings
 
--- A healing behind which items it stood, where none of its own is a down.
-pub record IsWholeHealing (plan : Content) (answers : Answers) (steps : List PlanStep) (between last : Situation) : Type 0 where
+-- A plan's healing with the items that it adds, of which none is a down.
+pub record IsHealingWithoutDowns (plan : Content) (answers : Answers) (steps : List PlanStep) (between last : Situation) : Type 0 where
   pub is_plan : IsPlan plan
   pub healing : IsHealing plan answers steps between last
   pub later : List Item
@@ -86,13 +85,13 @@ pub record IsWholeHealing (plan : Content) (answers : Answers) (steps : List Pla
 abbrev pub HealingTurns : Type 0
 HealingTurns =
     (plan : Content) (answers : Answers) (steps : List PlanStep) (between last : Situation)
-    → IsWholeHealing plan answers steps between last → HasTurned (cluster_of plan) last.own
+    → IsHealingWithoutDowns plan answers steps between last → HasTurned (cluster_of plan) between.own last.own
 
--- over any disks the items after a healing are healed, where none behind the plan's own is a down
+-- over any disks the items after a healing are healed, where none after the plan's own is a down
 abbrev pub HealingHeals : Type 0
 HealingHeals =
     (plan : Content) (answers : Answers) (steps : List PlanStep) (between last : Situation)
-    → IsWholeHealing plan answers steps between last → IsHealed (cluster_of plan) last.own
+    → IsHealingWithoutDowns plan answers steps between last → IsHealed (cluster_of plan) last.own
 
 -- the plan and the answers fix a healing, and over strict disks the plan alone
 abbrev pub OneHealing : Type 0
@@ -120,13 +119,25 @@ HealingGoesOn =
     (plan : Content) (answers : Answers) (steps : List PlanStep) (between last : Situation)
     → IsPlan plan → IsHealing plan answers steps between last → GoesOn plan answers steps between last
 
+-- a healing over strict disks is one with some answers of the disks
+abbrev pub StrictHealingsAreAnswered : Type 0
+StrictHealingsAreAnswered =
+    (plan : Content) (steps : List PlanStep) (between last : StrictSituation)
+    → IsStrictHealing plan steps between last → (answers : Answers) × IsHealing plan answers steps between.found last.found
+
+-- and the plan's steps and those of the healing are one schedule over strict disks
+abbrev pub StrictHealingGoesOn : Type 0
+StrictHealingGoesOn =
+    (plan : Content) (steps : List PlanStep) (between last : StrictSituation)
+    → IsStrictHealing plan steps between last → FollowsStrictly (cluster_of plan) 0 (plan.steps ++ steps) (opened_strictly []) last
+
 -- ---- recovers
 
 abbrev pub recovers_it : TxnId → Note → Bool
 recovers_it x (RecoverNote id ballot) = id_eq id x
 recovers_it x _ = false
 
--- an entry that recovers x and isn't one that a journal kept of an earlier step
+-- an entry that recovers x and isn't lost: a lost one was begun before the healing and kept by a journal
 abbrev pub is_recover_of : TxnId → Item → Bool
 is_recover_of x (Step e) = not e.lost && list_any (recovers_it x) e.emitted.notes
 is_recover_of x (Skipped step cause) = false
@@ -138,47 +149,28 @@ is_at_home x (Skipped step cause) = ⊥
 is_at_home x (Down actor) = ⊥
 
 -- the items recover x at most twice, each time at the node of its id
-pub record RecoverTwiceAtMost (x : TxnId) (items : List Item) : Type 0 where
+pub record RecoversTwiceAtMost (x : TxnId) (items : List Item) : Type 0 where
   pub few : length (filter (is_recover_of x) items) ≤ 2
   pub at_home : AllByRecursion (is_at_home x) (filter (is_recover_of x) items)
 
--- behind the plan's items each transaction is recovered at most twice
+-- After the plan's items each transaction is recovered at most twice, beside recovers that a fault had stopped and that a journal kept.
 abbrev pub HealingRecoversTwiceAtMost : Type 0
 HealingRecoversTwiceAtMost =
     (plan : Content) (answers : Answers) (steps : List PlanStep) (between last : Situation) (later : List Item)
     → IsPlan plan → IsHealing plan answers steps between last → last.own ≡ later ++ between.own
-    → (x : TxnId) → RecoverTwiceAtMost x later
-
--- ---- clients
-
--- x is begun by an entry, and its node restarts in none of the items that stand after it
-abbrev pub restarts : Actor → Item → Bool
-restarts a (Step e) = same_actor e.actor a && is_restart_event e.event
-restarts a (Skipped step cause) = false
-restarts a (Down actor) = false
-
-pub record KeepsClient (x : TxnId) (items : List Item) : Type 0 where
-  pub entry : Entry
-  pub after : List Item
-  pub earlier : List Item
-  pub items_are : items ≡ after ++ Step entry ∷ earlier
-  pub begins_it : list_any (begins x) entry.emitted.notes ≡ true
-  pub up : list_any (restarts (home_node x)) after ≡ false
-
-abbrev pub is_replied : TxnId → List Item → Bool
-is_replied x items = list_any (replies x) (notes_of items)
-
--- whom a turn recovers, and whose client is kept, is answered
-abbrev pub WhoWaitsIsAnswered : Type 0
-WhoWaitsIsAnswered =
-    (plan : Content) (answers : Answers) (steps : List PlanStep) (between last : Situation)
-    → (h : IsWholeHealing plan answers steps between last) (x : TxnId)
-    → list_any (is_recover_of x) h.later ≡ true → KeepsClient x last.own → is_replied x last.own ≡ true
+    → (x : TxnId) → RecoversTwiceAtMost x later
 
 -- ---- strict disks
 
--- over strict disks nobody goes down in a healing, so the items after it are healed
+-- Over strict disks nobody goes down in a healing and no entry is lost, so the items after it are healed.
+pub record HealsStrictly (plan : Content) (between last : StrictSituation) : Type 0 where
+  pub later : List Item
+  pub items_are : last.found.own ≡ later ++ between.found.own
+  pub nobody_down : NobodyIsDown later
+  pub nothing_lost : NothingIsLost later
+  pub healed : IsHealed (cluster_of plan) last.found.own
+
 abbrev pub StrictDisksHeal : Type 0
 StrictDisksHeal =
     (plan : Content) (steps : List PlanStep) (between last : StrictSituation)
-    → IsPlan plan → IsStrictHealing plan steps between last → IsHealed (cluster_of plan) last.found.own
+    → IsPlan plan → IsStrictHealing plan steps between last → HealsStrictly plan between last

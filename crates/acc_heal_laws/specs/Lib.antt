@@ -4,3 +4,4 @@ pub mod Healings
 pub mod HealingFronts
 pub mod Turned
 pub mod Laws
+pub mod FrontLaws

@@ -41,17 +41,17 @@ fails a _ = false
 abbrev pub is_armed : List Step → Actor → Bool
 is_armed steps a = list_any (fails a) steps
 
--- more calls than a run comes to
-abbrev pub calls_enough : ℕ
-calls_enough = 1000000
+-- more calls than a node makes in a healing: four for each of its recovers, so 80,000 at most
+abbrev pub calls_let_pass : ℕ
+calls_let_pass = 1000000
 
 -- What reopens the actor: a restart of one that is down, or is a store whose disk may be armed. A node that is up keeps its clients,
--- so its disk is armed far behind.
-abbrev pub armed_step : Actor → Step
-armed_step a = cond (is_node a) (Fail a calls_enough) (Restart a 0)
+-- so its disk is armed for a call that it never comes to.
+abbrev pub step_of_armed : Actor → Step
+step_of_armed a = cond (is_node a) (Fail a calls_let_pass) (Restart a 0)
 
 abbrev pub reopening_step : List Step → List Item → Actor → Option Step
-reopening_step steps items a = cond (is_down a items) (Some (Restart a 0)) (cond (is_armed steps a) (Some (armed_step a)) None)
+reopening_step steps items a = cond (is_down a items) (Some (Restart a 0)) (cond (is_armed steps a) (Some (step_of_armed a)) None)
 
 abbrev pub reopening : Content → List Item → List Step
 reopening plan items = filter_map (reopening_step plan.steps items) (actors_rising plan.topology)
@@ -71,7 +71,7 @@ id_begun_by (ReplyNote id reply) = []
 abbrev pub begun_ids : List Item → List TxnId
 begun_ids items = ids_union [] (flat_map id_begun_by (notes_of items))
 
--- each store of the body took an Apply of x
+-- Each store of the body took an Apply of x. A transaction that a plan's items begin has a number and a body.
 abbrev pub all_took_apply : Cluster → List Item → TxnId → Option BodyParts → Bool
 all_took_apply cluster items x None = true
 all_took_apply cluster items x (Some body) = list_all (took_apply cluster items x) (stores_used cluster.layout body)
@@ -116,7 +116,7 @@ pub data Stage : Type 0 where
   Repeats : Turn → Stage
   EndsSecond : Turn → Stage
 
--- the step that is due behind these items
+-- the step that is due after these items
 abbrev pub due : Cluster → Stage → List Item → Option Step
 due cluster (Reopens []) items = Some Drain
 due cluster (Reopens (step ∷ steps)) items = Some step
@@ -125,11 +125,12 @@ due cluster (EndsFirst turn drawn) items = Some Drain
 due cluster (Repeats turn) items = Some turn.step
 due cluster (EndsSecond turn) items = Some Drain
 
--- the ballot with which the newest item recovers x
+-- the ballot with which these notes recover x, where that is all they say
 abbrev pub ballot_in : TxnId → List Note → Option Ballot
 ballot_in x (RecoverNote id ballot ∷ []) = cond (id_eq id x) (Some ballot) None
 ballot_in x _ = None
 
+-- the same of the newest item
 abbrev pub newest_ballot : TxnId → List Item → Option Ballot
 newest_ballot x [] = None
 newest_ballot x (item ∷ earlier) = ballot_in x (noted_in item)

@@ -1,11 +1,12 @@
--- What turns of transactions add to a run, in words of the items alone: for each transaction nothing where all its stores took its Apply,
--- else one round, and a second one where the first was ended.
+-- What turns of transactions add to a run, in words of the items alone: for each transaction one round, and a second one where the first
+-- was ended, or nothing, which is for those alone whose stores all took its Apply.
 use Rattle.std.specs.Prelude.{◌≡◌, true, false, List, [], ◌∷◌, ◌++◌}
 use Rattle.acc_stamp.specs.declared.stamps.TxnId.{TxnId}
 use Rattle.acc_stamp.specs.declared.stamps.Ballot.{Ballot}
 use Rattle.acc_message.specs.declared.item.Item.{Item}
 use Rattle.acc_message.specs.Coordinator.{home_node}
 use Rattle.acc_message.specs.Run.{Cluster}
+use Rattle.acc_schedule_runs.specs.Fronts.{Begins}
 use Rattle.acc_delivered.specs.Rounds.{IsRound}
 use Rattle.acc_delivered.specs.Ends.{AtEachStore, took_apply, is_ended}
 use Rattle.acc_heal_laws.specs.Stages.{begun_ids}
@@ -27,7 +28,8 @@ pub data Turned (cluster : Cluster) (items : List Item) : List TxnId → List It
       → is_ended x b (first ++ base) ≡ true → IsRound (home_node x) x c (first ++ base) second
       → Turned cluster items ids (second ++ (first ++ base)) → Turned cluster items (x ∷ ids) base
 
--- behind some of the items each transaction that they begin has had its turn
-pub record HasTurned (cluster : Cluster) (items : List Item) : Type 0 where
+-- after some of the items, which begin with these, each transaction that they begin has had its turn
+pub record HasTurned (cluster : Cluster) (before items : List Item) : Type 0 where
   pub base : List Item
+  pub begins : Begins before base
   pub turned : Turned cluster items (begun_ids base) base

@@ -1,0 +1,15 @@
+pub mod DueSteps
+pub mod SeenFacts
+pub mod Turning
+pub mod BegunFacts
+pub mod ActorSets
+pub mod Ending
+pub mod HealedRuns
+pub mod Rounds
+pub mod Passing
+pub mod Newest
+pub mod ReopeningFacts
+pub mod LackingFacts
+pub mod WholeHealing
+pub mod Whole
+pub mod AllTurns

@@ -1,0 +1,4 @@
+pub mod Actors
+pub mod Seen
+pub mod Places
+pub mod Healed

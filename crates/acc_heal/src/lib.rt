@@ -1,0 +1,15 @@
+//! Healings: what losses, crashes and blocked recoveries left open is finished.
+#![tactic(auto)]
+
+mod begun;
+mod healing;
+mod lacking;
+pub mod laws;
+mod plan;
+mod reopening;
+mod seen;
+mod taking;
+mod turns;
+
+pub use healing::heal;
+pub use plan::heal_plan;
