@@ -1,4 +1,5 @@
 mod AnswerFacts
+pub mod CaseFacts
 mod DecisionFacts
 mod FaultFacts
 mod LeastFacts

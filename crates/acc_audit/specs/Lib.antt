@@ -3,3 +3,4 @@ pub mod Fronts
 pub mod Rules
 pub mod Users
 pub mod Kept
+pub mod Cases

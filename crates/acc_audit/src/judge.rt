@@ -7,16 +7,20 @@ use crate::front::Front;
 use crate::index::Index;
 use crate::numbers::Numbers;
 use crate::step::{Against, step};
-use acc_base::{OutOfMemory, Sequence};
+use acc_base::OutOfMemory;
 use acc_report_line::{Line, Lines, Names};
+use acc_schedule::Bodies;
 use acc_txn::Body;
 use std::alloc::Global;
 
 /// Judges the lines of a report against transactions with these names and bodies, and answers the first line that breaks a rule,
 /// with the least rule that it breaks. The rules are those of `docs/AUDIT.md`. It trusts nothing about who wrote the lines.
 ///
+/// There are as many bodies as names, and no two names are equal. `OutOfMemory` comes where memory was refused, whatever the
+/// lines are.
+///
 /// Its time is linear in the text of the report, times the keys of a transaction and the logarithm of their number.
-pub fn audit(names: &Names, bodies: &Sequence<Body>, lines: &Lines) -> Result<(), AuditError>
+pub fn audit(names: &Names, bodies: &Bodies, lines: &Lines) -> Result<(), AuditError>
     requires as_many { length bodies.now ≡ length names.now }
     requires differ { Differ names.now }
     ensures { Judges result names.now bodies.now lines.now }

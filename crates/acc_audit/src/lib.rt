@@ -2,12 +2,14 @@
 #![tactic(auto)]
 
 mod answers;
+mod cases;
 mod decisions;
 mod ends;
 mod error;
 mod front;
 mod index;
 mod judge;
+mod judgement;
 mod marks;
 mod numbers;
 mod outcomes;
@@ -16,5 +18,7 @@ mod step;
 mod steps;
 mod users;
 
+pub use cases::{Case, read_case};
 pub use error::AuditError;
 pub use judge::audit;
+pub use judgement::{Judgement, judge_case};

@@ -1,28 +1,28 @@
 //! The numbers of transactions, by their names.
-ghost use Rattle.std.specs.Prelude.{◌≡◌, ◌+◌, [], ◌∷◌, ◌++◌, length, map, not, take, IfOk, OnOk, if◌then◌else◌};
+ghost use Rattle.std.specs.Prelude.{◌≡◌, [], ◌∷◌, ◌++◌, length, not, IfOk, if◌then◌else◌};
 ghost use Rattle.std.specs.List.{list_any, list_all};
 ghost use Rattle.std.specs.Str.{bytes_eq};
 ghost use Rattle.acc_audit.specs.Fronts.{is_known, number_of};
 ghost use Rattle.acc_audit.specs.Rules.{Differ};
 
 use acc_base::OutOfMemory;
+use acc_document_fields::NameTable;
 use acc_report_line::Names;
-use indexmap::IndexSet;
 use std::alloc::Global;
 use std::marker::Model;
 
-/// Names that differ, in their order, found by their hash.
+/// Names that differ, in their order.
 #[derive(Drop)]
 pub(crate) struct Numbers {
-    names: IndexSet<Vec<u8>>,
+    table: NameTable,
 }
 
 impl Model for Numbers {
-    ghost use Rattle.std.specs.Prelude.{List, ℕ, map};
+    ghost use Rattle.std.specs.Prelude.{List, ℕ};
 
     ghost Value = { List (List ℕ) };
 
-    ghost view = { λ t. map (λ name. name.items) t.names.keys };
+    ghost view = { λ t. t.table };
 }
 
 impl Numbers {
@@ -32,7 +32,7 @@ impl Numbers {
         ensures { IfOk result (λ numbers. numbers ≡ names.now) }
     {
         let mut numbers = Numbers {
-            names: IndexSet::new(alloc),
+            table: NameTable::new(alloc),
         };
         for name in names.as_slice() {
             let _added = numbers.add(alloc, name.as_slice())?;
@@ -45,32 +45,28 @@ impl Numbers {
         ensures added { IfOk result (λ added. added ≡ not (list_any (bytes_eq name.now) self.old)) }
         ensures names { IfOk result (λ added. self.new ≡ (if added then self.old ++ name.now ∷ [] else self.old)) }
     {
-        let name = Vec::from_slice(alloc, name)?;
-        Ok(self.names.insert(name)?)
+        self.table.add(alloc, name)
     }
 
     /// The number of the transaction with this name.
     pub(crate) fn get(&self, name: &[u8]) -> Option<usize>
         ensures { result ≡ number_of self.now name.now }
     {
-        self.names.get_index_of(name)
+        self.table.place(name)
     }
 
     /// How many there are.
     pub(crate) fn len(&self) -> usize
         ensures { result ≡ length self.now }
     {
-        self.names.len()
+        self.table.len()
     }
 
     /// Whether there is a transaction with this name.
     pub(crate) fn has(&self, name: &[u8]) -> bool
         ensures { result ≡ is_known self.now name.now }
     {
-        match self.get(name) {
-            Some(_) => true,
-            None => false,
-        }
+        self.table.has(name)
     }
 
     /// Whether there are transactions with all these names.

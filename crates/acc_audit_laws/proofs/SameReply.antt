@@ -1,5 +1,5 @@
 -- Two replies that pass the test are one.
-use Rattle.std.proofs.Common.{◌≡◌, nat_eq, Bool, true, false, ◌&&◌, List, [], ◌∷◌, Option, Some, None, refl, sym, ap}
+use Rattle.std.proofs.Common.{◌≡◌, nat_eq, Bool, true, false, ◌&&◌, List, [], ◌∷◌, Option, Some, None, refl, sym, ap, ap₂}
 use Rattle.std.specs.Option.{option_eq}
 use Rattle.std.specs.Ordering.{int_eq, on}
 use Rattle.std.specs.Cmp.Lexicographic.{pointwise}
@@ -57,3 +57,25 @@ same_reply-sound a b h =
     let verdicts = verdict_sound a.verdict b.verdict parts.0 in
     let values = cells_sound a.values b.values parts.1 in
     λ i. record { verdict = verdicts i; values = values i }
+
+-- ---- a reply passes it with itself
+
+verdict_itself : (v : Verdict) → same_verdict v v ≡ true
+verdict_itself Done = refl
+verdict_itself Skipped = refl
+verdict_itself Overflow = refl
+
+value_itself : (v : Value) → value_eq v v ≡ true
+value_itself (Number a) = ap (λ b. b && true) ((Decides-int_eq a a).1 refl)
+value_itself (Text a) = (bytes_eq-Decides a a).1 refl
+
+cell_itself : (cell : Option Value) → option_eq value_eq cell cell ≡ true
+cell_itself None = refl
+cell_itself (Some v) = value_itself v
+
+cells_itself : (cells : List (Option Value)) → pointwise (option_eq value_eq) cells cells ≡ true
+cells_itself [] = refl
+cells_itself (cell ∷ cells) = ap₂ ◌&&◌ (cell_itself cell) (cells_itself cells)
+
+pub same_reply-itself : (a : Reply) → same_reply a a ≡ true
+same_reply-itself a = ap₂ ◌&&◌ (verdict_itself a.verdict) (cells_itself a.values)

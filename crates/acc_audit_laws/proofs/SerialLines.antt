@@ -129,7 +129,7 @@ stays lines name first k low is =
 
 -- ---- bodies in turn
 
-cells_in_turn : (bodies : List BodyParts) → cells_of_all bodies ≡ fold map_after (λ _. None) (reverse bodies)
+pub cells_in_turn : (bodies : List BodyParts) → cells_of_all bodies ≡ fold map_after (λ _. None) (reverse bodies)
 cells_in_turn [] = refl
 cells_in_turn (body ∷ bodies) =
     ap (λ cells. map_after cells body) (cells_in_turn bodies)
@@ -139,7 +139,7 @@ replies_more : (cells : Key → Option Value) (bodies : List BodyParts) (body : 
 replies_more cells [] body = refl
 replies_more cells (first ∷ bodies) body = ap (λ rest. (outcome_of first cells).reply ∷ rest) (replies_more (map_after cells first) bodies body)
 
-map-reverse : {X Y : Type 0} (f : X → Y) (xs : List X) → map f (reverse xs) ≡ reverse (map f xs)
+pub map-reverse : {X Y : Type 0} (f : X → Y) (xs : List X) → map f (reverse xs) ≡ reverse (map f xs)
 map-reverse f [] = refl
 map-reverse f (x ∷ xs) =
     ap (map f) (reverse-append (x ∷ []) xs) ∙ map-append f (reverse xs) (x ∷ []) ∙ ap (λ ys. ys ++ f x ∷ []) (map-reverse f xs) ∙ sym (reverse-append (f x ∷ []) (map f xs))

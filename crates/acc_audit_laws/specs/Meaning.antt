@@ -1,4 +1,6 @@
 -- What the lines of a report say as a whole.
+--     LinesKnow names lines      each name that stands in a line is that of a transaction
+--     BeginOnce lines      no transaction begins twice
 --     LinesAgree lines      each transaction is decided at one timestamp, and no two at the same
 --     LinesCover names bodies lines      each decision names every conflicting transaction that some line decides below it
 --     LinesAreSerial names bodies lines      the outcomes are those of the bodies run one by one
@@ -13,7 +15,8 @@ use Rattle.acc_txn.specs.Serial.{serial}
 use Rattle.acc_message.specs.declared.note.Path.{Path}
 use Rattle.acc_report_line.specs.declared.line.Line.{Line}
 use Rattle.acc_report_line.specs.declared.line.Line.TheVariants.{Begin, Decide, Outcome, Reply}
-use Rattle.acc_audit.specs.Fronts.{body_of, conflict, first_reply, with_outcomes}
+use Rattle.acc_audit.specs.Said.{names_in}
+use Rattle.acc_audit.specs.Fronts.{body_of, conflict, first_reply, is_known, with_outcomes}
 
 -- the line at this place
 abbrev pub StandsAt : List Line → ℕ → Line → Type 0
@@ -25,6 +28,18 @@ pub record DecidesAt (lines : List Line) (name : List ℕ) (t : Stamp) : Type 0 
   pub path : Path
   pub deps : List (List ℕ)
   pub stands : StandsAt lines place (Decide name t path deps)
+
+-- ---- names and begins
+
+-- each name that stands in a line, also in its list of names, is that of a transaction
+abbrev pub LinesKnow : List (List ℕ) → List Line → Type 0
+LinesKnow names lines =
+    (place : ℕ) (line : Line) (name : List ℕ) → StandsAt lines place line → list_any (bytes_eq name) (names_in line) ≡ true → is_known names name ≡ true
+
+-- there is one begin of each transaction at most
+abbrev pub BeginOnce : List Line → Type 0
+BeginOnce lines =
+    (place other : ℕ) (name : List ℕ) (id another : Stamp) → StandsAt lines place (Begin name id) → StandsAt lines other (Begin name another) → place ≡ other
 
 -- ---- agreement
 

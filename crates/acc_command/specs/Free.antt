@@ -7,17 +7,17 @@ use Rattle.acc_schedule.specs.Content.{Content}
 use Rattle.acc_schedule.specs.declared.plan.Step.{Step}
 use Rattle.acc_schedule_runs.specs.Laws.{NobodyIsDown}
 use Rattle.acc_schedule_runs.specs.Limits.{EndsAt}
-use Rattle.acc_run.specs.Given.{GivesBack}
 use Rattle.acc_free_laws.specs.Commands.{is_restart}
 use Rattle.acc_free_laws.specs.Served.{IsServed}
+use Rattle.acc_free.specs.Given.{GivesBackFreely}
 use Rattle.acc_free_ending.specs.Moves.{IsFreeFront}
 use Rattle.acc_command_alone.specs.Command.{Over}
 
--- The items are served: actors took their turns side by side. Their disks came back, each keeping its actor in the items, and over strict
+-- The items are served: actors took their turns side by side. Their disks came back, each keeping its actor in what it did, and over strict
 -- ones nobody went down.
 pub record ServesOver {D : Type 0} (port : Ghosts D) (strict : Bool) (before after : List (ℕ × D)) (plan : Content) (items : List Item) : Type 0 where
   pub served : IsServed plan items
-  pub back : GivesBack port plan items before after
+  pub back : GivesBackFreely port plan items before after
   pub stayed : IsTrue strict → NobodyIsDown items
 
 -- all actors side by side, over these disks

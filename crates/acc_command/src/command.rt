@@ -4,8 +4,9 @@ ghost use Rattle.acc_ports.specs.Faults.{Rose};
 ghost use Rattle.acc_schedule.specs.Content.{Content};
 ghost use Rattle.acc_schedule.specs.Document.{Means};
 ghost use Rattle.acc_command_alone.specs.declared.words.Command.TheVariants.{Run, Check};
-ghost use Rattle.acc_command_alone.specs.Words.{AsksForWorkers, IsCheckLine, IsGenerateLine, IsRunLine};
-ghost use Rattle.acc_command_alone.specs.Command.{document_limit, Ends, EndsOnGiven, IsDone, IsGenerated, IsMade, IsUsage, Leaves, no_run, OverDisks};
+ghost use Rattle.acc_command_alone.specs.Words.{AsksForWorkers, IsAuditLine, IsCheckLine, IsGenerateLine, IsRunLine};
+ghost use Rattle.acc_command_alone.specs.Command.{document_limit, Ends, EndsOnGiven, EndsOnSome, IsDone, IsGenerated, IsMade, IsUsage, Leaves, no_run, OverDisks};
+ghost use Rattle.acc_command_alone.specs.Judging.{IsAnswered, IsAuditDue, IsCase};
 ghost use Rattle.acc_command.specs.Words.{IsLine, ReadsDocument, RunsDocument};
 ghost use Rattle.acc_command.specs.Free.{OverThreads};
 
@@ -21,7 +22,8 @@ use std::thread::Threads;
 /// `words` don't count the program's name. `run`, `free` and `check` take what the source gives up to its end as a document, but
 /// no more than 16,777,216 bytes: where there is one more, reading stops there. `run` writes the report of its run, `free` that of
 /// what its actors did side by side on so many threads, `check` a line of what it has, and a document that is refused gets the line of
-/// its refusal. A run past a limit gets the line of this limit and nothing else, and its disks may be gone; after any other run `run` and
+/// its refusal. `audit` takes a case in the same way, and writes whether its report keeps the rules of `docs/AUDIT.md`. A run past
+/// a limit gets the line of this limit and nothing else, and its disks may be gone; after any other run `run` and
 /// `free` have given their disks back. `gen` reads nothing and writes the document of its two numbers. Other words get the usage line, and
 /// nothing is read. Each step or restart that an actor takes on a thread of `free` comes through `gate`; what is left once the threads
 /// are done doesn't. What a run needs no longer goes to `remains`, so that a program which ends here need not free it.
@@ -49,6 +51,7 @@ where
     ensures usage { ¬ (IsLine words.now) → Ends IsUsage result (K.written sink.old) (K.written sink.new) }
     ensures run { IsRunLine words.now → EndsOnGiven (OverDisks M.D.Disk (M.strict disks.old) (M.given disks.old) (M.given disks.new)) Run (S.left source.old) result (K.written sink.old) (K.written sink.new) }
     ensures free { AsksForWorkers words.now → EndsOnGiven (OverThreads M.D.Disk (M.strict disks.old) (M.given disks.old) (M.given disks.new)) Run (S.left source.old) result (K.written sink.old) (K.written sink.new) }
+    ensures audit { IsAuditLine words.now → EndsOnSome IsAuditDue (S.left source.old) result (K.written sink.old) (K.written sink.new) }
     ensures check { IsCheckLine words.now → EndsOnGiven no_run Check (S.left source.old) result (K.written sink.old) (K.written sink.new) }
     ensures generate { (seed txns : ℕ) → IsGenerateLine words.now seed txns → Ends (IsGenerated seed txns) result (K.written sink.old) (K.written sink.new) }
 
@@ -66,6 +69,8 @@ where
         → IfSome (S.left source.old) (λ bytes. (plan : Content) → Means bytes plan → length bytes ≤ document_limit → IsDone Run result) }
     ensures complete_check { IsCheckLine words.now → ¬ (Rose (S.faults source.old) (S.faults source.new)) → ¬ (Rose (K.faults sink.old) (K.faults sink.new))
         → IfSome (S.left source.old) (λ bytes. (plan : Content) → Means bytes plan → length bytes ≤ document_limit → IsDone Check result) }
+    ensures complete_audit { IsAuditLine words.now → ¬ (Rose (S.faults source.old) (S.faults source.new)) → ¬ (Rose (K.faults sink.old) (K.faults sink.new))
+        → IfSome (S.left source.old) (λ bytes. IsCase bytes → length bytes ≤ document_limit → IsAnswered result) }
     ensures complete_generate { (seed txns : ℕ) → IsGenerateLine words.now seed txns → ¬ (Rose (K.faults sink.old) (K.faults sink.new)) → IsMade result }
 {
     let alloc = rt.alloc();

@@ -30,7 +30,7 @@ known_bytes None b P e p = e
 known_bytes (Some l) b P e p = subst P e p
 
 -- there are longer lists than any
-longer : (n : ℕ) → (l : List ℕ) × (n < length l)
+pub longer : (n : ℕ) → (l : List ℕ) × (n < length l)
 longer n = (replicate (suc n) 0, rw (length-replicate {A = ℕ} (suc n) 0) (omega arith))
 
 pub too_long : (over : Over) (command : Command) (o : Option (List ℕ)) (text : List ℕ) (result : Status) (old new : Option (List ℕ))
@@ -42,7 +42,7 @@ too_long over command None text result old new long due said =
 too_long over command (Some l) text result old new long due said = record { bytes = l; given = refl; ends = ends_due over command l Limit text result old new (inl (due l long)) said }
 
 -- where nothing of a document was written, it may be any
-given : (o : Option (List ℕ)) → (bytes : List ℕ) × IfSome o (λ told. bytes ≡ told)
+pub given : (o : Option (List ℕ)) → (bytes : List ℕ) × IfSome o (λ told. bytes ≡ told)
 given None = ([], tt)
 given (Some l) = (l, refl)
 

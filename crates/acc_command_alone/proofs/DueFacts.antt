@@ -1,6 +1,5 @@
 -- How the run of a plan ends, of the document that says it.
-use Rattle.std.proofs.Common.{◌≡◌, ◌≤◌, ℕ, Bool, true, false, IsTrue, List, [], length, inr, Result, Ok, Err, refl, sym, ◌∙◌, ap}
-use Rattle.std.proofs.lemmas.Bool.{true≢false}
+use Rattle.std.proofs.Common.{◌≡◌, ◌≤◌, ℕ, Bool, IsTrue, List, [], length, inr, Result, Ok, Err, ◌∙◌, ap}
 use Rattle.std.specs.Prelude.{IfOk}
 use Rattle.acc_ports.specs.declared.disk.Disk.{Ghosts}
 use Rattle.acc_command_alone.specs.declared.reply.Reply.{Reply}
@@ -8,10 +7,9 @@ use Rattle.acc_message.specs.declared.error.Which.{Which}
 use Rattle.acc_message.specs.declared.item.Item.{Item}
 use Rattle.acc_schedule.specs.Content.{Content}
 use Rattle.acc_schedule.specs.Document.{Means}
-use Rattle.acc_schedule_runs.specs.Moves.{Answers}
 use Rattle.acc_schedule_runs.specs.Schedules.{cluster_of}
 use Rattle.acc_schedule_runs.specs.Limits.{IsWithin}
-use Rattle.acc_schedule_runs.specs.Fronts.{LimitEnds}
+use Rattle.acc_run.specs.Given.{HasStopped}
 use Rattle.acc_schedule_runs.specs.StrictFronts.{StrictLimitEnds}
 use Rattle.acc_message.specs.Run.{IsRun}
 use Rattle.acc_safety.specs.Agreement.{Agreement}
@@ -66,18 +64,11 @@ pub told : (over : Over) (plan : Content) (items : List Item) (which : Which) (n
     → text ≡ line (run_limit_text which number) → TellsLimit over plan text
 told over plan items which number text also prints = record { items = items; which = which; number = number; also = also; prints = prints }
 
--- over strict disks the front is the one that the plan fixes
-pub limited : {D : Type 0} (port : Ghosts D) (strict : Bool) (before after : List (ℕ × D)) (plan : Content) (which : Which) (number : ℕ)
-    (text : List ℕ) → ((items : List Item) (which : Which) (number : ℕ) → StrictLimitEnds plan items which number → (answers : Answers) × LimitEnds plan answers items which number)
-    → (answers : Answers) × (items : List Item) × LimitEnds plan answers items which number → (IsTrue strict → (items : List Item) × StrictLimitEnds plan items which number)
+pub limited : {D : Type 0} (port : Ghosts D) (strict : Bool) (before after : List (ℕ × D)) (plan : Content) (which : Which) (number : ℕ) (text : List ℕ)
+    → (items : List Item) × HasStopped port plan items which number before after × (IsTrue strict → StrictLimitEnds plan items which number)
     → text ≡ line (run_limit_text which number) → TellsLimit (OverDisks port strict before after) plan text
-limited port true before after plan which number text answered general strictly prints =
-    let front = strictly refl in
-    let some = answered front.0 which number front.1 in
-    told (OverDisks port true before after) plan front.0 which number text (record { answers = some.0; ends = some.1; strictly = λ _. front.1 }) prints
-limited port false before after plan which number text answered general strictly prints =
-    told (OverDisks port false before after) plan general.1 which number text
-    (record { answers = general.0; ends = general.2; strictly = λ is. absurd (true≢false (sym is)) }) prints
+limited port strict before after plan which number text stopped prints =
+    told (OverDisks port strict before after) plan stopped.0 which number text (stopped.1, stopped.2) prints
 
 pub same_limit : (which other : Which) (number other_number : ℕ) (text : List ℕ) → text ≡ line (run_limit_text which number) → which ≡ other → number ≡ other_number
     → text ≡ line (run_limit_text other other_number)

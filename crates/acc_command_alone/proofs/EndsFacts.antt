@@ -1,5 +1,5 @@
 -- How a command ends whose text was said.
-use Rattle.std.proofs.Common.{◌≡◌, ℕ, List, Option, sym, subst, inl, inr}
+use Rattle.std.proofs.Common.{ℕ, List, Option, sym, subst, inl, inr}
 use Rattle.acc_command_alone.specs.declared.status.Status.{Status}
 use Rattle.acc_command_alone.specs.declared.status.Status.TheVariants.{Done, No, Usage, ReadFault, WriteFault, BadInput, Limit, OutOfMemory}
 use Rattle.acc_command_alone.specs.declared.words.Command.{Command}
@@ -7,7 +7,7 @@ use Rattle.acc_command_alone.specs.declared.words.Command.TheVariants.{Check}
 use Rattle.acc_command_alone.specs.Command.{Ends, EndsOnGiven, IsDue, IsGenerated, IsUsage, Over, Says, Writes, WritesLess}
 
 module _ (P : Status → List ℕ → Type 0) (status : Status) (text : List ℕ) (result : Status) (old new : Option (List ℕ)) (due : P status text) where
-  ends : (Writes P status old new → Ends P status old new) → Says status text result old new → Ends P result old new
+  pub ends : (Writes P status old new → Ends P status old new) → Says status text result old new → Ends P result old new
   ends whole (inl said) = subst (λ r. Ends P r old new) (sym said.0) (whole (text, due, said.1))
   ends whole (inr (inl failed, part)) = subst (λ r. Ends P r old new) (sym failed) (status, text, due, part)
   ends whole (inr (inr no_memory, part)) = subst (λ r. Ends P r old new) (sym no_memory) (inr (status, text, due, part))

@@ -16,16 +16,16 @@ takes_all n (Some l) bytes short all = ap (λ (x : List ℕ). Some x) (sym (drop
 
 module _ (bytes : List ℕ) (left now old new : Option (List ℕ)) (short : length bytes ≤ document_limit)
     (all : IfSome left (λ l. bytes ≡ l)) (end : now ≡ none_left left) where
-  rest : now ≡ without_first (document_limit + 1) left
+  pub rest : now ≡ without_first (document_limit + 1) left
   rest = end ∙ takes_all (document_limit + 1) left bytes (omega (arith, short)) all
 
-  taken : TakesAtMost (document_limit + 1) left now
+  pub taken : TakesAtMost (document_limit + 1) left now
   taken = (document_limit + 1, omega arith, rest)
 
   -- a document that was read whole
   pub leaves_none : (over : Over) (command : Command) (result : Status) → Ends (IsDue over command bytes) result old new → Leaves result left now
   leaves_none over command Done ends = (end, rest)
-  leaves_none over command No ends = ends.1
+  leaves_none over command No ends = (end, rest)
   leaves_none over command Usage ends = ends.1
   leaves_none over command ReadFault ends = taken
   leaves_none over command WriteFault ends = rest

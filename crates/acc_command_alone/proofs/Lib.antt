@@ -12,3 +12,4 @@ mod LineFacts
 mod NumberFacts
 mod SpellingFacts
 mod StrictReports
+pub mod JudgeFacts

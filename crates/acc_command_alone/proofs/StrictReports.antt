@@ -50,8 +50,8 @@ module _ {D : Type 0} (port : Ghosts D) (fixed : FixRuns) (before after other_be
   limits text other_text a b =
       let plan : b.plan ≡ a.plan = same_plan bytes b.plan a.plan b.says a.says in
       let strictly : StrictLimitEnds a.plan b.tells.items b.tells.which b.tells.number =
-      subst (λ p. StrictLimitEnds p b.tells.items b.tells.which b.tells.number) plan (b.tells.also.strictly refl) in
-      let all = fixed.limit a.plan a.tells.items b.tells.items a.tells.which b.tells.which a.tells.number b.tells.number (a.tells.also.strictly refl) strictly in
+      subst (λ p. StrictLimitEnds p b.tells.items b.tells.which b.tells.number) plan (b.tells.also.1 refl) in
+      let all = fixed.limit a.plan a.tells.items b.tells.items a.tells.which b.tells.which a.tells.number b.tells.number (a.tells.also.1 refl) strictly in
       a.tells.prints ∙ ap (λ which. line (run_limit_text which a.tells.number)) all.1 ∙ ap (λ number. line (run_limit_text b.tells.which number)) all.2
       ∙ sym b.tells.prints
 
@@ -79,11 +79,11 @@ module _ {D : Type 0} (port : Ghosts D) (fixed : FixRuns) (before after other_be
 
   done_limit : (text other_text : List ℕ) → IsDue one Run bytes Done text → IsDue other Run bytes Limit other_text → ⊥
   done_limit text other_text a (inl long) = not_long a.0 long.0
-  done_limit text other_text a (inr past) = never_both one other text other_text (λ plan items also. also.strictly refl) (λ plan items which number also. also.strictly refl) a.1 past.1
+  done_limit text other_text a (inr past) = never_both one other text other_text (λ plan items also. also.strictly refl) (λ plan items which number also. also.1 refl) a.1 past.1
 
   limit_done : (text other_text : List ℕ) → IsDue one Run bytes Limit text → IsDue other Run bytes Done other_text → ⊥
   limit_done text other_text (inl long) b = not_long b.0 long.0
-  limit_done text other_text (inr past) b = never_both other one other_text text (λ plan items also. also.strictly refl) (λ plan items which number also. also.strictly refl) b.1 past.1
+  limit_done text other_text (inr past) b = never_both other one other_text text (λ plan items also. also.strictly refl) (λ plan items which number also. also.1 refl) b.1 past.1
 
   bad_limit : (over : Over) (text other_text : List ℕ) → (length bytes ≤ document_limit) × IsRefusal bytes text → IsDue over Run bytes Limit other_text → ⊥
   bad_limit over text other_text a (inl long) = not_long a.0 long.0

@@ -13,14 +13,12 @@ use Rattle.acc_schedule.specs.declared.error.PlanKind.{PlanKind}
 use Rattle.acc_schedule.specs.declared.error.PlanError.TheVariants.{Bad}
 use Rattle.acc_schedule.specs.Content.{Content}
 use Rattle.acc_schedule.specs.Document.{IsCause, Means}
-use Rattle.acc_schedule_runs.specs.Moves.{Answers}
-use Rattle.acc_schedule_runs.specs.Schedules.{cluster_of, Obeys}
+use Rattle.acc_schedule_runs.specs.Schedules.{cluster_of}
 use Rattle.acc_schedule_runs.specs.StrictSchedules.{ObeysStrictly}
 use Rattle.acc_schedule_runs.specs.Limits.{IsWithin}
-use Rattle.acc_schedule_runs.specs.Fronts.{LimitEnds}
 use Rattle.acc_schedule_runs.specs.StrictFronts.{StrictLimitEnds}
 use Rattle.acc_report.specs.Report.{report_text}
-use Rattle.acc_run.specs.Given.{GivesBack}
+use Rattle.acc_run.specs.Given.{HasRun, HasStopped}
 use Rattle.acc_generator.specs.Document.{document_text}
 use Rattle.acc_command_alone.specs.Lines.{line, document_limit_text, run_limit_text, ok_text, refusal_text, usage_text}
 use Rattle.acc_command_alone.specs.declared.words.Command.{Command}
@@ -49,23 +47,20 @@ pub record Over : Type 1 where
   pub Items : Content → List Item → Type 0
   pub Limits : Content → List Item → Which → ℕ → Type 0
 
--- The items obey the schedule of the plan, whatever the disks answered; these came back, each keeping its actor in the items, and
--- strict ones fix the items.
+-- The items obey the schedule of the plan, with some answers of the disks; these came back, each keeping its actor where these answers led,
+-- and strict ones fix the items.
 pub record RunsOver {D : Type 0} (port : Ghosts D) (strict : Bool) (before after : List (ℕ × D)) (plan : Content) (items : List Item) : Type 0 where
-  pub answers : Answers
-  pub obeys : Obeys plan answers items
-  pub back : GivesBack port plan items before after
+  pub ran : HasRun port plan items before after
   pub strictly : IsTrue strict → ObeysStrictly plan items
 
--- the limit ends the run of the schedule behind these items, with some answers of the disks, and over strict ones it alone does
-pub record EndsOver (strict : Bool) (plan : Content) (items : List Item) (which : Which) (number : ℕ) : Type 0 where
-  pub answers : Answers
-  pub ends : LimitEnds plan answers items which number
-  pub strictly : IsTrue strict → StrictLimitEnds plan items which number
-
--- the schedule, step by step, over these disks
+-- The schedule, step by step, over these disks. A limit ends its run behind the items with some answers of the disks, which came back, each
+-- keeping its actor where these answers led, and over strict disks it alone does.
 abbrev pub OverDisks : {D : Type 0} → Ghosts D → Bool → List (ℕ × D) → List (ℕ × D) → Over
-OverDisks port strict before after = record { Items = RunsOver port strict before after; Limits = EndsOver strict }
+OverDisks port strict before after =
+    record {
+      Items = RunsOver port strict before after;
+      Limits = λ plan items which number. HasStopped port plan items which number before after × (IsTrue strict → StrictLimitEnds plan items which number);
+    }
 
 -- where nothing is run
 abbrev pub no_run : Over
@@ -188,7 +183,7 @@ EndsOnGiven over command = EndsOnSome (IsDue over command)
 -- the source or want of memory no less than that.
 abbrev pub Leaves : Status → Option (List ℕ) → Option (List ℕ) → Type 0
 Leaves Done old new = (new ≡ none_left old) × (new ≡ without_first (document_limit + 1) old)
-Leaves No old new = ⊥
+Leaves No old new = (new ≡ none_left old) × (new ≡ without_first (document_limit + 1) old)
 Leaves Usage old new = ⊥
 Leaves ReadFault old new = TakesAtMost (document_limit + 1) old new
 Leaves WriteFault old new = new ≡ without_first (document_limit + 1) old

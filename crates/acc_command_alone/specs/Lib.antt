@@ -4,3 +4,4 @@ pub mod Lines
 pub mod Number
 pub mod Reader
 pub mod Words
+pub mod Judging

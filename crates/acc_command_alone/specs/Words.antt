@@ -5,7 +5,7 @@ use Rattle.acc_command_alone.specs.declared.words.Command.{Command}
 use Rattle.acc_command_alone.specs.declared.words.Command.TheVariants.{Run, Check}
 use Rattle.acc_command_alone.specs.declared.words.Numbers.{Numbers}
 use Rattle.acc_command_alone.specs.declared.words.Line.{Line}
-use Rattle.acc_command_alone.specs.declared.words.Line.TheVariants.{Document, Generate}
+use Rattle.acc_command_alone.specs.declared.words.Line.TheVariants.{Document, Audit, Generate}
 
 abbrev pub IsRunLine : List (List ℕ) → Type 0
 IsRunLine words = words ≡ codes "run" ∷ []
@@ -13,9 +13,12 @@ IsRunLine words = words ≡ codes "run" ∷ []
 abbrev pub IsCheckLine : List (List ℕ) → Type 0
 IsCheckLine words = words ≡ codes "check" ∷ []
 
--- the command reads a document
+abbrev pub IsAuditLine : List (List ℕ) → Type 0
+IsAuditLine words = words ≡ codes "audit" ∷ []
+
+-- the command reads a document, or a case
 abbrev pub IsDocumentLine : List (List ℕ) → Type 0
-IsDocumentLine words = IsRunLine words ⊎ IsCheckLine words
+IsDocumentLine words = (IsRunLine words ⊎ IsCheckLine words) ⊎ IsAuditLine words
 
 -- the words make a document of this seed, with so many transactions
 pub record IsGenerateLine (words : List (List ℕ)) (seed txns : ℕ) : Type 0 where
@@ -51,11 +54,11 @@ abbrev pub IsWorkersOf : List (List ℕ) → Option ℕ → Type 0
 IsWorkersOf words (Some workers) = IsFreeLine words workers
 IsWorkersOf words None = ¬ (AsksForWorkers words)
 
--- the command of the words, where it reads a document
+-- the command of the words, where it is one of these
 abbrev pub IsDocumentLineOf : List (List ℕ) → Option Command → Type 0
 IsDocumentLineOf words (Some Run) = IsRunLine words
 IsDocumentLineOf words (Some Check) = IsCheckLine words
-IsDocumentLineOf words None = ¬ (IsDocumentLine words)
+IsDocumentLineOf words None = ¬ (IsRunLine words ⊎ IsCheckLine words)
 
 -- the numbers of the words, where they make a document
 abbrev pub IsNumbersOf : List (List ℕ) → Option Numbers → Type 0
@@ -66,5 +69,6 @@ IsNumbersOf words None = ¬ (MakesDocument words)
 abbrev pub IsLineOf : List (List ℕ) → Option Line → Type 0
 IsLineOf words (Some (Document Run)) = IsRunLine words
 IsLineOf words (Some (Document Check)) = IsCheckLine words
+IsLineOf words (Some Audit) = IsAuditLine words
 IsLineOf words (Some (Generate numbers)) = IsGenerateLine words numbers.seed numbers.txns
 IsLineOf words None = ¬ (IsLineAlone words)

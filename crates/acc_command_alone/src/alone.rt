@@ -4,9 +4,11 @@ ghost use Rattle.acc_ports.specs.Faults.{Rose};
 ghost use Rattle.acc_schedule.specs.Content.{Content};
 ghost use Rattle.acc_schedule.specs.Document.{Means};
 ghost use Rattle.acc_command_alone.specs.declared.words.Command.TheVariants.{Run, Check};
-ghost use Rattle.acc_command_alone.specs.Words.{AsksForWorkers, IsCheckLine, IsDocumentLine, IsGenerateLine, IsLineAlone, IsRunLine};
-ghost use Rattle.acc_command_alone.specs.Command.{document_limit, Ends, EndsOnGiven, IsAccepted, IsDone, IsDue, IsGenerated, IsMade, IsUsage, Leaves, no_run, OverDisks};
+ghost use Rattle.acc_command_alone.specs.Words.{AsksForWorkers, IsAuditLine, IsCheckLine, IsDocumentLine, IsGenerateLine, IsLineAlone, IsRunLine};
+ghost use Rattle.acc_command_alone.specs.Command.{document_limit, Ends, EndsOnGiven, EndsOnSome, IsAccepted, IsDone, IsDue, IsGenerated, IsMade, IsUsage, Leaves, no_run, OverDisks};
+ghost use Rattle.acc_command_alone.specs.Judging.{IsAnswered, IsAuditDue, IsCase};
 
+use crate::audit::audit;
 use crate::check::check;
 use crate::generate::generate;
 use crate::remains::Remains;
@@ -21,7 +23,8 @@ use std::alloc::Global;
 /// How many bytes a document may have.
 pub const DOCUMENT_LIMIT: u64 = 16_777_216;
 
-const USAGE: &[u8] = b"usage: accord run | check | free --workers W | gen --seed N --txns M\n";
+const USAGE: &[u8] =
+    b"usage: accord run | check | free --workers W | gen --seed N --txns M | audit\n";
 
 /// The line of a document that is too long.
 pub const TOO_LONG: &[u8] = b"limit document 16777216\n";
@@ -41,6 +44,7 @@ where
 
     ensures usage { ¬ (IsLineAlone words.now) → Ends IsUsage result (K.written sink.old) (K.written sink.new) }
     ensures run { IsRunLine words.now → EndsOnGiven (OverDisks M.D.Disk (M.strict disks.old) (M.given disks.old) (M.given disks.new)) Run (S.left source.old) result (K.written sink.old) (K.written sink.new) }
+    ensures audit { IsAuditLine words.now → EndsOnSome IsAuditDue (S.left source.old) result (K.written sink.old) (K.written sink.new) }
     ensures check { IsCheckLine words.now → EndsOnGiven no_run Check (S.left source.old) result (K.written sink.old) (K.written sink.new) }
     ensures generate { (seed txns : ℕ) → IsGenerateLine words.now seed txns → Ends (IsGenerated seed txns) result (K.written sink.old) (K.written sink.new) }
 
@@ -58,6 +62,8 @@ where
         → IfSome (S.left source.old) (λ bytes. (plan : Content) → Means bytes plan → length bytes ≤ document_limit → IsDone Run result) }
     ensures complete_check { IsCheckLine words.now → ¬ (Rose (S.faults source.old) (S.faults source.new)) → ¬ (Rose (K.faults sink.old) (K.faults sink.new))
         → IfSome (S.left source.old) (λ bytes. (plan : Content) → Means bytes plan → length bytes ≤ document_limit → IsDone Check result) }
+    ensures complete_audit { IsAuditLine words.now → ¬ (Rose (S.faults source.old) (S.faults source.new)) → ¬ (Rose (K.faults sink.old) (K.faults sink.new))
+        → IfSome (S.left source.old) (λ bytes. IsCase bytes → length bytes ≤ document_limit → IsAnswered result) }
     ensures complete_generate { (seed txns : ℕ) → IsGenerateLine words.now seed txns → ¬ (Rose (K.faults sink.old) (K.faults sink.new)) → IsMade result }
 {
     match line_of(alloc, words) {
@@ -67,6 +73,7 @@ where
         Ok(Some(Line::Document(Command::Check))) => {
             answer(alloc, Command::Check, source, sink, disks, remains)
         }
+        Ok(Some(Line::Audit)) => audit(alloc, source, sink),
         Ok(Some(Line::Generate(numbers))) => generate(alloc, numbers, sink),
         Ok(None) => say(sink, USAGE, Status::Usage),
         Err(OutOfMemory) => Status::OutOfMemory,

@@ -3,6 +3,7 @@
 #![tactic(auto)]
 
 mod alone;
+mod audit;
 mod check;
 mod generate;
 pub mod generated;

@@ -16,7 +16,6 @@ use acc_ports::DiskMaker;
 use acc_report::text;
 use acc_run::run_plan;
 use acc_schedule::Plan;
-use acc_schedule_runs::limits::one_limit_over_strict_disks;
 use std::alloc::Global;
 
 /// Runs the schedule of a document over disks of this maker, and tells what happened.
@@ -57,7 +56,6 @@ where
     ensures { IfOk result (λ reply. PlanEnds (OverDisks M.D.Disk (M.strict disks.old) (M.given disks.old) (M.given disks.new)) plan.now reply.status reply.text) }
 {
     plans_run_safely();
-    one_limit_over_strict_disks();
     match run_plan(alloc, plan, disks, &mut remains.actors) {
         Ok(items) => {
             let text = text(&items, &Sequence::new(alloc), &plan.names, plan.print)?;

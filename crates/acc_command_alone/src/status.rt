@@ -7,7 +7,7 @@ ghost use Rattle.acc_command_alone.specs.Command.{code_of};
 pub enum Status {
     /// The command did its work, and its whole text is written.
     Done = 0,
-    /// An audit refused its report. No command gives it yet.
+    /// A line of the report that was judged breaks a rule. The whole text is written.
     No = 1,
     /// The words are no line that is defined.
     Usage = 2,

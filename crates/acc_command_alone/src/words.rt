@@ -1,6 +1,6 @@
 //! The words of a command line.
 ghost use Rattle.std.specs.Prelude.{◌≡◌, ◌↔◌, ◌≤◌, [], ◌∷◌, IsTrue, IfOk};
-ghost use Rattle.acc_command_alone.specs.Words.{IsLineOf, IsDocumentLineOf, IsNumbersOf, IsWorkersOf};
+ghost use Rattle.acc_command_alone.specs.Words.{IsAuditLine, IsLineOf, IsDocumentLineOf, IsNumbersOf, IsWorkersOf};
 
 use crate::{seed, txns, workers};
 use acc_base::{OutOfMemory, Text};
@@ -29,7 +29,9 @@ pub struct Numbers {
 pub enum Line {
     /// A command that reads a document.
     Document(Command),
-    /// The command that makes one.
+    /// The command that judges a report.
+    Audit,
+    /// The command that makes a document.
     Generate(Numbers),
 }
 
@@ -54,13 +56,16 @@ pub(crate) fn line_of(alloc: Global, words: &[Text]) -> Result<Option<Line>, Out
     if let Some(command) = document_line(words) {
         return Ok(Some(Line::Document(command)));
     }
+    if is_audit_line(words) {
+        return Ok(Some(Line::Audit));
+    }
     match generate_line(alloc, words)? {
         Some(numbers) => Ok(Some(Line::Generate(numbers))),
         None => Ok(None),
     }
 }
 
-// The command of these words, if it reads a document.
+// The command of these words, if it is one of these.
 fn document_line(words: &[Text]) -> Option<Command>
     ensures { IsDocumentLineOf words.now result }
 {
@@ -74,6 +79,16 @@ fn document_line(words: &[Text]) -> Option<Command>
     } else {
         None
     }
+}
+
+// Whether these words judge a report.
+fn is_audit_line(words: &[Text]) -> bool
+    ensures { IsTrue result ↔ IsAuditLine words.now }
+{
+    let [word] = words else {
+        return false;
+    };
+    is(word, b"audit")
 }
 
 // The numbers of these words, if they are the line that makes a document.

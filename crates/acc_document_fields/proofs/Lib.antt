@@ -1,3 +1,4 @@
-mod NameFacts
+pub mod EachFacts
 mod PathFacts
+pub mod PlaceFacts
 mod TextFacts

@@ -8,8 +8,10 @@ ghost use Rattle.serde_json.specs.Find.{as_str, get};
 ghost use Rattle.serde_json.specs.View.{view};
 ghost use Rattle.acc_schedule.specs.Parts.{is_among};
 ghost use Rattle.acc_document_fields.specs.Parts.{part_text};
-ghost use Rattle.acc_schedule.specs.Faults.{Gives};
-ghost use Rattle.acc_schedule.specs.Fields.{elements, field, is_whole as is_whole_of, items, list_fault, number as number_of, number_fault, object_fault};
+ghost use Rattle.acc_base.specs.Faults.{must};
+ghost use Rattle.acc_schedule.specs.declared.error.PlanKind.TheVariants.{Shape};
+ghost use Rattle.acc_schedule.specs.Faults.{bad, Gives};
+ghost use Rattle.acc_schedule.specs.Fields.{elements, field, is_text, is_whole as is_whole_of, items, list_fault, number as number_of, number_fault, object_fault, text as text_of};
 
 use crate::path::{Part, unknown, wrong};
 use acc_schedule::{PlanError, PlanKind};
@@ -53,6 +55,22 @@ pub fn field_text<'v>(object: &'v Value, name: &str) -> Option<&'v str>
     ensures { option_map (λ text. text.now) result ≡ as_str (field name.now (view object.now)) }
 {
     object.get(name)?.as_str()
+}
+
+/// The value of a field that is a text. The path is that of the field.
+pub fn text<'v>(
+    alloc: Global,
+    object: &'v Value,
+    name: &str,
+    path: &[Part<'_>],
+) -> Result<&'v str, PlanError>
+    ensures { Gives (must (is_text (field name.now (view object.now))) (bad Shape (map part_text path.now)))
+        (λ text. text.now ≡ text_of (field name.now (view object.now))) result }
+{
+    match field_text(object, name) {
+        Some(text) => Ok(text),
+        None => Err(wrong(alloc, PlanKind::Shape, path)),
+    }
 }
 
 /// The elements of a field that is an array, of which there are at most so many. The path is that of the field.
@@ -180,8 +198,8 @@ fn other_field<'v>(
     }
 }
 
-/// Whether a name is one of these.
-pub fn is_among(key: &str, names: &[&str]) -> bool
+// Whether a name is one of these.
+fn is_among(key: &str, names: &[&str]) -> bool
     ensures { result ≡ is_among key.now names.now }
 {
     names.iter().any(|name| key == *name)

@@ -10,6 +10,7 @@ mod transactions;
 
 pub use fields::{
     elements, field_elements, field_text, into_elements, is_whole, list, number, number_in, object,
+    text,
 };
 pub use names::NameTable;
 pub use path::{Part, detailed, unknown, wrong};

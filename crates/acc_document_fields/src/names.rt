@@ -1,27 +1,30 @@
-//! Names, found by their hash.
-ghost use Rattle.std.specs.Prelude.{◌≡◌, ◌<◌, [], ◌∷◌, ◌++◌, length, not, position, IfOk, OnErr, if◌then◌else◌};
+//! Names, found by their order, so that no choice of names makes a look-up slow.
+ghost use Rattle.std.specs.Prelude.{◌≡◌, [], ◌∷◌, ◌++◌, length, not, position, IfOk, OnOk, OnErr, ℕ, List, if◌then◌else◌, Some};
 ghost use Rattle.std.specs.List.{list_any};
 ghost use Rattle.std.specs.Str.{bytes_eq};
+ghost use Rattle.acc_document_fields.specs.Names.{place_in, AreOnce};
 
 use acc_base::{OutOfMemory, Sequence, Text};
-use indexmap::IndexSet;
 use std::alloc::Global;
+use std::collections::BTreeMap;
 use std::marker::Model;
 
-/// At most 10,000 names in the order in which they were added, each once.
+/// Names in the order in which they were added, each once.
 #[derive(Drop)]
 pub struct NameTable {
-    names: IndexSet<Vec<u8>>,
+    names: Sequence<Text>,
+    places: BTreeMap<Vec<u8>, usize>,
 }
 
 impl Model for NameTable {
-    ghost use Rattle.std.specs.Prelude.{List, ℕ, ◌≤◌, length, map};
+    ghost use Rattle.std.specs.Prelude.{List, ℕ};
+    ghost use Rattle.acc_document_fields.specs.Names.{ArePlaces, AreOnce};
 
     ghost Value = { List (List ℕ) };
 
-    ghost view = { λ t. map (λ name. name.items) t.names.keys };
+    ghost view = { λ t. t.names };
 
-    ghost invariant = { λ t. length t.names.keys ≤ 10000 };
+    ghost invariant = { λ t. ArePlaces t.names t.places × AreOnce t.names };
 }
 
 impl NameTable {
@@ -30,41 +33,72 @@ impl NameTable {
         ensures { result ≡ [] }
     {
         NameTable {
-            names: IndexSet::new(alloc),
+            names: Sequence::new(alloc),
+            places: BTreeMap::new(alloc),
         }
     }
 
     /// Adds a name, and answers whether it is new.
     pub fn add(&mut self, alloc: Global, name: &[u8]) -> Result<bool, OutOfMemory>
-        requires { length self.old < 10000 }
         ensures added { IfOk result (λ added. added ≡ not (list_any (bytes_eq name.now) self.old)) }
         ensures names { IfOk result (λ added. self.new
             ≡ (if added then self.old ++ name.now ∷ [] else self.old)) }
         ensures err { OnErr result (self.new ≡ self.old) }
     {
-        let name = Vec::from_slice(alloc, name)?;
-        Ok(self.names.insert(name)?)
+        if self.places.contains_key(name) {
+            return Ok(false);
+        }
+        let place = self.names.len();
+        self.names.push(Sequence::from_slice(alloc, name)?)?;
+        match enter(&mut self.places, alloc, name, place) {
+            Ok(()) => Ok(true),
+            Err(OutOfMemory) => {
+                self.names.truncate(place);
+                Err(OutOfMemory)
+            }
+        }
     }
 
     /// The place of a name, counted from 0.
-    pub fn place(&self, name: &[u8]) -> Option<u32>
+    pub fn place(&self, name: &[u8]) -> Option<usize>
         ensures { result ≡ position (bytes_eq name.now) self.now }
     {
-        match self.names.get_index_of(name) {
-            Some(place) => Some(place as u32),
-            None => None,
-        }
+        self.places.get(name).copied()
     }
 
-    /// The names as a plain list, in their own memory.
-    pub fn into_names(self, alloc: Global) -> Result<Sequence<Text>, OutOfMemory>
-        ensures { IfOk result (λ names. names ≡ self) }
+    /// Whether there is such a name.
+    pub fn has(&self, name: &[u8]) -> bool
+        ensures { result ≡ list_any (bytes_eq name.now) self.now }
     {
-        let mut names = Sequence::new(alloc);
-        names.reserve(self.names.len())?;
-        for name in self.names {
-            names.push(Sequence::from_vec(name))?;
-        }
-        Ok(names)
+        self.places.contains_key(name)
     }
+
+    /// How many there are.
+    pub fn len(&self) -> usize
+        ensures { result ≡ length self.now }
+    {
+        self.names.len()
+    }
+
+    /// The names as a plain list.
+    pub fn into_names(self) -> Sequence<Text>
+        ensures names { result ≡ self }
+        ensures once { AreOnce result }
+    {
+        self.names
+    }
+}
+
+// Notes the place of a name. Without memory for it the places are as before.
+fn enter(
+    places: &mut BTreeMap<Vec<u8>, usize>,
+    alloc: Global,
+    name: &[u8],
+    place: usize,
+) -> Result<(), OutOfMemory>
+    ensures ok { OnOk result ((other : List ℕ) → place_in places.new other ≡ (if bytes_eq name.now other then Some place else place_in places.old other)) }
+    ensures err { OnErr result ((other : List ℕ) → place_in places.new other ≡ place_in places.old other) }
+{
+    places.insert(Vec::from_slice(alloc, name)?, place)?;
+    Ok(())
 }

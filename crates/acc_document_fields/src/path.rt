@@ -9,7 +9,8 @@ use acc_base::{OutOfMemory, Sequence, Text, push_number};
 use acc_schedule::{PlanError, PlanKind};
 use std::alloc::Global;
 
-/// A part of a path: the name of a field, or a place in an array, from 0.
+/// A part of a path: the name of a field, or a place in an array, from 0. A name stands in the path as it is: it is one that a
+/// program knows, without `~` and `/`; names that come from a document are escaped (`unknown`).
 #[derive(Clone, Copy)]
 pub enum Part<'p> {
     Field(&'p str),

@@ -1,5 +1,5 @@
 //! A version, and the name and the text of a transaction.
-ghost use Rattle.std.specs.Prelude.{◌≡◌, ◌<◌, [], ◌∷◌, ◌++◌, codes, length};
+ghost use Rattle.std.specs.Prelude.{◌≡◌, [], ◌∷◌, ◌++◌, codes, OnErr};
 ghost use Rattle.std.specs.List.{list_all};
 ghost use Rattle.serde_json.specs.View.{view};
 ghost use Rattle.acc_txn.specs.Rules.{IsBody};
@@ -41,16 +41,16 @@ fn version_in(alloc: Global, version: &Value) -> Result<u8, PlanError>
     }
 }
 
-/// Adds the name of the transaction at this place, which has to be new.
+/// Adds the name of the transaction at this place, which has to be new. At a fault the names are as before.
 pub fn name(
     alloc: Global,
     item: &Value,
     place: usize,
     names: &mut NameTable,
 ) -> Result<(), PlanError>
-    requires { length names.old < 10000 }
-    ensures { Gives (name_fault names.old (part_path (codes "txns") place (codes "name")) (field (codes "name") (view item.now)))
+    ensures name { Gives (name_fault names.old (part_path (codes "txns") place (codes "name")) (field (codes "name") (view item.now)))
         (λ _. names.new ≡ names.old ++ name_of (view item.now) ∷ []) result }
+    ensures err { OnErr result (names.new ≡ names.old) }
 {
     let path = [Part::Field("txns"), Part::Place(place), Part::Field("name")];
     let Some(name) = field_text(item, "name") else {

@@ -1,6 +1,7 @@
 //! A line of the table.
 use crate::{
-    answers, counts, document, field, group, index, journal, message, outcome, report, text,
+    answers, counts, document, field, group, index, journal, judgement, message, outcome, report,
+    text,
 };
 use anyhow::{Context, Result};
 use serde_json::Value;
@@ -86,6 +87,7 @@ fn answer(alloc: Global, kind: &str, text: &str) -> Result<String> {
         "answers" => answers::answer(alloc, text),
         "group" => group::answer(alloc, text),
         "report" => report::answer(alloc, text.as_bytes()),
+        "audit" => judgement::answer(alloc, text),
         _ => of_bytes(alloc, kind, hex::decode(alloc, text)?.as_slice()),
     }
 }

@@ -33,7 +33,8 @@ fn counts(alloc: Global, plan: &Plan) -> Result<String> {
     )?)
 }
 
-fn refusal(
+/// The refusal of a document or a case.
+pub fn refusal(
     alloc: Global,
     kind: PlanKind,
     path: &str,
@@ -42,7 +43,9 @@ fn refusal(
 ) -> Result<String, AllocError> {
     let number = kind as u32;
     match kind {
-        PlanKind::Text => format!(in alloc; "bad {number} {path} {detail} at {at}"),
+        PlanKind::Text | PlanKind::Report => format!(in alloc;
+            "bad {number} {path} {detail} at {at}"
+        ),
         _ if detail != 0 => format!(in alloc; "bad {number} {path} {detail}"),
         _ => format!(in alloc; "bad {number} {path}"),
     }

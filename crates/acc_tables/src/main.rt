@@ -29,6 +29,9 @@
 //!   them. The payloads are appended to the disk's journal in one group: `ok` or `fault`, and what is read after the crash.
 //! - `report`, and `bytes` in base 16: a report is read. The answer is `ok` and how many lines it has, or `line` and the number of the
 //!   first that has no form.
+//! - `audit`: a case is judged. The answer is `yes lines=` and how many lines its report has, or `no`, the number of the first line that
+//!   breaks a rule and the rule; or the refusal of the case as of a document, in which a line of the report that has no form stands as
+//!   `bad 10 /report 1 at` and its number.
 //! - `["part", TEXT]`: the heading of the lines below it. It asks nothing.
 //!
 //! A message is told as its variant's name, the sender, the actor that it goes to, the id, the ballot and its further fields
@@ -51,6 +54,7 @@ mod field;
 mod group;
 mod index;
 mod journal;
+mod judgement;
 mod message;
 mod outcome;
 mod report;

@@ -6,6 +6,7 @@ use Rattle.acc_command_alone.specs.declared.words.Command.TheVariants.{Run, Chec
 use Rattle.acc_command_alone.specs.Words.{IsWorkersOf}
 use Rattle.acc_command_alone.specs.Command.{document_limit, no_run, IsAccepted, IsDone}
 use Rattle.acc_command_alone.proofs.CommandFacts.{mapped, unanswered}
+use Rattle.acc_command_alone.proofs.JudgeFacts.{case_unanswered}
 use Rattle.acc_command.proofs.LineFacts.{runs_alone}
 use Rattle.acc_command.proofs.command.accord.Goals as goal
 
@@ -22,6 +23,9 @@ returns-in-Ok-None-clause-complete_run g c = λ line no_read no_write.
 
 pub returns-in-Err-clause-run : goal.returns-in-Err-clause-run
 returns-in-Err-clause-run g c = λ _. unanswered _ Run (g.S.Source.left c.args.source.now) (g.K.Sink.written c.args.sink.now)
+
+pub returns-in-Err-clause-audit : goal.returns-in-Err-clause-audit
+returns-in-Err-clause-audit g c = λ _. case_unanswered (g.S.Source.left c.args.source.now) (g.K.Sink.written c.args.sink.now)
 
 pub returns-in-Err-clause-free : goal.returns-in-Err-clause-free
 returns-in-Err-clause-free g c = λ _. unanswered _ Run (g.S.Source.left c.args.source.now) (g.K.Sink.written c.args.sink.now)

@@ -8,6 +8,7 @@ use Rattle.acc_command_alone.specs.Words.{IsLineOf}
 use Rattle.acc_command_alone.specs.Command.{document_limit, no_run, IsAccepted, IsDone, OverDisks}
 use Rattle.acc_command_alone.proofs.CommandFacts.{mapped, unanswered}
 use Rattle.acc_command_alone.proofs.EndsFacts.{ends_usage, check_ends_on_given}
+use Rattle.acc_command_alone.proofs.JudgeFacts.{case_unanswered}
 use Rattle.acc_command_alone.proofs.LineFacts.{ends_so}
 use Rattle.acc_command_alone.proofs.alone.accord_alone.Goals as goal
 
@@ -38,6 +39,9 @@ returns-in-Ok-None-clause-usage g c = λ _. ends_usage _ _ _ _ refl c.say.ensure
 
 pub returns-in-Err-clause-run : goal.returns-in-Err-clause-run
 returns-in-Err-clause-run g c = λ _. unanswered _ Run (g.S.Source.left c.args.source.now) (g.K.Sink.written c.args.sink.now)
+
+pub returns-in-Err-clause-audit : goal.returns-in-Err-clause-audit
+returns-in-Err-clause-audit g c = λ _. case_unanswered (g.S.Source.left c.args.source.now) (g.K.Sink.written c.args.sink.now)
 
 pub returns-in-Err-clause-check : goal.returns-in-Err-clause-check
 returns-in-Err-clause-check g c = λ _. unanswered no_run Check (g.S.Source.left c.args.source.now) (g.K.Sink.written c.args.sink.now)

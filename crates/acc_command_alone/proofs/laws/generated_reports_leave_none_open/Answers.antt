@@ -1,5 +1,5 @@
 -- The laws of generated documents and of their runs, in the report's words.
-use Rattle.std.proofs.Common.{◌≡◌, ◌≤◌, List, ℕ, sym, subst}
+use Rattle.std.proofs.Common.{◌≤◌, List, ℕ, sym, subst}
 use Rattle.acc_schedule.specs.Document.{Means}
 use Rattle.acc_generator.specs.Plan.{plan}
 use Rattle.acc_command_alone.specs.Counts.{answered_text}
