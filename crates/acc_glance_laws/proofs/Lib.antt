@@ -1,0 +1,10 @@
+mod Finished
+mod Knows
+mod Looks
+mod Moment
+mod Moments
+mod OneOutcome
+mod Parts
+mod SerialLatest
+mod StoreCells
+mod Told

@@ -1,0 +1,2 @@
+pub mod SerialCells
+pub mod Looks
