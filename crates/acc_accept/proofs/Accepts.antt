@@ -1,5 +1,5 @@
--- The clauses on Accept, from those of their parts.
-use Rattle.std.proofs.Common.{◌≡◌, ℕ, Bool, cond, List, [], ◌∷◌, Result, Ok, Err, IfOk, OnOk, refl, sym, ap, subst, ◌∙◌}
+-- What is planned for an Accept answers it by the rules.
+use Rattle.std.proofs.Common.{◌≡◌, ℕ, Bool, cond, List, [], ◌∷◌, Some, Result, Ok, Err, IfOk, refl, sym, ap, subst, ◌∙◌}
 use Rattle.acc_stamp.specs.declared.stamps.Stamp.{Stamp}
 use Rattle.acc_stamp.specs.declared.stamps.TxnId.{TxnId}
 use Rattle.acc_stamp.specs.declared.stamps.Ballot.{Ballot}
@@ -18,17 +18,24 @@ use Rattle.acc_message.specs.Taken.{Taken, taking}
 use Rattle.acc_message.specs.VoteRule.{known_below}
 use Rattle.acc_message.specs.BallotRules.{stable_of, promise_of}
 use Rattle.acc_message.specs.StoreRules.{replay, store_answer, unless_stable, unless_promised}
+use Rattle.acc_record.specs.declared.change.Change.{Change}
+use Rattle.acc_record.specs.declared.change.Change.TheVariants.{Accepts}
+use Rattle.acc_record.specs.declared.plan.QuietParts.{QuietParts}
 use Rattle.acc_record.specs.declared.record.Record.{Record}
 use Rattle.acc_record.specs.declared.shelf.Shelf.{Shelf}
 use Rattle.acc_record.specs.Shelf.{record_at}
-use Rattle.acc_record.specs.Stands.{StandsFor, AnswersByRules}
+use Rattle.acc_record.specs.Stands.{StandsFor}
+use Rattle.acc_record.specs.Steps.{QuietStep}
+use Rattle.acc_record.specs.Changes.{changed}
+use Rattle.acc_record.specs.LearntAs.{IsLearntAs}
+use Rattle.acc_record.specs.Planned.{IsPlannedAs, IsPlanned}
 use Rattle.acc_record.specs.Learning.{deps_below, body_of, known_or_fresh}
 use Rattle.acc_record.proofs.After.{after_accept}
-use Rattle.acc_record.proofs.QuietSteps.{quiet_answers}
+use Rattle.acc_record.proofs.Planned.{planned}
 use Rattle.acc_record.specs.Refusal.{refusal_or}
 use Rattle.acc_record.proofs.Rivals.{share_in}
 use Rattle.acc_record.proofs.VoteLaw.{counts, refused, dependencies}
-use Rattle.acc_accept.specs.Accepting.{refusal_at, accept_ok, with_accepted, IsGrantingBy}
+use Rattle.acc_accept.specs.Accepting.{refusal_at, accept_ok, unless_refused, IsGrantingBy}
 use Rattle.acc_accept.proofs.Granting.{IsGrant, quiet}
 
 abbrev pub accept_answer : Shelf → TxnId → Ballot → List (Key × Bool) → Stamp → Message
@@ -63,13 +70,13 @@ module _ (layout : Layout) (shelf : Shelf) (from to : Actor) (x : TxnId) (b : Ba
 
   -- the step, which keeps the proposal
   pub steps : (new : Shelf) (share : List (Key × Bool)) (top : ℕ) → share ≡ here → top ≡ top_of m
-      → IsGrantingBy (refusal_at shelf x b) (with_accepted proposed) shelf new x body share t top
-      → AnswersByRules layout shelf new m (accept_answer shelf x b share t ∷ [])
+      → IsGrantingBy (refusal_at shelf x b) (Accepts proposed) shelf new x body share t top
+      → QuietStep layout shelf new m (accept_answer shelf x b share t ∷ [])
   steps new share top shared raises granting =
       let r : Record = known_or_fresh (record_at shelf.records x) x body in
       let own : Actor = shelf.actor in
       let named : List ShardDeps = deps_below shelf x share t in
-      let grant : IsGrant layout shelf new m b body t (accept_ok shelf x b share t) (with_accepted proposed) share = record {
+      let grant : IsGrant layout shelf new m b body t (accept_ok shelf x b share t) (Accepts proposed) share = record {
         brings = refl;
         shared = shared;
         times = ap (λ c. cond c (t ∷ []) []) (eq_itself id_order x);
@@ -77,29 +84,23 @@ module _ (layout : Layout) (shelf : Shelf) (from to : Actor) (x : TxnId) (b : Ba
         after = after_accept r from to own (home_of x b) x b body t deps named;
         vote = refl;
       } in
-      quiet_answers layout shelf new m (accept_answer shelf x b share t ∷ []) refl (answers share shared)
-      (quiet layout shelf new m b body t (accept_ok shelf x b share t) (with_accepted proposed) share grant
-      (subst (λ n. IsGrantingBy (refusal_at shelf x b) (with_accepted proposed) shelf new x body share t n) raises granting))
+      quiet layout shelf new m b body t (accept_ok shelf x b share t) (Accepts proposed) share grant
+      (subst (λ n. IsGrantingBy (refusal_at shelf x b) (Accepts proposed) shelf new x body share t n) raises granting)
 
-module _ (layout : Layout) (old : Shelf) (m : Message) (from to : Actor) (x : TxnId) (b : Ballot) (body : BodyParts) (t : Stamp) (deps : List ShardDeps)
-    (share : List (Key × Bool)) (is : m ≡ Accept from to x b body t deps) (shared : share ≡ here layout old from to x b body t deps) where
-  abbrev Answers : Message → Message → Type 0
-  Answers z answer =
-      (messages : List Message) → StandsFor layout old (replay layout old.actor messages)
-      → answer ∷ [] ≡ store_answer layout old.actor (replay layout old.actor messages) z
+module _ (layout : Layout) (shelf : Shelf) (m : Message) (from to : Actor) (x : TxnId) (b : Ballot) (body : BodyParts) (t : Stamp) (deps : List ShardDeps)
+    (share : List (Key × Bool)) (top : ℕ) (is : m ≡ Accept from to x b body t deps) (shared : share ≡ here layout shelf from to x b body t deps) (raises : top ≡ top_of m) where
+  abbrev own : Message
+  own = Accept from to x b body t deps
 
-  pub answered : {E : Type 0} (result : Result Message E) → IfOk result (λ answer. answer ≡ accept_answer old x b share t) → IfOk result (Answers m)
-  answered (Ok answer) e =
-      subst (λ z. Answers z answer) (sym is) (λ messages stands. ap (λ a. a ∷ []) e ∙ answers layout old from to x b body t deps share shared messages stands)
-  answered (Err e) h = tt
-
-  pub stepped : {E : Type 0} (new : Shelf) (copied : List ShardDeps) (top : ℕ) (result : Result Message E) → copied ≡ deps → top ≡ top_of m
-      → IfOk result (λ answer. answer ≡ accept_answer old x b share t)
-      → OnOk result (IsGrantingBy (refusal_at old x b) (with_accepted (record { ballot = b; t = t; deps = copied })) old new x body share t top)
-      → IfOk result (λ answer. AnswersByRules layout old new m (answer ∷ []))
-  stepped new copied top (Ok answer) same raises e granting =
-      subst (λ z. AnswersByRules layout old new z (answer ∷ [])) (sym is)
-      (subst (λ z. AnswersByRules layout old new (Accept from to x b body t deps) (z ∷ [])) (sym e)
-      (steps layout old from to x b body t deps new share top shared (raises ∙ ap top_of is)
-      (subst (λ (list : List ShardDeps). IsGrantingBy (refusal_at old x b) (with_accepted (record { ballot = b; t = t; deps = list })) old new x body share t top) same granting)))
-  stepped new copied top (Err e) same raises h granting = tt
+  pub prepared : {E : Type 0} (copied : List ShardDeps) (result : Result QuietParts E) → copied ≡ deps
+      → IfOk result (IsPlannedAs shelf x body share (Some t) top)
+      → IfOk result (λ plan. plan.change ≡ unless_refused (refusal_at shelf x b) (Accepts (record { ballot = b; t = t; deps = copied })))
+      → IfOk result (λ plan. plan.sent ≡ accept_answer shelf x b share t ∷ []) → IfOk result (IsPlanned layout shelf m)
+  prepared copied (Ok plan) same p changes sends =
+      let change : plan.change ≡ unless_refused (refusal_at shelf x b) (Accepts (proposed layout shelf from to x b body t deps)) =
+      changes ∙ ap (λ (list : List ShardDeps). unless_refused (refusal_at shelf x b) (Accepts (record { ballot = b; t = t; deps = list }))) same in
+      subst (λ z. IsPlanned layout shelf z plan) (sym is)
+      (planned shelf x body share (Some t) top plan p layout own (accept_answer shelf x b share t) refl sends (answers layout shelf from to x b body t deps share shared)
+      (λ new l. steps layout shelf from to x b body t deps new share top shared (raises ∙ ap top_of is)
+      (subst (λ (c : Change). IsLearntAs shelf new x share (Some t) top (changed c (known_or_fresh (record_at shelf.records x) x body))) change l)))
+  prepared copied (Err e) same p changes sends = tt

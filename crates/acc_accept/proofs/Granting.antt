@@ -13,8 +13,10 @@ use Rattle.acc_message.specs.declared.message.Message.TheVariants.{Nack, Decided
 use Rattle.acc_message.specs.Fields.{id_of, top_of}
 use Rattle.acc_message.specs.Taken.{body_in}
 use Rattle.acc_message.specs.VoteRule.{times_in, greatest_drawn}
+use Rattle.acc_record.specs.declared.change.Change.{Change}
 use Rattle.acc_record.specs.declared.record.Record.{Record}
 use Rattle.acc_record.specs.declared.shelf.Shelf.{Shelf}
+use Rattle.acc_record.specs.Changes.{changed}
 use Rattle.acc_record.specs.Shelf.{record_at}
 use Rattle.acc_record.specs.Steps.{record_after, stamps_in, stamps_told, QuietStep}
 use Rattle.acc_record.specs.Learning.{body_of, known_or_fresh}
@@ -29,7 +31,7 @@ use Rattle.acc_accept.specs.Accepting.{refusal_at, IsGrantingBy}
 raised : (g t : ℕ) → max g t ≡ max (max t 0) g
 raised g t = omega arith
 
-module _ (layout : Layout) (shelf new : Shelf) (m : Message) (b : Ballot) (body : BodyParts) (t : Stamp) (granted : Message) (change : Record → Record) (share : List (Key × Bool)) where
+module _ (layout : Layout) (shelf new : Shelf) (m : Message) (b : Ballot) (body : BodyParts) (t : Stamp) (granted : Message) (change : Change) (share : List (Key × Bool)) where
   abbrev x : TxnId
   x = id_of m
 
@@ -45,8 +47,8 @@ module _ (layout : Layout) (shelf new : Shelf) (m : Message) (b : Ballot) (body 
     pub shared : share ≡ share_in layout (shard_of shelf.actor) (body_of before body)
     pub times : times_in x m ≡ t ∷ []
     pub drawn : greatest_drawn shelf.actor.0 (granted ∷ []) ≡ 0
-    pub after : record_after r m (granted ∷ []) ≡ change r
-    pub vote : (change r).vote ≡ r.vote
+    pub after : record_after r m (granted ∷ []) ≡ changed change r
+    pub vote : (changed change r).vote ≡ r.vote
 
   module _ (g : IsGrant) where
     abbrev QuietBy : Option Message → Type 0

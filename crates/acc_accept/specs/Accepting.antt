@@ -5,13 +5,13 @@ use Rattle.acc_stamp.specs.declared.stamps.TxnId.{TxnId}
 use Rattle.acc_stamp.specs.declared.stamps.Ballot.{Ballot}
 use Rattle.acc_stamp.specs.Actor.{home_of}
 use Rattle.acc_value.specs.declared.key.Key.{Key}
-use Rattle.acc_deps.specs.declared.records.Accepted.{Accepted}
 use Rattle.acc_txn.specs.declared.parts.BodyParts.{BodyParts}
 use Rattle.acc_message.specs.declared.message.Message.{Message}
 use Rattle.acc_message.specs.declared.message.Message.TheVariants.{Accept, AcceptOk, Commit, CommitOk}
-use Rattle.acc_message.specs.BallotRules.{greater_ballot}
-use Rattle.acc_record.specs.declared.record.Record.{Record}
+use Rattle.acc_record.specs.declared.change.Change.{Change}
+use Rattle.acc_record.specs.declared.change.Change.TheVariants.{Stays}
 use Rattle.acc_record.specs.declared.shelf.Shelf.{Shelf}
+use Rattle.acc_record.specs.Changes.{changed}
 use Rattle.acc_record.specs.Shelf.{record_at}
 use Rattle.acc_record.specs.Learning.{deps_below, known_or_fresh}
 use Rattle.acc_record.specs.LearntAs.{IsLearntAs}
@@ -37,16 +37,10 @@ commit_ok shelf x b = CommitOk shelf.actor (home_of x b) x b
 
 -- ---- the steps: where one is refused, the record stays
 
-abbrev pub with_accepted : Accepted → Record → Record
-with_accepted a r = record r { promised = greater_ballot r.promised a.ballot; accepted = Some a }
+abbrev pub unless_refused : Option Message → Change → Change
+unless_refused None change = change
+unless_refused (Some refusal) change = Stays
 
-abbrev pub with_committed : Accepted → Record → Record
-with_committed a r = record r { promised = greater_ballot r.promised a.ballot; committed = Some a }
-
-abbrev pub unless_refused : Option Message → (Record → Record) → Record → Record
-unless_refused None change r = change r
-unless_refused (Some refusal) change r = r
-
-abbrev pub IsGrantingBy : Option Message → (Record → Record) → Shelf → Shelf → TxnId → BodyParts → List (Key × Bool) → Stamp → ℕ → Type 0
+abbrev pub IsGrantingBy : Option Message → Change → Shelf → Shelf → TxnId → BodyParts → List (Key × Bool) → Stamp → ℕ → Type 0
 IsGrantingBy refusal change old new x body share t top =
-    IsLearntAs old new x share (Some t) top (unless_refused refusal change (known_or_fresh (record_at old.records x) x body))
+    IsLearntAs old new x share (Some t) top (changed (unless_refused refusal change) (known_or_fresh (record_at old.records x) x body))

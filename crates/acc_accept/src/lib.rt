@@ -1,7 +1,6 @@
 //! A store's steps on Accept and Commit.
 #![tactic(auto)]
 
-mod keep;
 mod step;
 
-pub use step::{answer_accept, answer_commit, on_accept, on_commit};
+pub use step::{prepare_accept, prepare_commit};

@@ -2,7 +2,7 @@
 use Rattle.std.specs.Prelude.{◌≡◌, ◌⊎◌, ℕ, ◌-◌, ◌^◌, min, true, false, List, [], ◌∷◌, ◌++◌, length, Result, Ok, Err}
 use Rattle.acc_stamp.specs.declared.actors.Actor.{Actor}
 use Rattle.acc_topology.specs.Layout.{Layout}
-use Rattle.acc_ports.specs.declared.error.PortError.TheVariants as port
+use Rattle.acc_ports.specs.declared.error.PortError.TheVariants as error
 use Rattle.acc_message.specs.declared.message.Message.{Message}
 use Rattle.acc_message.specs.StoreRules.{store_answer, replay}
 use Rattle.acc_journal.specs.declared.error.JournalError.{JournalError}
@@ -99,12 +99,8 @@ pub record IsStillStaged {D : Type 0} (old new : DurableStore D) : Type 0 where
   pub kept : new.kept ≡ old.kept
   pub marked : new.marked ≡ old.marked
 
-abbrev pub IsDiskFault : StepError → Type 0
-IsDiskFault (DiskFault unsent) = Unit {0}
-IsDiskFault OutOfMemory = ⊥
-
--- what the disk answered, where a step answered this; what came before any call of it counts as want of memory
-abbrev pub answer_of : {T : Type 0} → Result T StepError → Answer
-answer_of (Ok value) = Ok tt
-answer_of (Err (DiskFault unsent)) = Err port.Failed
-answer_of (Err OutOfMemory) = Err port.OutOfMemory
+-- what stands for the answer of the disk, where a step answered this: what came before any call of it counts as want of memory
+abbrev pub step_answer : {T : Type 0} → Result T StepError → Answer
+step_answer (Ok value) = Ok tt
+step_answer (Err (DiskFault unsent)) = Err error.Failed
+step_answer (Err OutOfMemory) = Err error.OutOfMemory

@@ -235,7 +235,7 @@ impl<D: Rig> StoreActor<D> {
         (actor, found)
     }
 
-    /// Arms a call of the disk: so many more pass, and the next one fails.
+    /// Arms a call of the disk: where that is strict, so many more pass and the next one fails.
     pub fn arm(&mut self, calls: u64)
         ensures stands { (layout : Layout) (own : Name) (version : ℕ) (past : Past Told) (staged : List (Stop Told)) → IsStaging D.Disk layout own version past staged self.old
             → IsStaging D.Disk layout own version past staged self.new }

@@ -28,7 +28,7 @@ impl<D: Disk> Model for StagedJournal<D> {
 impl<D: Disk> StagedJournal<D> {
     ghost use Rattle.acc_journal.specs.Layout.{Reads};
     ghost use Rattle.acc_journal.specs.Journal.{IsOfTheDisk};
-    ghost use Rattle.acc_journal.specs.Calls.{Appends, answer_of};
+    ghost use Rattle.acc_journal.specs.Calls.{Appends, journal_answer};
 
     /// A journal with nothing staged.
     pub(crate) fn new(alloc: Global, journal: Journal<D>) -> StagedJournal<D>
@@ -83,7 +83,7 @@ impl<D: Disk> StagedJournal<D> {
         ensures broken { OnErr result (self.new.broken ≡ true) }
         ensures err_group { OnErr result (self.new.group ≡ self.old.group) }
         ensures error { IfErr result IsOfTheDisk }
-        ensures appends { Appends D.Disk self.old.disk self.new.disk self.old.payloads self.old.group (answer_of result) }
+        ensures appends { Appends D.Disk self.old.disk self.new.disk self.old.payloads self.old.group (journal_answer result) }
     {
         self.journal.append_records(&mut self.group)?;
         self.group.truncate(0);

@@ -23,7 +23,7 @@ ghost use Rattle.acc_journal.specs.Layout.{Reads};
 ghost use Rattle.acc_journal.specs.Errors.{port_error};
 ghost use Rattle.acc_journal.specs.Journal.{IsOfTheDisk};
 ghost use Rattle.acc_journal.specs.Calls.{Appends, ReadsDisk};
-ghost use Rattle.acc_durable_store.specs.Store.{answer_of, actor_in, StandsFor, Takes, IsAsBefore, IsUntouched, IsTheSame, IsReopened, IsRefusedBy, Refuses, FailsToSettle, IsStillStaged, IsDiskFault};
+ghost use Rattle.acc_durable_store.specs.Store.{step_answer, actor_in, StandsFor, Takes, IsAsBefore, IsUntouched, IsTheSame, IsReopened, IsRefusedBy, Refuses, FailsToSettle, IsStillStaged};
 
 use crate::StepError;
 use crate::replay::replay;
@@ -96,6 +96,7 @@ impl<D: Disk> DurableStore<D> {
         ensures kept { IfOk result (λ s. s.kept ≡ length (without_marks s.journal.payloads)) }
         ensures disk { IfOk result (λ s. ReadsDisk D.Disk disk s.journal.disk (Ok tt)) }
         ensures err_disk { IfErr result (λ e. ReadsDisk D.Disk disk e.1 (Err (port_error e.0))) }
+        ensures err_rest { IfErr result (λ e. e.0 ≢ JournalError.OutOfMemory → IsAtRest (D.state e.1) (D.is_image e.1)) }
         ensures refused { IfErr result (λ e. IsRefusedBy topology.now (D.state disk).content version actor e.0) }
         ensures never { (payloads : List (List ℕ)) (items : List Payload) → Reads (D.state disk).content payloads → IsStoreJournal topology.now version actor payloads items
             → IfErr result (λ e. IsOfTheDisk e.0) }
@@ -131,13 +132,12 @@ impl<D: Disk> DurableStore<D> {
 
         ensures ok { IfOk result (λ sent. (messages : List Told) → StandsFor topology.now self.old messages → Takes topology.now self.old self.new messages m.now sent) }
         ensures none_staged { OnOk result (self.new.journal.group ≡ []) }
-        ensures fits { OnOk result (FitsMessage m.now) }
-        ensures fault_fits { IfErr result (λ e. IsDiskFault e → FitsMessage m.now) }
+        ensures fits { result ≢ Err StepError.OutOfMemory → FitsMessage m.now }
         ensures err { IfErr result (Refuses topology.now self.old self.new m.now) }
         ensures same { IsTheSame self.old self.new }
 
         ensures appended { OnOk result (self.new.journal.payloads ≡ self.old.journal.payloads ++ appended self.old.version self.old.marked (message_bytes m.now)) }
-        ensures appends { Appends D.Disk self.old.journal.disk self.new.journal.disk self.old.journal.payloads (appended self.old.version self.old.marked (message_bytes m.now)) (answer_of result) }
+        ensures appends { Appends D.Disk self.old.journal.disk self.new.journal.disk self.old.journal.payloads (appended self.old.version self.old.marked (message_bytes m.now)) (step_answer result) }
     {
         let _sound = self.journal.is_broken();
         let prepared = self.prepare(topology, m)?;
@@ -151,6 +151,9 @@ impl<D: Disk> DurableStore<D> {
 
     /// Plans the step that takes a message. It can be weighed and staged as long as the store takes no other. It makes no call of the disk.
     pub fn prepare(&self, topology: &Topology, m: &Message) -> Result<Prepared, OutOfMemory>
+        requires store { IsFor (actor_in self.now) m.now }
+        requires top { top_of m.now < 2 ^ 62 }
+        requires greatest { greatest_in self.now.store < 2 ^ 62 }
         requires stands { IsStanding topology.now self.now.store }
         ensures { IfOk result (IsPrepared topology.now self.now.store m.now) }
     {
@@ -211,7 +214,7 @@ impl<D: Disk> DurableStore<D> {
 
         ensures appended { OnOk result (self.new.journal.payloads ≡ self.old.journal.payloads ++ self.old.journal.group) }
         ensures lasts { OnOk result ((image : List ℕ) → D.is_image self.new.journal.disk image → Reads image self.new.journal.payloads) }
-        ensures appends { self.old.journal.group ≢ [] → Appends D.Disk self.old.journal.disk self.new.journal.disk self.old.journal.payloads self.old.journal.group (answer_of result) }
+        ensures appends { self.old.journal.group ≢ [] → Appends D.Disk self.old.journal.disk self.new.journal.disk self.old.journal.payloads self.old.journal.group (step_answer result) }
     {
         let _sound = self.journal.is_broken();
         if self.journal.count() == 0 {
@@ -226,7 +229,8 @@ impl<D: Disk> DurableStore<D> {
             Err(JournalError::DiskFault) => Err(StepError::DiskFault {
                 unsent: Messages::new(self.alloc),
             }),
-            Err(_) => Err(StepError::OutOfMemory),
+            Err(JournalError::OutOfMemory) => Err(StepError::OutOfMemory),
+            Err(_) => unreachable!(),
         }
     }
 
@@ -303,7 +307,8 @@ impl<D: Disk> DurableStore<D> {
 }
 
 impl<D: Rig> DurableStore<D> {
-    /// Arms a call of the disk: so many more pass, and the next one fails. It makes no call of the disk and takes no memory.
+    /// Arms a call of the disk: where that is strict, so many more pass and the next one fails. It makes no call of the disk and takes no
+    /// memory.
     pub fn arm(&mut self, calls: u64)
         ensures arms { Arms D.Disk calls self.old.journal.disk self.new.journal.disk }
         ensures as_before { IsAsBefore self.old self.new }

@@ -62,10 +62,10 @@ impl Planning {
     {
         let watch = woken[place];
         let Some(there) = record_of(known.records, known.own, watch.id) else {
-            return Ok(());
+            unreachable!()
         };
         let Some(settled) = &there.stable else {
-            return Ok(());
+            unreachable!()
         };
         let ids = settled.deps.of_shard(known.shard);
         match last_held(
@@ -134,7 +134,7 @@ impl Planning {
         ensures { OnOk result (IsUnderWay known.now.shard (lookup known.now.records.now known.now.own.now) (watches_now self.new.touched known.now.waits.now) [] self.new.done self.new.queue) }
     {
         let Some(settled) = &known.own.stable else {
-            return Ok(());
+            unreachable!()
         };
         let place = settled.deps.of_shard(known.shard).len();
         let alloc = self.done.allocator();
@@ -157,7 +157,7 @@ impl Planning {
     {
         let own = known.own;
         let Some(settled) = &own.stable else {
-            return Ok(());
+            unreachable!()
         };
         if !is_due(own) {
             return Ok(());

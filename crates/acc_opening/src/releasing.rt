@@ -125,7 +125,7 @@ pub fn release(
     let mut writes = CellList::new(alloc);
     for turn in turns {
         let Some(there) = record_of(known.records, known.own, turn.id) else {
-            return Ok(Released { sent, writes });
+            unreachable!()
         };
         open_turn(&place, own, there, turn, &mut sent, &writes)?;
         apply_turn(&place, there, turn, &mut writes)?;

@@ -31,7 +31,8 @@ use Rattle.acc_record.specs.Refusal.{refusal_or}
 use Rattle.acc_record.proofs.Rivals.{share_in}
 use Rattle.acc_record.proofs.VoteLaw.{given_as, counts, refused, votes}
 use Rattle.acc_record.proofs.Telling.{refusal_cases, tells_nothing, tells_vote}
-use Rattle.acc_preaccept.specs.PreAccepting.{refusal_at, voted_as, answer_at, with_vote, IsPreAcceptingBy, IsPreAccepting}
+use Rattle.acc_record.specs.Changes.{with_vote}
+use Rattle.acc_preaccept.specs.PreAccepting.{refusal_at, voted_as, answer_at, IsPreAcceptingBy, IsPreAccepting}
 
 raised_by_vote : (g t d : ℕ) → max g (max t d) ≡ max (max t (max d 0)) g
 raised_by_vote g t d = omega arith

@@ -1,6 +1,5 @@
 -- What a shelf answers to a PreAccept, and what the step makes of its transaction.
 use Rattle.std.specs.Prelude.{ℕ, max, Bool, true, false, List, Option, None, Some}
-use Rattle.acc_base.specs.Faults.{or_else}
 use Rattle.acc_stamp.specs.declared.stamps.Stamp.{Stamp}
 use Rattle.acc_stamp.specs.declared.stamps.TxnId.{TxnId}
 use Rattle.acc_stamp.specs.declared.stamps.Ballot.{Ballot}
@@ -12,11 +11,12 @@ use Rattle.acc_txn.specs.declared.parts.BodyParts.{BodyParts}
 use Rattle.acc_message.specs.declared.message.Message.{Message}
 use Rattle.acc_message.specs.declared.message.Message.TheVariants.{PreAccept, PreAcceptOk}
 use Rattle.acc_message.specs.VoteRule.{drawn_as}
-use Rattle.acc_record.specs.declared.record.Record.{Record}
+use Rattle.acc_record.specs.declared.change.Change.{Change}
+use Rattle.acc_record.specs.declared.change.Change.TheVariants.{Stays, Votes}
 use Rattle.acc_record.specs.declared.shelf.Shelf.{Shelf}
 use Rattle.acc_record.specs.declared.vote.Vote.{Vote}
 use Rattle.acc_record.specs.Shelf.{record_at}
-use Rattle.acc_record.specs.Steps.{deps_kept}
+use Rattle.acc_record.specs.Changes.{changed}
 use Rattle.acc_record.specs.Learning.{vote_at, known_or_fresh}
 use Rattle.acc_record.specs.LearntAs.{IsLearntAs}
 use Rattle.acc_record.specs.Refusal.{refusal_of, refusal_or}
@@ -37,13 +37,9 @@ answer_at shelf x b share top = refusal_or (refusal_at shelf x b) (voted_as shel
 
 -- ---- the step: where it is refused, no vote is learnt
 
-abbrev pub with_vote : Vote → Record → Record
-with_vote v r =
-    record r { vote = or_else r.vote (Some v.stamp); vote_deps = deps_kept r.vote r.vote_deps (Some (record { vote = v.stamp; deps = v.deps })) }
-
-abbrev pub record_then : Option Message → Vote → Record → Record
-record_then None v r = with_vote v r
-record_then (Some refusal) v r = r
+abbrev pub change_then : Option Message → Vote → Change
+change_then None v = Votes v
+change_then (Some refusal) v = Stays
 
 abbrev pub stamp_then : Option Message → Vote → Option Stamp
 stamp_then None v = Some v.stamp
@@ -55,7 +51,7 @@ top_then (Some refusal) own v top = top
 
 abbrev pub IsPreAcceptingBy : Option Message → Shelf → Shelf → TxnId → BodyParts → List (Key × Bool) → ℕ → Vote → Type 0
 IsPreAcceptingBy refusal old new x body share top v =
-    IsLearntAs old new x share (stamp_then refusal v) (top_then refusal old.actor v top) (record_then refusal v (known_or_fresh (record_at old.records x) x body))
+    IsLearntAs old new x share (stamp_then refusal v) (top_then refusal old.actor v top) (changed (change_then refusal v) (known_or_fresh (record_at old.records x) x body))
 
 abbrev pub IsPreAccepting : Shelf → Shelf → TxnId → Ballot → BodyParts → List (Key × Bool) → ℕ → Type 0
 IsPreAccepting old new x b body share top = IsPreAcceptingBy (refusal_at old x b) old new x body share top (vote_at old x share top)

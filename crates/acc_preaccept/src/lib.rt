@@ -1,7 +1,6 @@
 //! A store's step on PreAccept.
 #![tactic(auto)]
 
-mod keep;
 mod step;
 
-pub use step::{answer_preaccept, on_preaccept};
+pub use step::prepare_preaccept;

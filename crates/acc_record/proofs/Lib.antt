@@ -16,3 +16,4 @@ pub mod ShareFacts
 pub mod Telling
 pub mod VoteLaw
 pub mod Waiting
+pub mod Planned

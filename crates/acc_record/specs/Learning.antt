@@ -19,6 +19,7 @@ use Rattle.acc_value.specs.declared.key.Key.{Key}
 use Rattle.acc_txn.specs.declared.parts.BodyParts.{BodyParts}
 use Rattle.acc_txn.specs.Uses.{footprint_of}
 use Rattle.acc_index.specs.Noted.{Noted, rival_stamps, rival_ids_below}
+use Rattle.acc_record.specs.declared.learn.NotedStamp.{NotedStamp}
 use Rattle.acc_record.specs.declared.record.Record.{Record}
 use Rattle.acc_record.specs.declared.vote.Vote.{Vote}
 use Rattle.acc_record.specs.declared.shelf.Shelf.{Shelf}
@@ -102,9 +103,17 @@ stamp_to_note None x stamp = Some (later_of x.0 stamp)
 stamp_to_note (Some r) x None = None
 stamp_to_note (Some r) x (Some s) = cond (is_covered_by x r s) None (Some s)
 
+-- the stamp, with the keys of the shard that the transaction uses
+abbrev pub note_of : List (Key × Bool) → Option Stamp → Option NotedStamp
+note_of share None = None
+note_of share (Some s) = Some (record { share = share; stamp = s })
+
+abbrev pub notes_of : TxnId → Option NotedStamp → List Noted
+notes_of x None = []
+notes_of x (Some n) = record { id = x; share = n.share; stamp = n.stamp } ∷ []
+
 abbrev pub notes_with : TxnId → List (Key × Bool) → Option Stamp → List Noted
-notes_with x share None = []
-notes_with x share (Some s) = record { id = x; share = share; stamp = s } ∷ []
+notes_with x share stamp = notes_of x (note_of share stamp)
 
 -- ---- learning
 

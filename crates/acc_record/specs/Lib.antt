@@ -1,6 +1,8 @@
+pub mod Changes
 pub mod Learning
 pub mod LearntAs
 pub mod Over
+pub mod Planned
 pub mod Refusal
 pub mod Shelf
 pub mod Stands

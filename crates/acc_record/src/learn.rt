@@ -1,11 +1,11 @@
 //! Learning: what a message makes known of a transaction, before anything else of its record changes.
-ghost use Rattle.std.specs.Prelude.{◌≡◌, ◌++◌, cond, Some, None, is_some, IsTrue, IfOk, OnOk, OnErr};
+ghost use Rattle.std.specs.Prelude.{◌≡◌, ◌++◌, cond, Some, None, IfOk, OnOk, OnErr};
 ghost use Rattle.acc_stamp.specs.declared.stamps.TxnId.{TxnId};
 ghost use Rattle.acc_stamp.specs.Stamp.{id_eq};
 ghost use Rattle.std.specs.Option.{option_copied};
 ghost use Rattle.acc_record.specs.Shelf.{IsSame, record_at};
 ghost use Rattle.acc_record.specs.Steps.{fresh};
-ghost use Rattle.acc_record.specs.Learning.{IsLearnt, is_covered_by, is_below_accepted, is_below_settled, later_of, share_at, stamp_to_note, notes_with};
+ghost use Rattle.acc_record.specs.Learning.{IsLearnt, is_covered_by, is_below_accepted, is_below_settled, later_of, share_at, stamp_to_note, note_of, notes_of};
 
 use crate::record::{KeptRecord, Record, Records};
 use crate::shared_accepted::SharedAccepted;
@@ -17,67 +17,19 @@ use acc_stamp::{Ballot, Stamp, TxnId};
 use acc_topology::Topology;
 use acc_txn::Body;
 
-/// What a step has to note of its transaction.
-#[derive(Clone, Copy, Debug)]
-pub struct Noting {
-    /// Whether the transaction is known.
-    pub is_known: bool,
-    /// The stamp that is to be noted, if any.
-    pub stamp: Option<Stamp>,
+/// A stamp that is noted of a transaction, with the keys of the shard that the transaction uses.
+#[derive(Debug, Drop)]
+pub struct NotedStamp {
+    /// The keys.
+    pub share: Share,
+    /// The stamp.
+    pub stamp: Stamp,
 }
 
 impl Shelf {
     /// Makes a transaction known, with the body where it was not, notes a stamp of it that isn't covered by those that its
     /// record has, and raises the greatest `h`. It is the last call of a step that takes memory: without memory for it the
     /// shelf is as before.
-    pub fn learn(
-        &mut self,
-        id: TxnId,
-        body: &Body,
-        share: &Share,
-        stamp: Option<Stamp>,
-        top: u64,
-    ) -> Result<(), OutOfMemory>
-        ensures ok { OnOk result (IsLearnt self.old self.new id body.now share.now stamp top) }
-        ensures err { OnErr result (IsSame self.old self.new) }
-    {
-        let noting = self.noting(self.find(id), id, stamp);
-        self.learn_noting(id, body, share, stamp, noting, top)
-    }
-
-    /// Learns as `learn` does, where `noting` has told already what is to be noted.
-    pub fn learn_noting(
-        &mut self,
-        id: TxnId,
-        body: &Body,
-        share: &Share,
-        stamp: Option<Stamp>,
-        noting: Noting,
-        top: u64,
-    ) -> Result<(), OutOfMemory>
-        requires known { noting.is_known ≡ is_some (record_at self.old.records id) }
-        requires stamp { noting.stamp ≡ stamp_to_note (record_at self.old.records id) id stamp }
-        ensures ok { OnOk result (IsLearnt self.old self.new id body.now share.now stamp top) }
-        ensures err { OnErr result (IsSame self.old self.new) }
-    {
-        if noting.is_known {
-            note(&mut self.index, id, share, noting.stamp)?;
-        } else {
-            let made = fresh(id, body)?;
-            add(
-                &mut self.records,
-                &mut self.index,
-                made,
-                share,
-                noting.stamp,
-            )?;
-        }
-        self.greatest = self.greatest.max(top);
-        Ok(())
-    }
-
-    /// Learns as `learn` does, by the keys of this shard that the transaction uses. They are looked for only where a stamp is
-    /// noted, so that a step which brings nothing new doesn't look at them.
     #[inline(always)]
     pub fn learn_body(
         &mut self,
@@ -90,35 +42,65 @@ impl Shelf {
         ensures ok { OnOk result (IsLearnt self.old self.new id body.now (share_at topology.now self.old id body.now) stamp top) }
         ensures err { OnErr result (IsSame self.old self.new) }
     {
-        if self.is_noted(id, stamp) {
-            self.greatest = self.greatest.max(top);
-            return Ok(());
+        let there = self.find(id);
+        let is_known = there.is_some();
+        let note = self.note_of_body(topology, there, id, body, stamp)?;
+        if is_known {
+            enter(&mut self.index, id, &note)?;
+        } else {
+            let made = fresh(id, body)?;
+            add(&mut self.records, &mut self.index, made, &note)?;
         }
-        let share = self.share(topology, id, body)?;
-        self.learn(id, body, &share, stamp, top)
+        self.greatest = self.greatest.max(top);
+        Ok(())
     }
 
-    // Whether a transaction is known, and a step that brings this stamp notes none.
-    fn is_noted(&self, id: TxnId, stamp: Option<Stamp>) -> bool
-        ensures known { IsTrue result → IsTrue (is_some (record_at self.now.records id)) }
-        ensures none { IsTrue result → stamp_to_note (record_at self.now.records id) id stamp ≡ None }
-    {
-        let noting = self.noting(self.find(id), id, stamp);
-        noting.is_known && noting.stamp.is_none()
-    }
-
-    /// What a step has to note that brings this stamp of a transaction, which has this record, if any.
-    pub fn noting(&self, there: Option<&Record>, id: TxnId, stamp: Option<Stamp>) -> Noting
+    /// What a step notes that brings this stamp of a transaction, which has this record, if any. The keys of this shard that the
+    /// transaction uses are looked for only where a stamp is noted, so that a step which brings nothing new doesn't look at them.
+    pub fn note_of_body(
+        &self,
+        topology: &Topology,
+        there: Option<&Record>,
+        id: TxnId,
+        body: &Body,
+        stamp: Option<Stamp>,
+    ) -> Result<Option<NotedStamp>, OutOfMemory>
         requires { option_copied there ≡ record_at self.now.records id }
-        ensures known { result.is_known ≡ is_some (record_at self.now.records id) }
-        ensures stamp { result.stamp ≡ stamp_to_note (record_at self.now.records id) id stamp }
+        ensures { IfOk result (λ note. note ≡ note_of (share_at topology.now self.now id body.now) (stamp_to_note (record_at self.now.records id) id stamp)) }
     {
-        let (is_known, stamp) = match (there, stamp) {
-            (None, stamp) => (false, Some(later(id.0, stamp))),
-            (Some(record), Some(stamp)) if !record.covers(id, stamp) => (true, Some(stamp)),
-            (Some(_), _) => (true, None),
-        };
-        Noting { is_known, stamp }
+        match stamp_to_note(there, id, stamp) {
+            Some(stamp) => {
+                let share = self.share(topology, id, body)?;
+                Ok(Some(NotedStamp { share, stamp }))
+            }
+            None => Ok(None),
+        }
+    }
+}
+
+/// What a step notes that brings this stamp of a transaction, which has this record, if any, and uses these keys of the shard.
+pub fn note_of(
+    there: Option<&Record>,
+    id: TxnId,
+    share: Share,
+    stamp: Option<Stamp>,
+) -> Option<NotedStamp>
+    ensures { result ≡ note_of share (stamp_to_note (option_copied there.entry) id stamp) }
+{
+    match stamp_to_note(there, id, stamp) {
+        Some(stamp) => Some(NotedStamp { share, stamp }),
+        None => None,
+    }
+}
+
+// The stamp that is to be noted, if any.
+fn stamp_to_note(there: Option<&Record>, id: TxnId, stamp: Option<Stamp>) -> Option<Stamp>
+    ensures { result ≡ stamp_to_note (option_copied there.entry) id stamp }
+{
+    match (there, stamp) {
+        (None, stamp) => Some(later(id.0, stamp)),
+        (Some(record), Some(stamp)) if !record.covers(id, stamp) => Some(stamp),
+        (Some(_), _) => None,
     }
 }
 
@@ -186,42 +168,41 @@ fn is_below_settled(stamp: Stamp, settled: &Option<Settled>) -> bool
     }
 }
 
-fn note(
+/// Notes what is to be noted of a transaction, if anything.
+pub(crate) fn enter(
     index: &mut Index,
     id: TxnId,
-    share: &Share,
-    stamp: Option<Stamp>,
+    note: &Option<NotedStamp>,
 ) -> Result<(), OutOfMemory>
-    ensures ok { OnOk result (index.new ≡ index.old ++ notes_with id share.now stamp) }
+    ensures ok { OnOk result (index.new ≡ index.old ++ notes_of id note.now) }
     ensures err { OnErr result (index.new ≡ index.old) }
 {
-    match stamp {
-        Some(stamp) => index.note(id, share, stamp),
+    match note {
+        Some(note) => index.note(id, &note.share, note.stamp),
         None => Ok(()),
     }
 }
 
-// Adds the record of a transaction that has none, and notes a stamp of it.
-fn add(
+/// Adds the record of a transaction that has none, and notes what is to be noted of it.
+pub(crate) fn add(
     records: &mut Records,
     index: &mut Index,
     made: KeptRecord,
-    share: &Share,
-    stamp: Option<Stamp>,
+    note: &Option<NotedStamp>,
 ) -> Result<(), OutOfMemory>
     requires { record_at records.old made.id ≡ None }
     ensures ok { OnOk result ((y : TxnId) → record_at records.new y ≡ cond (id_eq made.id y) (Some made) (record_at records.old y)) }
-    ensures noted { OnOk result (index.new ≡ index.old ++ notes_with made.id share.now stamp) }
+    ensures noted { OnOk result (index.new ≡ index.old ++ notes_of made.id note.now) }
     ensures err { OnErr result ((y : TxnId) → record_at records.new y ≡ record_at records.old y) }
     ensures not_noted { OnErr result (index.new ≡ index.old) }
 {
     let id = made.get().id;
     put(records, made)?;
-    let noted = note(index, id, share, stamp);
-    if noted.is_err() {
+    let entered = enter(index, id, note);
+    if entered.is_err() {
         forget(records, id);
     }
-    noted
+    entered
 }
 
 fn put(records: &mut Records, made: KeptRecord) -> Result<(), OutOfMemory>

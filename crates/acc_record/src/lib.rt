@@ -2,8 +2,10 @@
 #![tactic(auto)]
 
 mod cells;
+mod change;
 pub mod laws;
 mod learn;
+mod plan;
 mod record;
 mod refusals;
 mod share;
@@ -12,9 +14,11 @@ mod shelf;
 mod vote;
 
 pub use cells::Cells;
-pub use learn::{Noting, fresh};
+pub use change::Change;
+pub use learn::{NotedStamp, fresh, note_of};
+pub use plan::{QuietParts, QuietPlan};
 pub use record::{KeptRecord, Record, Records};
-pub use refusals::{answering, refusal, refusal_by};
+pub use refusals::{answering, refusal};
 pub use shared_accepted::SharedAccepted;
 pub use shelf::{Shelf, Waits, Watch};
-pub use vote::Vote;
+pub use vote::{Vote, drawn};

@@ -11,20 +11,8 @@ use acc_message::{Envelope, Message};
 use acc_stamp::{Ballot, TxnId, home};
 
 /// The refusal of a message about a transaction, if it is refused: the news of the decision, where the transaction is decided
-/// here, and else the promise, where it is above the ballot `least`.
+/// here, and else the promise, where it is above the ballot `least`. The transaction has this record, if any.
 pub fn refusal(
-    shelf: &Shelf,
-    id: TxnId,
-    ballot: Ballot,
-    least: Ballot,
-) -> Result<Option<Message>, OutOfMemory>
-    ensures { IfOk result (λ refusal. refusal ≡ refusal_of shelf.now.actor id ballot least (record_at shelf.now.records id)) }
-{
-    refusal_by(shelf, shelf.find(id), id, ballot, least)
-}
-
-/// The same of a transaction that has this record, if any.
-pub fn refusal_by(
     shelf: &Shelf,
     there: Option<&Record>,
     id: TxnId,

@@ -8,6 +8,7 @@ ghost use Rattle.acc_stamp.specs.Actor.{shard_of};
 ghost use Rattle.acc_stamp.specs.Rising.{IsRising};
 ghost use Rattle.acc_deps.specs.Deps.{deps_of};
 ghost use Rattle.acc_index.specs.Noted.{IsGreatestStamp};
+ghost use Rattle.acc_message.specs.VoteRule.{drawn_as};
 ghost use Rattle.acc_record.specs.Shelf.{record_at};
 ghost use Rattle.acc_record.specs.Learning.{vote_at, deps_below};
 
@@ -16,7 +17,7 @@ use crate::shelf::Shelf;
 use acc_base::OutOfMemory;
 use acc_deps::Deps;
 use acc_index::Share;
-use acc_stamp::{Ids, Stamp, TxnId};
+use acc_stamp::{Actor, Ids, Stamp, TxnId};
 
 /// A vote for the timestamp of a transaction.
 #[derive(Debug, Drop)]
@@ -106,4 +107,11 @@ fn is_above(stamp: Stamp, greatest: Option<Stamp>) -> bool
         Some(greatest) => greatest < stamp,
         None => true,
     }
+}
+
+/// The `h` of a vote that this store drew, and 0 for any other stamp.
+pub fn drawn(actor: Actor, vote: Stamp) -> u64
+    ensures { result ≡ drawn_as actor.0 vote }
+{
+    if vote.origin == actor.0 { vote.h } else { 0 }
 }

@@ -1,7 +1,6 @@
 -- What a shelf reveals of a transaction, by the records that it has.
-use Rattle.std.specs.Prelude.{◌≡◌, ℕ, max, Bool, true, false, cond, ◌&&◌, ◌||◌, List, Option, None, Some, is_none, filter}
+use Rattle.std.specs.Prelude.{ℕ, max, Bool, true, false, cond, ◌&&◌, ◌||◌, List, Option, None, Some, is_none, filter}
 use Rattle.std.specs.List.{list_any}
-use Rattle.acc_base.specs.Faults.{or_else}
 use Rattle.acc_stamp.specs.declared.stamps.Stamp.{Stamp}
 use Rattle.acc_stamp.specs.declared.stamps.TxnId.{TxnId}
 use Rattle.acc_stamp.specs.declared.stamps.Ballot.{Ballot}
@@ -14,21 +13,19 @@ use Rattle.acc_txn.specs.Uses.{footprint_of}
 use Rattle.acc_deps.specs.declared.records.Accepted.{Accepted}
 use Rattle.acc_deps.specs.declared.records.Settled.{Settled}
 use Rattle.acc_deps.specs.declared.records.View.{View}
-use Rattle.acc_deps.specs.declared.shards.ShardDeps.{ShardDeps}
 use Rattle.acc_value.specs.declared.key.Key.{Key}
 use Rattle.acc_index.specs.Noted.{rival_ids}
 use Rattle.acc_message.specs.declared.message.Message.{Message}
 use Rattle.acc_message.specs.declared.message.Message.TheVariants.{Recover, RecoverOk, Nack}
 use Rattle.acc_message.specs.VoteRule.{drawn_as}
-use Rattle.acc_message.specs.BallotRules.{greater_ballot}
 use Rattle.acc_message.specs.Evidence.{accepted_without, stable_without, accepted_above}
+use Rattle.acc_record.specs.declared.change.Change.{Change}
+use Rattle.acc_record.specs.declared.change.Change.TheVariants.{Stays, Grants}
 use Rattle.acc_record.specs.declared.record.Record.{Record}
 use Rattle.acc_record.specs.declared.shelf.Shelf.{Shelf}
 use Rattle.acc_record.specs.declared.vote.Vote.{Vote}
 use Rattle.acc_record.specs.Shelf.{record_at}
-use Rattle.acc_record.specs.Steps.{deps_kept}
-use Rattle.acc_record.specs.Learning.{vote_at, body_of, known_or_fresh}
-use Rattle.acc_record.specs.LearntAs.{IsLearntAs}
+use Rattle.acc_record.specs.Learning.{vote_at, body_of}
 
 -- ---- the fields of a record, where there is one
 
@@ -98,20 +95,6 @@ refused shelf x b = Nack shelf.actor (home_of x b) x b (promised_in (record_at s
 abbrev pub answer_at : Shelf → TxnId → Ballot → List (Key × Bool) → ℕ → Message
 answer_at shelf x b share top = cond (is_allowed shelf x b) (revealed shelf x b (view_at shelf x share top)) (refused shelf x b)
 
--- ---- the record
-
--- the record with a vote, where it has none, and with a ballot that is granted
-abbrev pub granted : Ballot → Stamp → List ShardDeps → Record → Record
-granted b vote deps r =
-    record r {
-      vote = or_else r.vote (Some vote);
-      vote_deps = deps_kept r.vote r.vote_deps (Some (record { vote = vote; deps = deps }));
-      promised = greater_ballot r.promised b;
-    }
-
-abbrev pub granted_at : Shelf → TxnId → Ballot → BodyParts → View → Record
-granted_at shelf x b body view = granted b view.vote view.vote_deps (known_or_fresh (record_at shelf.records x) x body)
-
 -- the greatest h of the message, and of its answer's vote where the store drew it
 abbrev pub top_with : Shelf → ℕ → Stamp → ℕ
 top_with shelf top vote = max top (drawn_as shelf.actor.0 vote)
@@ -125,12 +108,15 @@ is_recover _ = false
 abbrev pub share_at : Layout → Shelf → TxnId → BodyParts → List (Key × Bool)
 share_at layout shelf x body = share_of layout (footprint_of (body_of (record_at shelf.records x) body)) (shard_of shelf.actor)
 
--- what a step that asks for the view of x changes: the transaction is known then, and, where the ballot is allowed, its record
--- has the vote and the ballot
-pub record IsRecovering (old new : Shelf) (x : TxnId) (b : Ballot) (body : BodyParts) (share : List (Key × Bool)) (top : ℕ) : Type 0 where
-  pub allowed :
-      is_allowed old x b ≡ true
-      → IsLearntAs old new x share (Some (view_at old x share top).vote) (top_with old top (view_at old x share top).vote)
-      (granted_at old x b body (view_at old x share top))
-  pub forbidden :
-      is_allowed old x b ≡ false → IsLearntAs old new x share None top (known_or_fresh (record_at old.records x) x body)
+-- where the ballot is allowed, the vote is noted and kept and the ballot promised; where it isn't, the record stays
+abbrev pub stamp_if : Bool → View → Option Stamp
+stamp_if true view = Some view.vote
+stamp_if false view = None
+
+abbrev pub top_if : Bool → Shelf → ℕ → View → ℕ
+top_if true shelf top view = top_with shelf top view.vote
+top_if false shelf top view = top
+
+abbrev pub change_if : Bool → Ballot → View → Change
+change_if true b view = Grants b (record { stamp = view.vote; deps = view.vote_deps })
+change_if false b view = Stays

@@ -2,8 +2,7 @@
 #![tactic(auto)]
 
 mod evidence;
-mod grant;
 mod recover;
 mod view;
 
-pub use recover::{answer_recover, on_recover};
+pub use recover::prepare_recover;

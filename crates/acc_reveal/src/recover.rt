@@ -1,38 +1,30 @@
-//! A store's step on Recover.
-ghost use Rattle.std.specs.Prelude.{◌≡◌, ◌<◌, ◌^◌, ◌∷◌, [], List, None, Some, IsTrue, IfOk, OnOk, OnErr};
-ghost use Rattle.acc_message.specs.declared.message.Message.{Message};
+//! A store's step on Recover, as it is planned.
+ghost use Rattle.std.specs.Prelude.{◌≡◌, ◌<◌, ◌^◌, ◌∷◌, [], IsTrue, IfOk};
+ghost use Rattle.std.specs.Option.{option_copied};
 ghost use Rattle.acc_message.specs.Fields.{top_of};
-ghost use Rattle.acc_message.specs.VoteRule.{drawn_as};
-ghost use Rattle.acc_message.specs.StoreRules.{store_answer, replay};
-ghost use Rattle.acc_record.specs.Shelf.{IsSame, record_at};
-ghost use Rattle.acc_record.specs.Stands.{IsFor, StandsFor, AnswersByRules};
-ghost use Rattle.acc_record.specs.Learning.{IsLearnt};
-ghost use Rattle.acc_record.specs.LearntAs.{IsLearntAs};
-ghost use Rattle.acc_reveal.specs.Revealed.{promised_in, is_allowed, is_recover, revealed, refused, answer_at, view_at, granted_at, top_with, share_at, IsRecovering};
+ghost use Rattle.acc_record.specs.Planned.{IsPlannedAs, IsPlanned};
+ghost use Rattle.acc_reveal.specs.Revealed.{promised_in, is_allowed, is_recover, answer_at, view_at, stamp_if, top_if, change_if};
 
-use crate::grant::grant;
 use crate::view::view;
 use acc_base::OutOfMemory;
-use acc_deps::{SharedView, View};
+use acc_deps::SharedView;
 use acc_index::Share;
 use acc_message::{Message, top};
-use acc_record::{Shelf, answering};
-use acc_stamp::{Actor, Ballot, Stamp, TxnId};
+use acc_record::{Change, QuietPlan, Record, Shelf, Vote, answering, drawn, note_of};
+use acc_stamp::{Ballot, TxnId};
 use acc_topology::Topology;
 use acc_txn::Body;
 
-/// The step of a store that takes a Recover: what it answers. Without memory for it the shelf is as before.
-pub fn on_recover(
-    shelf: &mut Shelf,
+/// Plans the step of a store that takes a Recover. Nothing changes yet.
+pub fn prepare_recover(
+    shelf: &Shelf,
     topology: &Topology,
     m: &Message,
-) -> Result<Message, OutOfMemory>
-    requires store { IsFor shelf.old.actor m.now }
+) -> Result<QuietPlan, OutOfMemory>
     requires recover { IsTrue (is_recover m.now) }
     requires top { top_of m.now < 2 ^ 62 }
-    requires greatest { shelf.old.greatest < 2 ^ 62 }
-    ensures ok { IfOk result (λ answer. AnswersByRules topology.now shelf.old shelf.new m.now (answer ∷ [])) }
-    ensures err { OnErr result (IsSame shelf.old shelf.new) }
+    requires greatest { shelf.now.greatest < 2 ^ 62 }
+    ensures { IfOk result (IsPlanned topology.now shelf.now m.now) }
 {
     match m {
         Message::Recover {
@@ -42,114 +34,50 @@ pub fn on_recover(
             ..
         } => {
             let share = shelf.share(topology, *id, body)?;
-            recover(shelf, *id, *ballot, body, &share, top(m))
+            prepare(shelf, *id, *ballot, body, share, top(m))
         }
         _ => unreachable!(),
     }
 }
 
-/// What a store answers to a Recover, without the step.
-pub fn answer_recover(
-    shelf: &Shelf,
-    topology: &Topology,
-    m: &Message,
-) -> Result<Message, OutOfMemory>
-    requires recover { IsTrue (is_recover m.now) }
-    requires top { top_of m.now < 2 ^ 62 }
-    requires greatest { shelf.now.greatest < 2 ^ 62 }
-    ensures { IfOk result (λ answer. (messages : List Message) → StandsFor topology.now shelf.now (replay topology.now shelf.now.actor messages) → answer ∷ [] ≡ store_answer topology.now shelf.now.actor (replay topology.now shelf.now.actor messages) m.now) }
-{
-    match m {
-        Message::Recover {
-            id,
-            ballot,
-            body,
-            ..
-        } => {
-            let share = shelf.share(topology, *id, body)?;
-            answer(shelf, *id, *ballot, &share, top(m))
-        }
-        _ => unreachable!(),
-    }
-}
-
-fn answer(
+fn prepare(
     shelf: &Shelf,
     id: TxnId,
     ballot: Ballot,
-    share: &Share,
+    body: &Body,
+    share: Share,
     top: u64,
-) -> Result<Message, OutOfMemory>
+) -> Result<QuietPlan, OutOfMemory>
     requires greatest { shelf.now.greatest < 2 ^ 62 }
     requires top { top < 2 ^ 62 }
-    ensures { IfOk result (λ answer. answer ≡ answer_at shelf.now id ballot share.now top) }
+    ensures plans { IfOk result (IsPlannedAs shelf.now id body.now share (stamp_if (is_allowed shelf.now id ballot) (view_at shelf.now id share top)) (top_if (is_allowed shelf.now id ballot) shelf.now top (view_at shelf.now id share top))) }
+    ensures changes { IfOk result (λ plan. plan.change ≡ change_if (is_allowed shelf.now id ballot) ballot (view_at shelf.now id share top)) }
+    ensures sends { IfOk result (λ plan. plan.sent ≡ answer_at shelf.now id ballot share top ∷ []) }
 {
-    let promised = promised(shelf, id);
+    let there = shelf.find(id);
+    let promised = promised(there);
     if promised < ballot {
-        let view = view(shelf, id, share, top)?;
-        Ok(answering(shelf, id, ballot).recover_ok(SharedView::new(view)?))
+        let view = view(shelf, id, &share, top)?;
+        let deps = view.vote_deps.copy()?;
+        let stamp = view.vote;
+        let answer = answering(shelf, id, ballot).recover_ok(SharedView::new(view)?);
+        let note = note_of(there, id, share, Some(stamp));
+        let top = top.max(drawn(shelf.actor, stamp));
+        let vote = Vote { stamp, deps };
+        let change = Change::Grants { ballot, vote };
+        QuietPlan::new(there, id, body, note, top, change, answer)
     } else {
-        Ok(answering(shelf, id, ballot).nack(promised))
+        let answer = answering(shelf, id, ballot).nack(promised);
+        let note = note_of(there, id, share, None);
+        QuietPlan::new(there, id, body, note, top, Change::Stays, answer)
     }
 }
 
-fn recover(
-    shelf: &mut Shelf,
-    id: TxnId,
-    ballot: Ballot,
-    body: &Body,
-    share: &Share,
-    top: u64,
-) -> Result<Message, OutOfMemory>
-    requires greatest { shelf.old.greatest < 2 ^ 62 }
-    requires top { top < 2 ^ 62 }
-    ensures answer { IfOk result (λ answer. answer ≡ answer_at shelf.old id ballot share.now top) }
-    ensures ok { OnOk result (IsRecovering shelf.old shelf.new id ballot body.now share.now top) }
-    ensures err { OnErr result (IsSame shelf.old shelf.new) }
+// The ballot that a record promises.
+fn promised(there: Option<&Record>) -> Ballot
+    ensures { result ≡ promised_in (option_copied there.entry) }
 {
-    let promised = promised(shelf, id);
-    if promised < ballot {
-        let view = view(shelf, id, share, top)?;
-        let shared = SharedView::new(view)?;
-        learn_granted(shelf, id, ballot, body, share, top, shared.view())?;
-        Ok(answering(shelf, id, ballot).recover_ok(shared))
-    } else {
-        shelf.learn(id, body, share, None, top)?;
-        Ok(answering(shelf, id, ballot).nack(promised))
-    }
-}
-
-// Learns of the transaction and of the vote, and grants the ballot.
-fn learn_granted(
-    shelf: &mut Shelf,
-    id: TxnId,
-    ballot: Ballot,
-    body: &Body,
-    share: &Share,
-    top: u64,
-    view: &View,
-) -> Result<(), OutOfMemory>
-    ensures ok { OnOk result (IsLearntAs shelf.old shelf.new id share.now (Some view.now.vote) (top_with shelf.old top view.now.vote) (granted_at shelf.old id ballot body.now view.now)) }
-    ensures err { OnErr result (IsSame shelf.old shelf.new) }
-{
-    let deps = view.vote_deps.copy()?;
-    let top = top.max(drawn(shelf.actor, view.vote));
-    shelf.learn(id, body, share, Some(view.vote), top)?;
-    grant(&mut shelf.records, id, ballot, view.vote, deps);
-    Ok(())
-}
-
-// The `h` of a vote that the store drew.
-fn drawn(actor: Actor, vote: Stamp) -> u64
-    ensures { result ≡ drawn_as actor.0 vote }
-{
-    if vote.origin == actor.0 { vote.h } else { 0 }
-}
-
-fn promised(shelf: &Shelf, id: TxnId) -> Ballot
-    ensures { result ≡ promised_in (record_at shelf.now.records id) }
-{
-    match shelf.find(id) {
+    match there {
         Some(record) => record.promised,
         None => Ballot::ZERO,
     }

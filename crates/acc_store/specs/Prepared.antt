@@ -1,10 +1,11 @@
 -- When a step is planned for a store and a message.
-use Rattle.std.specs.Prelude.{◌≡◌, true, false, List}
+use Rattle.std.specs.Prelude.{◌≡◌, true, List}
 use Rattle.acc_topology.specs.Layout.{Layout}
 use Rattle.acc_message.specs.declared.message.Message.{Message}
 use Rattle.acc_message.specs.Opening.{may_open}
 use Rattle.acc_message.specs.StoreRules.{store_answer, replay}
 use Rattle.acc_record.specs.declared.shelf.Shelf.{Shelf}
+use Rattle.acc_record.specs.Planned.{IsPlanned}
 use Rattle.acc_record.specs.Stands.{StandsFor}
 use Rattle.acc_execute.specs.Executed.{IsReady}
 use Rattle.acc_execute.specs.declared.step.PreparedStep.{PreparedStep}
@@ -22,7 +23,11 @@ pub record IsOpening (layout : Layout) (shelf : Shelf) (m : Message) (step : Pre
 
 abbrev pub IsPreparedAt : Layout → Shelf → Message → Prepared → Type 0
 IsPreparedAt layout shelf m (Opens step) = IsOpening layout shelf m step
-IsPreparedAt layout shelf m Quiet = may_open m ≡ false
+IsPreparedAt layout shelf m (Quiet plan) = IsPlanned layout shelf m plan
+
+abbrev pub sent_by : Prepared → List Message
+sent_by (Opens step) = step.parts.value.sent
+sent_by (Quiet plan) = plan.sent
 
 -- planned for the message, while the store is this one
 abbrev pub IsPrepared : Layout → Store → Message → Prepared → Type 0

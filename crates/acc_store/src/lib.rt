@@ -3,7 +3,6 @@
 
 pub mod laws;
 mod queries;
-mod quiet;
 mod steps;
 mod store;
 

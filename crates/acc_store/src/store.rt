@@ -13,7 +13,6 @@ ghost use Rattle.acc_message_code.specs.Weight.{weight_of_all};
 ghost use Rattle.acc_record.specs.Stands.{IsFor};
 
 use crate::queries::{are_applied, body_in, unapplied};
-use crate::quiet::answers_quiet;
 use crate::steps::{Prepared, prepare, take};
 use acc_base::OutOfMemory;
 use acc_message::{Message, Messages};
@@ -80,6 +79,9 @@ impl Store {
 
     /// Plans the step that takes a message. It can be weighed and taken as long as the store takes no other.
     pub fn prepare(&self, topology: &Topology, m: &Message) -> Result<Prepared, OutOfMemory>
+        requires store { IsFor (actor_of self.now) m.now }
+        requires top { top_of m.now < 2 ^ 62 }
+        requires greatest { greatest_in self.now < 2 ^ 62 }
         requires stands { IsStanding topology.now self.now }
         ensures { IfOk result (IsPrepared topology.now self.now m.now) }
     {
@@ -120,13 +122,7 @@ impl Store {
         requires prepared { IsPrepared topology.now self.now m.now prepared.now }
         ensures { IfOk result (λ weight. (messages : List Message) → StandsFor topology.now self.now (replay topology.now (actor_of self.now) messages) → weight ≡ weight_of_all (store_answer topology.now (actor_of self.now) (replay topology.now (actor_of self.now) messages) m.now)) }
     {
-        match prepared {
-            Prepared::Opens(step) => Ok(length_of(step.sent())),
-            Prepared::Quiet => {
-                let sent = answers_quiet(&self.shelf, topology, m)?;
-                Ok(length_of(&sent))
-            }
-        }
+        Ok(length_of(prepared.sent()))
     }
 
     /// The transactions that the store knows and that write a key of its shard, rising.

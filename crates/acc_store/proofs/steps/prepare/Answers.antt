@@ -1,13 +1,19 @@
-use Rattle.std.proofs.Common.{sym, ◌∙◌}
+use Rattle.std.proofs.Common.{ap}
+use Rattle.acc_message.specs.Opening.{may_open}
 use Rattle.acc_store.proofs.steps.prepare.Goals as goal
 
-pub returns-then-not-may_open : goal.returns-then-not-may_open
-returns-then-not-may_open c = sym c.may_open.ensures ∙ c.if-not-may_open.true
-
-pub returns : goal.returns
-returns c =
+pub returns-in_ok-prepare_stable-in-Stable : goal.returns-in_ok-prepare_stable-in-Stable
+returns-in_ok-prepare_stable-in-Stable c =
     record {
-      opening = sym c.may_open.ensures ∙ c.if-not-may_open.false;
-      ready = c.in_ok-step.ensures.ready;
-      answers = c.in_ok-step.ensures.answers;
+      opening = ap may_open c.in-Stable.is;
+      ready = c.in_ok-prepare_stable-in-Stable.ensures.ready;
+      answers = c.in_ok-prepare_stable-in-Stable.ensures.answers;
+    }
+
+pub returns-in_ok-prepare_apply-in-Apply : goal.returns-in_ok-prepare_apply-in-Apply
+returns-in_ok-prepare_apply-in-Apply c =
+    record {
+      opening = ap may_open c.in-Apply.is;
+      ready = c.in_ok-prepare_apply-in-Apply.ensures.ready;
+      answers = c.in_ok-prepare_apply-in-Apply.ensures.answers;
     }

@@ -3,7 +3,7 @@ use Rattle.std.proofs.Common.{◌≡◌, ◌≢◌, [], Err, false, sym, ap, sub
 use Rattle.acc_journal.specs.Calls.{Appends}
 use Rattle.acc_journal.proofs.Appends.{either_now}
 use Rattle.acc_durable_store.specs.declared.error.StepError.{StepError}
-use Rattle.acc_durable_store.specs.Store.{answer_of, FailsToSettle}
+use Rattle.acc_durable_store.specs.Store.{step_answer, FailsToSettle}
 use Rattle.acc_durable_store.specs.Actor.{is_shut}
 use Rattle.acc_durable_store.proofs.StoreActors.{up_in}
 use Rattle.acc_durable_store.proofs.StoreSteps.{gives, given_stands, stopped_stands, stopped_strictly}
@@ -42,5 +42,5 @@ returns-in-Err-DiskFault-clause-strict g c = λ layout own version armed passed 
     let sound : c.in-Open.store.journal.broken ≡ false = ap is_shut (sym c.in-Open.is) ∙ c.requires.up in
     let fails = subst (FailsToSettle c.settle.new.self) c.in-Err-DiskFault.field-0-is c.in-Err-DiskFault.ensures.err in
     let some : c.in-Open.store.journal.group ≢ [] = λ none. cc ((c.settle.ensures.nothing none).0, c.in-Err-DiskFault.is) in
-    let appends = subst (λ (e : StepError). Appends g.D.Disk c.in-Open.store.journal.disk c.settle.new.self.journal.disk c.in-Open.store.journal.payloads c.in-Open.store.journal.group (answer_of {T = Unit {0}} (Err e))) c.in-Err-DiskFault.field-0-is (c.in-Err-DiskFault.ensures.appends some) in
+    let appends = subst (λ (e : StepError). Appends g.D.Disk c.in-Open.store.journal.disk c.settle.new.self.journal.disk c.in-Open.store.journal.payloads c.in-Open.store.journal.group (step_answer {T = Unit {0}} (Err e))) c.in-Err-DiskFault.field-0-is (c.in-Err-DiskFault.ensures.appends some) in
     stopped_strictly g.D.Disk layout c.args.self.now c.in-Open.store c.settle.new.self c.in-Open.is sound own version past staged stands c.settle.ensures.same armed passed at appends.calls.kind c.kept-kept.result fails.0 appends

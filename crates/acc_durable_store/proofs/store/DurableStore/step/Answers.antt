@@ -9,7 +9,7 @@ use Rattle.acc_journal.proofs.Appends.{no_append}
 use Rattle.acc_payloads.specs.Journals.{appended}
 use Rattle.acc_durable_store.specs.declared.error.StepError.{StepError}
 use Rattle.acc_durable_store.specs.Staged.{StagedState}
-use Rattle.acc_durable_store.specs.Store.{answer_of}
+use Rattle.acc_durable_store.specs.Store.{step_answer}
 use Rattle.acc_payloads.proofs.Groups.{group_has_some}
 use Rattle.acc_durable_store.proofs.Appended.{staged_appends}
 use Rattle.acc_durable_store.proofs.store.DurableStore.step.Goals as goal
@@ -24,14 +24,14 @@ pub returns-in_err-prepared-clause-appends : goal.returns-in_err-prepared-clause
 returns-in_err-prepared-clause-appends g c =
     let p = err_from_is_err_and c.from_residual.result c.from_residual.ensures.1 in
     let journal = c.args.self.now.journal in
-    subst (λ (r : Result (List Message) StepError). Appends g.D.Disk journal.disk journal.disk journal.payloads (appended c.args.self.now.version c.args.self.now.marked (message_bytes c.args.m.now)) (answer_of r)) (sym (p.1 ∙ ap Err p.2))
+    subst (λ (r : Result (List Message) StepError). Appends g.D.Disk journal.disk journal.disk journal.payloads (appended c.args.self.now.version c.args.self.now.marked (message_bytes c.args.m.now)) (step_answer r)) (sym (p.1 ∙ ap Err p.2))
     (no_append g.D.Disk journal.disk journal.disk journal.payloads _ (g.met.D.Disk.only_now journal.disk) (c.is_broken-sound.ensures.sound c.requires.sound) refl)
 
 pub returns-in_err-sent-clause-appends : goal.returns-in_err-sent-clause-appends
 returns-in_err-sent-clause-appends g c =
     let p = err_from_is_err_and c.from_residual-in_err-sent.result c.from_residual-in_err-sent.ensures.1 in
     let journal = c.args.self.now.journal in
-    subst (λ (r : Result (List Message) StepError). Appends g.D.Disk journal.disk c.stage.new.self.journal.disk journal.payloads (appended c.args.self.now.version c.args.self.now.marked (message_bytes c.args.m.now)) (answer_of r)) (sym (p.1 ∙ ap Err p.2))
+    subst (λ (r : Result (List Message) StepError). Appends g.D.Disk journal.disk c.stage.new.self.journal.disk journal.payloads (appended c.args.self.now.version c.args.self.now.marked (message_bytes c.args.m.now)) (step_answer r)) (sym (p.1 ∙ ap Err p.2))
     (no_append g.D.Disk journal.disk c.stage.new.self.journal.disk journal.payloads _ (g.met.D.Disk.only_now journal.disk) (c.is_broken-sound.ensures.sound c.requires.sound)
     (ap (λ (j : StagedState g.row.D.Denot). j.disk) c.in_err-sent.ensures.err.journal))
 
@@ -51,11 +51,11 @@ returns-in-Err-DiskFault-clause-appends g c =
     let some : c.stage.new.self.journal.group ≢ [] =
     some_staged _ c.args.self.now.journal.group _ (ap (λ (j : StagedState g.row.D.Denot). j.group) c.in_ok-sent.ensures.journal) (group_has_some c.args.self.now.version c.args.self.now.marked (message_bytes c.args.m.now)) in
     staged_appends g.D.Disk c.args.self.now.journal c.stage.new.self.journal c.settle.new.self.journal.disk _ _ c.in_ok-sent.ensures.journal c.requires.none_staged
-    (subst (λ (e : StepError). Appends g.D.Disk c.stage.new.self.journal.disk c.settle.new.self.journal.disk c.stage.new.self.journal.payloads c.stage.new.self.journal.group (answer_of {T = Unit {0}} (Err e))) c.in-Err-DiskFault.field-0-is (c.in-Err-DiskFault.ensures.appends some))
+    (subst (λ (e : StepError). Appends g.D.Disk c.stage.new.self.journal.disk c.settle.new.self.journal.disk c.stage.new.self.journal.payloads c.stage.new.self.journal.group (step_answer {T = Unit {0}} (Err e))) c.in-Err-DiskFault.field-0-is (c.in-Err-DiskFault.ensures.appends some))
 
 pub returns-in-Err-OutOfMemory-clause-appends : goal.returns-in-Err-OutOfMemory-clause-appends
 returns-in-Err-OutOfMemory-clause-appends g c =
     let some : c.stage.new.self.journal.group ≢ [] =
     some_staged _ c.args.self.now.journal.group _ (ap (λ (j : StagedState g.row.D.Denot). j.group) c.in_ok-sent.ensures.journal) (group_has_some c.args.self.now.version c.args.self.now.marked (message_bytes c.args.m.now)) in
     staged_appends g.D.Disk c.args.self.now.journal c.stage.new.self.journal c.settle.new.self.journal.disk _ _ c.in_ok-sent.ensures.journal c.requires.none_staged
-    (subst (λ (e : StepError). Appends g.D.Disk c.stage.new.self.journal.disk c.settle.new.self.journal.disk c.stage.new.self.journal.payloads c.stage.new.self.journal.group (answer_of {T = Unit {0}} (Err e))) c.in-Err-OutOfMemory.field-0-is (c.in-Err-OutOfMemory.ensures.appends some))
+    (subst (λ (e : StepError). Appends g.D.Disk c.stage.new.self.journal.disk c.settle.new.self.journal.disk c.stage.new.self.journal.payloads c.stage.new.self.journal.group (step_answer {T = Unit {0}} (Err e))) c.in-Err-OutOfMemory.field-0-is (c.in-Err-OutOfMemory.ensures.appends some))

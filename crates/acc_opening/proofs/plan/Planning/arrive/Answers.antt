@@ -14,8 +14,8 @@ no_items : (list : List Watch) → (length list == 0) ≡ true → list ≡ []
 no_items [] h = refl
 no_items (w ∷ list) h = absurd (omega (arith, eqb-true (length (w ∷ list)) 0 h))
 
-pub returns-in_default : goal.returns-in_default
-returns-in_default c = absurd (true≢false (sym c.requires.known.stable ∙ ap is_some c.in_default.is))
+pub unreachable-requires : goal.unreachable-requires
+unreachable-requires c = true≢false (sym c.requires.known.stable ∙ ap is_some c.in_default.is)
 
 pub wake_all-requires : goal.wake_all-requires
 wake_all-requires c =

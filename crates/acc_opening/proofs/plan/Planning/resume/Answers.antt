@@ -13,8 +13,8 @@ use Rattle.acc_opening.proofs.QueueFacts.{alone}
 use Rattle.acc_opening.proofs.Resume.{resumed_idle, resumed_due}
 use Rattle.acc_opening.proofs.plan.Planning.resume.Goals as goal
 
-pub returns-in_default : goal.returns-in_default
-returns-in_default c = absurd (true≢false (sym c.requires.known.stable ∙ ap is_some c.in_default.is))
+pub unreachable-requires : goal.unreachable-requires
+unreachable-requires c = true≢false (sym c.requires.known.stable ∙ ap is_some c.in_default.is)
 
 pub returns-then-not-is_due : goal.returns-then-not-is_due
 returns-then-not-is_due c =

@@ -16,16 +16,16 @@ use Rattle.acc_opening.proofs.plan.Planning.wake.Goals as goal
 abbrev no_id : TxnId
 no_id = record { 0 = record { h = 0; origin = 0 } }
 
-pub returns-in_default-clause-after : goal.returns-in_default-clause-after
-returns-in_default-clause-after c =
+pub unreachable-requires : goal.unreachable-requires
+unreachable-requires c =
     let s = front c.args.known.now.shard _ _ c.args.woken.now c.args.place _ _ _ c.requires.one c.requires.before in
-    absurd (unknown c.args.known.now.shard _ _ _ _ _ _ s c.in_default.ensures)
+    unknown c.args.known.now.shard _ _ _ _ _ _ s c.in_default.ensures
 
-pub returns-in_default-stable-clause-after : goal.returns-in_default-stable-clause-after
-returns-in_default-stable-clause-after c =
+pub unreachable-requires-in_default-stable : goal.unreachable-requires-in_default-stable
+unreachable-requires-in_default-stable c =
     let s = front c.args.known.now.shard _ _ c.args.woken.now c.args.place _ _ _ c.requires.one c.requires.before in
     let r = c.in-Some.there.now in
-    absurd (unsettled c.args.known.now.shard _ _ _ _ _ _ s r (sym c.in-Some.ensures) c.in_default-stable.is)
+    unsettled c.args.known.now.shard _ _ _ _ _ _ s r (sym c.in-Some.ensures) c.in_default-stable.is
 
 pub returns-in-Some-last_held-clause-after : goal.returns-in-Some-last_held-clause-after
 returns-in-Some-last_held-clause-after c =
