@@ -11,7 +11,7 @@ use Rattle.acc_journal.specs.declared.error.JournalError.TheVariants as journal
 use Rattle.acc_journal.specs.Errors.{journal_error, port_error}
 use Rattle.acc_journal.specs.Layout.{Reads, payloads_of}
 use Rattle.acc_journal.specs.Journal.{ReadsAsEither, HasGateAt, IsGroup, IsSettled, FailedHalfWay}
-use Rattle.acc_journal.specs.Calls.{Asks, Appends, answer_of}
+use Rattle.acc_journal.specs.Calls.{Asks, Appends, journal_answer}
 use Rattle.acc_journal.proofs.Appending.{staged as laid, is_staged, has_gate, after_first, after_second}
 use Rattle.acc_journal.proofs.Choices.{first_failed, second_failed}
 use Rattle.acc_journal.proofs.Rows.{asks_both, asks_fewer, answer_error}
@@ -63,7 +63,7 @@ module _ {D : Type 0} (port : Ghosts D) (old : D) (gate : ℕ) (settled : IsSett
     }
 
 -- the error of a journal that came of one of its disk
-pub appends_told : {D : Type 0} (port : Ghosts D) (T : Type 0) (old new : D) (payloads group : List (List ℕ)) (refused : PortError) (told : JournalError) → told ≡ journal_error refused → Appends port old new payloads group (Err refused) → Appends port old new payloads group (answer_of {T = T} (Err told))
+pub appends_told : {D : Type 0} (port : Ghosts D) (T : Type 0) (old new : D) (payloads group : List (List ℕ)) (refused : PortError) (told : JournalError) → told ≡ journal_error refused → Appends port old new payloads group (Err refused) → Appends port old new payloads group (journal_answer {T = T} (Err told))
 appends_told port T old new payloads group refused told is appends = subst (λ a. Appends port old new payloads group a) (sym (answer_error T refused told is)) appends
 
 -- an error of a journal other than a fault

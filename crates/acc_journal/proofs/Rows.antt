@@ -9,11 +9,11 @@ use Rattle.acc_ports.specs.declared.disk.Disk.{Ghosts}
 use Rattle.acc_ports.specs.State.{DiskState}
 use Rattle.acc_ports.specs.Faults.{Rose}
 use Rattle.acc_ports.specs.Strict.{after_call, WithMemory, FailsArmed}
-use Rattle.acc_ports.specs.Disk.{Calls}
+use Rattle.acc_ports.specs.Disk.{EachCall}
 use Rattle.acc_journal.specs.declared.error.JournalError.{JournalError}
 use Rattle.acc_journal.specs.declared.error.JournalError.TheVariants as journal
 use Rattle.acc_journal.specs.Errors.{journal_error}
-use Rattle.acc_journal.specs.Calls.{Answer, ending_of, answer_of, after_calls, FailsWithin, FailsIn, Asks}
+use Rattle.acc_journal.specs.Calls.{Answer, ending_of, journal_answer, after_calls, FailsWithin, FailsIn, Asks}
 
 passes_one : (calls : ℕ) → 0 < calls → after_call (Some calls) ≡ Some (calls - 1)
 passes_one calls some = let test : (calls == 0) ≡ false = grind (arith, nat_tests) in rw test refl
@@ -104,7 +104,7 @@ fails_both m n old mid new answer first second = record {
 -- what calls in a row ask of the disk, of a kind that port tells of
 module _ {D : Type 0} (port : Ghosts D) where
   -- one call
-  pub asks_one : {T : Type 0} (old new : D) (past since : ℕ → List ℕ → Type 0) (images : List ℕ → Type 0) (result : Result T PortError) → Calls (port.state old) (port.state new) past since images result → Asks port 1 old new (ending_of result)
+  pub asks_one : {T : Type 0} (old new : D) (past since : ℕ → List ℕ → Type 0) (images : List ℕ → Type 0) (result : Result T PortError) → EachCall (port.state old) (port.state new) past since images result → Asks port 1 old new (ending_of result)
   asks_one old new past since images result call = record {
     kind = call.kind;
     faults = record { cause = λ failed. call.faults.cause (failed_too result failed); unfailed = λ not. call.faults.unfailed (λ failed. not (failed_so result failed)) };
@@ -140,7 +140,7 @@ module _ {D : Type 0} (port : Ghosts D) where
     strict = λ strict. record { counts = tt; early = λ within. refl; late = λ not failed. cc failed };
   }
 
-  pub asks_told : {T : Type 0} (m : ℕ) (old new : D) (told : Result T JournalError) → told ≢ Err journal.DiskFault → Asks port m old new (Ok tt) → Asks port m old new (answer_of told)
+  pub asks_told : {T : Type 0} (m : ℕ) (old new : D) (told : Result T JournalError) → told ≢ Err journal.DiskFault → Asks port m old new (Ok tt) → Asks port m old new (journal_answer told)
   asks_told m old new (Ok value) not asks = asks
   asks_told m old new (Err journal.DiskFault) not asks = absurd (not refl)
   asks_told m old new (Err (journal.BadVersion version)) not asks = asks_refused m old new asks
@@ -148,9 +148,9 @@ module _ {D : Type 0} (port : Ghosts D) where
   asks_told m old new (Err journal.OutOfMemory) not asks = asks_refused m old new asks
 
 -- the error of a journal that came of one of its disk
-pub answer_error : (T : Type 0) (refused : PortError) (told : JournalError) → told ≡ journal_error refused → answer_of {T = T} (Err told) ≡ Err refused
-answer_error T refused told is = ap (λ (e : JournalError). answer_of {T = T} (Err e)) is ∙ named refused
+pub answer_error : (T : Type 0) (refused : PortError) (told : JournalError) → told ≡ journal_error refused → journal_answer {T = T} (Err told) ≡ Err refused
+answer_error T refused told is = ap (λ (e : JournalError). journal_answer {T = T} (Err e)) is ∙ named refused
   where
-    named : (e : PortError) → answer_of {T = T} (Err (journal_error e)) ≡ Err e
+    named : (e : PortError) → journal_answer {T = T} (Err (journal_error e)) ≡ Err e
     named Failed = refl
     named OutOfMemory = refl

@@ -5,8 +5,8 @@ use Rattle.acc_ports.specs.declared.error.PortError.TheVariants as error
 use Rattle.acc_ports.specs.declared.disk.Disk.{Ghosts}
 use Rattle.acc_ports.specs.State.{DiskState}
 use Rattle.acc_ports.specs.Faults.{CountsFaults}
-use Rattle.acc_ports.specs.Strict.{after_call}
-use Rattle.acc_ports.specs.Disk.{Only, CrashLeaves}
+use Rattle.acc_ports.specs.Strict.{after_call, WithMemory}
+use Rattle.acc_ports.specs.Disk.{Only, IsAtRest, CrashLeaves}
 use Rattle.acc_ports.specs.Moments.{LeavesOnly}
 use Rattle.acc_journal.specs.declared.error.JournalError.{JournalError}
 use Rattle.acc_journal.specs.Errors.{port_error}
@@ -21,10 +21,11 @@ abbrev pub ending_of : {T : Type 0} → Result T PortError → Answer
 ending_of (Ok value) = Ok tt
 ending_of (Err refused) = Err refused
 
--- what the disk answered, where the journal answered this
-abbrev pub answer_of : {T : Type 0} → Result T JournalError → Answer
-answer_of (Ok value) = Ok tt
-answer_of (Err refused) = Err (port_error refused)
+-- what stands for the answer of the disk, where the journal answered this: an error that is no fault of the disk counts as want of
+-- memory
+abbrev pub journal_answer : {T : Type 0} → Result T JournalError → Answer
+journal_answer (Ok value) = Ok tt
+journal_answer (Err refused) = Err (port_error refused)
 
 -- ---- several calls in a row
 
@@ -52,10 +53,11 @@ pub record Asks {D : Type 0} (port : Ghosts D) (calls : ℕ) (old new : D) (answ
 
 -- ---- what a journal asks of its disk
 
--- A disk at rest is read in two calls, and nothing is written.
+-- A disk at rest is read in two calls, and nothing is written. It is at rest still, where it isn't memory that was missing.
 pub record ReadsDisk {D : Type 0} (port : Ghosts D) (old new : D) (answer : Answer) : Type 0 where
   pub content : (port.state new).content ≡ (port.state old).content
   pub only : Only (port.state old).content (port.is_image new)
+  pub rest : WithMemory answer (IsAtRest (port.state new) (port.is_image new))
   pub any_moment : LeavesOnly port old new (λ image. image ≡ (port.state old).content)
   pub calls : Asks port 2 old new answer
 

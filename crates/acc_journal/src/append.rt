@@ -3,7 +3,7 @@ ghost use Rattle.std.specs.Prelude.{◌≡◌, ◌+◌, ◌^◌, ◌<◌, ℕ, L
 ghost use Rattle.acc_ports.specs.Disk.{IsAtRest};
 ghost use Rattle.acc_journal.specs.Layout.{payloads_of};
 ghost use Rattle.acc_journal.specs.Journal.{IsSettled, IsOfTheDisk, HasGateAt, IsGroup};
-ghost use Rattle.acc_journal.specs.Calls.{Appends, ending_of, answer_of};
+ghost use Rattle.acc_journal.specs.Calls.{Appends, ending_of, journal_answer};
 
 use crate::JournalError;
 use crate::durable::write_durably;
@@ -41,7 +41,7 @@ pub(crate) fn put_down<D: Disk>(
     ensures settled { (group : List (List ℕ)) → IsGroup group bytes.now → broken.new ≡ false → IsSettled (D.state disk.new) (D.is_image disk.new) gate.new }
     ensures broken { OnErr result (broken.new ≡ true) }
     ensures error { IfErr result IsOfTheDisk }
-    ensures appends { (group : List (List ℕ)) → IsGroup group bytes.now → Appends D.Disk disk.old disk.new (payloads_of (D.state disk.old).content) group (answer_of result) }
+    ensures appends { (group : List (List ℕ)) → IsGroup group bytes.now → Appends D.Disk disk.old disk.new (payloads_of (D.state disk.old).content) group (journal_answer result) }
 {
     match append_records(disk, *gate, bytes) {
         Ok(place) => {

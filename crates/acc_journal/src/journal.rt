@@ -1,5 +1,5 @@
 //! A journal on a disk.
-ghost use Rattle.std.specs.Prelude.{◌≡◌, ◌^◌, ◌<◌, ◌≤◌, true, false, List, [], ◌∷◌, ◌++◌, ℕ, length, Ok, Err, IfOk, IfErr, OnOk, OnErr};
+ghost use Rattle.std.specs.Prelude.{◌≡◌, ◌≢◌, ◌^◌, ◌<◌, ◌≤◌, true, false, List, [], ◌∷◌, ◌++◌, ℕ, length, Ok, Err, IfOk, IfErr, OnOk, OnErr};
 ghost use Rattle.acc_ports.specs.Disk.{IsAtRest};
 ghost use Rattle.acc_ports.specs.Moments.{Arms};
 
@@ -41,7 +41,7 @@ impl<D: Disk> Model for Journal<D> {
 impl<D: Disk> Journal<D> {
     ghost use Rattle.acc_journal.specs.Layout.{Reads, AreShort};
     ghost use Rattle.acc_journal.specs.Journal.{IsOfTheDisk, IsRefused, group_room};
-    ghost use Rattle.acc_journal.specs.Calls.{Appends, ReadsDisk, answer_of};
+    ghost use Rattle.acc_journal.specs.Calls.{Appends, ReadsDisk, journal_answer};
     ghost use Rattle.acc_journal.specs.Errors.{port_error};
 
     /// A journal without payloads, on a disk that holds the bytes 1 and 0, synced. It makes no call of the disk and takes no
@@ -68,6 +68,7 @@ impl<D: Disk> Journal<D> {
         ensures payloads { IfOk result (λ r. Reads (D.state disk).content r.1) }
         ensures reads { IfOk result (λ r. ReadsDisk D.Disk disk r.0.disk (Ok tt)) }
         ensures err_reads { IfErr result (λ e. ReadsDisk D.Disk disk e.1 (Err (port_error e.0))) }
+        ensures err_rest { IfErr result (λ e. e.0 ≢ JournalError.OutOfMemory → IsAtRest (D.state e.1) (D.is_image e.1)) }
         ensures refused { IfErr result (λ e. IsRefused (D.state disk).content e.0) }
         ensures never { (payloads : List (List ℕ)) → Reads (D.state disk).content payloads → IfErr result (λ e. IsOfTheDisk e.0) }
     {
@@ -111,7 +112,7 @@ impl<D: Disk> Journal<D> {
         ensures ok { OnOk result ((self.new.broken ≡ false) × (self.new.payloads ≡ self.old.payloads ++ payload.now ∷ [])) }
         ensures broken { OnErr result (self.new.broken ≡ true) }
         ensures error { IfErr result IsOfTheDisk }
-        ensures appends { Appends D.Disk self.old.disk self.new.disk self.old.payloads (payload.now ∷ []) (answer_of result) }
+        ensures appends { Appends D.Disk self.old.disk self.new.disk self.old.payloads (payload.now ∷ []) (journal_answer result) }
         ensures spare { self.old.spare ≤ self.new.spare }
     {
         if payload.is_empty() {
@@ -137,7 +138,7 @@ impl<D: Disk> Journal<D> {
         ensures ok { OnOk result ((self.new.broken ≡ false) × (self.new.payloads ≡ self.old.payloads ++ payloads.now)) }
         ensures broken { OnErr result (self.new.broken ≡ true) }
         ensures error { IfErr result IsOfTheDisk }
-        ensures appends { Appends D.Disk self.old.disk self.new.disk self.old.payloads payloads.now (answer_of result) }
+        ensures appends { Appends D.Disk self.old.disk self.new.disk self.old.payloads payloads.now (journal_answer result) }
         ensures spare { self.old.spare ≤ self.new.spare }
     {
         if let [payload] = payloads.as_slice() {
@@ -161,7 +162,7 @@ impl<D: Disk> Journal<D> {
         ensures ok { OnOk result ((self.new.broken ≡ false) × (self.new.payloads ≡ self.old.payloads ++ records.old)) }
         ensures broken { OnErr result (self.new.broken ≡ true) }
         ensures error { IfErr result IsOfTheDisk }
-        ensures appends { Appends D.Disk self.old.disk self.new.disk self.old.payloads records.old (answer_of result) }
+        ensures appends { Appends D.Disk self.old.disk self.new.disk self.old.payloads records.old (journal_answer result) }
         ensures spare { self.old.spare ≤ self.new.spare }
         ensures kept { records.new ≡ records.old }
     {
@@ -200,7 +201,8 @@ impl<D: Disk> Journal<D> {
 }
 
 impl<D: Rig> Journal<D> {
-    /// Arms a call of the disk: so many more pass, and the next one fails. It makes no call of the disk and takes no memory.
+    /// Arms a call of the disk: where that is strict, so many more pass and the next one fails. It makes no call of the disk and takes no
+    /// memory.
     pub fn arm(&mut self, calls: u64)
         ensures arms { Arms D.Disk calls self.old.disk self.new.disk }
         ensures same { self.new ≡ record self.old { disk = self.new.disk } }

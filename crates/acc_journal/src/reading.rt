@@ -3,7 +3,7 @@ ghost use Rattle.std.specs.Prelude.{◌≡◌, ◌≢◌, ◌+◌, ◌^◌, ◌<
 ghost use Rattle.acc_ports.specs.Disk.{IsAtRest};
 ghost use Rattle.acc_journal.specs.Layout.{sized, NoRecord};
 ghost use Rattle.acc_journal.specs.Journal.{HasGateAt, IsRefused};
-ghost use Rattle.acc_journal.specs.Calls.{ReadsDisk, answer_of};
+ghost use Rattle.acc_journal.specs.Calls.{ReadsDisk, journal_answer};
 
 use crate::{JournalError, Payloads};
 use acc_base::{Bytes, Sequence};
@@ -72,8 +72,9 @@ pub(crate) fn read_disk<D: Disk>(alloc: Global, disk: &mut D) -> Result<Told, Jo
     ensures told { IfOk result (λ told. HasGateAt (D.state disk.old).content told.payloads told.gate) }
     ensures refused { IfErr result (IsRefused (D.state disk.old).content) }
     ensures rest { OnOk result (IsAtRest (D.state disk.new) (D.is_image disk.new)) }
+    ensures err_rest { IfErr result (λ error. error ≢ JournalError.OutOfMemory → IsAtRest (D.state disk.new) (D.is_image disk.new)) }
     ensures fits { length (D.state disk.new).content < 2 ^ 64 }
-    ensures reads { ReadsDisk D.Disk disk.old disk.new (answer_of result) }
+    ensures reads { ReadsDisk D.Disk disk.old disk.new (journal_answer result) }
 {
     let count = disk.len()?;
     let mut bytes = Vec::new(alloc);

@@ -1,9 +1,10 @@
 -- Reads that follow one another.
-use Rattle.std.proofs.Common.{◌≡◌, ℕ, ◌+◌, ◌<◌, ◌≤◌, ◌++◌, [], ◌∷◌, List, length, take, drop, refl, ap, append_assoc, subst, arith, Option, Some, None, ◌∙◌, sym}
-use Rattle.std.specs.Prelude.{IfSome}
+use Rattle.std.proofs.Common.{All, ◌≡◌, ℕ, ◌+◌, ◌<◌, ◌≤◌, ◌++◌, [], ◌∷◌, List, length, take, drop, refl, ap, append_assoc, subst, arith, Option, Some, None, ◌∙◌, sym}
+use Rattle.std.specs.Prelude.{IfSome, sum}
 use Rattle.std.proofs.Math.Seq.{take-add}
-use Rattle.std.proofs.lemmas.List.Elements.{All-push}
-use Rattle.std.proofs.lemmas.List.{drop-drop, length-drop}
+use Rattle.std.proofs.lemmas.List.Elements.{All-nil, All-push}
+use Rattle.std.proofs.lemmas.List.Sums.{sum_by_push}
+use Rattle.std.proofs.lemmas.List.{append-nil, drop-drop, length-drop}
 use Rattle.acc_ports.specs.Source.{without_first, read_also, ReadsOn, ReadsToEnd}
 
 -- The first bytes, and then the first of the rest, are a longer front.
@@ -38,10 +39,31 @@ ReadsOn-more count before now after on is some = (
   is ∙ ap (λ (r : Option (List ℕ)). read_also (count ∷ []) r) on.2 ∙ read_also-add on.0 (count ∷ []) before,
 )
 
+-- There were further reads, which gave so many bytes together, each of them some.
+abbrev pub ReadsSoMany : ℕ → Option (List ℕ) → Option (List ℕ) → Type 0
+ReadsSoMany total before after = (counts : List ℕ) × All (λ count. 0 < count) counts × (sum counts ≡ total) × (after ≡ read_also counts before)
+
+pub ReadsSoMany-none : (reads : Option (List ℕ)) → ReadsSoMany 0 reads reads
+ReadsSoMany-none None = ([], All-nil (λ (n : ℕ). 0 < n), refl, refl)
+ReadsSoMany-none (Some counts) = ([], All-nil (λ (n : ℕ). 0 < n), refl, ap Some (sym (append-nil counts)))
+
+pub ReadsSoMany-more : (count filled : ℕ) (before now after : Option (List ℕ)) → ReadsSoMany filled before now → after ≡ read_also (count ∷ []) now → 0 < count
+    → ReadsSoMany (filled + count) before after
+ReadsSoMany-more count filled before now after on is some = (
+  on.0 ++ count ∷ [],
+  All-push (λ (n : ℕ). 0 < n) on.0 count on.1 some,
+  sum_more on.0 count ∙ ap (λ (n : ℕ). n + count) on.2,
+  is ∙ ap (λ (r : Option (List ℕ)). read_also (count ∷ []) r) on.3 ∙ read_also-add on.0 (count ∷ []) before,
+) where
+  sum_more : (counts : List ℕ) (count : ℕ) → sum (counts ++ count ∷ []) ≡ sum counts + count
+  sum_more counts count = sum_by_push (λ (n : ℕ). n) counts count
+
 -- One more read gave nothing, and is the last.
-pub ReadsToEnd-last : (count : ℕ) (before now after : Option (List ℕ)) → ReadsOn before now → after ≡ read_also (count ∷ []) now → count ≡ 0 → ReadsToEnd before after
-ReadsToEnd-last count before now after on is none = (
+pub ReadsToEnd-last : (count total : ℕ) (before now after : Option (List ℕ)) → ReadsSoMany total before now → after ≡ read_also (count ∷ []) now → count ≡ 0
+    → ReadsToEnd total before after
+ReadsToEnd-last count total before now after on is none = (
   on.0,
   on.1,
-  is ∙ ap (λ (n : ℕ). read_also (n ∷ []) now) none ∙ ap (λ (r : Option (List ℕ)). read_also (0 ∷ []) r) on.2 ∙ read_also-add on.0 (0 ∷ []) before,
+  on.2,
+  is ∙ ap (λ (n : ℕ). read_also (n ∷ []) now) none ∙ ap (λ (r : Option (List ℕ)). read_also (0 ∷ []) r) on.3 ∙ read_also-add on.0 (0 ∷ []) before,
 )

@@ -1,7 +1,7 @@
 -- What the calls of a disk do to its content, and what a crash may leave of it.
 use Rattle.std.specs.Prelude.{◌≡◌, ◌⊎◌, ℕ, ◌+◌, ◌^◌, ◌<◌, ◌≤◌, max, IsTrue, List, [], ◌∷◌, ◌++◌, length, take, drop, slice_index, Result, OnOk, IsErrOf}
 use Rattle.acc_ports.specs.declared.error.PortError.{PortError}
-use Rattle.acc_ports.specs.declared.error.PortError.TheVariants as port
+use Rattle.acc_ports.specs.declared.error.PortError.TheVariants as error
 use Rattle.acc_ports.specs.Faults.{CountsFaults}
 use Rattle.acc_ports.specs.State.{DiskState}
 use Rattle.acc_ports.specs.Strict.{WithMemory, FailsArmed, LeftByChoice}
@@ -53,11 +53,11 @@ CrashLeaves choice disk left = LeftByChoice choice disk.content disk.synced disk
 -- ---- calls
 
 -- What each call promises, whatever it is to do.
-pub record Calls {T : Type 0} (before after : DiskState) (past since : ℕ → List ℕ → Type 0) (images : List ℕ → Type 0) (result : Result T PortError) : Type 0 where
+pub record EachCall {T : Type 0} (before after : DiskState) (past since : ℕ → List ℕ → Type 0) (images : List ℕ → Type 0) (result : Result T PortError) : Type 0 where
   pub stands : Stands after.content images
   pub time : Elapses before.clock after.clock past since images
   pub kind : after.strict ≡ before.strict
-  pub faults : CountsFaults (IsErrOf result port.Failed) before.faults after.faults
+  pub faults : CountsFaults (IsErrOf result error.Failed) before.faults after.faults
   pub armed : IsTrue before.strict → FailsArmed before.armed after.armed result
 
 -- No byte of it changed.
@@ -74,11 +74,11 @@ pub record OnlyReads {T : Type 0} (before after : DiskState) (result : Result T 
 -- Bytes are written at a place. On a strict disk one that failed wrote none of them, and its range counts as written.
 pub record Writes (at : ℕ) (bytes : List ℕ) (before after : DiskState) (result : Result (Unit {0}) PortError) : Type 0 where
   pub content : OnOk result (after.content ≡ overwritten at bytes before.content)
-  pub strict_failed : IsTrue before.strict → IsErrOf result port.Failed → after.content ≡ before.content
+  pub strict_failed : IsTrue before.strict → IsErrOf result error.Failed → after.content ≡ before.content
   pub strict : IsTrue before.strict → WithMemory result ((after.synced ≡ before.synced) × (after.written ≡ before.written ++ (at, length bytes) ∷ []))
 
 -- All that was written is synced. On a strict disk one that failed changed no byte.
 pub record Syncs (before after : DiskState) (images : List ℕ → Type 0) (result : Result (Unit {0}) PortError) : Type 0 where
   pub content : OnOk result (after.content ≡ before.content)
   pub rest : OnOk result (IsAtRest after images)
-  pub strict_failed : IsTrue before.strict → IsErrOf result port.Failed → SameBytes before after
+  pub strict_failed : IsTrue before.strict → IsErrOf result error.Failed → SameBytes before after

@@ -1,8 +1,8 @@
 -- A disk in memory, as contracts see it.
-use Rattle.std.specs.Prelude.{◌≡◌, ◌⊎◌, ◌↔◌, ℕ, ◌≤◌, List, [], ◌∷◌, ◌++◌, length, drop, Option, Some, is_none, IsSomeAnd, Contains, Result, IsErr, IsErrOf}
+use Rattle.std.specs.Prelude.{◌≡◌, ◌⊎◌, ◌↔◌, ℕ, ◌≤◌, List, [], ◌∷◌, ◌++◌, length, drop, if◌then◌else◌, Option, Some, is_none, IsSomeAnd, Contains, Result, is_err, IsErr, IsErrOf, OnOk, OnErr}
 use Rattle.std.proofs.Common.{inl, inr}
 use Rattle.acc_ports.specs.declared.error.PortError.{PortError}
-use Rattle.acc_ports.specs.declared.error.PortError.TheVariants as port
+use Rattle.acc_ports.specs.declared.error.PortError.TheVariants as error
 use Rattle.acc_ports.specs.State.{Ranges, DiskState}
 use Rattle.acc_ports.specs.Faults.{next_count}
 use Rattle.acc_ports.specs.Strict.{IsImage, after_call, WithMemory}
@@ -61,13 +61,31 @@ state_of disk = record {
   written = disk.now.written;
 }
 
--- A call of it is counted, and it fails just where it must. One that found no memory changed nothing.
+-- A call of it is counted, and so is its failure, which comes just where it must. One that found no memory changed nothing.
 pub record IsCounted {T : Type 0} (old new : MemoryDisk) (result : Result T PortError) : Type 0 where
   pub fails : WithMemory result (IsErr result ↔ MustFail old.armed old.fails old.calls)
   pub calls : WithMemory result (new.calls ≡ next_count old.calls)
   pub armed : WithMemory result (new.armed ≡ after_call old.armed)
+  pub faults : WithMemory result (new.faults ≡ (if is_err result then next_count old.faults else old.faults))
   pub listed : new.fails ≡ old.fails
-  pub no_memory : IsErrOf result port.OutOfMemory → new ≡ old
+  pub no_memory : IsErrOf result error.OutOfMemory → new ≡ old
+
+-- Its bytes stand as they did.
+pub record KeepsBytes (old new : MemoryDisk) : Type 0 where
+  pub now : new.now ≡ old.now
+  pub past : new.past ≡ old.past
+
+-- What a write does to its bytes. One that failed wrote none, and its range counts as written.
+pub record WritesBytes (at : ℕ) (bytes : List ℕ) (old new : MemoryDisk) (result : Result (Unit {0}) PortError) : Type 0 where
+  pub ok : OnOk result (new.now ≡ after_write at bytes old.now)
+  pub failed : IsErrOf result error.Failed → new.now ≡ after_failed_write at (length bytes) old.now
+  pub past : WithMemory result (new.past ≡ old.past ++ old.now ∷ [])
+
+-- What a sync does to them. One that failed left them.
+pub record SyncsBytes (old new : MemoryDisk) (result : Result (Unit {0}) PortError) : Type 0 where
+  pub ok : OnOk result (new.now ≡ settled_on old.now.content)
+  pub past : OnOk result (new.past ≡ old.past ++ old.now ∷ [])
+  pub failed : OnErr result (KeepsBytes old new)
 
 -- bytes are an image of one of these states
 abbrev pub WereImage : List DiskBytes → List ℕ → Type 0

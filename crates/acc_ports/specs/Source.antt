@@ -1,5 +1,5 @@
 -- What reading does to the bytes that a source has left. A source that doesn't tell its bytes has `None`.
-use Rattle.std.specs.Prelude.{◌≡◌, ℕ, ◌<◌, ◌≤◌, List, [], ◌∷◌, ◌++◌, length, take, drop, All, Option}
+use Rattle.std.specs.Prelude.{◌≡◌, ℕ, ◌<◌, ◌≤◌, List, [], ◌∷◌, ◌++◌, length, take, drop, sum, All, Option}
 use Rattle.std.specs.Option.{option_map}
 
 -- the bytes left, without the first `count` of them
@@ -27,6 +27,7 @@ read_also counts reads = option_map (λ earlier. earlier ++ counts) reads
 abbrev pub ReadsOn : Option (List ℕ) → Option (List ℕ) → Type 0
 ReadsOn before after = (counts : List ℕ) × All (λ count. 0 < count) counts × (after ≡ read_also counts before)
 
--- There were further reads, and the last of them alone gave nothing.
-abbrev pub ReadsToEnd : Option (List ℕ) → Option (List ℕ) → Type 0
-ReadsToEnd before after = (counts : List ℕ) × All (λ count. 0 < count) counts × (after ≡ read_also (counts ++ 0 ∷ []) before)
+-- There were further reads, which gave so many bytes together. The last of them alone gave nothing.
+abbrev pub ReadsToEnd : ℕ → Option (List ℕ) → Option (List ℕ) → Type 0
+ReadsToEnd total before after =
+    (counts : List ℕ) × All (λ count. 0 < count) counts × (sum counts ≡ total) × (after ≡ read_also (counts ++ 0 ∷ []) before)

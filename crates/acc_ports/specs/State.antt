@@ -8,11 +8,12 @@ Ranges = List (ℕ × ℕ)
 pub record DiskState : Type 0 where
   -- what a read gives
   pub content : List ℕ
-  -- how often the outside has failed; kept in 64 bits, at whose end it stands still
+  -- how often the outside has failed: no call lowers it; kept in 64 bits, at whose end it stands still
   pub faults : ℕ
-  -- the time, which never falls
+  -- the time, which no call sets back
   pub clock : ℕ
-  -- whether the disk is strict: only its armed call fails, and a crash leaves what is chosen. The next three speak of strict disks alone
+  -- whether the disk is strict: only its armed call fails, and a crash leaves what is chosen. No call changes it. The next three speak
+  -- of strict disks alone
   pub strict : Bool
   -- how many calls still pass before the armed one, where one is armed
   pub armed : Option ℕ

@@ -2,7 +2,7 @@
 use Rattle.std.specs.Prelude.{◌≡◌, ◌≢◌, ℕ, ◌+◌, ◌-◌, ◌<◌, ◌≤◌, max, nat_le, nat_lt, ◌==◌, ◌&&◌, Bool, false, if◌then◌else◌, List, [], ◌∷◌, length, slice_index, Option, None, Some, Result, Ok, Err, IsErr, IsErrOf, MatchBool}
 use Rattle.std.specs.List.{list_any}
 use Rattle.acc_ports.specs.declared.error.PortError.{PortError}
-use Rattle.acc_ports.specs.declared.error.PortError.TheVariants as port
+use Rattle.acc_ports.specs.declared.error.PortError.TheVariants as error
 use Rattle.acc_ports.specs.State.{Ranges}
 
 -- whether a place is in one of the ranges
@@ -40,11 +40,11 @@ after_call (Some calls) = if calls == 0 then None else Some (calls - 1)
 -- A fact of a call that found the memory that it asked for.
 abbrev pub WithMemory : {T : Type 0} → Result T PortError → Type 0 → Type 0
 WithMemory (Ok answer) P = P
-WithMemory (Err port.Failed) P = P
-WithMemory (Err port.OutOfMemory) P = Unit {0}
+WithMemory (Err error.Failed) P = P
+WithMemory (Err error.OutOfMemory) P = Unit {0}
 
 -- A call fails where it is the armed one, and no other does. One that found its memory is counted.
 pub record FailsArmed {T : Type 0} (armed left : Option ℕ) (result : Result T PortError) : Type 0 where
   pub fails : armed ≡ Some 0 → IsErr result
-  pub passes : armed ≢ Some 0 → IsErrOf result port.Failed → ⊥
+  pub passes : armed ≢ Some 0 → IsErrOf result error.Failed → ⊥
   pub counts : WithMemory result (left ≡ after_call armed)

@@ -1,7 +1,7 @@
 //! Disks.
 ghost use Rattle.std.specs.Prelude.{◌≡◌, ℕ, ◌+◌, ◌≤◌, List, length, take, drop, IfOk, OnOk};
 ghost use Rattle.acc_ports.specs.State.{DiskState};
-ghost use Rattle.acc_ports.specs.Disk.{Torn, Follows, NoFurther, Calls, OnlyReads, Writes, Syncs};
+ghost use Rattle.acc_ports.specs.Disk.{Torn, Follows, NoFurther, EachCall, OnlyReads, Writes, Syncs};
 
 use crate::PortError;
 
@@ -25,7 +25,7 @@ pub trait Disk {
         ensures value { IfOk result (λ count. count ≡ length (state self.old).content) }
         ensures reads { OnlyReads (state self.old) (state self.new) result }
         ensures images { NoFurther (is_image self.old) (is_image self.new) }
-        ensures call { Calls (state self.old) (state self.new) (was_image self.old) (was_image self.new) (is_image self.new) result };
+        ensures call { EachCall (state self.old) (state self.new) (was_image self.old) (was_image self.new) (is_image self.new) result };
 
     /// Reads the bytes from a place on, as many as `into` has room for. After an error `into` may hold any bytes.
     fn read(&mut self, at: u64, into: &mut [u8]) -> Result<(), PortError>
@@ -33,7 +33,7 @@ pub trait Disk {
         ensures bytes { OnOk result (into.new ≡ take (length into.old) (drop at (state self.old).content)) }
         ensures reads { OnlyReads (state self.old) (state self.new) result }
         ensures images { NoFurther (is_image self.old) (is_image self.new) }
-        ensures call { Calls (state self.old) (state self.new) (was_image self.old) (was_image self.new) (is_image self.new) result };
+        ensures call { EachCall (state self.old) (state self.new) (was_image self.old) (was_image self.new) (is_image self.new) result };
 
     /// Writes bytes at a place, over what stands there and past the end. They last once a sync has succeeded. After an error
     /// any of them may stand there or not.
@@ -41,13 +41,13 @@ pub trait Disk {
         requires { at ≤ length (state self.old).content }
         ensures writes { Writes at bytes.now (state self.old) (state self.new) result }
         ensures images { Follows (Torn at (length bytes.now)) (is_image self.old) (is_image self.new) }
-        ensures call { Calls (state self.old) (state self.new) (was_image self.old) (was_image self.new) (is_image self.new) result };
+        ensures call { EachCall (state self.old) (state self.new) (was_image self.old) (was_image self.new) (is_image self.new) result };
 
     /// Makes what was written last: after it a crash leaves what a read gives.
     fn sync(&mut self) -> Result<(), PortError>
         ensures syncs { Syncs (state self.old) (state self.new) (is_image self.new) result }
         ensures images { NoFurther (is_image self.old) (is_image self.new) }
-        ensures call { Calls (state self.old) (state self.new) (was_image self.old) (was_image self.new) (is_image self.new) result };
+        ensures call { EachCall (state self.old) (state self.new) (was_image self.old) (was_image self.new) (is_image self.new) result };
 
     /// The present moment is one of those since an earlier one.
     ghost counts_now: { (disk : Self) (moment : ℕ) (image : List ℕ) → moment ≤ (state disk).clock → is_image disk image → was_image disk moment image };

@@ -1,7 +1,7 @@
 //! A disk in memory.
-ghost use Rattle.std.specs.Prelude.{◌≡◌, ◌+◌, ◌≤◌, [], ◌∷◌, length, take, drop, Some, None, IfOk, OnOk, OnErr};
-ghost use Rattle.acc_ports.specs.Disk.{Torn, Follows, NoFurther, Calls, OnlyReads, Writes, Syncs};
-ghost use Rattle.acc_ports.specs.MemoryDisk.{IsCounted};
+ghost use Rattle.std.specs.Prelude.{◌≡◌, ◌+◌, ◌≤◌, [], ◌∷◌, ◌++◌, length, take, drop, Some, None, Ok, IfOk, OnOk, OnErr};
+ghost use Rattle.acc_ports.specs.Disk.{Torn, Follows, NoFurther, EachCall, OnlyReads, Writes, Syncs};
+ghost use Rattle.acc_ports.specs.MemoryDisk.{IsCounted, KeepsBytes, WritesBytes, SyncsBytes};
 
 use crate::disk_calls::DiskCalls;
 use crate::surface::Surface;
@@ -10,7 +10,8 @@ use acc_base::{Bytes, OutOfMemory, Sequence};
 use std::alloc::Global;
 use std::marker::Model;
 
-/// A disk in memory. A write that fails changes no content. A call that finds no memory changes nothing and isn't counted.
+/// A disk in memory. A write that fails changes no content. A call that finds no memory changes nothing and isn't counted. Only
+/// disks without a list of calls that fail are strict.
 #[derive(Debug, Drop)]
 pub struct MemDisk {
     surface: Surface,
@@ -94,8 +95,9 @@ impl Disk for MemDisk {
         ensures value { IfOk result (λ count. count ≡ length self.old.now.content) }
         ensures reads { OnlyReads (state_of self.old) (state_of self.new) result }
         ensures images { NoFurther (IsImageOf self.old.now) (IsImageOf self.new.now) }
-        ensures call { Calls (state_of self.old) (state_of self.new) (WasImage self.old) (WasImage self.new) (IsImageOf self.new.now) result }
+        ensures call { EachCall (state_of self.old) (state_of self.new) (WasImage self.old) (WasImage self.new) (IsImageOf self.new.now) result }
         ensures counted { IsCounted self.old self.new result }
+        ensures same { KeepsBytes self.old self.new }
     {
         self.calls.enter()?;
         Ok(self.surface.content().len() as u64)
@@ -107,8 +109,9 @@ impl Disk for MemDisk {
         ensures bytes { OnOk result (into.new ≡ take (length into.old) (drop at self.old.now.content)) }
         ensures reads { OnlyReads (state_of self.old) (state_of self.new) result }
         ensures images { NoFurther (IsImageOf self.old.now) (IsImageOf self.new.now) }
-        ensures call { Calls (state_of self.old) (state_of self.new) (WasImage self.old) (WasImage self.new) (IsImageOf self.new.now) result }
+        ensures call { EachCall (state_of self.old) (state_of self.new) (WasImage self.old) (WasImage self.new) (IsImageOf self.new.now) result }
         ensures counted { IsCounted self.old self.new result }
+        ensures same { KeepsBytes self.old self.new }
         ensures untouched { OnErr result (into.new ≡ into.old) }
     {
         let content = self.surface.content();
@@ -122,8 +125,9 @@ impl Disk for MemDisk {
         requires { at ≤ length self.old.now.content }
         ensures writes { Writes at bytes.now (state_of self.old) (state_of self.new) result }
         ensures images { Follows (Torn at (length bytes.now)) (IsImageOf self.old.now) (IsImageOf self.new.now) }
-        ensures call { Calls (state_of self.old) (state_of self.new) (WasImage self.old) (WasImage self.new) (IsImageOf self.new.now) result }
+        ensures call { EachCall (state_of self.old) (state_of self.new) (WasImage self.old) (WasImage self.new) (IsImageOf self.new.now) result }
         ensures counted { IsCounted self.old self.new result }
+        ensures bytes { WritesBytes at bytes.now self.old self.new result }
     {
         let at = at as usize;
         let before = self.past.and(&self.surface);
@@ -141,8 +145,9 @@ impl Disk for MemDisk {
     fn sync(&mut self) -> Result<(), PortError>
         ensures syncs { Syncs (state_of self.old) (state_of self.new) (IsImageOf self.new.now) result }
         ensures images { NoFurther (IsImageOf self.old.now) (IsImageOf self.new.now) }
-        ensures call { Calls (state_of self.old) (state_of self.new) (WasImage self.old) (WasImage self.new) (IsImageOf self.new.now) result }
+        ensures call { EachCall (state_of self.old) (state_of self.new) (WasImage self.old) (WasImage self.new) (IsImageOf self.new.now) result }
         ensures counted { IsCounted self.old self.new result }
+        ensures bytes { SyncsBytes self.old self.new result }
     {
         if self.calls.next_fails() {
             return Err(self.calls.fail());
@@ -155,14 +160,33 @@ impl Disk for MemDisk {
 }
 
 impl Rig for MemDisk {
-    fn crash(&mut self, choice: u8) -> Result<(), OutOfMemory> {
+    ghost use Rattle.acc_ports.specs.MemoryDisk.{settled_on};
+    ghost use Rattle.acc_ports.specs.Strict.{LeftByChoice};
+    ghost use Rattle.acc_ports.specs.Moments.{Crashes, Arms};
+
+    /// Crashes as the choice says, also a disk that isn't strict. It needs no memory. The calls that fail by their number, and
+    /// the number of the next call, stay.
+    fn crash(&mut self, choice: u8) -> Result<(), OutOfMemory>
+        ensures crashes { Crashes ⟦<MemDisk as Disk>⟧ choice self.old self.new result }
+        ensures ok { result ≡ Ok tt }
+        ensures left { LeftByChoice choice self.old.now.content self.old.now.synced self.old.now.written self.new.now.content }
+        ensures settled { self.new.now ≡ settled_on self.new.now.content }
+        ensures past { self.new.past ≡ self.old.past ++ self.old.now ∷ [] }
+        ensures disarmed { self.new.armed ≡ None }
+        ensures listed { self.new.fails ≡ self.old.fails }
+        ensures calls { self.new.calls ≡ self.old.calls }
+    {
         self.past = self.past.and(&self.surface);
         self.surface.crash(choice);
         self.calls.disarm();
         Ok(())
     }
 
-    fn arm(&mut self, calls: u64) {
+    /// Arms a call, also of a disk that isn't strict: so many more pass unless they fail by their number, and the next one fails.
+    fn arm(&mut self, calls: u64)
+        ensures arms { Arms ⟦<MemDisk as Disk>⟧ calls self.old self.new }
+        ensures value { self.new ≡ record self.old { armed = Some calls } }
+    {
         self.calls.arm(calls);
     }
 }

@@ -1,5 +1,5 @@
 //! A maker of disks in memory.
-ghost use Rattle.std.specs.Prelude.{◌≡◌, [], Some, None, is_none, IsTrue, IfOk};
+ghost use Rattle.std.specs.Prelude.{◌≡◌, [], ◌∷◌, ◌++◌, Some, None, is_none, IsTrue, IfOk, OnOk, OnErr};
 ghost use Rattle.std.specs.Option.{option_copied};
 ghost use Rattle.acc_ports.specs.Moments.{IsFresh};
 ghost use Rattle.acc_ports.specs.MemoryMaker.{listed_for, made};
@@ -88,7 +88,10 @@ impl DiskMaker for MemMaker {
         }
     }
 
-    fn back(&mut self, number: u32, disk: MemDisk) -> Result<(), OutOfMemory> {
+    fn back(&mut self, number: u32, disk: MemDisk) -> Result<(), OutOfMemory>
+        ensures ok { OnOk result (self.new ≡ record self.old { given = self.old.given ++ (number, disk) ∷ [] }) }
+        ensures err { OnErr result (self.new ≡ self.old) }
+    {
         self.given.push((number, disk))?;
         Ok(())
     }

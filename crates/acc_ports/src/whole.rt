@@ -36,8 +36,8 @@ pub fn read_all<S: Source>(alloc: Global, source: &mut S, limit: u64) -> Result<
     ensures all { IfOk result (λ bytes. IfSome (S.left source.old) (λ left. bytes ≡ left)) }
     ensures end { OnOk result (S.left source.new ≡ none_left (S.left source.old)) }
 
-    // It stops at the first read that gives nothing.
-    ensures stops { OnOk result (ReadsToEnd (S.reads source.old) (S.reads source.new)) }
+    // It stops at the first read that gives nothing, and has what the reads before it gave.
+    ensures stops { IfOk result (λ bytes. ReadsToEnd (length bytes) (S.reads source.old) (S.reads source.new)) }
     ensures no_end { OnErr result (ReadsOn (S.reads source.old) (S.reads source.new)) }
 
     ensures too_long { IsErrOf result ReadError.TooLong → IfSome (S.left source.old) (λ left. limit < length left) }

@@ -3,7 +3,7 @@ use Rattle.std.proofs.Common.{rules, ◌≡◌, ◌∙◌, subst, [], ◌∷◌,
 use Rattle.std.specs.Prelude.{OnOk, false}
 use Rattle.acc_journal.specs.Layout.{payloads_of}
 use Rattle.acc_journal.specs.Journal.{JournalState}
-use Rattle.acc_journal.specs.Calls.{Appends, answer_of}
+use Rattle.acc_journal.specs.Calls.{Appends, journal_answer}
 use Rattle.acc_journal.proofs.Groups.{one_is_group, nothing_is_group}
 use Rattle.acc_journal.proofs.journal.Journal.append.Goals as goal
 
@@ -17,7 +17,7 @@ returns-then-is_empty-clause-ok g c =
 
 pub returns-then-is_empty-clause-appends : goal.returns-then-is_empty-clause-appends
 returns-then-is_empty-clause-appends g c =
-    subst (λ (v : JournalState g.row.D.Denot). Appends g.D.Disk v.disk c.put_down.new.disk v.payloads (c.args.payload.now ∷ []) (answer_of c.put_down.result)) c.self.view_is (c.put_down.ensures.appends (c.args.payload.now ∷ []) (nothing_is_group c.args.payload.now (search rules)))
+    subst (λ (v : JournalState g.row.D.Denot). Appends g.D.Disk v.disk c.put_down.new.disk v.payloads (c.args.payload.now ∷ []) (journal_answer c.put_down.result)) c.self.view_is (c.put_down.ensures.appends (c.args.payload.now ∷ []) (nothing_is_group c.args.payload.now (search rules)))
 
 pub invariant_of-self-2 : goal.invariant_of-self-2
 invariant_of-self-2 g c =
@@ -29,4 +29,4 @@ returns-clause-ok g c =
 
 pub returns-clause-appends : goal.returns-clause-appends
 returns-clause-appends g c =
-    subst (λ (v : JournalState g.row.D.Denot). Appends g.D.Disk v.disk c.put_down-2.new.disk v.payloads (c.args.payload.now ∷ []) (answer_of c.put_down-2.result)) c.self.view_is (c.put_down-2.ensures.appends (c.args.payload.now ∷ []) (one_is_group c.args.payload.now _ c.requires.short (c.deref.ensures.value ∙ c.fill_one.ensures.items)))
+    subst (λ (v : JournalState g.row.D.Denot). Appends g.D.Disk v.disk c.put_down-2.new.disk v.payloads (c.args.payload.now ∷ []) (journal_answer c.put_down-2.result)) c.self.view_is (c.put_down-2.ensures.appends (c.args.payload.now ∷ []) (one_is_group c.args.payload.now _ c.requires.short (c.deref.ensures.value ∙ c.fill_one.ensures.items)))

@@ -3,7 +3,7 @@ use Rattle.std.proofs.Common.{arith, ◌≡◌, ◌∙◌, ap, sym, subst, ℕ, 
 use Rattle.std.specs.Prelude.{OnOk, false}
 use Rattle.acc_journal.specs.Layout.{payloads_of}
 use Rattle.acc_journal.specs.Journal.{JournalState}
-use Rattle.acc_journal.specs.Calls.{Appends, answer_of}
+use Rattle.acc_journal.specs.Calls.{Appends, journal_answer}
 use Rattle.acc_journal.specs.Records.{payloads_in, AreRecords}
 use Rattle.acc_journal.proofs.Waiting.{waiting_group, gate_off}
 use Rattle.acc_journal.proofs.journal.Journal.append_records.Goals as goal
@@ -21,7 +21,7 @@ returns-clause-ok g c =
 pub returns-clause-appends : goal.returns-clause-appends
 returns-clause-appends g c =
     let is = waiting_group _ _ _ c.records.view_is c.requires.some c.records.invariant.records (c.deref.ensures.value ∙ c.push_reserved.ensures.items) in
-    subst (λ (v : JournalState g.row.D.Denot). Appends g.D.Disk v.disk c.put_down-appended.new.disk v.payloads c.args.records.now (answer_of c.put_down-appended.result)) c.self.view_is (c.put_down-appended.ensures.appends c.args.records.now is)
+    subst (λ (v : JournalState g.row.D.Denot). Appends g.D.Disk v.disk c.put_down-appended.new.disk v.payloads c.args.records.now (journal_answer c.put_down-appended.result)) c.self.view_is (c.put_down-appended.ensures.appends c.args.records.now is)
 
 pub push_reserved-requires : goal.push_reserved-requires
 push_reserved-requires g c = omega (arith, c.records.invariant.room (omega (arith, c.requires.some, ap length c.records.view_is, c.records.invariant.count)))

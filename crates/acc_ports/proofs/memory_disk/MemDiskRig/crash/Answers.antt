@@ -4,8 +4,8 @@ use Rattle.acc_ports.specs.MemoryDisk.{settled_on}
 use Rattle.acc_ports.proofs.Times.{time_goes_on, only_settled}
 use Rattle.acc_ports.proofs.memory_disk.MemDiskRig.crash.Goals as goal
 
-pub returns : goal.returns
-returns c =
+pub returns-clause-crashes : goal.returns-clause-crashes
+returns-clause-crashes c =
     let past : c.and-self-inside.result.items ≡ c.args.self.now.past ++ c.args.self.now.now ∷ [] = search rules in
     let settled : c.crash.new.self ≡ settled_on c.crash.new.self.content = search rules in
     record {
