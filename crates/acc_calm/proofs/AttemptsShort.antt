@@ -367,7 +367,7 @@ from_node layout node begin past act m (AsksForVotes txn body store) = refl
 from_node layout node begin past act m (AsksForViews x body store) = refl
 from_node layout node begin past act m (Proposes on x a s store r) = refl
 from_node layout node begin past act m (Commits on x a s store r) = refl
-from_node layout node begin past act m (Decides on x a path s store r) = refl
+from_node layout node begin past act m (Decides on x a path s store r noted) = refl
 from_node layout node begin past act m (Finishes on x a s outcome store r) = refl
 from_node layout node begin past act m (Informs on x a s outcome r) = refl
 

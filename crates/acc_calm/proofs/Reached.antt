@@ -65,7 +65,7 @@ node_answers_nothing layout node start past act m (AsksForVotes txn body store) 
 node_answers_nothing layout node start past act m (AsksForViews x body store) = refl
 node_answers_nothing layout node start past act m (Proposes on x a s store reacts) = refl
 node_answers_nothing layout node start past act m (CommitsTo on x a s store reacts) = refl
-node_answers_nothing layout node start past act m (Decides on x a path s store reacts) = refl
+node_answers_nothing layout node start past act m (Decides on x a path s store reacts noted) = refl
 node_answers_nothing layout node start past act m (Finishes on x a s outcome store reacts) = refl
 node_answers_nothing layout node start past act m (Informs on x a s outcome reacts) = refl
 

@@ -176,7 +176,7 @@ module _ (cluster : Cluster) (items : List Item) (h : EachStands cluster items) 
   node_zero a past act m within c (AsksForViews x body store) = absurd c
   node_zero a past act m within c (Proposes on x at s store reacts) = moving_zero a past x on at _ within reacts
   node_zero a past act m within c (CommitsTo on x at s store reacts) = moving_zero a past x on at _ within reacts
-  node_zero a past act m within c (Decides on x at path s store reacts) = moving_zero a past x on at _ within reacts
+  node_zero a past act m within c (Decides on x at path s store reacts noted) = moving_zero a past x on at _ within reacts
   node_zero a past act m within c (Finishes on x at s outcome store reacts) = moving_zero a past x on at _ within reacts
   node_zero a past act m within c (Informs on x at s outcome reacts) = moving_zero a past x on at _ within reacts
 
@@ -270,7 +270,7 @@ module _ (cluster : Cluster) (items : List Item) (h : EachStands cluster items) 
   node_never_refuses layout node start past act m from to id b promised is (AsksForViews x body store) = grind arith
   node_never_refuses layout node start past act m from to id b promised is (Proposes on x at s store reacts) = grind arith
   node_never_refuses layout node start past act m from to id b promised is (CommitsTo on x at s store reacts) = grind arith
-  node_never_refuses layout node start past act m from to id b promised is (Decides on x at path s store reacts) = grind arith
+  node_never_refuses layout node start past act m from to id b promised is (Decides on x at path s store reacts noted) = grind arith
   node_never_refuses layout node start past act m from to id b promised is (Finishes on x at s outcome store reacts) = grind arith
   node_never_refuses layout node start past act m from to id b promised is (Informs on x at s outcome reacts) = grind arith
 

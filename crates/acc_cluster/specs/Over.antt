@@ -1,4 +1,4 @@
--- A cluster over actors that stand already, behind the items in which they took part.
+-- A cluster over actors that stand already, after the items in which they took part.
 use Rattle.std.specs.Prelude.{ℕ, Bool, List, [], reverse, map, Option, Contains}
 use Rattle.std.specs.List.{AllByRecursion}
 use Rattle.acc_stamp.specs.declared.actors.Actor.{Actor}
@@ -17,7 +17,7 @@ use Rattle.acc_actors.specs.declared.slot.Slot.{Slot}
 use Rattle.acc_actors.specs.Slots.{SlotStands, IsStrictSlot, IsTaken}
 use Rattle.acc_cluster.specs.Stands.{slot_at}
 
--- these items, the oldest first, behind no earlier run, and the steps that faults of disks stopped; nothing was dropped
+-- these items, the oldest first, after no earlier run, and the steps that faults of disks stopped; nothing was dropped
 abbrev pub behind_items : List Item → List Stopped → Situation
 behind_items items stopped = record { earlier = []; own = reverse items; dropped = []; stopped = stopped }
 

@@ -37,11 +37,11 @@ pub record HasReopened {D : Type 0} (port : Ghosts D) (plan : Content) (a : Acto
       → HasRestartedStrictlyAt port plan s disks a choice found (slot_at now a)
   pub cause : found ≡ Down → Rose (faults_in port (slot_at before a)) (faults_in port (slot_at now a))
 
--- the situation behind a restart that kept this
+-- the situation after a restart that kept this
 abbrev pub come_up : Cluster → Situation → Actor → List Unsent → Situation
 come_up cluster s a kept = reopened cluster s a (kept_if (some kept) a s)
 
--- A limit ends the run behind some items of the restart's, which the history has entered. The others are lost entries and the restart.
+-- A limit ends the run after some items of the restart's, which the history has entered. The others are lost entries and the restart.
 pub record EndsInRestart (h : History) (cluster : Cluster) (s : Situation) (a : Actor) (kept : List Unsent) (which : Which) (limit : ℕ) : Type 0 where
   pub entered : Situation
   pub past : IsPastOf h entered
@@ -54,7 +54,7 @@ pub record EndsInRestart (h : History) (cluster : Cluster) (s : Situation) (a : 
 abbrev pub lost_item : Actor → Unsent → Item
 lost_item a unsent = step_item a unsent.event unsent.emitted true
 
--- one behind another
+-- one after another
 abbrev pub with_lost : Actor → List Unsent → Situation → Situation
 with_lost a [] s = s
 with_lost a (unsent ∷ others) s = with_lost a others (with_item (lost_item a unsent) s)
@@ -64,7 +64,7 @@ abbrev pub AreSendableBehind : Actor → List Unsent → Situation → Type 0
 AreSendableBehind a [] s = Unit {0}
 AreSendableBehind a (unsent ∷ others) s = (HasPlace s → AreSendable unsent.emitted.out) × AreSendableBehind a others (with_item (lost_item a unsent) s)
 
--- behind this past each may be entered
+-- after this past each may be entered
 pub record CanComeBack (h : History) (a : Actor) (kept : List Unsent) (s : Situation) : Type 0 where
   pub past : IsPastOf h s
   pub place : HasPlace s
@@ -76,7 +76,7 @@ pub record AreMissing (items all : List Item) : Type 0 where
   pub all_are : all ≡ missing ++ items
   pub lost : IsTrue (list_all is_lost missing)
 
--- A limit ends it before one of them, or before the item behind them. The history has entered those before it.
+-- A limit ends it before one of them, or before the item after them. The history has entered those before it.
 pub record EndsInLost (h : History) (s : Situation) (a : Actor) (kept : List Unsent) (which : Which) (limit : ℕ) : Type 0 where
   pub entered : Situation
   pub past : IsPastOf h entered

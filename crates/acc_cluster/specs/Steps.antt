@@ -49,7 +49,7 @@ IfLimit Holds (Limit which number) = Holds which number
 IfLimit Holds OutOfMemory = Unit {0}
 
 -- With some answers, those given so far among them, the actors have been led to a situation: the step has not begun, or comes to it. There
--- the limit ends the run inside the step, behind these items, whatever disks answer from there on.
+-- the limit ends the run inside the step, after these items, whatever disks answer from there on.
 pub record EndsIn (plan : Content) (answers : Answers) (number : ℕ) (step : Step) (s : Situation) (which : Which) (limit : ℕ) : Type 0 where
   pub other : Answers
   pub items : List Item

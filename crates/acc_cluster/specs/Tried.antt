@@ -58,7 +58,7 @@ pub record HasChanged {D : Type 0} (port : Ghosts D) (plan : Content) (old new :
       (disks : Disks) → AreStrict port plan old.slots.items s disks
       → AreStrict port plan new.slots.items next disks
 
--- A limit ends the run before the step's item: whatever the disk would answer, and then it wasn't asked, or behind a step that the disk
+-- A limit ends the run before the step's item: whatever the disk would answer, and then it wasn't asked, or after a step that the disk
 -- didn't stop.
 pub record HitsLimit {D : Type 0} (port : Ghosts D) (plan : Content) (skip : Option Skip) (number : ℕ) (a : Actor) (event : Event) (old new : Cluster D) (s : Situation) (which : Which) (limit : ℕ) : Type 0 where
   pub reached : Situation
@@ -91,7 +91,7 @@ pub record HasRestarted {D : Type 0} (port : Ghosts D) (plan : Content) (a : Act
       → (fails ≡ false) × (kept_if keeps a s ≡ kept_strictly disks choice a s)
       × AreStrict port plan new.slots.items (restarted_by fails keeps (cluster_of plan) s a) (after_restart a disks)
 
--- A limit ends the run inside a restart: before the disk crashes, or behind its reopening, which led to the situation.
+-- A limit ends the run inside a restart: before the disk crashes, or after its reopening, which led to the situation.
 pub record HitsLimitInRestart {D : Type 0} (port : Ghosts D) (plan : Content) (a : Actor) (choice : ℕ) (old : Cluster D) (s : Situation) (which : Which) (limit : ℕ) : Type 0 where
   pub items : List Item
   pub reached : Situation

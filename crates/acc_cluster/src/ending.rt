@@ -63,8 +63,8 @@ impl<D: Rig + Drop> Cluster<D> {
     ghost use Rattle.acc_cluster.specs.Limits.{StopsAt};
     ghost use Rattle.acc_cluster.specs.Ends.{IsEndOf};
 
-    /// Gives the items and the disks back, and what its actors knew to `remains`. After a limit too: then the disks may keep their actors in
-    /// what the items would have gone on with.
+    /// Gives the items and the disks back, and what its actors knew to `remains`. After a limit too: then a disk may hold a
+    /// step that the limit kept out.
     pub fn finish(self, remains: &mut Remains) -> Result<Ended<D>, OutOfMemory>
         ensures ok { IfOk result (λ ended. (plan : Content) (s : Situation) → StandsFor D.Disk plan self s → IsEndOf D.Disk plan s.own s ended) }
         ensures limited { IfOk result (λ ended. (plan : Content) (items : List Item) (s : Situation) → StopsAt D.Disk plan self items s

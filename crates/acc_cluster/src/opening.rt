@@ -26,7 +26,7 @@ use std::alloc::Global;
 impl<D: Rig + Drop> Cluster<D> {
     ghost use Rattle.acc_cluster.specs.Stands.{StandsFor, StandsStrictly};
 
-    /// The cluster of the actors of a plan, behind any run that stood before, in which nobody is down and for which these actors stand. Of fresh
+    /// The cluster of the actors of a plan, after any run that stood before, in which nobody is down and for which these actors stand. Of fresh
     /// actors that run has no items. The nodes stand in rising order, and the stores in any order.
     pub fn of(
         alloc: Global,

@@ -69,7 +69,6 @@ fn history_over(alloc: Global, plan: &Plan, items: GrowingItems) -> Result<Histo
     ensures { IfOk result (λ history. (stopped : List Stopped) → IsHistoryOver items.items stopped history) }
 {
     stopped_steps_are_apart();
-    let _plan = plan;
     let history = History::over(alloc, items)?;
     Ok(history)
 }

@@ -53,7 +53,7 @@ fn enter_restart(
     )
 }
 
-// Enters an entry that is lost, and leaves a place behind it.
+// Enters an entry that is lost, and leaves a place after it.
 fn enter_lost(history: &mut History, actor: Actor, unsent: Unsent) -> Result<(), RunError>
     requires sendable { AreSendable unsent.emitted.out }
     ensures ok { OnOk result ((s : Situation) → IsPastOf history.old s → HasPlace s → EventTakesSent s unsent.event
@@ -66,7 +66,7 @@ fn enter_lost(history: &mut History, actor: Actor, unsent: Unsent) -> Result<(),
     check_place(history)
 }
 
-// Enters what was kept as lost, the oldest first, and leaves a place behind it.
+// Enters what was kept as lost, the oldest first, and leaves a place after it.
 fn enter_kept(history: &mut History, actor: Actor, kept: Unsents) -> Result<(), RunError>
     requires back { (s : Situation) × CanComeBack history.old actor kept s × AreSendableBehind actor kept s }
     ensures ok { OnOk result ((s : Situation) → CanComeBack history.old actor kept s

@@ -46,7 +46,6 @@ impl<D: Rig + Drop> Cluster<D> {
             → HasStepped D.Disk plan.now (Some cause) number a event self.old self.new s) }
         ensures never { IfErr result (IfLimit (λ which most. (s : Situation) → StandsFor D.Disk plan.now self.old s → HasPlace s → ⊥)) }
     {
-        let _plan = plan;
         enter_skip(&mut self.history, number, cause)
     }
 

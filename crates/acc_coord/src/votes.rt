@@ -95,9 +95,7 @@ impl Coord {
                 let step = self.slow_down(tally)?;
                 Ok(step)
             }
-            Stage::Accepts(_, _) | Stage::Commits(_, _) | Stage::Reads(_, _) => {
-                Err(SlowError::NoQuorum)
-            }
+            Stage::Accepts(_, _) | Stage::Commits(_, _) | Stage::Reads(_, _) => unreachable!(),
         }
     }
 }

@@ -86,7 +86,7 @@ module _ {D : Type 0} (port : Ghosts D) (layout : Layout) (old : NodeActor D) (n
         → IfErr r (durable.Refuses layout n after stop.act)
         → OnOk r (after.journal.payloads ≡ n.journal.payloads ++ group)
         → ((moment : ℕ) (image : List ℕ) → moment ≤ (port.state after.journal.disk).clock → port.is_image after.journal.disk image → port.was_image after.journal.disk moment image)
-        → Appends port n.journal.disk after.journal.disk n.journal.payloads group (durable.answer_of r)
+        → Appends port n.journal.disk after.journal.disk n.journal.payloads group (durable.draw_answer r)
         → IfOk result (λ given. Steps port layout number start version past stop new given)
     steps kept (Ok emitted) new result k settled ok err appended counts_now appends =
         let takes : durable.Takes layout n after past.acts stop.act emitted = ok past.acts up.stands in
@@ -140,7 +140,7 @@ module _ {D : Type 0} (port : Ghosts D) (layout : Layout) (old : NodeActor D) (n
       pub strictly : (kept : ℕ) (r : Result Emitted DurableError) (new : NodeActor D) (result : Result (Option Emitted) NoMemory) → IsSettled stop.event kept r mid new result
           → IfOk r (λ emitted. (acts : List Act) → durable.StandsFor layout n acts → durable.Takes layout n after acts stop.act emitted)
           → IfErr r (durable.Refuses layout n after stop.act)
-          → Appends port n.journal.disk after.journal.disk n.journal.payloads group (durable.answer_of r)
+          → Appends port n.journal.disk after.journal.disk n.journal.payloads group (durable.draw_answer r)
           → IfOk result (λ given. (is_none given ≡ fails_append armed) × IsStrictNow given new)
       strictly kept (Ok emitted) new result settled ok err appends =
           let takes : durable.Takes layout n after past.acts stop.act emitted = ok past.acts up.stands in
@@ -164,7 +164,7 @@ disk_settled event kept (Err OutOfMemory) old new result settled = ap disk_of se
 
 -- and its count of faults rose where the actor went down
 pub faults_settled : {D : Type 0} (port : Ghosts D) (before : ℕ) (event : Event) (kept : ℕ) (r : Result Emitted DurableError) (old new : NodeActor D) (result : Result (Option Emitted) NoMemory) → IsSettled event kept r old new result
-    → CountsFaults (IsErrOf (durable.answer_of r) Failed) before (port.state (disk_of old)).faults → CountsFaults (result ≡ Ok None) before (port.state (disk_of new)).faults
+    → CountsFaults (IsErrOf (durable.draw_answer r) Failed) before (port.state (disk_of old)).faults → CountsFaults (result ≡ Ok None) before (port.state (disk_of new)).faults
 faults_settled {D} port before event kept r old new result settled counts = of r settled counts
   where
     there : (before now : ℕ) → (P Q : Type 0) → (Q → P) → (P → Q) → CountsFaults P before now → CountsFaults Q before now
@@ -179,7 +179,7 @@ faults_settled {D} port before event kept r old new result settled counts = of r
     no_none : IsErr result → result ≡ Ok None → ⊥
     no_none err is = not_ok result None err is
 
-    of : (r : Result Emitted DurableError) → IsSettled event kept r old new result → CountsFaults (IsErrOf (durable.answer_of r) Failed) before (port.state (disk_of old)).faults → CountsFaults (result ≡ Ok None) before (port.state (disk_of new)).faults
+    of : (r : Result Emitted DurableError) → IsSettled event kept r old new result → CountsFaults (IsErrOf (durable.draw_answer r) Failed) before (port.state (disk_of old)).faults → CountsFaults (result ≡ Ok None) before (port.state (disk_of new)).faults
     of (Ok emitted) settled counts = moved (result ≡ Ok None) (there before _ _ _ (λ is. absurd (cc (is, settled.0))) (λ none. absurd (cc none)) counts)
     of (Err Begun) settled counts = moved (result ≡ Ok None) (there before _ _ _ (λ is. absurd (no_none settled.0 is)) (λ none. absurd (cc none)) counts)
     of (Err (DiskFault unsent)) settled counts = moved (result ≡ Ok None) (there before _ _ _ (λ is. refl) (λ failed. settled.0) counts)

@@ -100,6 +100,14 @@ pub record StandsFor {D : Type 0} (port : Ghosts D) (layout : Layout) (number st
   pub up : is_down actor ≡ false → IsUpIn layout number start version past actor.state
   pub kept_is : is_down actor ≡ true → actor.kept ≡ count_of past
 
+-- a fact of each past that it stands for
+abbrev pub OfEachPast : {D : Type 0} → Ghosts D → Layout → NodeActor D → (ℕ → ℕ → ℕ → Past Act → Type 0) → Type 0
+OfEachPast port layout actor P = (number start version : ℕ) (past : Past Act) → StandsFor port layout number start version past actor → P number start version past
+
+-- it stands for what it stood for
+abbrev pub IsAsBefore : {D : Type 0} → Ghosts D → Layout → NodeActor D → NodeActor D → Type 0
+IsAsBefore port layout old new = OfEachPast port layout old (λ number start version past. StandsFor port layout number start version past new)
+
 -- ---- what calls need
 
 -- it may draw
@@ -177,3 +185,9 @@ pub record IsStrictAt {D : Type 0} (port : Ghosts D) (layout : Layout) (number s
   pub armed_is : is_down actor ≡ false → (port.state (disk_of actor)).armed ≡ armed
   pub left : is_down actor ≡ true → (choice : ℕ) (bytes : List ℕ) → CrashLeaves choice (port.state (disk_of actor)) bytes
       → ReadsIf (IsJournal layout number start version) past (keeps_group passed choice) bytes
+
+-- Its disk is strict as it was, whatever its past is now.
+abbrev pub IsAsStrict : {D : Type 0} → Ghosts D → Layout → NodeActor D → NodeActor D → Type 0
+IsAsStrict port layout old new =
+    (number start version : ℕ) (armed passed : Option ℕ) (past other : Past Act) → IsStrictAt port layout number start version armed passed past old
+    → IsStrictAt port layout number start version armed passed other new

@@ -3,7 +3,7 @@ use Rattle.std.specs.Prelude.{◌≡◌, ◌⊎◌, ℕ, ◌+◌, ◌-◌, ◌^�
 use Rattle.acc_stamp.specs.declared.stamps.TxnId.{TxnId}
 use Rattle.acc_stamp.specs.Clock.{ClockState}
 use Rattle.acc_topology.specs.Layout.{Layout}
-use Rattle.acc_ports.specs.declared.error.PortError.TheVariants as port
+use Rattle.acc_ports.specs.declared.error.PortError.TheVariants as error
 use Rattle.acc_message.specs.declared.entry.Emitted.{Emitted}
 use Rattle.acc_message.specs.NodeRules.{Act, Slows, Restarts, begun_id, attempt_of, node_emits, node_replay}
 use Rattle.acc_node.specs.declared.node.Node.{Node}
@@ -131,20 +131,15 @@ Refuses layout old new act (DiskFault unsent) =
     × ((acts : List Act) → StandsFor layout old acts → unsent ≡ node_emits layout old.number old.start (node_replay layout old.number old.start acts) act)
 Refuses layout old new act OutOfMemory = (new.journal.broken ≡ true) ⊎ (IsAsBefore layout old new × KeepsJournal old new)
 
--- what the disk answered, where a step answered this; what came before any call of it counts as want of memory
-abbrev pub answer_of : {T : Type 0} → Result T DurableError → Answer
-answer_of (Ok value) = Ok tt
-answer_of (Err Begun) = Err port.OutOfMemory
-answer_of (Err (DiskFault unsent)) = Err port.Failed
-answer_of (Err OutOfMemory) = Err port.OutOfMemory
+-- what stands for the answer of the disk, where a step answered this: what came before any call of it counts as want of memory
+abbrev pub draw_answer : {T : Type 0} → Result T DurableError → Answer
+draw_answer (Ok value) = Ok tt
+draw_answer (Err Begun) = Err error.OutOfMemory
+draw_answer (Err (DiskFault unsent)) = Err error.Failed
+draw_answer (Err OutOfMemory) = Err error.OutOfMemory
 
 -- an append failed, and with it a step that would have emitted this
 abbrev pub FailsToAppend : Emitted → Bool → DurableError → Type 0
 FailsToAppend emitted broken Begun = ⊥
 FailsToAppend emitted broken (DiskFault unsent) = (broken ≡ true) × (unsent ≡ emitted)
 FailsToAppend emitted broken OutOfMemory = broken ≡ true
-
-abbrev pub IsDiskFault : DurableError → Type 0
-IsDiskFault Begun = ⊥
-IsDiskFault (DiskFault unsent) = Unit {0}
-IsDiskFault OutOfMemory = ⊥

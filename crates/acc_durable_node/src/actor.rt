@@ -49,7 +49,7 @@ impl<D: Rig> NodeActor<D> {
     ghost use Rattle.acc_payloads.specs.Items.{without_marks};
     ghost use Rattle.acc_durable_node.specs.Node.{StandsFor as Durable};
     ghost use Rattle.acc_payloads.specs.Stops.{after_step, is_up, KeepsByChoice, HoldsPayloads};
-    ghost use Rattle.acc_durable_node.specs.Actor.{StandsFor, IsStrictAt, MayBegin, MayRecover, Steps, Takes, HasSlowed, KeptIn, begin_stop, recover_stop, past_after, done, disk_of, is_down};
+    ghost use Rattle.acc_durable_node.specs.Actor.{StandsFor, OfEachPast, IsAsBefore, IsStrictAt, IsAsStrict, MayBegin, MayRecover, Steps, Takes, HasSlowed, KeptIn, begin_stop, recover_stop, past_after, done, disk_of, is_down};
 
     /// A durable node, which has this number, start and version.
     pub fn opened(
@@ -150,21 +150,16 @@ impl<D: Rig> NodeActor<D> {
     pub fn slow(&mut self, topology: &Topology, txn: u32) -> Result<Emitted, NodeError>
         requires up { is_down self.old ≡ false }
 
-        ensures ok { IfOk result (λ emitted. (number start version : ℕ) (past : Past Act) → StandsFor D.Disk topology.now number start version past self.old
-            → HasSlowed D.Disk topology.now number start version past txn self.new emitted) }
-        ensures unknown { (number start version : ℕ) (past : Past Act) → StandsFor D.Disk topology.now number start version past self.old
-            → (result ≡ Err Refused.Unknown) ↔ (may_slow topology.now number start txn (done topology.now number start past) ≡ false) }
-        ensures no_quorum { IfErr result (λ error. error ≡ Refused.NoQuorum → (number start version : ℕ) (past : Past Act) → StandsFor D.Disk topology.now number start version past self.old
-            → (may_slow topology.now number start txn (done topology.now number start past) ≡ true) × (is_answered topology.now number start txn (done topology.now number start past) ≡ false)) }
-        ensures not_begun { IfErr result (λ error. (number start version : ℕ) (past : Past Act) → StandsFor D.Disk topology.now number start version past self.old → error ≢ Refused.Begun) }
-        ensures err { OnErr result ((number start version : ℕ) (past : Past Act) → StandsFor D.Disk topology.now number start version past self.old
-            → StandsFor D.Disk topology.now number start version past self.new) }
+        ensures ok { IfOk result (λ emitted. OfEachPast D.Disk topology.now self.old (λ number start version past. HasSlowed D.Disk topology.now number start version past txn self.new emitted)) }
+        ensures unknown { OfEachPast D.Disk topology.now self.old (λ number start version past. (result ≡ Err Refused.Unknown) ↔ (may_slow topology.now number start txn (done topology.now number start past) ≡ false)) }
+        ensures no_quorum { IfErr result (λ error. error ≡ Refused.NoQuorum → OfEachPast D.Disk topology.now self.old (λ number start version past.
+            (may_slow topology.now number start txn (done topology.now number start past) ≡ true) × (is_answered topology.now number start txn (done topology.now number start past) ≡ false))) }
+        ensures not_begun { IfErr result (λ error. OfEachPast D.Disk topology.now self.old (λ number start version past. error ≢ Refused.Begun)) }
+        ensures err { OnErr result (IsAsBefore D.Disk topology.now self.old self.new) }
 
         ensures up { is_down self.new ≡ false }
         ensures disk { disk_of self.new ≡ disk_of self.old }
-        ensures strict { (number start version : ℕ) (armed passed : Maybe ℕ) (past other : Past Act)
-            → IsStrictAt D.Disk topology.now number start version armed passed past self.old
-            → IsStrictAt D.Disk topology.now number start version armed passed other self.new }
+        ensures strict { IsAsStrict D.Disk topology.now self.old self.new }
     {
         let NodeState::Open(node) = &mut self.state else {
             unreachable!()
@@ -177,16 +172,12 @@ impl<D: Rig> NodeActor<D> {
         requires up { is_down self.old ≡ false }
         requires top_in_range { top_of m.now < 2 ^ 62 }
 
-        ensures ok { IfOk result (λ emitted. (number start version : ℕ) (past : Past Act) → StandsFor D.Disk topology.now number start version past self.old
-            → Takes D.Disk topology.now number start version past (TakesMessage m.now) self.new emitted) }
-        ensures err { OnErr result ((number start version : ℕ) (past : Past Act) → StandsFor D.Disk topology.now number start version past self.old
-            → StandsFor D.Disk topology.now number start version past self.new) }
+        ensures ok { IfOk result (λ emitted. OfEachPast D.Disk topology.now self.old (λ number start version past. Takes D.Disk topology.now number start version past (TakesMessage m.now) self.new emitted)) }
+        ensures err { OnErr result (IsAsBefore D.Disk topology.now self.old self.new) }
 
         ensures up { is_down self.new ≡ false }
         ensures disk { disk_of self.new ≡ disk_of self.old }
-        ensures strict { (number start version : ℕ) (armed passed : Maybe ℕ) (past other : Past Act)
-            → IsStrictAt D.Disk topology.now number start version armed passed past self.old
-            → IsStrictAt D.Disk topology.now number start version armed passed other self.new }
+        ensures strict { IsAsStrict D.Disk topology.now self.old self.new }
     {
         let NodeState::Open(node) = &mut self.state else {
             unreachable!()
@@ -226,10 +217,9 @@ impl<D: Rig> NodeActor<D> {
         (actor, found)
     }
 
-    /// Arms a call of the disk: so many more pass, and the next one fails.
+    /// Arms a call of the disk: where that is strict, so many more pass and the next one fails.
     pub fn arm(&mut self, calls: u64)
-        ensures stands { (layout : Layout) (number start version : ℕ) (past : Past Act) → StandsFor D.Disk layout number start version past self.old
-            → StandsFor D.Disk layout number start version past self.new }
+        ensures stands { (layout : Layout) → IsAsBefore D.Disk layout self.old self.new }
         ensures down { is_down self.new ≡ is_down self.old }
         ensures faults { (D.state (disk_of self.new)).faults ≡ (D.state (disk_of self.old)).faults }
         ensures strict { (layout : Layout) (number start version : ℕ) (armed passed : Maybe ℕ) (past : Past Act)

@@ -45,7 +45,7 @@ impl<D: Disk> DurableNode<D> {
     ghost use Rattle.acc_journal.specs.Errors.{port_error};
     ghost use Rattle.acc_journal.specs.Journal.{IsOfTheDisk};
     ghost use Rattle.acc_journal.specs.Calls.{Appends, ReadsDisk};
-    ghost use Rattle.acc_durable_node.specs.Node.{answer_of, StandsFor, Takes, HasSlowed, IsSameActor, IsJournalAfter, IsReopened, IsRefusedBy, Refuses, draw_group};
+    ghost use Rattle.acc_durable_node.specs.Node.{draw_answer, StandsFor, Takes, HasSlowed, IsSameActor, IsJournalAfter, IsReopened, IsRefusedBy, Refuses, draw_group};
 
     /// A node that has done nothing, on a disk that holds the bytes 1 and 0, synced. It draws above `start`, and journals as this
     /// version, 1 or 2. It makes no call of the disk and takes no memory.
@@ -93,6 +93,7 @@ impl<D: Disk> DurableNode<D> {
         ensures given { IfOk result (λ n. (n.number ≡ number) × (n.start ≡ start) × (n.version ≡ version)) }
         ensures disk { IfOk result (λ n. ReadsDisk D.Disk disk n.journal.disk (Ok tt)) }
         ensures err_disk { IfErr result (λ e. ReadsDisk D.Disk disk e.1 (Err (port_error e.0))) }
+        ensures err_rest { IfErr result (λ e. e.0 ≢ JournalError.OutOfMemory → IsAtRest (D.state e.1) (D.is_image e.1)) }
         ensures refused { IfErr result (λ e. IsRefusedBy (D.state disk).content version start e.0) }
         ensures never { (payloads : List (List ℕ)) (items : List Payload) → Reads (D.state disk).content payloads → IsNodeJournal version start payloads items → IfErr result (λ e. IsOfTheDisk e.0) }
     {
@@ -133,7 +134,7 @@ impl<D: Disk> DurableNode<D> {
         ensures err { IfErr result (Refuses topology.now self.old self.new (Begins txn body.now)) }
 
         ensures appended { OnOk result (self.new.journal.payloads ≡ self.old.journal.payloads ++ draw_group self.old For.Begin txn) }
-        ensures appends { Appends D.Disk self.old.journal.disk self.new.journal.disk self.old.journal.payloads (draw_group self.old For.Begin txn) (answer_of result) }
+        ensures appends { Appends D.Disk self.old.journal.disk self.new.journal.disk self.old.journal.payloads (draw_group self.old For.Begin txn) (draw_answer result) }
         ensures same { IsSameActor self.old self.new }
     {
         let _sound = self.journal.is_broken();
@@ -144,7 +145,8 @@ impl<D: Disk> DurableNode<D> {
         match self.node.begin(topology, txn, body) {
             Ok(emitted) => self.put_down(&group, emitted),
             Err(NodeError::Begun) => Err(DurableError::Begun),
-            Err(_) => Err(DurableError::OutOfMemory),
+            Err(NodeError::OutOfMemory) => Err(DurableError::OutOfMemory),
+            Err(_) => unreachable!(),
         }
     }
 
@@ -166,7 +168,7 @@ impl<D: Disk> DurableNode<D> {
         ensures err { IfErr result (Refuses topology.now self.old self.new (Recovers id body.now)) }
 
         ensures appended { OnOk result (self.new.journal.payloads ≡ self.old.journal.payloads ++ draw_group self.old For.Recover txn) }
-        ensures appends { Appends D.Disk self.old.journal.disk self.new.journal.disk self.old.journal.payloads (draw_group self.old For.Recover txn) (answer_of result) }
+        ensures appends { Appends D.Disk self.old.journal.disk self.new.journal.disk self.old.journal.payloads (draw_group self.old For.Recover txn) (draw_answer result) }
         ensures same { IsSameActor self.old self.new }
     {
         let _sound = self.journal.is_broken();
@@ -256,7 +258,7 @@ impl<D: Disk> DurableNode<D> {
     ghost use Rattle.acc_journal.specs.Layout.{AreShort};
     ghost use Rattle.acc_journal.specs.Journal.{group_room};
     ghost use Rattle.acc_journal.specs.Calls.{Appends};
-    ghost use Rattle.acc_durable_node.specs.Node.{answer_of, draw_group, with_spare, with_parts, Drew, FailsToAppend};
+    ghost use Rattle.acc_durable_node.specs.Node.{draw_answer, draw_group, with_spare, with_parts, Drew, FailsToAppend};
 
     // What the next draw appends to the journal, which then has room for it.
     #[tactic(auto, using(acc_payloads::proofs::Groups::group_takes, acc_payloads::proofs::Groups::group_is_short, acc_payloads::proofs::Groups::group_has_some))]
@@ -296,7 +298,7 @@ impl<D: Disk> DurableNode<D> {
         ensures drew { OnOk result (Drew self.old self.new.journal self.new.marked self.new.kept group.now) }
         ensures same { self.new ≡ with_parts self.old self.old.node self.new.journal self.new.marked self.new.kept }
         ensures err { IfErr result (FailsToAppend emitted self.new.journal.broken) }
-        ensures appends { Appends D.Disk self.old.journal.disk self.new.journal.disk self.old.journal.payloads group.now (answer_of result) }
+        ensures appends { Appends D.Disk self.old.journal.disk self.new.journal.disk self.old.journal.payloads group.now (draw_answer result) }
     {
         match self.journal.append_group(group) {
             Ok(()) => {
@@ -305,7 +307,8 @@ impl<D: Disk> DurableNode<D> {
                 Ok(emitted)
             }
             Err(JournalError::DiskFault) => Err(DurableError::DiskFault { unsent: emitted }),
-            Err(_) => Err(DurableError::OutOfMemory),
+            Err(JournalError::OutOfMemory) => Err(DurableError::OutOfMemory),
+            Err(_) => unreachable!(),
         }
     }
 }
@@ -313,7 +316,8 @@ impl<D: Disk> DurableNode<D> {
 impl<D: Rig> DurableNode<D> {
     ghost use Rattle.acc_durable_node.specs.Node.{StandsFor, IsSameActor};
 
-    /// Arms a call of the disk: so many more pass, and the next one fails. It makes no call of the disk and takes no memory.
+    /// Arms a call of the disk: where that is strict, so many more pass and the next one fails. It makes no call of the disk and takes no
+    /// memory.
     pub fn arm(&mut self, calls: u64)
         ensures arms { Arms D.Disk calls self.old.journal.disk self.new.journal.disk }
         ensures stands { (layout : Layout) (acts : List Act) → StandsFor layout self.old acts → StandsFor layout self.new acts }

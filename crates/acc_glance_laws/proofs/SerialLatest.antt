@@ -2,7 +2,7 @@
 use Rattle.std.proofs.Common.{◌≡◌, Bool, true, false, ◌||◌, List, [], ◌∷◌, ◌++◌, Option, None, Some, refl, sym, ◌∙◌, ap, subst, ◌⊎◌, inl, inr, ⊎_elim}
 use Rattle.std.specs.Prelude.{unwrap_or}
 use Rattle.std.specs.List.{AllByRecursion}
-use Rattle.std.proofs.lemmas.Bool.{true≢false, false≢true, or_left, or_right, or_cases, cond_both, cond-true, cond-false}
+use Rattle.std.proofs.lemmas.Bool.{true≢false, false≢true, or_left, or_right, or_cases, cond_both}
 use Rattle.std.proofs.lemmas.List.{append-nil, append_assoc}
 use Rattle.std.proofs.lemmas.List.Folds.{list_any-append}
 use Rattle.acc_stamp.specs.declared.stamps.TxnId.{TxnId}
@@ -10,16 +10,13 @@ use Rattle.acc_stamp.specs.Stamp.{id_eq, stamp_lt}
 use Rattle.acc_stamp.proofs.Order.{id_order, stamp_order, trichotomy, asym, eq_itself}
 use Rattle.acc_value.specs.declared.key.Key.{Key}
 use Rattle.acc_value.specs.Pairs.{find}
-use Rattle.acc_txn.specs.declared.parts.BodyParts.{BodyParts}
 use Rattle.acc_txn.specs.declared.outcome.Outcome.{Outcome}
 use Rattle.acc_txn.specs.Uses.{is_read, is_updated}
 use Rattle.acc_txn.specs.Meaning.{outcome_of}
 use Rattle.acc_txn.specs.Serial.{map_after}
 use Rattle.acc_txn.proofs.Agree.{outcome_of-agree}
-use Rattle.acc_txn.proofs.Writes.{find-outcome_of}
-use Rattle.acc_message.specs.declared.note.Note.{Note}
 use Rattle.acc_message.specs.declared.item.Item.{Item}
-use Rattle.acc_message.specs.Items.{sent_of, notes_of}
+use Rattle.acc_message.specs.Items.{notes_of}
 use Rattle.acc_message.specs.Run.{Cluster, EachStands}
 use Rattle.acc_actor_laws.proofs.OpeningFacts.{some_is}
 use Rattle.acc_safety.specs.Decisions.{Answered as Answer, outcomes_of, is_answered, firsts_after, body_of}
@@ -28,15 +25,13 @@ use Rattle.acc_safety.proofs.PlaceOrder.{each_from, any_from}
 use Rattle.acc_safety.proofs.Bridge.{EachStands-past}
 use Rattle.acc_safety_laws.proofs.Cell.{Cell}
 use Rattle.acc_safety_laws.proofs.Latest.{IsLatest, Unwritten, same_latest, one_latest, latest_more}
-use Rattle.acc_safety_laws.proofs.Notions.{uses, time_of, outcome_first, wrote, written_at, Answered, Finished}
-use Rattle.acc_safety_laws.proofs.Facts.{Premises, own_times, wrote_tells, writer_below, below_writer, updated_is_found}
-use Rattle.acc_safety_laws.proofs.Frame.{HasApply}
+use Rattle.acc_safety_laws.proofs.Notions.{uses, time_of, wrote, Answered, Finished}
+use Rattle.acc_safety_laws.proofs.Facts.{Premises, own_times, wrote_tells, writer_below, below_writer}
 use Rattle.acc_safety_laws.proofs.Framed.{run_framed}
 use Rattle.acc_safety_laws.proofs.InTheirTurn.{OutcomeAt, OutcomesInOrder, HasWritten}
 use Rattle.acc_safety_laws.proofs.Parts.{within_itself}
-use Rattle.acc_safety_laws.proofs.SerialRuns.{IsSerialRun, each_sent_right, first_is_right, run_serial}
-use Rattle.acc_safety_laws.proofs.StoreRight.{one_outcome}
-use Rattle.acc_safety_laws.proofs.Stores.{used_key_has_stores}
+use Rattle.acc_safety_laws.proofs.SerialRuns.{IsSerialRun, run_serial}
+use Rattle.acc_safety_laws.proofs.Whole.{written}
 use Rattle.acc_glance_laws.specs.SerialCells.{cells_then, cells_after, serial_cell}
 use Rattle.acc_glance_laws.proofs.Finished.{below_is_answered, in_order, answered_later}
 use Rattle.acc_glance_laws.proofs.Parts.{within_past}
@@ -158,45 +153,16 @@ module _ (cluster : Cluster) (whole : List Item) where
         (subst (λ o. AreLatest (earlier ++ a ∷ []) (cells_then cells o)) (sym (each.0.1 ∙ order.0.is.finished.body_is))
         (answered_first earlier before a order.0 cells latest (sym (same a.id) ∙ new) each.0.0)) each.1))
 
--- ---- what is written
-
-nothing_written : (body : BodyParts) (o : Option Outcome) (key : Key) → is_updated body key ≡ false → written_at (Some body) o key ≡ None
-nothing_written body None key none = refl
-nothing_written body (Some outcome) key none = cond-false (is_updated body key) (find outcome.writes key) None none
+-- ---- a part of the run
 
 module _ (cluster : Cluster) (whole : List Item) (given : Premises cluster whole) (stands : EachStands cluster whole) where
   run : IsSerialRun cluster whole given whole
   run = run_serial cluster whole given whole (within_itself cluster whole) stands
 
-  outcome_written : (x : TxnId) (notes : List Note) (o : Outcome) (key : Key) → Answered (notes_of whole) x → Finished cluster whole notes x o → find o.writes key ≡ wrote cluster whole x key
-  outcome_written x notes o key answered f = by (is_updated f.body key) refl ∙ ap (λ b. written_at b (outcome_first cluster whole x) key) (sym f.body_is)
-    where
-      by : (b : Bool) → is_updated f.body key ≡ b → find o.writes key ≡ written_at (Some f.body) (outcome_first cluster whole x) key
-      by false none =
-          ap (λ (p : Outcome). find p.writes key) f.outcome_is ∙ find-outcome_of f.body f.cells key none ∙ sym (nothing_written f.body (outcome_first cluster whole x) key none)
-      by true updates =
-          sym (cond-true (is_updated f.body key) (find o.writes key) None updates) ∙ ap (λ p. written_at (Some f.body) p key) (sym first_is)
-        where
-          applied : HasApply cluster whole (sent_of whole) x
-          applied = (run_framed cluster whole stands).applied x answered
-
-          found : (p : Outcome) × (outcome_first cluster whole x ≡ Some p)
-          found =
-              applied.sent (λ none. used_key_has_stores cluster.layout applied.body key true given.layout
-              (updated_is_found cluster whole given applied.body key (subst (λ body. is_updated body key ≡ true) (some_is f.body applied.body (sym f.body_is ∙ applied.body_is)) updates)) none)
-
-          first_is : outcome_first cluster whole x ≡ Some o
-          first_is =
-              found.1
-              ∙ ap (λ p. Some p) (one_outcome cluster whole given (notes_of whole) notes x found.0 o
-              (first_is_right cluster whole given (notes_of whole) (sent_of whole) x found.0 (each_sent_right cluster whole given whole run.messages) found.1).finished f)
-
-  -- ---- a part of the run
-
   pub serial_is_latest : (part : List Item) → IsPast part whole → (key : Key)
       → IsLatest (time_of cluster whole) (wrote cluster whole) (Answered (notes_of part)) key (serial_cell cluster part key)
   serial_is_latest part past =
-      cells_are_latest cluster whole given (record { written = outcome_written }) part [] [] (outcomes_of (notes_of part)) (λ _. None) (λ y. refl) tt
+      cells_are_latest cluster whole given (record { written = written cluster whole given (run_framed cluster whole stands) run }) part [] [] (outcomes_of (notes_of part)) (λ _. None) (λ y. refl) tt
       (in_order cluster whole given stands part past) (λ key. Unwritten refl (record { none = λ y c h w. false≢true h })) each
     where
       counts : (a : Answer) → Answered (notes_of part) a.id → Counts cluster whole part a

@@ -34,14 +34,14 @@ pub record HasRun {D : Type 0} (port : Ghosts D) (plan : Content) (items : List 
   pub obeys : Obeys plan answers items
   pub back : GivesBack port plan obeys.last before after
 
--- with these answers the run comes to the situation: behind whole steps, or inside one
+-- with these answers the run comes to the situation: after whole steps, or inside one
 abbrev pub IsReached : Content → Answers → Situation → Type 0
 IsReached plan answers s =
     ((done : List Step) × (left : List Step) × (plan.steps ≡ done ++ left) × Follows (cluster_of plan) answers 0 done (opened []) s)
     ⊎ Reaches (cluster_of plan) answers 0 plan.steps (opened []) s
 
 -- With some answers of the disks the run comes to a situation: to these items, or a move ahead of them, if a disk took a step that the
--- limit keeps out. The limit ends the run of the schedule behind these items, whatever disks answer from there on. The disks came back, each
+-- limit keeps out. The limit ends the run of the schedule after these items, whatever disks answer from there on. The disks came back, each
 -- keeping its actor there.
 pub record HasStopped {D : Type 0} (port : Ghosts D) (plan : Content) (items : List Item) (which : Which) (number : ℕ) (before after : List (ℕ × D)) : Type 0 where
   pub answers : Answers

@@ -24,7 +24,7 @@ pub record HasTaken {D : Type 0} (port : Ghosts D) (plan : Content) (cluster : C
   pub follows : Follows (cluster_of plan) answers 0 steps (opened []) last
   pub stands : StandsFor port plan cluster last
 
--- With some answers of the disks the run comes to a situation, for which the actors stand with their disks, and a limit ends it behind these
+-- With some answers of the disks the run comes to a situation, for which the actors stand with their disks, and a limit ends it after these
 -- items, whatever disks answer from there on. The cluster has entered these items.
 pub record IsStopped {D : Type 0} (port : Ghosts D) (plan : Content) (cluster : Cluster D) (items : List Item) (which : Which) (number : ℕ) : Type 0 where
   pub answers : Answers

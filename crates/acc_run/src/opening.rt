@@ -4,7 +4,6 @@ ghost use Rattle.std.specs.List.{AllByRecursion};
 ghost use Rattle.acc_stamp.specs.Actor.{actor_of};
 ghost use Rattle.acc_topology.specs.Layout.{HasShard, shard_at};
 ghost use Rattle.acc_topology.specs.Sets.{is_among};
-ghost use Rattle.acc_message.specs.Run.{clock_start};
 ghost use Rattle.acc_schedule.specs.Plan.{IsPlan};
 ghost use Rattle.acc_schedule_runs.specs.Situations.{opened as opened_behind};
 ghost use Rattle.acc_schedule_runs.specs.StrictMoves.{opened_strictly};
@@ -13,6 +12,7 @@ ghost use Rattle.acc_cluster.specs.Stands.{StandsFor, StandsStrictly};
 ghost use Rattle.acc_actors.specs.Opened.{IsUnarmed};
 ghost use Rattle.acc_run.specs.Fresh.{AreFreshNodes, AreFreshStores, IsFreshNode, IsFreshStore};
 
+use acc_actors::start_of;
 use acc_base::OutOfMemory;
 use acc_cluster::Cluster;
 use acc_durable_node::DurableNode;
@@ -21,7 +21,6 @@ use acc_plan_laws::laws::{plans_are_valid, plans_have_few_bodies};
 use acc_ports::DiskMaker;
 use acc_schedule::Plan;
 use acc_stamp::actor;
-use acc_topology::NodeSpec;
 use acc_topology::sets::contains;
 use std::alloc::Global;
 
@@ -92,18 +91,6 @@ where
     let start = start_of(plan.starts.as_slice(), number);
     let disk = disks.make(number * 64)?;
     Ok(DurableNode::fresh(alloc, number, start, plan.version, disk))
-}
-
-// Where the clock of a node starts, and 0 for no node.
-fn start_of(starts: &[NodeSpec], node: u32) -> u64
-    ensures { result ≡ clock_start starts.now node }
-{
-    for start in starts {
-        if start.id == node {
-            return start.clock;
-        }
-    }
-    0
 }
 
 // The stores of the plan, in the order of the shards.

@@ -167,7 +167,7 @@ module _ (layout : Layout) (node start : ℕ) (past : List Deed) (did : DidPlain
   node_plain act m h emitted (AsksForViews x body store) = h
   node_plain act m h emitted (Proposes on x a s store reacts) = body_plain x on a (Propose s) reacts
   node_plain act m h emitted (Commits on x a s store reacts) = body_plain x on a (CommitTo s) reacts
-  node_plain act m h emitted (Decides on x a path s store reacts) = body_plain x on a (DecideBy path s) reacts
+  node_plain act m h emitted (Decides on x a path s store reacts noted) = body_plain x on a (DecideBy path s) reacts
   node_plain act m h emitted (Finishes on x a s outcome store reacts) =
       (body_plain x on a (FinishWith s outcome) reacts, outcome_plain on h emitted x a (FinishWith s outcome) reacts)
   node_plain act m h emitted (Informs on x a s outcome reacts) = outcome_plain on h emitted x a (FinishWith s outcome) reacts

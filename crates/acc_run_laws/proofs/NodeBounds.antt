@@ -426,7 +426,7 @@ module _ (most : ℕ) (begun : List TxnId) where
     node_bounded act m h drawn actor address emitted (Commits on x a s store reacts) =
         let by = moving on h emitted x a (CommitTo s) reacts in
         sent_bounded (actor_of node 0) (Commit (actor_of node 0) store x a.ballot a.body s.t s.deps) x a.ballot actor address refl refl refl by.0.id by.0.ballot (proposal a s by.0.rules by.1.settled)
-    node_bounded act m h drawn actor address emitted (Decides on x a path s store reacts) =
+    node_bounded act m h drawn actor address emitted (Decides on x a path s store reacts noted) =
         let by = moving on h emitted x a (DecideBy path s) reacts in
         sent_bounded (actor_of node 0) (Stable (actor_of node 0) store x a.ballot a.body s.t s.deps) x a.ballot actor address refl refl refl by.0.id by.0.ballot (proposal a s by.0.rules by.1.settled)
     node_bounded act m h drawn actor address emitted (Finishes on x a s outcome store reacts) =

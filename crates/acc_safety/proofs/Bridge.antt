@@ -368,7 +368,7 @@ node_from layout node start past act m (AsksForVotes txn body store) = refl
 node_from layout node start past act m (AsksForViews x body store) = refl
 node_from layout node start past act m (Proposes on x a s store r) = refl
 node_from layout node start past act m (CommitsTo on x a s store r) = refl
-node_from layout node start past act m (Decides on x a path s store r) = refl
+node_from layout node start past act m (Decides on x a path s store r noted) = refl
 node_from layout node start past act m (Finishes on x a s outcome store r) = refl
 node_from layout node start past act m (Informs on x a s outcome r) = refl
 

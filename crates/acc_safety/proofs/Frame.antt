@@ -124,7 +124,7 @@ module _ (cluster : Cluster) (items : List Item) (h : EachStands cluster items) 
       subst (IsBody cluster items x) (some_is at.body body is) (reacts_body a node deed past x on at _ there reacts)
   node_brings a node deed past act m body same there (CommitsTo on x at s store reacts) is =
       subst (IsBody cluster items x) (some_is at.body body is) (reacts_body a node deed past x on at _ there reacts)
-  node_brings a node deed past act m body same there (Decides on x at path s store reacts) is =
+  node_brings a node deed past act m body same there (Decides on x at path s store reacts noted) is =
       subst (IsBody cluster items x) (some_is at.body body is) (reacts_body a node deed past x on at _ there reacts)
   node_brings a node deed past act m body same there (Finishes on x at s outcome store reacts) is =
       subst (IsBody cluster items x) (some_is at.body body is) (reacts_body a node deed past x on at _ there reacts)
@@ -178,7 +178,7 @@ node_home layout node start past act m (AsksForVotes txn body store) = ap (λ n.
 node_home layout node start past act m (AsksForViews x body store) = home_of_draw node start past x
 node_home layout node start past act m (Proposes on x at s store reacts) = reacts_home layout node start past x on at _ reacts
 node_home layout node start past act m (CommitsTo on x at s store reacts) = reacts_home layout node start past x on at _ reacts
-node_home layout node start past act m (Decides on x at path s store reacts) = reacts_home layout node start past x on at _ reacts
+node_home layout node start past act m (Decides on x at path s store reacts noted) = reacts_home layout node start past x on at _ reacts
 node_home layout node start past act m (Finishes on x at s outcome store reacts) = reacts_home layout node start past x on at _ reacts
 node_home layout node start past act m (Informs on x at s outcome reacts) = reacts_home layout node start past x on at _ reacts
 

@@ -53,7 +53,7 @@ node_sends_none layout node start past act m (AsksForVotes txn body store) = ref
 node_sends_none layout node start past act m (AsksForViews x body store) = refl
 node_sends_none layout node start past act m (Proposes on x a s store reacts) = refl
 node_sends_none layout node start past act m (Commits on x a s store reacts) = refl
-node_sends_none layout node start past act m (Decides on x a path s store reacts) = refl
+node_sends_none layout node start past act m (Decides on x a path s store reacts noted) = refl
 node_sends_none layout node start past act m (Finishes on x a s outcome store reacts) = refl
 node_sends_none layout node start past act m (Informs on x a s outcome reacts) = refl
 

@@ -294,7 +294,7 @@ node-names layout node start emitted past act m took (AsksForVotes txn body stor
 node-names layout node start emitted past act m took (AsksForViews x body store) = tt
 node-names layout node start emitted past act m took (Proposes on x at s store reacts) = (reacts-sets layout x node start emitted past on at (Propose s) took reacts, tt)
 node-names layout node start emitted past act m took (CommitsTo on x at s store reacts) = (reacts-sets layout x node start emitted past on at (CommitTo s) took reacts, tt)
-node-names layout node start emitted past act m took (Decides on x at path s store reacts) = (reacts-sets layout x node start emitted past on at (DecideBy path s) took reacts, tt)
+node-names layout node start emitted past act m took (Decides on x at path s store reacts noted) = (reacts-sets layout x node start emitted past on at (DecideBy path s) took reacts, tt)
 node-names layout node start emitted past act m took (Finishes on x at s outcome store reacts) = (reacts-sets layout x node start emitted past on at (FinishWith s outcome) took reacts, tt)
 node-names layout node start emitted past act m took (Informs on x at s outcome reacts) = tt
 

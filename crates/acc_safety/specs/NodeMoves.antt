@@ -24,7 +24,8 @@ use Rattle.acc_message.specs.Fields.{id_of, ballot_of}
 use Rattle.acc_message.specs.Attempts.{Attempt, Voting, Recovering, Accepting, Committing, Executing, counts, majority_everywhere, fast_everywhere, may_be_fast_everywhere, outcome_from}
 use Rattle.acc_message.specs.RecoveryDecision.{views_in}
 use Rattle.acc_message.specs.Coordinator.{Reaction, stay, begun, recovering, propose, commit, decide, finish, block, end, own_stamp, highest_vote, agreed, path_of, with_answer, home_node, is_decided, is_past_recover}
-use Rattle.acc_message.specs.NodeRules.{Act, Begins, Recovers, Slows, Takes, Restarts, Deed, next_id, next_ballot, is_open, attempt_of}
+use Rattle.acc_message.specs.NodeRules.{Act, Begins, Recovers, Slows, Takes, Restarts, Deed, next_id, next_ballot, is_open, attempt_of, node_emits}
+use Rattle.acc_safety.specs.Places.{IsIn}
 
 -- ---- what a recovery with a majority of views does
 
@@ -146,7 +147,7 @@ pub data AttemptMoves (layout : Layout) (node start : ℕ) (past : List Deed) (x
       → AttemptMoves layout node start past x act (made layout (actor_of node 0) x a move).next
   Forgets : AttemptMoves layout node start past x Restarts None
 
--- ---- what a node sends
+-- ---- what a node sends, and, with a Stable, which decision it notes in this very step
 
 pub data NodeSends (layout : Layout) (node start : ℕ) (past : List Deed) : Act → Message → Type 0 where
   AsksForVotes :
@@ -164,6 +165,7 @@ pub data NodeSends (layout : Layout) (node start : ℕ) (past : List Deed) : Act
   Decides :
       (act : Act) (x : TxnId) (a : Attempt) (path : Path) (s : Settled) (store : Actor)
       → Reacts layout node start past x act a (DecideBy path s)
+      → IsIn (DecideNote x s.t path s.deps) (node_emits layout node start past act).notes
       → NodeSends layout node start past act (Stable (actor_of node 0) store x a.ballot a.body s.t s.deps)
   Finishes :
       (act : Act) (x : TxnId) (a : Attempt) (s : Settled) (outcome : Outcome) (store : Actor)

@@ -5,6 +5,7 @@ use Rattle.acc_stamp.specs.declared.stamps.TxnId.{TxnId}
 use Rattle.acc_stamp.specs.declared.stamps.Ballot.{Ballot}
 use Rattle.acc_stamp.specs.declared.actors.Actor.{Actor}
 use Rattle.acc_stamp.specs.Actor.{shard_of}
+use Rattle.acc_topology.specs.Layout.{Layout, IsLayout}
 use Rattle.acc_topology.specs.Sets.{is_among}
 use Rattle.acc_txn.specs.declared.parts.BodyParts.{BodyParts}
 use Rattle.acc_message.specs.declared.message.Message.{Message}
@@ -54,6 +55,14 @@ pub record Meeting (shard : ℕ) (one other : Message → Type 0) (answers other
   pub second_from : from_of second ≡ store
   pub first_is : one first
   pub second_is : other second
+
+-- in each shard that both bodies use, answers that pass the first test for x meet answers that pass the second one for y
+abbrev pub QuorumsMeet : (Layout → TxnId → BodyParts → List Message → Bool) → (Layout → TxnId → BodyParts → List Message → Bool)
+    → (TxnId → Message → Type 0) → (TxnId → Message → Type 0) → Type 0
+QuorumsMeet first second one other =
+    (layout : Layout) (x y : TxnId) (body rival : BodyParts) (answers others : List Message) (shard : ℕ) → IsLayout layout
+    → IsTrue (is_among (shards_used layout body) shard) → IsTrue (is_among (shards_used layout rival) shard)
+    → IsTrue (first layout x body answers) → IsTrue (second layout y rival others) → Meeting shard (one x) (other y) answers others
 
 -- the bodies of two transactions conflict in the shard, each with the other
 pub record AreRivals (cluster : Cluster) (items : List Item) (shard : ℕ) (x y : TxnId) (first second : BodyParts) : Type 0 where

@@ -6,6 +6,7 @@ use Rattle.acc_stamp.specs.declared.stamps.Ballot.{Ballot}
 use Rattle.acc_stamp.specs.declared.actors.Actor.{Actor}
 use Rattle.acc_stamp.specs.Stamp.{zero_ballot}
 use Rattle.acc_deps.specs.declared.shards.ShardDeps.{ShardDeps}
+use Rattle.acc_deps.specs.declared.records.Settled.{Settled}
 use Rattle.acc_deps.specs.Deps.{deps_union}
 use Rattle.acc_txn.specs.declared.parts.BodyParts.{BodyParts}
 use Rattle.acc_message.specs.declared.message.Message.{Message}
@@ -59,8 +60,8 @@ pub data Root (cluster : Cluster) (items : List Item) (x : TxnId) (body : BodyPa
 -- ---- roots of commits
 
 -- a majority in every shard of x accepted this proposal at the ballot, and these are their answers
-pub record AcceptedBy (cluster : Cluster) (items : List Item) (x : TxnId) (body : BodyParts) (b : Ballot) (t : Stamp) (proposed : List ShardDeps) (answers : List Message) : Type 0 where
-  pub proposal : Proposed items x body b t proposed
+pub record AcceptedBy (cluster : Cluster) (items : List Item) (x : TxnId) (body : BodyParts) (b : Ballot) (proposed : Settled) (answers : List Message) : Type 0 where
+  pub proposal : Proposed items x body b proposed.t proposed.deps
   pub are : AreAnswers cluster items x body b is_accept_ok answers
   pub majority : majority_everywhere cluster.layout x body answers ≡ true
 
@@ -70,14 +71,14 @@ pub record CommitRoot (cluster : Cluster) (items : List Item) (x : TxnId) (body 
   pub ballot : Ballot
   pub proposed : List ShardDeps
   pub answers : List Message
-  pub accepted : AcceptedBy cluster items x body ballot t proposed answers
+  pub accepted : AcceptedBy cluster items x body ballot (record { t = t; deps = proposed }) answers
   pub deps_are : deps ≡ deps_union proposed (union_of x answers)
 
 -- ---- roots of decisions
 
 -- a majority in every shard of x committed this at the ballot, and these are their answers
-pub record CommittedBy (cluster : Cluster) (items : List Item) (x : TxnId) (body : BodyParts) (b : Ballot) (t : Stamp) (deps : List ShardDeps) (answers : List Message) : Type 0 where
-  pub commit : Committed items x body b t deps
+pub record CommittedBy (cluster : Cluster) (items : List Item) (x : TxnId) (body : BodyParts) (b : Ballot) (decided : Settled) (answers : List Message) : Type 0 where
+  pub commit : Committed items x body b decided.t decided.deps
   pub are : AreAnswers cluster items x body b is_commit_ok answers
   pub majority : majority_everywhere cluster.layout x body answers ≡ true
 
@@ -92,5 +93,5 @@ pub data DecisionRoot (cluster : Cluster) (items : List Item) (x : TxnId) (body 
   ByFastVotes :
       (answers : List Message) → FastBy cluster items x body answers → DecisionRoot cluster items x body x.0 (union_of x answers)
   ByCommits :
-      (b : Ballot) (t : Stamp) (deps : List ShardDeps) (answers : List Message) → CommittedBy cluster items x body b t deps answers
+      (b : Ballot) (t : Stamp) (deps : List ShardDeps) (answers : List Message) → CommittedBy cluster items x body b (record { t = t; deps = deps }) answers
       → DecisionRoot cluster items x body t deps

@@ -127,28 +127,28 @@ RecordsHaveRoots cluster items =
 abbrev pub AcceptedLast : Cluster → List Item → Type 0
 AcceptedLast cluster items =
     (x : TxnId) (body : BodyParts) (b above : Ballot) (t s : Stamp) (deps more : List ShardDeps) (answers : List Message)
-    → AcceptedBy cluster items x body b t deps answers → Proposed items x body above s more → ballot_lt b above ≡ true
+    → AcceptedBy cluster items x body b (record { t = t; deps = deps }) answers → Proposed items x body above s more → ballot_lt b above ≡ true
     → (s ≡ t) × (more ≡ deps)
 
 -- every commit from its ballot on has its timestamp
 abbrev pub AcceptedStays : Cluster → List Item → Type 0
 AcceptedStays cluster items =
     (x : TxnId) (body : BodyParts) (b from_b : Ballot) (t s : Stamp) (deps more : List ShardDeps) (answers : List Message)
-    → AcceptedBy cluster items x body b t deps answers → Committed items x body from_b s more → ballot_lt from_b b ≡ false
+    → AcceptedBy cluster items x body b (record { t = t; deps = deps }) answers → Committed items x body from_b s more → ballot_lt from_b b ≡ false
     → s ≡ t
 
 -- every commit at a greater ballot is the one that a majority committed
 abbrev pub CommittedLast : Cluster → List Item → Type 0
 CommittedLast cluster items =
     (x : TxnId) (body : BodyParts) (b above : Ballot) (t s : Stamp) (deps more : List ShardDeps) (answers : List Message)
-    → CommittedBy cluster items x body b t deps answers → Committed items x body above s more → ballot_lt b above ≡ true
+    → CommittedBy cluster items x body b (record { t = t; deps = deps }) answers → Committed items x body above s more → ballot_lt b above ≡ true
     → (s ≡ t) × (more ≡ deps)
 
 -- and nothing is proposed at a greater ballot
 abbrev pub CommittedIsFinal : Cluster → List Item → Type 0
 CommittedIsFinal cluster items =
     (x : TxnId) (body : BodyParts) (b above : Ballot) (t s : Stamp) (deps more : List ShardDeps) (answers : List Message)
-    → CommittedBy cluster items x body b t deps answers → Proposed items x body above s more → ballot_lt b above ≡ true → ⊥
+    → CommittedBy cluster items x body b (record { t = t; deps = deps }) answers → Proposed items x body above s more → ballot_lt b above ≡ true → ⊥
 
 -- ---- a fast decision is found
 
@@ -195,5 +195,5 @@ CoveredByFast cluster items =
 abbrev pub CoveredByCommits : Cluster → List Item → Type 0
 CoveredByCommits cluster items =
     (shard : ℕ) (x y : TxnId) (body theirs : BodyParts) (b : Ballot) (t s : Stamp) (deps more : List ShardDeps) (answers : List Message)
-    → AreRivals cluster items shard y x theirs body → CommittedBy cluster items x body b t deps answers
+    → AreRivals cluster items shard y x theirs body → CommittedBy cluster items x body b (record { t = t; deps = deps }) answers
     → DecisionRoot cluster items y theirs s more → stamp_lt s t ≡ true → deps_has deps shard y ≡ true

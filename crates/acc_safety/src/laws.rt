@@ -26,7 +26,7 @@ ghost use Rattle.acc_safety.specs.StoreSends.{StoreSends};
 ghost use Rattle.acc_safety.specs.NodeMoves.{AttemptMoves, NodeSends, NodeNotes};
 ghost use Rattle.acc_safety.specs.Attempted.{AreAnswersOf, Origin, kind_of};
 ghost use Rattle.acc_safety.specs.Underway.{underway, start_if};
-ghost use Rattle.acc_safety.specs.Polls.{AreAnswers, Meeting, IsAny, Kept, Changed};
+ghost use Rattle.acc_safety.specs.Polls.{AreAnswers, Meeting, QuorumsMeet, IsAny, Kept, Changed};
 ghost use Rattle.acc_safety.specs.Statements.{BodiesAreBegun, HomesAreOne, DepsAreSets};
 
 use acc_stamp::laws::{draws_are_of_node, draws_rise};
@@ -114,18 +114,9 @@ pub fn answers_come_from_stores()
 /// majority. Of one transaction, where a fast quorum is lost or may not be there by some answers, other answers that are fast
 /// have a store that changed its timestamp in the first.
 pub fn quorums_of_messages_meet()
-    ensures majorities { (layout : Layout) (x y : TxnId) (body other : BodyParts) (answers others : List Message) (shard : ℕ) → IsLayout layout →
-        IsTrue (is_among (shards_used layout body) shard) → IsTrue (is_among (shards_used layout other) shard) →
-        IsTrue (majority_everywhere layout x body answers) → IsTrue (majority_everywhere layout y other others) →
-        Meeting shard IsAny IsAny answers others }
-    ensures fast_and_majority { (layout : Layout) (x y : TxnId) (body other : BodyParts) (answers others : List Message) (shard : ℕ) → IsLayout layout →
-        IsTrue (is_among (shards_used layout body) shard) → IsTrue (is_among (shards_used layout other) shard) →
-        IsTrue (fast_everywhere layout x body answers) → IsTrue (majority_everywhere layout y other others) →
-        Meeting shard (Kept x) IsAny answers others }
-    ensures fast { (layout : Layout) (x y : TxnId) (body other : BodyParts) (answers others : List Message) (shard : ℕ) → IsLayout layout →
-        IsTrue (is_among (shards_used layout body) shard) → IsTrue (is_among (shards_used layout other) shard) →
-        IsTrue (fast_everywhere layout x body answers) → IsTrue (fast_everywhere layout y other others) →
-        Meeting shard (Kept x) (Kept y) answers others }
+    ensures majorities { QuorumsMeet majority_everywhere majority_everywhere (λ x. IsAny) (λ y. IsAny) }
+    ensures fast_and_majority { QuorumsMeet fast_everywhere majority_everywhere Kept (λ y. IsAny) }
+    ensures fast { QuorumsMeet fast_everywhere fast_everywhere Kept Kept }
     ensures possible { (layout : Layout) (x y : TxnId) (body other : BodyParts) (answers others : List Message) (shard : ℕ) → IsLayout layout →
         IsTrue (is_among (shards_used layout body) shard) → IsTrue (is_among (shards_used layout other) shard) →
         IsTrue (fast_everywhere layout x body answers) → IsTrue (majority_everywhere layout y other others) →

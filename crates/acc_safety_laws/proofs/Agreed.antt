@@ -40,7 +40,7 @@ use Rattle.acc_safety_laws.proofs.BegunIds.{uses_some, body_keeps, begin_noted, 
 module _ (cluster : Cluster) (items : List Item) (s : IsStanding cluster items) (p : Premises cluster items) where
   -- what two majorities committed is one
   one_committed : (x : TxnId) (body : BodyParts) (b c : Ballot) (t u : Stamp) (deps more : List ShardDeps) (answers others : List Message)
-      → CommittedBy cluster items x body b t deps answers → CommittedBy cluster items x body c u more others → (t ≡ u) × (deps ≡ more)
+      → CommittedBy cluster items x body b (record { t = t; deps = deps }) answers → CommittedBy cluster items x body c (record { t = u; deps = more }) others → (t ≡ u) × (deps ≡ more)
   one_committed x body b c t u deps more answers others one other =
       ⊎_elim
       (λ below.

@@ -25,7 +25,7 @@ use Rattle.acc_actor_laws.proofs.OpeningFacts.{some_is}
 use Rattle.acc_safety.specs.Places.{IsIn, StandsAt, IsPast, Whole}
 use Rattle.acc_safety.specs.Histories.{Sending, Noting, NodeStep, NotedBy, Sender, IsStore, IsNode}
 use Rattle.acc_safety.specs.StoreSends.{StoreSends}
-use Rattle.acc_safety.specs.NodeMoves.{DecideBy, FinishWith, Moves, DecidesFast, AdoptsStable, DecidesCommitted, HasOutcome, Counts, TakesOver, Reacts, ToSlow, ToMessage, NodeSends, Finishes, NodeNotes, NotesDecision}
+use Rattle.acc_safety.specs.NodeMoves.{DecideBy, FinishWith, Moves, DecidesFast, AdoptsStable, DecidesCommitted, HasOutcome, Counts, TakesOver, Reacts, ToSlow, ToMessage, NodeSends, Decides, Finishes, NodeNotes, NotesDecision}
 use Rattle.acc_safety.specs.Attempted.{Took, kind_of}
 use Rattle.acc_safety.specs.Polls.{IsBody, AreAnswers}
 use Rattle.acc_safety.specs.Roots.{DecisionRoot, ByFastVotes, ByCommits}
@@ -37,7 +37,6 @@ use Rattle.acc_safety.proofs.Frame.{store_sent, node_sent, node_noted, bodies_ar
 use Rattle.acc_safety.proofs.StoreNotions.{Settling, ByStable, ByApply}
 use Rattle.acc_safety.proofs.Prefixes.{IsBefore-past, SentBefore, node_took_before}
 use Rattle.acc_safety_laws.proofs.Phased.{Entered}
-use Rattle.acc_safety_laws.proofs.StableNoted.{NotesIt, stable_notes}
 use Rattle.acc_safety_laws.proofs.Within.{each_within, sent_before_trans}
 use Rattle.acc_safety_laws.proofs.ShownBefore.{SettledBefore, settled_before, stable_before, told_before}
 use Rattle.acc_safety_laws.proofs.Moving.{Moving, moving, answers_in, one_sent}
@@ -79,6 +78,15 @@ record Deciding (layout : Layout) (node start : ℕ) (past : List Deed) (act : A
 deciding : (layout : Layout) (node start : ℕ) (past : List Deed) (act : Act) (x : TxnId) (path : Path) (t : Stamp) (deps : List ShardDeps)
     → NodeNotes layout node start past act (DecideNote x t path deps) → Deciding layout node start past act x path (record { t = t; deps = deps })
 deciding layout node start past act x path t deps (NotesDecision on y a p s reacts) = record { attempt = a; reacts = reacts }
+
+-- the note of a decision that stands with a Stable
+record Stating (layout : Layout) (node start : ℕ) (past : List Deed) (act : Act) (x : TxnId) (t : Stamp) (deps : List ShardDeps) : Type 0 where
+  pub path : Path
+  pub there : IsIn (DecideNote x t path deps) (node_emits layout node start past act).notes
+
+stating : (layout : Layout) (node start : ℕ) (past : List Deed) (act : Act) (from to : Actor) (x : TxnId) (b : Ballot) (body : BodyParts) (t : Stamp) (deps : List ShardDeps)
+    → NodeSends layout node start past act (Stable from to x b body t deps) → Stating layout node start past act x t deps
+stating layout node start past act from to x b body t deps (Decides on y a path s store reacts noted) = record { path = path; there = noted }
 
 -- what a store told it
 record Told (act : Act) (x : TxnId) (s : Settled) : Type 0 where
@@ -233,10 +241,8 @@ module _ (cluster : Cluster) (all : List Item) (whole : IsStanding cluster all) 
         emitted : f.deed.emitted ≡ node_emits cluster.layout (node_of from) start f.past f.deed.act
         emitted = emits_at cluster.layout (node_of from) start (deeds_of cluster from items) f.deed f.past (each_emits cluster from items h f.is_node) f.at
 
-        notes : NotesIt x t deps (node_emits cluster.layout (node_of from) start f.past f.deed.act)
-        notes =
-            stable_notes cluster.layout (node_of from) start f.past from to x b body t deps f.deed.act
-            (subst (λ (e : Emitted). IsIn (Stable from to x b body t deps) e.out) emitted f.sent)
+        notes : Stating cluster.layout (node_of from) start f.past f.deed.act x t deps
+        notes = stating cluster.layout (node_of from) start f.past f.deed.act from to x b body t deps (node_sent cluster items from (Stable from to x b body t deps) h f)
 
         there : IsIn (DecideNote x t notes.path deps) f.deed.emitted.notes
         there = subst (λ (e : Emitted). IsIn (DecideNote x t notes.path deps) e.notes) (sym emitted) notes.there

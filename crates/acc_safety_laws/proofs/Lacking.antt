@@ -51,7 +51,7 @@ module _ (cluster : Cluster) (items : List Item) (h : EachStands cluster items) 
       (answer_lacks cluster items h (deps_are_sets cluster items h) x y body b kind answers m shard are there lacks) below
 
   -- AcceptOks of x at a timestamp above that of y, without y
-  module _ (one : OneProposal items) (b : Ballot) (t : Stamp) (proposed : List ShardDeps) (answers : List Message) (accepted : AcceptedBy cluster items x body b t proposed answers) where
+  module _ (one : OneProposal items) (b : Ballot) (t : Stamp) (proposed : List ShardDeps) (answers : List Message) (accepted : AcceptedBy cluster items x body b (record { t = t; deps = proposed }) answers) where
     pub there_accepted : (m : Message) → IsIn m answers → AcceptedThere cluster items h (from_of m) x body b t (deps_in_answer m)
     there_accepted m there = accepted_there cluster items h one x body b t proposed m r.second_is accepted.proposal (accepted.are m there)
 

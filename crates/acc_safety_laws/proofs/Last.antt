@@ -263,7 +263,7 @@ not_commitment move s no_one is = true≢false (sym (ap is_commitment is) ∙ no
 -- ---- accepted values last
 
 module _ (cluster : Cluster) (items : List Item) (standing : IsStanding cluster items) (seen : OfEachStore AcceptedIsSeen) (x : TxnId) (body : BodyParts)
-    (b : Ballot) (t : Stamp) (deps : List ShardDeps) (answers : List Message) (accepted : AcceptedBy cluster items x body b t deps answers) where
+    (b : Ballot) (t : Stamp) (deps : List ShardDeps) (answers : List Message) (accepted : AcceptedBy cluster items x body b (record { t = t; deps = deps }) answers) where
   abbrev Lasts : Message → Type 0
   Lasts m =
       (f g : Actor) (above : Ballot) (brought : BodyParts) (s : Stamp) (more : List ShardDeps) → m ≡ Accept f g x above brought s more
@@ -352,7 +352,7 @@ accepted_last seen cluster items standing x body b above t s deps more answers a
 -- ---- what is committed is final
 
 module _ (cluster : Cluster) (items : List Item) (standing : IsStanding cluster items) (seen : OfEachStore CommittedIsSeen) (x : TxnId) (body : BodyParts)
-    (b : Ballot) (t : Stamp) (deps : List ShardDeps) (answers : List Message) (committed : CommittedBy cluster items x body b t deps answers) where
+    (b : Ballot) (t : Stamp) (deps : List ShardDeps) (answers : List Message) (committed : CommittedBy cluster items x body b (record { t = t; deps = deps }) answers) where
   is_committed_body : IsBody cluster items x body
   is_committed_body =
       bodies_are_begun cluster items standing.stands (Commit committed.commit.from committed.commit.to x b body t deps) body committed.commit.sending refl

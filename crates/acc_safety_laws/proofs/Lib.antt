@@ -49,7 +49,6 @@ pub mod SerialEntries
 pub mod SerialRuns
 pub mod Shown
 pub mod ShownBefore
-pub mod StableNoted
 pub mod Stages
 pub mod Steps
 pub mod StoreChanges

@@ -44,7 +44,7 @@ use Rattle.acc_safety_laws.proofs.Revealed.{ViewThere, rival_supersedes, rival_i
 module _ (cluster : Cluster) (items : List Item) (h : EachStands cluster items) (p : Premises cluster items) where
   -- a record of x from the ballot on at which a majority accepted it has the same
   pub record_same : (a : Actor) (x : TxnId) (body : BodyParts) (b : Ballot) (t : Stamp) (proposed : List ShardDeps) (answers : List Message) (past : List Taken) (found : Accepted)
-      → IsBody cluster items x body → AcceptedBy cluster items x body b t proposed answers → IsPast past (taken_of cluster a items)
+      → IsBody cluster items x body → AcceptedBy cluster items x body b (record { t = t; deps = proposed }) answers → IsPast past (taken_of cluster a items)
       → accepted_of past x ≡ Some found → ballot_lt found.ballot b ≡ false → (found.t ≡ t) × (found.deps ≡ proposed)
   record_same a x body b t proposed answers past found is accepted within found_is from_b = by (cases_Bool (ballot_lt b found.ballot))
     where
@@ -62,7 +62,7 @@ module _ (cluster : Cluster) (items : List Item) (h : EachStands cluster items) 
 module _ (cluster : Cluster) (items : List Item) (h : EachStands cluster items) (p : Premises cluster items) (shard : ℕ) (x y : TxnId) (body theirs : BodyParts) (r : AreRivals cluster items shard y x theirs body) where
   pub own_is_found :
       (a : Actor) (b ballot : Ballot) (t : Stamp) (proposed named : List ShardDeps) (answers : List Message) (view : View)
-      → is_node a ≡ false → shard_of a ≡ shard → AcceptedBy cluster items x body b t proposed answers
+      → is_node a ≡ false → shard_of a ≡ shard → AcceptedBy cluster items x body b (record { t = t; deps = proposed }) answers
       → (s : AcceptedThere cluster items h a x body b t named) → body_known (s.step ∷ s.past) y ≡ None
       → ViewThere cluster items h a y theirs ballot view
       → deps_has proposed shard y ≡ false → stamp_lt y.0 t ≡ true

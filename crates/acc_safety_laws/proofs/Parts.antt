@@ -57,7 +57,7 @@ txn_in-begun x (Step e) n k =
 txn_in-begun x (Skipped step cause) n e = absurd (not_none n e)
 txn_in-begun x (Down actor) n e = absurd (not_none n e)
 
-numbered_is_begun : (items : List Item) (x : TxnId) (n : ℕ) → txn_of items x ≡ Some n → list_any (begins x) (notes_of items) ≡ true
+pub numbered_is_begun : (items : List Item) (x : TxnId) (n : ℕ) → txn_of items x ≡ Some n → list_any (begins x) (notes_of items) ≡ true
 numbered_is_begun [] x n e = absurd (not_none n e)
 numbered_is_begun (item ∷ earlier) x n e =
     list_any-append (begins x) (notes_of earlier) (noted_in item)

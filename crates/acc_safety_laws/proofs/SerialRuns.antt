@@ -81,7 +81,7 @@ module _ (cluster : Cluster) (whole : List Item) (given : Premises cluster whole
         within.first x found.0 found.1
         ∙ ap (λ q. Some q) (one_outcome cluster whole given (notes_of part) (notes_of part) x found.0 o theirs.finished mine.finished)
 
-    sound : (m : Message) → Sending part m → IsSound cluster whole (notes_of part) m
+    pub sound : (m : Message) → Sending part m → IsSound cluster whole (notes_of part) m
     sound m s =
         let there = sending_is_sent part m s in
         record {

@@ -123,7 +123,7 @@ module _ (cluster : Cluster) (whole : List Item) (given : Premises cluster whole
         heard_from (IsBody cluster whole) history x body
         (each_weaker (λ (step : Taken). IsSound cluster whole notes step.message) _ history (λ step h. h.body) sound)
 
-    history_finished : (history : List Taken) (x : TxnId) (o : Outcome) → AllSound cluster whole notes history → kept_outcome history x ≡ Some o
+    pub history_finished : (history : List Taken) (x : TxnId) (o : Outcome) → AllSound cluster whole notes history → kept_outcome history x ≡ Some o
         → IsOutcome cluster whole notes x o
     history_finished history x o sound =
         kept_from (IsOutcome cluster whole notes) history x o
@@ -148,7 +148,7 @@ module _ (cluster : Cluster) (whole : List Item) (given : Premises cluster whole
         is : IsDecision cluster whole x mine.t mine.deps
         is = history_decided history x mine sound stable
 
-    each_covered : (shard : ℕ) (history : List Taken) → AllSound cluster whole notes history → EachCovered shard (Below cluster whole shard) history
+    pub each_covered : (shard : ℕ) (history : List Taken) → AllSound cluster whole notes history → EachCovered shard (Below cluster whole shard) history
     each_covered shard [] sound = tt
     each_covered shard (step ∷ past) sound = (covered shard (step ∷ past) sound, each_covered shard past sound.1)
 
@@ -162,13 +162,13 @@ module _ (cluster : Cluster) (whole : List Item) (given : Premises cluster whole
       abbrev first : TxnId → Option Outcome
       first = outcome_first cluster whole
 
-      each_kept : (history : List Taken) → AllSound cluster whole notes history → EachKept cluster.layout own below first history
+      pub each_kept : (history : List Taken) → AllSound cluster whole notes history → EachKept cluster.layout own below first history
       each_kept [] sound = tt
       each_kept (step ∷ past) sound = ((λ y o e. history_first (step ∷ past) y o sound e), each_kept past sound.1)
 
       module _ (history : List Taken) (sound : AllSound cluster whole notes history) where
         -- what is applied writes what its outcome says
-        writing : (y : TxnId) (key : Key) → shard_of_key cluster.layout key ≡ shard_of own → is_some (kept_outcome history y) ≡ true
+        pub writing : (y : TxnId) (key : Key) → shard_of_key cluster.layout key ≡ shard_of own → is_some (kept_outcome history y) ≡ true
             → find (writes cluster.layout own below first y) key ≡ wrote cluster whole y key
         writing y key here has =
             ap (λ o. find (writes_in cluster.layout (shard_of own) o) key) is_first

@@ -45,7 +45,7 @@ nothing_written body None key none = refl
 nothing_written body (Some outcome) key none = cond-false (is_updated body key) (find outcome.writes key) None none
 
 module _ (cluster : Cluster) (items : List Item) (given : Premises cluster items) (framed : IsFramedRun cluster items) (run : IsSerialRun cluster items given items) where
-  written : (x : TxnId) (notes : List Note) (o : Outcome) (key : Key) → Answered (notes_of items) x → Finished cluster items notes x o → find o.writes key ≡ wrote cluster items x key
+  pub written : (x : TxnId) (notes : List Note) (o : Outcome) (key : Key) → Answered (notes_of items) x → Finished cluster items notes x o → find o.writes key ≡ wrote cluster items x key
   written x notes o key answered f = by (is_updated f.body key) refl ∙ ap (λ b. written_at b (outcome_first cluster items x) key) (sym f.body_is)
     where
       by : (b : Bool) → is_updated f.body key ≡ b → find o.writes key ≡ written_at (Some f.body) (outcome_first cluster items x) key

@@ -7,8 +7,8 @@ use Rattle.acc_coord.specs.declared.step.Stage.{Stage}
 use Rattle.acc_coord.specs.Stands.{StageKeeps}
 use Rattle.acc_coord.proofs.coord.Coord.slow_step.Goals as goal
 
-pub returns-in_ok-step-in-Votes-clause-ok : goal.returns-in_ok-step-in-Votes-clause-ok
-returns-in_ok-step-in-Votes-clause-ok c = λ answers keeps.
+pub returns-clause-ok : goal.returns-clause-ok
+returns-clause-ok c = λ answers keeps.
     let self = c.args.self.now in
     let layout = c.args.topology.now in
     let shards = shards_used layout self.body in

@@ -4,7 +4,7 @@ use Rattle.std.specs.Prelude.{IsErrOf}
 use Rattle.acc_ports.specs.declared.error.PortError.TheVariants.{Failed}
 use Rattle.acc_ports.specs.Faults.{CountsFaults}
 use Rattle.acc_payloads.specs.declared.draw.Purpose.TheVariants.{Recover}
-use Rattle.acc_durable_node.specs.Node.{answer_of, draw_group}
+use Rattle.acc_durable_node.specs.Node.{draw_answer, draw_group}
 use Rattle.acc_durable_node.specs.declared.actor.NodeState.{NodeState}
 use Rattle.acc_durable_node.specs.Actor.{disk_in, disk_of, is_shut, recover_stop}
 use Rattle.acc_durable_node.proofs.Nodes.{can_recover, recover_longer, held_longer}
@@ -28,7 +28,7 @@ returns-clause-ok g c =
 pub returns-clause-faults : goal.returns-clause-faults
 returns-clause-faults g c =
     faults_settled g.D.Disk (g.D.Disk.state (disk_of c.args.self.now)).faults _ _ c.recover-given.result _ _ _ c.settle.ensures
-    (subst (λ (s : NodeState g.row.D.Denot). CountsFaults (IsErrOf (answer_of c.recover-given.result) Failed) (g.D.Disk.state (disk_in s)).faults (g.D.Disk.state c.recover-given.new.self.journal.disk).faults) (sym c.in-Open.is) c.recover-given.ensures.appends.calls.faults)
+    (subst (λ (s : NodeState g.row.D.Denot). CountsFaults (IsErrOf (draw_answer c.recover-given.result) Failed) (g.D.Disk.state (disk_in s)).faults (g.D.Disk.state c.recover-given.new.self.journal.disk).faults) (sym c.in-Open.is) c.recover-given.ensures.appends.calls.faults)
 
 pub returns-clause-strict : goal.returns-clause-strict
 returns-clause-strict g c =

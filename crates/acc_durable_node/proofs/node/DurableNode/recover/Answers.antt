@@ -6,7 +6,7 @@ use Rattle.acc_journal.proofs.Appends.{no_append}
 use Rattle.acc_payloads.specs.declared.draw.Purpose.TheVariants.{Recover}
 use Rattle.acc_durable_node.specs.declared.node.DurableNode.{DurableNode}
 use Rattle.acc_durable_node.specs.declared.error.DurableError.{DurableError}
-use Rattle.acc_durable_node.specs.Node.{answer_of, draw_group}
+use Rattle.acc_durable_node.specs.Node.{draw_answer, draw_group}
 use Rattle.acc_durable_node.proofs.Appended.{node_appends}
 use Rattle.acc_durable_node.proofs.Standing.{recover_ok, recover_err}
 use Rattle.acc_durable_node.proofs.node.DurableNode.recover.Goals as goal
@@ -31,14 +31,14 @@ pub returns-in_err-group-clause-appends : goal.returns-in_err-group-clause-appen
 returns-in_err-group-clause-appends g c =
     let p = err_from_is_err_and c.from_residual.result c.from_residual.ensures.1 in
     let journal = c.args.self.now.journal in
-    subst (λ (r : Result Emitted DurableError). Appends g.D.Disk journal.disk c.group.new.self.journal.disk journal.payloads (draw_group c.args.self.now Recover c.args.txn) (answer_of r)) (sym (p.1 ∙ ap Err p.2))
+    subst (λ (r : Result Emitted DurableError). Appends g.D.Disk journal.disk c.group.new.self.journal.disk journal.payloads (draw_group c.args.self.now Recover c.args.txn) (draw_answer r)) (sym (p.1 ∙ ap Err p.2))
     (no_append g.D.Disk journal.disk c.group.new.self.journal.disk journal.payloads _ (g.met.D.Disk.only_now journal.disk) (c.is_broken-sound.ensures.sound c.requires.sound) (ap (λ (n : DurableNode g.row.D.Denot). n.journal.disk) c.group.ensures.same))
 
 pub returns-in_err-emitted-clause-appends : goal.returns-in_err-emitted-clause-appends
 returns-in_err-emitted-clause-appends g c =
     let p = err_from_is_err_and c.from_residual-in_err-emitted.result c.from_residual-in_err-emitted.ensures.1 in
     let journal = c.args.self.now.journal in
-    subst (λ (r : Result Emitted DurableError). Appends g.D.Disk journal.disk c.group.new.self.journal.disk journal.payloads (draw_group c.args.self.now Recover c.args.txn) (answer_of r)) (sym (p.1 ∙ ap Err p.2))
+    subst (λ (r : Result Emitted DurableError). Appends g.D.Disk journal.disk c.group.new.self.journal.disk journal.payloads (draw_group c.args.self.now Recover c.args.txn) (draw_answer r)) (sym (p.1 ∙ ap Err p.2))
     (no_append g.D.Disk journal.disk c.group.new.self.journal.disk journal.payloads _ (g.met.D.Disk.only_now journal.disk) (c.is_broken-sound.ensures.sound c.requires.sound) (ap (λ (n : DurableNode g.row.D.Denot). n.journal.disk) c.group.ensures.same))
 
 pub returns-clause-appends : goal.returns-clause-appends
