@@ -15,7 +15,7 @@ use Rattle.acc_message.specs.declared.message.Message.{Message}
 use Rattle.acc_message.specs.declared.entry.Event.TheVariants.{Begin as BeginEvent, Recover as RecoverEvent, Message as MessageEvent}
 use Rattle.acc_message.specs.declared.item.Item.{Item}
 use Rattle.acc_message.specs.Fields.{to_of}
-use Rattle.acc_message.specs.Items.{sent_in, message_at, id_of_txn}
+use Rattle.acc_message.specs.Items.{sent_in, message_at, is_begun, id_of_txn}
 use Rattle.acc_message.specs.NodeRules.{Begins, Recovers, Takes}
 use Rattle.acc_message.specs.Run.{is_down}
 use Rattle.acc_message_index.specs.declared.posting.Post.{Post}
@@ -40,6 +40,16 @@ use Rattle.acc_desk.proofs.Unbegun.{unbegun}
 
 module _ {D : Type 0} (port : Ghosts D) (strict_run : Bool) (plan : Content) (a : Actor) (items : List Item) (slot : Slot D) (commands : List Step) (gone : ℕ)
     (all : commands ≡ commands_of plan a) (at : IsAt port strict_run plan a items slot (drop gone commands)) (up : is_down a items ≡ false) where
+  -- a transaction of the actor that none of the commands that went by begins isn't begun
+  pub begin_fresh : (txn : ℕ) → slice_get commands gone ≡ Some (Begin txn) → (home : ℕ) → slice_get plan.homes txn ≡ Some home → list_any (begins_it txn) (take gone commands) ≡ false
+      → is_begun items txn ≡ false
+  begin_fresh txn found home home_is none =
+      let cluster = cluster_of plan in
+      let mine : a ≡ home_of_txn cluster txn = sym (same (home_of_txn cluster txn) a (own_command plan a commands gone (Begin txn) all found)) in
+      let actor_is : a ≡ actor_of home 0 = mine ∙ ap (λ (h : Option ℕ). actor_of (unwrap_or h 0) 0) home_is in
+      let passed = none_gone (begins_it txn) commands at.gone.gone gone (all ∙ at.gone.split) none in
+      unbegun a txn cluster home home_is actor_is items at.gone.gone at.gone.stop at.gone.went at.serving.free.run.stands passed
+
   -- the home of a transaction that none of the commands that went by begins
   pub may_begin : (txn : ℕ) → slice_get commands gone ≡ Some (Begin txn) → (home : ℕ) → slice_get plan.homes txn ≡ Some home → (body : BodyParts) → slice_get plan.bodies txn ≡ Some body
       → list_any (begins_it txn) (take gone commands) ≡ false
@@ -47,9 +57,7 @@ module _ {D : Type 0} (port : Ghosts D) (strict_run : Bool) (plan : Content) (a 
   may_begin txn found home home_is body body_is none =
       let cluster = cluster_of plan in
       let mine : a ≡ home_of_txn cluster txn = sym (same (home_of_txn cluster txn) a (own_command plan a commands gone (Begin txn) all found)) in
-      let actor_is : a ≡ actor_of home 0 = mine ∙ ap (λ (h : Option ℕ). actor_of (unwrap_or h 0) 0) home_is in
-      let passed = none_gone (begins_it txn) commands at.gone.gone gone (all ∙ at.gone.split) none in
-      let fresh = unbegun a txn cluster home home_is actor_is items at.gone.gone at.gone.stop at.gone.went at.serving.free.run.stands passed in
+      let fresh = begin_fresh txn found home home_is none in
       record {
         up = up;
         may = subst (λ (b : Actor). MayTake cluster items b (BeginEvent txn) (Begins txn body)) (sym mine)

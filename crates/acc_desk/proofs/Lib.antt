@@ -19,3 +19,6 @@ pub mod Finding
 pub mod Rooms
 pub mod Rounds
 pub mod Noting
+pub mod Chosen
+pub mod Marked
+pub mod Threads

@@ -1,5 +1,5 @@
 -- The next command of a desk, and which commands went by.
-use Rattle.std.proofs.Common.{◌≡◌, ℕ, zero, suc, ◌+◌, Bool, true, false, cond, ◌||◌, List, [], ◌∷◌, ◌++◌, reverse, take, drop, Option, Some, refl, sym, ◌∙◌, ap, arith}
+use Rattle.std.proofs.Common.{◌≡◌, ℕ, zero, suc, ◌+◌, ◌≤◌, Bool, true, false, cond, ◌||◌, List, [], ◌∷◌, ◌++◌, length, reverse, take, drop, Option, Some, refl, sym, ◌∙◌, ap, arith}
 use Rattle.std.specs.List.{slice_get, list_any, filter}
 use Rattle.std.proofs.lemmas.List.{reverse-append, take-append-drop, append_cancel_right}
 use Rattle.std.proofs.lemmas.List.Folds.{list_any-append}
@@ -25,6 +25,13 @@ pub drop_next : {X : Type 0} (xs : List X) (k : ℕ) (x : X) → slice_get xs k 
 drop_next [] k x e = absurd (cc)
 drop_next (y ∷ xs) zero x e = let same : y ≡ x = cc in ap (λ z. z ∷ xs) same
 drop_next (y ∷ xs) (suc k) x e = let n : suc (k + 1) ≡ suc k + 1 = omega arith in drop_next xs k x e ∙ ap (λ m. x ∷ drop m (y ∷ xs)) n
+
+-- none stands past the end
+pub none_left : {X : Type 0} (xs : List X) (k : ℕ) (x : X) (rest : List X) → length xs ≤ k → drop k xs ≡ x ∷ rest → ⊥
+none_left [] zero x rest low is = absurd (cc)
+none_left [] (suc k) x rest low is = absurd (cc)
+none_left (y ∷ xs) zero x rest low is = absurd (omega (arith, low))
+none_left (y ∷ xs) (suc k) x rest low is = none_left xs k x rest (omega (arith, low)) is
 
 -- what passed the test is what is kept
 kept_holds : {X : Type 0} (p : X → Bool) (xs : List X) (k : ℕ) (x : X) → slice_get (filter p xs) k ≡ Some x → p x ≡ true

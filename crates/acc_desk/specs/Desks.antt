@@ -1,5 +1,6 @@
 -- When a desk is sound, and what it may take.
 use Rattle.std.specs.Prelude.{◌≡◌, ◌≢◌, ◌⊎◌, ℕ, ◌≤◌, ◌==◌, Bool, true, false, List, [], ◌∷◌, length, reverse, sum_by, drop, All, Option, None, Some, Contains}
+use Rattle.std.specs.List.{slice_get}
 use Rattle.acc_stamp.specs.declared.stamps.TxnId.{TxnId}
 use Rattle.acc_stamp.specs.declared.actors.Actor.{Actor}
 use Rattle.acc_ports.specs.declared.disk.Disk.{Ghosts}
@@ -129,13 +130,28 @@ abbrev pub item_of : Actor → Event → Option Emitted → Item
 item_of a event None = Down a
 item_of a event (Some emitted) = StepItem (record { actor = a; event = event; emitted = emitted; lost = false })
 
+-- the same of a desk
+abbrev pub IsSoundDesk : {D J : Type 0} → Ghosts D → Bool → Content → TapeName → Desk D J → Type 0
+IsSoundDesk port strict_run plan tape desk = IsSound port strict_run plan tape desk.actor desk.seat desk.slot desk.commands desk.gone
+
 -- ---- desks together
 
 abbrev pub AreSound : {D J : Type 0} → Ghosts D → Bool → Content → TapeName → List (Desk D J) → Type 0
-AreSound {D} {J} port strict_run plan tape desks = All (λ (desk : Desk D J). IsSound port strict_run plan tape desk.actor desk.seat desk.slot desk.commands desk.gone) desks
+AreSound {D} {J} port strict_run plan tape desks = All (λ (desk : Desk D J). IsSoundDesk port strict_run plan tape desk) desks
 
 abbrev pub AreSeated : {D J : Type 0} → TapeName → List (Desk D J) → Type 0
 AreSeated {D} {J} tape desks = All (λ (desk : Desk D J). IsSeated tape desk.actor no_hold desk.seat) desks
+
+-- The desk keeps its seat, which holds nothing reserved, and is sound unless it is marked.
+pub record IsSoundOrMarked {D J : Type 0} (port : Ghosts D) (strict_run : Bool) (plan : Content) (tape : TapeName) (desk : Desk D J) : Type 0 where
+  pub seated : IsSeated tape desk.actor no_hold desk.seat
+  pub sound : desk.unsound ≡ false → IsSoundDesk port strict_run plan tape desk
+
+-- Each desk but one is sound, and that one is sound unless it is marked.
+pub record AreSoundButOne {D J : Type 0} (port : Ghosts D) (strict_run : Bool) (plan : Content) (tape : TapeName) (desks : List (Desk D J)) : Type 0 where
+  pub one : ℕ
+  pub others : (place : ℕ) (desk : Desk D J) → slice_get desks place ≡ Some desk → place ≢ one → IsSoundDesk port strict_run plan tape desk
+  pub marked : (desk : Desk D J) → slice_get desks one ≡ Some desk → IsSoundOrMarked port strict_run plan tape desk
 
 -- whose it is, and the commands of its actor
 abbrev pub name_of : {D J : Type 0} → Desk D J → Actor × List Step

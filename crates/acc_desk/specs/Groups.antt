@@ -31,6 +31,7 @@ use Rattle.acc_free_laws.specs.Serving.{IsServing, HasGone, AreStopsOf}
 use Rattle.acc_message_index.specs.declared.posting.Post.{Post}
 use Rattle.acc_tape.specs.Seats.{TapeName, SeatView}
 use Rattle.acc_desk.specs.declared.hold.Hold.{Hold}
+use Rattle.acc_desk.specs.declared.desk.Desk.{Desk}
 use Rattle.acc_desk.specs.Desks.{newest, item_of, IsSeated, IsDesk, MayStep}
 
 -- ---- what is staged
@@ -108,9 +109,33 @@ pub record CanGather {D : Type 0} (port : Ghosts D) (strict_run : Bool) (plan : 
   pub few : length joinings < 16
   pub more : length joinings < held.items
 
--- a message that was found joins by being taken
+-- a message joins by being taken
+abbrev pub joining : ℕ → Message → Joining
+joining number message = record { event = MessageEvent number; act = Takes message }
+
+-- one that was found
 abbrev pub joining_of : Post × Message → Joining
-joining_of found = record { event = MessageEvent found.0.number; act = Takes found.1 }
+joining_of found = joining found.0.number found.1
+
+-- What a desk gathered: the slot in which its actor stood before, the messages that joined, what is entered for them weighs, and what is
+-- reserved for it.
+pub record Gathered (D : Type 0) : Type 0 where
+  pub first : Slot D
+  pub joinings : List Joining
+  pub used : ℕ
+  pub held : Hold
+
+abbrev pub gathered : {D : Type 0} → Slot D → List Joining → ℕ → Hold → Gathered D
+gathered first joinings used held = record { first = first; joinings = joinings; used = used; held = held }
+
+abbrev pub Gathers : {D J : Type 0} → Ghosts D → Bool → Content → TapeName → Desk D J → Gathered D → Type 0
+Gathers port strict_run plan tape desk g =
+    IsGathering port strict_run plan tape desk.actor desk.seat g.first desk.slot desk.commands desk.gone g.joinings g.used g.held
+
+-- and one message more can join
+abbrev pub GathersMore : {D J : Type 0} → Ghosts D → Bool → Content → TapeName → Desk D J → Gathered D → Joining → Type 0
+GathersMore port strict_run plan tape desk g j =
+    CanGather port strict_run plan tape desk.actor desk.seat g.first desk.slot desk.commands desk.gone g.joinings g.used g.held j
 
 -- The disk failed when what was staged was settled: the desk of the actor, which stood in the first slot before and is down now.
 pub record IsStopping {D : Type 0} (port : Ghosts D) (strict_run : Bool) (plan : Content) (tape : TapeName) (a : Actor) (seat : SeatView Item) (first slot : Slot D) (commands : List Step) (gone : ℕ) (joinings : List Joining) (held : Hold) : Type 0 where

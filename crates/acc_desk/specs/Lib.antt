@@ -1,5 +1,7 @@
 pub mod Asks
+pub mod Choices
 pub mod Desks
 pub mod Fits
 pub mod Groups
 pub mod Outcomes
+pub mod Threads

@@ -33,6 +33,10 @@ CameTo plan tape a commands Taken mine gone seat later = length mine < length se
 CameTo plan tape a commands Idle mine gone seat later = (seat.mine ≡ mine) × (later ≡ gone)
 CameTo plan tape a commands Full mine gone seat later = (seat.mine ≡ mine) × (later ≡ gone) × HasNoRoom plan tape a (drop gone commands) seat
 
+-- what a turn of a desk came to
+abbrev pub HasTurned : {D J : Type 0} → Content → TapeName → Turned → Desk D J → Desk D J → Type 0
+HasTurned plan tape turned old new = CameTo plan tape old.actor old.commands turned old.seat.mine old.gone new.seat new.gone
+
 -- It is a restart, or it begins a transaction that has a node and a body and that none of the commands before begins: an actor that is up
 -- takes it as its next, whatever stands on the tape.
 abbrev pub IsTakenAtOnce : Content → List Step → Step → Type 0

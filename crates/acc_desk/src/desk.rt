@@ -7,7 +7,7 @@ ghost use Rattle.acc_actors.specs.Slots.{SlotStands, IsStrictSlot};
 ghost use Rattle.acc_free_laws.specs.Commands.{commands_of};
 ghost use Rattle.acc_free_laws.specs.FreeRun.{alone};
 ghost use Rattle.acc_free_laws.specs.Serving.{IsServing};
-ghost use Rattle.acc_desk.specs.Desks.{IsSound};
+ghost use Rattle.acc_desk.specs.Desks.{IsSoundDesk};
 
 use crate::rules::{PlanRules, PlanTape, Planned};
 use acc_actors::Slot;
@@ -41,6 +41,8 @@ pub struct Desk<D: Rig, J: Planned> {
     /// So many bytes are reserved ahead for each further message of a group: the most that the first message of one took so far, within
     /// bounds. Nothing is said of it.
     pub(crate) usual: u64,
+    /// Memory was refused while the actor stepped over its disk, so the actor may stand for nothing any more.
+    pub(crate) unsound: bool,
 }
 
 /// Desks in the order of their actors.
@@ -78,7 +80,7 @@ impl<D: Rig + Drop, J: Planned> Desk<D, J> {
         requires strict { J.strict ≡ true → IsStrictSlot D.Disk plan.now (alone [] []) fresh_disks actor slot }
         requires commands { commands ≡ commands_of plan.now actor }
         ensures same { (result.actor ≡ actor) × (result.commands ≡ commands) × (result.gone ≡ 0) }
-        ensures sound { IsSound D.Disk J.strict plan.now tape.now result.actor result.seat result.slot result.commands result.gone }
+        ensures sound { IsSoundDesk D.Disk J.strict plan.now tape.now result }
     {
         let _plan = plan;
         let mut seat = seat;
@@ -93,7 +95,15 @@ impl<D: Rig + Drop, J: Planned> Desk<D, J> {
             looked: 0,
             taken: 0,
             usual: USUAL,
+            unsound: false,
         }
+    }
+
+    /// Whether memory was refused while the actor stepped over its disk. Such a desk has only its seat for certain.
+    pub fn is_marked(&self) -> bool
+        ensures { result ≡ self.now.unsound }
+    {
+        self.unsound
     }
 
     /// Its parts.
@@ -110,6 +120,7 @@ impl<D: Rig + Drop, J: Planned> Desk<D, J> {
             looked: _,
             taken: _,
             usual: _,
+            unsound: _,
         } = self;
         Parts {
             actor,

@@ -1,5 +1,5 @@
 //! What a store staged is settled, and entered.
-ghost use Rattle.std.specs.Prelude.{◌≡◌, ◌≢◌, ◌⊎◌, ◌<◌, ◌≤◌, ℕ, List, [], length, map, IfOk, OnOk, OnErr};
+ghost use Rattle.std.specs.Prelude.{◌≡◌, ◌≢◌, ◌⊎◌, ◌<◌, ◌≤◌, ℕ, List, [], length, map, vec_capacity, OnOk, OnErr};
 ghost use Rattle.acc_message.specs.declared.entry.Event.{Event as AnEvent};
 ghost use Rattle.acc_message_code.specs.Weight.{weight_of};
 ghost use Rattle.acc_schedule_runs.specs.Limits.{most_items};
@@ -7,8 +7,9 @@ ghost use Rattle.acc_actors.specs.declared.slot.Slot.{Slot as ASlot};
 ghost use Rattle.acc_tape.specs.ItemViews.{actor_of_item};
 ghost use Rattle.acc_tape.specs.Seats.{Turns};
 ghost use Rattle.acc_desk.specs.Fits.{fits_plan};
-ghost use Rattle.acc_desk.specs.Desks.{no_hold, IsSeated, IsSound, IsDesk};
-ghost use Rattle.acc_desk.specs.Groups.{Joining, IsGathering, IsStopping, IsEnteringDesk, item_of_unsent};
+ghost use Rattle.acc_desk.specs.Choices.{HasEntered};
+ghost use Rattle.acc_desk.specs.Desks.{no_hold, IsSeated, IsSoundDesk, IsSoundOrMarked, IsDesk};
+ghost use Rattle.acc_desk.specs.Groups.{Joining, events_of, gathered, Gathers, IsStopping, IsEnteringDesk, item_of_unsent};
 
 use crate::desk::Desk;
 use crate::floor::Floor;
@@ -23,7 +24,8 @@ use acc_schedule::Plan;
 use std::sync::Wait;
 
 impl<D: Rig + Drop, J: Planned> Desk<D, J> {
-    /// Appends what is staged, and enters it on what is reserved.
+    /// Appends what is staged, and enters it on what is reserved, by a list that has room for its items. Where the store finds no memory
+    /// nothing is entered, and the desk is marked.
     pub(crate) fn settle<W: Wait>(
         &mut self,
         rt: &W,
@@ -31,22 +33,30 @@ impl<D: Rig + Drop, J: Planned> Desk<D, J> {
         floor: &Floor,
         tape: &PlanTape<J>,
         hold: Hold,
+        items: Vec<Item>,
     ) -> Result<(), OutOfMemory>
         requires plan { plan.now ≡ J.plan }
         requires limits { tape.now.limits.items ≤ most_items }
         requires group { (first : ASlot D) × (joinings : List Joining) × (used : ℕ) × (joinings ≢ [])
-            × IsGathering D.Disk J.strict plan.now tape.now self.old.actor self.old.seat first self.old.slot self.old.commands self.old.gone joinings used hold }
-        ensures same { (self.new.actor ≡ self.old.actor) × (self.new.commands ≡ self.old.commands) }
-        ensures ok { OnOk result (IsSound D.Disk J.strict plan.now tape.now self.new.actor self.new.seat self.new.slot self.new.commands self.new.gone) }
-        ensures err { OnErr result (IsSeated tape.now self.new.actor no_hold self.new.seat) }
-        ensures entered { OnOk result (length self.old.seat.mine < length self.new.seat.mine) }
+            × Gathers D.Disk J.strict plan.now tape.now self.old (gathered first joinings used hold) }
+        requires room { (items.items ≡ []) × (16 ≤ vec_capacity items) }
+        ensures same { (self.new.actor ≡ self.old.actor) × (self.new.commands ≡ self.old.commands) × (self.new.gone ≡ self.old.gone) }
+        ensures ok { OnOk result (IsSoundDesk D.Disk J.strict plan.now tape.now self.new) }
+        ensures err { OnErr result (IsSoundOrMarked D.Disk J.strict plan.now tape.now self.new) }
+        ensures longer { OnOk result (length self.old.seat.mine < length self.new.seat.mine) }
+        ensures entered { OnOk result ((first : ASlot D) (joinings : List Joining) (used : ℕ) → joinings ≢ [] → Gathers D.Disk J.strict plan.now tape.now self.old (gathered first joinings used hold)
+            → HasEntered self.old.actor (events_of joinings) self.old.seat self.new.seat) }
     {
         let Ok(given) = self.slot.settle(plan, self.actor) else {
             self.let_go(rt, plan, tape, hold);
+            self.unsound = true;
             return Err(OutOfMemory);
         };
         match given {
-            Some(unsent) => self.enter_group(rt, plan, floor, tape, hold, unsent),
+            Some(unsent) => {
+                self.enter_group(rt, plan, floor, tape, hold, unsent, items);
+                Ok(())
+            }
             None => {
                 self.enter_down(rt, plan, tape, hold);
                 Ok(())
@@ -54,7 +64,7 @@ impl<D: Rig + Drop, J: Planned> Desk<D, J> {
         }
     }
 
-    // Enters what was settled, all of it at once.
+    // Enters what was settled, all of it at once, by a list that has room for it. It takes no memory.
     fn enter_group<W: Wait>(
         &mut self,
         rt: &W,
@@ -63,38 +73,39 @@ impl<D: Rig + Drop, J: Planned> Desk<D, J> {
         tape: &PlanTape<J>,
         hold: Hold,
         unsent: Unsents,
-    ) -> Result<(), OutOfMemory>
+        items: Vec<Item>,
+    )
         requires plan { plan.now ≡ J.plan }
         requires limits { tape.now.limits.items ≤ most_items }
         requires group { (events : List AnEvent)
             × IsEnteringDesk D.Disk J.strict plan.now tape.now hold self.old.actor self.old.seat self.old.slot self.old.commands self.old.gone events unsent }
-        ensures same { (self.new.actor ≡ self.old.actor) × (self.new.commands ≡ self.old.commands) }
-        ensures ok { OnOk result (IsSound D.Disk J.strict plan.now tape.now self.new.actor self.new.seat self.new.slot self.new.commands self.new.gone) }
-        ensures err { OnErr result (IsSeated tape.now self.new.actor no_hold self.new.seat) }
-        ensures entered { OnOk result (unsent ≢ [] → length self.old.seat.mine < length self.new.seat.mine) }
+        requires room { (items.items ≡ []) × (16 ≤ vec_capacity items) }
+        ensures same { (self.new.actor ≡ self.old.actor) × (self.new.commands ≡ self.old.commands) × (self.new.gone ≡ self.old.gone) }
+        ensures sound { IsSoundDesk D.Disk J.strict plan.now tape.now self.new }
+        ensures longer { unsent ≢ [] → length self.old.seat.mine < length self.new.seat.mine }
+        ensures entered { (events : List AnEvent) → IsEnteringDesk D.Disk J.strict plan.now tape.now hold self.old.actor self.old.seat self.old.slot self.old.commands self.old.gone events unsent
+            → HasEntered self.old.actor events self.old.seat self.new.seat }
     {
         let _plan = plan;
-        let Ok((items, keepers)) = self.items_for(floor, unsent) else {
-            self.let_go(rt, plan, tape, hold);
-            return Err(OutOfMemory);
-        };
+        let (items, keepers) = self.items_for(floor, unsent, items);
         tape.put_all(rt, &mut self.seat, hold.items, hold.weight, items);
         floor.call(keepers);
-        Ok(())
     }
 
-    // The items of what is unsent. Counts what is sent, and answers the bits of the workers that are to be called once it is entered.
-    fn items_for(&self, floor: &Floor, unsent: Unsents) -> Result<(Vec<Item>, u64), OutOfMemory>
-        ensures { IfOk result (λ made. made.0.items ≡ map (item_of_unsent self.now.actor) unsent) }
+    // Puts the items of what is unsent into a list that has room for them. Counts what is sent, and answers the list and the bits of the
+    // workers that are to be called once it is entered.
+    fn items_for(&self, floor: &Floor, unsent: Unsents, items: Vec<Item>) -> (Vec<Item>, u64)
+        requires { (items.items ≡ []) × (length unsent ≤ vec_capacity items) }
+        ensures { result.0.items ≡ map (item_of_unsent self.now.actor) unsent }
     {
-        let mut items = Vec::with_capacity(self.alloc, unsent.len())?;
+        let mut items = items;
         let mut keepers = 0;
         for one in unsent.into_vec() {
             let Unsent { event, emitted } = one;
             keepers |= floor.send(emitted.out.as_slice());
-            items.push(item_for(self.actor, event, Some(emitted)))?;
+            items.push_reserved(item_for(self.actor, event, Some(emitted)));
         }
-        Ok((items, keepers))
+        (items, keepers)
     }
 
     // Enters that the store went down, on what is reserved.
@@ -103,9 +114,10 @@ impl<D: Rig + Drop, J: Planned> Desk<D, J> {
         requires limits { tape.now.limits.items ≤ most_items }
         requires group { (first : ASlot D) × (joinings : List Joining)
             × IsStopping D.Disk J.strict plan.now tape.now self.old.actor self.old.seat first self.old.slot self.old.commands self.old.gone joinings hold }
-        ensures same { (self.new.actor ≡ self.old.actor) × (self.new.commands ≡ self.old.commands) }
-        ensures sound { IsSound D.Disk J.strict plan.now tape.now self.new.actor self.new.seat self.new.slot self.new.commands self.new.gone }
-        ensures entered { length self.old.seat.mine < length self.new.seat.mine }
+        ensures same { (self.new.actor ≡ self.old.actor) × (self.new.commands ≡ self.old.commands) × (self.new.gone ≡ self.old.gone) }
+        ensures sound { IsSoundDesk D.Disk J.strict plan.now tape.now self.new }
+        ensures longer { length self.old.seat.mine < length self.new.seat.mine }
+        ensures entered { (events : List AnEvent) → HasEntered self.old.actor events self.old.seat self.new.seat }
     {
         let _plan = plan;
         let down = Item::Down { actor: self.actor };
@@ -123,7 +135,7 @@ impl<D: Rig + Drop, J: Planned> Desk<D, J> {
         ensures seated { IsSeated tape.now self.new.actor no_hold self.new.seat }
         ensures on { hold ≡ no_hold ⊎ Turns actor_of_item weight_of (fits_plan J.plan) self.old.seat self.new.seat }
         ensures sound { IsDesk D.Disk J.strict plan.now tape.now hold self.old.actor self.old.seat self.old.slot self.old.commands self.old.gone
-            → IsSound D.Disk J.strict plan.now tape.now self.new.actor self.new.seat self.new.slot self.new.commands self.new.gone }
+            → IsSoundDesk D.Disk J.strict plan.now tape.now self.new }
     {
         let _plan = plan;
         if hold.items > 0 || hold.weight > 0 {

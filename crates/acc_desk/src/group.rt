@@ -1,9 +1,8 @@
 //! A store takes its oldest messages as a group, with one append.
-ghost use Rattle.std.specs.Prelude.{◌≡◌, ◌≢◌, ℕ, ◌+◌, ◌<◌, ◌≤◌, List, [], ◌∷◌, ◌++◌, length, map, take, drop, true, false, Some, IfOk, OnOk, OnErr, MatchOption, sum_by};
+ghost use Rattle.std.specs.Prelude.{◌≡◌, ◌≢◌, ℕ, ◌+◌, ◌<◌, ◌≤◌, List, [], ◌∷◌, ◌++◌, length, map, take, drop, vec_capacity, true, false, Ok, Some, IfOk, OnOk, OnErr, MatchOption, sum_by};
+ghost use mathlib.Core.List.{IsPrefix};
 ghost use Rattle.acc_message.specs.declared.item.Item.{Item as AnItem};
 ghost use Rattle.acc_message.specs.declared.error.Which.{Which};
-ghost use Rattle.acc_message.specs.NodeRules.{Takes};
-ghost use Rattle.acc_message.specs.declared.entry.Event.{Event as AnEvent};
 ghost use Rattle.acc_message.specs.Run.{is_node, is_down};
 ghost use Rattle.acc_message_code.specs.Weight.{weight_of};
 ghost use Rattle.acc_schedule_runs.specs.Limits.{most_items};
@@ -13,10 +12,12 @@ ghost use Rattle.acc_tape.specs.Seats.{Turns};
 ghost use Rattle.acc_tape.specs.Refusals.{Refuses};
 ghost use Rattle.acc_tape.specs.declared.error.TapeError.TheVariants.{Full as IsFull};
 ghost use Rattle.acc_desk.specs.Fits.{fits_plan};
-ghost use Rattle.acc_desk.specs.Desks.{newest, held_of, no_hold, IsSeated, IsSound};
-ghost use Rattle.acc_desk.specs.Groups.{Joining, CanJoin, CanAllJoin, CanGather, IsGathering, joining_of};
-ghost use Rattle.acc_desk.specs.Outcomes.{CameTo, HasNoRoom};
+ghost use Rattle.acc_desk.specs.Choices.{HasEntered, TakesMessages};
+ghost use Rattle.acc_desk.specs.Desks.{newest, held_of, no_hold, IsSoundDesk, IsSoundOrMarked};
+ghost use Rattle.acc_desk.specs.Groups.{Joining, events_of, joining, CanJoin, CanAllJoin, joining_of, gathered, Gathers, GathersMore};
+ghost use Rattle.acc_desk.specs.Outcomes.{HasTurned, HasNoRoom};
 ghost use Rattle.acc_desk.specs.declared.group.Ended.{Ended as AnEnd};
+ghost use Rattle.acc_desk.specs.declared.turning.Turned.{Turned as Answer};
 
 use crate::desk::Desk;
 use crate::floor::Floor;
@@ -91,7 +92,7 @@ fn reserve<W: Wait, J: Planned>(
 
 impl<D: Rig + Drop, J: Planned> Desk<D, J> {
     /// Takes the oldest messages to the store, up to sixteen, with one append. Where memory for one more is refused, those that are
-    /// staged are settled and entered before it is told.
+    /// staged are settled and entered before it is told. All memory for entering them is taken before they are journalled.
     pub(crate) fn group<W: Wait, G: Gate>(
         &mut self,
         rt: &W,
@@ -103,22 +104,24 @@ impl<D: Rig + Drop, J: Planned> Desk<D, J> {
     ) -> Result<Turned, OutOfMemory>
         requires plan { plan.now ≡ J.plan }
         requires limits { tape.now.limits.items ≤ most_items }
-        requires desk { IsSound D.Disk J.strict plan.now tape.now self.old.actor self.old.seat self.old.slot self.old.commands self.old.gone }
+        requires desk { IsSoundDesk D.Disk J.strict plan.now tape.now self.old }
         requires kind { is_node self.old.actor ≡ false }
         requires up { is_down self.old.actor (newest self.old.seat) ≡ false }
         ensures same { (self.new.actor ≡ self.old.actor) × (self.new.commands ≡ self.old.commands) }
-        ensures ok { OnOk result (IsSound D.Disk J.strict plan.now tape.now self.new.actor self.new.seat self.new.slot self.new.commands self.new.gone) }
-        ensures err { OnErr result (IsSeated tape.now self.new.actor no_hold self.new.seat) }
-        ensures came { IfOk result (λ turned. CameTo plan.now tape.now self.old.actor self.old.commands turned self.old.seat.mine self.old.gone self.new.seat self.new.gone) }
+        ensures ok { OnOk result (IsSoundDesk D.Disk J.strict plan.now tape.now self.new) }
+        ensures err { OnErr result (IsSoundOrMarked D.Disk J.strict plan.now tape.now self.new) }
+        ensures came { IfOk result (λ turned. HasTurned plan.now tape.now turned self.old self.new) }
+        ensures took { result ≡ Ok Answer.Taken → (self.new.gone ≡ self.old.gone) × TakesMessages self.old.actor self.old.seat self.new.seat }
     {
         let mut found = Vec::with_capacity(self.alloc, MOST)?;
         tape.collect(rt, &mut self.seat, self.actor.0, &mut found)?;
         if found.is_empty() {
             return Ok(Turned::Idle);
         }
+        let items = Vec::with_capacity(self.alloc, MOST)?;
         gate.enter(self.actor.0, turn);
         let (staged, hold, ended) = self.gather(rt, plan, tape, found.as_slice());
-        let turned = self.finish(rt, plan, floor, tape, hold, staged)?;
+        let turned = self.finish(rt, plan, floor, tape, hold, staged, items)?;
         match ended {
             Ended::Dry => Ok(turned),
             Ended::Full => Ok(Turned::Full),
@@ -135,23 +138,27 @@ impl<D: Rig + Drop, J: Planned> Desk<D, J> {
         tape: &PlanTape<J>,
         hold: Hold,
         staged: usize,
+        items: Vec<Item>,
     ) -> Result<Turned, OutOfMemory>
         requires plan { plan.now ≡ J.plan }
         requires limits { tape.now.limits.items ≤ most_items }
         requires group { (first : ASlot D) × (joinings : List Joining) × (used : ℕ) × (length joinings ≡ staged)
-            × IsGathering D.Disk J.strict plan.now tape.now self.old.actor self.old.seat first self.old.slot self.old.commands self.old.gone joinings used hold }
-        ensures same { (self.new.actor ≡ self.old.actor) × (self.new.commands ≡ self.old.commands) }
-        ensures ok { OnOk result (IsSound D.Disk J.strict plan.now tape.now self.new.actor self.new.seat self.new.slot self.new.commands self.new.gone) }
-        ensures err { OnErr result (IsSeated tape.now self.new.actor no_hold self.new.seat) }
+            × Gathers D.Disk J.strict plan.now tape.now self.old (gathered first joinings used hold) }
+        requires room { (items.items ≡ []) × (16 ≤ vec_capacity items) }
+        ensures same { (self.new.actor ≡ self.old.actor) × (self.new.commands ≡ self.old.commands) × (self.new.gone ≡ self.old.gone) }
+        ensures ok { OnOk result (IsSoundDesk D.Disk J.strict plan.now tape.now self.new) }
+        ensures err { OnErr result (IsSoundOrMarked D.Disk J.strict plan.now tape.now self.new) }
         ensures some { OnOk result (staged ≢ 0 → length self.old.seat.mine < length self.new.seat.mine) }
-        ensures none { staged ≡ 0 → hold ≡ no_hold → (self.new.seat ≡ self.old.seat) × (self.new.gone ≡ self.old.gone) }
-        ensures came { IfOk result (λ turned. CameTo plan.now tape.now self.old.actor self.old.commands turned self.old.seat.mine self.old.gone self.new.seat self.new.gone) }
+        ensures took { result ≡ Ok Answer.Taken → (staged ≢ 0) × ((first : ASlot D) (joinings : List Joining) (used : ℕ) → length joinings ≡ staged → Gathers D.Disk J.strict plan.now tape.now self.old (gathered first joinings used hold)
+            → HasEntered self.old.actor (events_of joinings) self.old.seat self.new.seat) }
+        ensures none { staged ≡ 0 → hold ≡ no_hold → self.new.seat ≡ self.old.seat }
+        ensures came { IfOk result (λ turned. HasTurned plan.now tape.now turned self.old self.new) }
     {
         if staged == 0 {
             self.let_go(rt, plan, tape, hold);
             return Ok(Turned::Idle);
         }
-        self.settle(rt, plan, floor, tape, hold)?;
+        self.settle(rt, plan, floor, tape, hold, items)?;
         self.taken = self.taken.wrapping_add(staged as u64);
         Ok(Turned::Taken)
     }
@@ -167,15 +174,16 @@ impl<D: Rig + Drop, J: Planned> Desk<D, J> {
     ) -> (usize, Hold, Ended)
         requires plan { plan.now ≡ J.plan }
         requires limits { tape.now.limits.items ≤ most_items }
-        requires desk { IsSound D.Disk J.strict plan.now tape.now self.old.actor self.old.seat self.old.slot self.old.commands self.old.gone }
+        requires desk { IsSoundDesk D.Disk J.strict plan.now tape.now self.old }
         requires kind { is_node self.old.actor ≡ false }
         requires up { is_down self.old.actor (newest self.old.seat) ≡ false }
         requires found { CanAllJoin plan.now (newest self.old.seat) self.old.actor (drop self.old.gone self.old.commands) (map joining_of found.now) }
         ensures same { (self.new.actor ≡ self.old.actor) × (self.new.commands ≡ self.old.commands) × (self.new.gone ≡ self.old.gone) }
         ensures mine { self.new.seat.mine ≡ self.old.seat.mine }
+        ensures seen { result.0 ≢ 0 → IsPrefix self.old.seat.seen self.new.seat.seen }
         ensures full { result.2 ≡ AnEnd.Full → (result.0 ≡ 0) × (result.1 ≡ no_hold) × HasNoRoom plan.now tape.now self.new.actor (drop self.new.gone self.new.commands) self.new.seat }
         ensures gathering { (used : ℕ) × (length (take result.0 (map joining_of found.now)) ≡ result.0)
-            × IsGathering D.Disk J.strict plan.now tape.now self.new.actor self.new.seat self.old.slot self.new.slot self.new.commands self.new.gone (take result.0 (map joining_of found.now)) used result.1 }
+            × Gathers D.Disk J.strict plan.now tape.now self.new (gathered self.old.slot (take result.0 (map joining_of found.now)) used result.1) }
     {
         let Some((post, message)) = found.first() else {
             return (0, NOTHING, Ended::Dry);
@@ -204,15 +212,15 @@ impl<D: Rig + Drop, J: Planned> Desk<D, J> {
         requires plan { plan.now ≡ J.plan }
         requires limits { tape.now.limits.items ≤ most_items }
         requires some { 0 < count }
-        requires group { CanJoin plan.now (newest self.old.seat) self.old.actor (drop self.old.gone self.old.commands) (record { event = AnEvent.Message number; act = Takes message.now })
-            × IsGathering D.Disk J.strict plan.now tape.now self.old.actor self.old.seat self.old.slot self.old.slot self.old.commands self.old.gone [] 0 no_hold }
+        requires group { CanJoin plan.now (newest self.old.seat) self.old.actor (drop self.old.gone self.old.commands) (joining number message.now)
+            × Gathers D.Disk J.strict plan.now tape.now self.old (gathered self.old.slot [] 0 no_hold) }
         ensures same { (self.new.actor ≡ self.old.actor) × (self.new.commands ≡ self.old.commands) × (self.new.gone ≡ self.old.gone) }
         ensures mine { self.new.seat.mine ≡ self.old.seat.mine }
         ensures on { OnOk result (Turns actor_of_item weight_of (fits_plan J.plan) self.old.seat self.new.seat) }
         ensures ok { IfOk result (λ joined. MatchOption joined
-            (IsGathering D.Disk J.strict plan.now tape.now self.new.actor self.new.seat self.old.slot self.new.slot self.new.commands self.new.gone [] 0 no_hold × HasNoRoom plan.now tape.now self.new.actor (drop self.new.gone self.new.commands) self.new.seat)
-            (λ pair. IsGathering D.Disk J.strict plan.now tape.now self.new.actor self.new.seat self.old.slot self.new.slot self.new.commands self.new.gone (record { event = AnEvent.Message number; act = Takes message.now } ∷ []) pair.0 pair.1)) }
-        ensures err { OnErr result (IsGathering D.Disk J.strict plan.now tape.now self.new.actor self.new.seat self.old.slot self.new.slot self.new.commands self.new.gone [] 0 no_hold) }
+            (Gathers D.Disk J.strict plan.now tape.now self.new (gathered self.old.slot [] 0 no_hold) × HasNoRoom plan.now tape.now self.new.actor (drop self.new.gone self.new.commands) self.new.seat)
+            (λ pair. Gathers D.Disk J.strict plan.now tape.now self.new (gathered self.old.slot (joining number message.now ∷ []) pair.0 pair.1))) }
+        ensures err { OnErr result (Gathers D.Disk J.strict plan.now tape.now self.new (gathered self.old.slot [] 0 no_hold)) }
     {
         let (weight, prepared) = self.slot.prepare(plan, self.actor, number, message)?;
         let Some(hold) = reserve(rt, tape, &mut self.seat, count, weight, self.usual)? else {
@@ -239,12 +247,12 @@ impl<D: Rig + Drop, J: Planned> Desk<D, J> {
         requires limits { tape.now.limits.items ≤ most_items }
         requires some { 0 < length found.now }
         requires found { CanAllJoin plan.now (newest self.old.seat) self.old.actor (drop self.old.gone self.old.commands) (map joining_of found.now) }
-        requires group { (first : ASlot D) × IsGathering D.Disk J.strict plan.now tape.now self.old.actor self.old.seat first self.old.slot self.old.commands self.old.gone (take 1 (map joining_of found.now)) used hold }
+        requires group { (first : ASlot D) × Gathers D.Disk J.strict plan.now tape.now self.old (gathered first (take 1 (map joining_of found.now)) used hold) }
         ensures same { (self.new.actor ≡ self.old.actor) × (self.new.seat ≡ self.old.seat) × (self.new.commands ≡ self.old.commands) × (self.new.gone ≡ self.old.gone) }
         ensures ended { result.1 ≢ AnEnd.Full }
         ensures count { (0 < result.0) × (result.0 ≤ length found.now) }
-        ensures gathering { (first : ASlot D) → IsGathering D.Disk J.strict plan.now tape.now self.old.actor self.old.seat first self.old.slot self.old.commands self.old.gone (take 1 (map joining_of found.now)) used hold
-            → (now : ℕ) × IsGathering D.Disk J.strict plan.now tape.now self.new.actor self.new.seat first self.new.slot self.new.commands self.new.gone (take result.0 (map joining_of found.now)) now hold }
+        ensures gathering { (first : ASlot D) → Gathers D.Disk J.strict plan.now tape.now self.old (gathered first (take 1 (map joining_of found.now)) used hold)
+            → (now : ℕ) × Gathers D.Disk J.strict plan.now tape.now self.new (gathered first (take result.0 (map joining_of found.now)) now hold) }
     {
         let _tape = tape;
         let mut used = used;
@@ -276,13 +284,13 @@ impl<D: Rig + Drop, J: Planned> Desk<D, J> {
     ) -> Result<Option<u64>, OutOfMemory>
         requires plan { plan.now ≡ J.plan }
         requires limits { tape.now.limits.items ≤ most_items }
-        requires group { (first : ASlot D) × (joinings : List Joining) × CanGather D.Disk J.strict plan.now tape.now self.old.actor self.old.seat first self.old.slot self.old.commands self.old.gone joinings used hold (record { event = AnEvent.Message number; act = Takes message.now }) }
+        requires group { (first : ASlot D) × (joinings : List Joining) × GathersMore D.Disk J.strict plan.now tape.now self.old (gathered first joinings used hold) (joining number message.now) }
         ensures same { (self.new.actor ≡ self.old.actor) × (self.new.seat ≡ self.old.seat) × (self.new.commands ≡ self.old.commands) × (self.new.gone ≡ self.old.gone) }
-        ensures ok { IfOk result (λ joined. (first : ASlot D) (joinings : List Joining) → CanGather D.Disk J.strict plan.now tape.now self.old.actor self.old.seat first self.old.slot self.old.commands self.old.gone joinings used hold (record { event = AnEvent.Message number; act = Takes message.now })
-            → MatchOption joined (IsGathering D.Disk J.strict plan.now tape.now self.new.actor self.new.seat first self.new.slot self.new.commands self.new.gone joinings used hold)
-            (λ more. IsGathering D.Disk J.strict plan.now tape.now self.new.actor self.new.seat first self.new.slot self.new.commands self.new.gone (joinings ++ record { event = AnEvent.Message number; act = Takes message.now } ∷ []) more hold)) }
-        ensures err { OnErr result ((first : ASlot D) (joinings : List Joining) → CanGather D.Disk J.strict plan.now tape.now self.old.actor self.old.seat first self.old.slot self.old.commands self.old.gone joinings used hold (record { event = AnEvent.Message number; act = Takes message.now })
-            → IsGathering D.Disk J.strict plan.now tape.now self.new.actor self.new.seat first self.new.slot self.new.commands self.new.gone joinings used hold) }
+        ensures ok { IfOk result (λ joined. (first : ASlot D) (joinings : List Joining) → GathersMore D.Disk J.strict plan.now tape.now self.old (gathered first joinings used hold) (joining number message.now)
+            → MatchOption joined (Gathers D.Disk J.strict plan.now tape.now self.new (gathered first joinings used hold))
+            (λ more. Gathers D.Disk J.strict plan.now tape.now self.new (gathered first (joinings ++ joining number message.now ∷ []) more hold))) }
+        ensures err { OnErr result ((first : ASlot D) (joinings : List Joining) → GathersMore D.Disk J.strict plan.now tape.now self.old (gathered first joinings used hold) (joining number message.now)
+            → Gathers D.Disk J.strict plan.now tape.now self.new (gathered first joinings used hold)) }
     {
         let _tape = tape;
         let (weight, prepared) = self.slot.prepare(plan, self.actor, number, message)?;

@@ -1,5 +1,5 @@
 //! What holds of desks. Each law is the contract of a function that does nothing.
-ghost use Rattle.std.specs.Prelude.{◌≡◌, ◌≤◌, ℕ, Bool, List, drop, reverse, All, Any, Contains};
+ghost use Rattle.std.specs.Prelude.{◌≡◌, ◌≤◌, ℕ, Bool, List, drop, reverse, map, All, Any, Contains};
 ghost use mathlib.Core.List.{IsPrefix};
 ghost use Rattle.acc_stamp.specs.declared.actors.Actor.{Actor};
 ghost use Rattle.acc_message.specs.declared.item.Item.{Item};
@@ -14,9 +14,12 @@ ghost use Rattle.acc_free_laws.specs.FreeRun.{IsFreeRun};
 ghost use Rattle.acc_tape.specs.Lists.{items_of};
 ghost use Rattle.acc_tape.specs.ItemViews.{actor_of_item};
 ghost use Rattle.acc_tape.specs.Seats.{TapeName, SeatView};
-ghost use Rattle.acc_desk.specs.Desks.{no_hold, IsAt, IsSeated, IsSound};
+ghost use Rattle.acc_desk.specs.declared.desk.Desk.{Desk as ADesk};
+ghost use Rattle.acc_desk.specs.Desks.{no_hold, IsAt, IsSeated, IsSound, AreSound};
 ghost use Rattle.acc_desk.specs.Fits.{fits_plan};
+ghost use Rattle.acc_desk.specs.Threads.{seat_of, AreEnteredBy};
 
+use crate::rules::Planned;
 use acc_ports::Rig;
 
 /// Once the tape is closed, the actor of a sound desk stands for the whole list.
@@ -40,4 +43,14 @@ pub fn closed_items_are_within()
         All (λ (seat : SeatView Item). IsPrefix seat.seen items × (items_of actor_of_item seat.actor items ≡ seat.mine) × Contains made seat.actor) seats →
         All (λ (item : Item). Any (λ (seat : SeatView Item). seat.actor ≡ actor_of_item item) seats) items →
         IsWithin (reverse items) }
+{}
+
+/// What sound desks entered at one tape is one run, once their seats and the tape are closed: in it the own items of each store and node
+/// stand once and in order, and there are no others.
+pub fn threads_make_one_run<D: Rig, J: Planned>()
+    ensures { (strict_run : Bool) (plan : Content) (tape : TapeName) (made : List ℕ) (desks : List (ADesk D J)) (items : List Item) →
+        AreSound D.Disk strict_run plan tape desks →
+        All (λ (seat : SeatView Item). IsPrefix seat.seen items × (items_of actor_of_item seat.actor items ≡ seat.mine) × Contains made seat.actor) (map seat_of desks) →
+        All (λ (item : Item). Any (λ (seat : SeatView Item). seat.actor ≡ actor_of_item item) (map seat_of desks)) items →
+        fits_plan plan items → AreEnteredBy plan desks items }
 {}

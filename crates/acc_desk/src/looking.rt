@@ -1,10 +1,11 @@
 //! Looking for the begin of a transaction that a desk is to recover.
 ghost use Rattle.std.specs.Prelude.{◌≡◌, ◌≤◌, Some, IfSome, IfOk, OnOk, OnErr};
+ghost use mathlib.Core.List.{IsPrefix};
 ghost use Rattle.acc_message.specs.Items.{id_of_txn, id_begun as begun_by};
 ghost use Rattle.acc_message.specs.declared.item.Item.{Item as AnItem};
 ghost use Rattle.acc_schedule_runs.specs.Limits.{most_items};
 ghost use Rattle.acc_tape.specs.ItemViews.{sign_of_item};
-ghost use Rattle.acc_desk.specs.Desks.{newest, no_hold, IsSeated, IsSound, BeginsAs};
+ghost use Rattle.acc_desk.specs.Desks.{newest, IsSoundDesk, IsSoundOrMarked, BeginsAs};
 
 use crate::desk::Desk;
 use crate::rules::{PlanTape, Planned};
@@ -42,11 +43,12 @@ impl<D: Rig + Drop, J: Planned> Desk<D, J> {
     ) -> Result<Option<TxnId>, OutOfMemory>
         requires plan { plan.now ≡ J.plan }
         requires limits { tape.now.limits.items ≤ most_items }
-        requires desk { IsSound D.Disk J.strict plan.now tape.now self.old.actor self.old.seat self.old.slot self.old.commands self.old.gone }
+        requires desk { IsSoundDesk D.Disk J.strict plan.now tape.now self.old }
         ensures same { (self.new.actor ≡ self.old.actor) × (self.new.commands ≡ self.old.commands) × (self.new.gone ≡ self.old.gone) }
         ensures mine { self.new.seat.mine ≡ self.old.seat.mine }
-        ensures ok { OnOk result (IsSound D.Disk J.strict plan.now tape.now self.new.actor self.new.seat self.new.slot self.new.commands self.new.gone) }
-        ensures err { OnErr result (IsSeated tape.now self.new.actor no_hold self.new.seat) }
+        ensures seen { IsPrefix self.old.seat.seen self.new.seat.seen }
+        ensures ok { OnOk result (IsSoundDesk D.Disk J.strict plan.now tape.now self.new) }
+        ensures err { OnErr result (IsSoundOrMarked D.Disk J.strict plan.now tape.now self.new) }
         ensures found { IfOk result (λ found. IfSome found (λ id. id_of_txn (newest self.new.seat) txn ≡ Some id)) }
     {
         let _plan = plan;

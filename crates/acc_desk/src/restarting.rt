@@ -1,6 +1,7 @@
 //! Restarts of the actor of a desk.
-ghost use Rattle.std.specs.Prelude.{◌≡◌, ◌≢◌, ◌≤◌, ◌+◌, ◌∷◌, true, drop, Contains, Ok, IfOk, OnOk, OnErr};
+ghost use Rattle.std.specs.Prelude.{◌≡◌, ◌≢◌, ◌≤◌, ◌+◌, [], ◌∷◌, true, drop, Contains, Ok, IfOk, OnOk, OnErr};
 ghost use Rattle.acc_schedule.specs.declared.plan.Step.{Step};
+ghost use Rattle.acc_message.specs.declared.entry.Event.{Event as AnEvent};
 ghost use Rattle.acc_message.specs.Coordinator.{silence};
 ghost use Rattle.acc_schedule_runs.specs.Limits.{most_items};
 ghost use Rattle.acc_free_laws.specs.Commands.{is_restart};
@@ -11,8 +12,9 @@ ghost use Rattle.acc_schedule_runs.specs.Schedules.{cluster_of};
 ghost use Rattle.acc_schedule_runs.specs.Disks.{Disks};
 ghost use Rattle.acc_actors.specs.Slots.{SlotStands, IsStrictSlot};
 ghost use Rattle.acc_actors.specs.Asked.{IsFew};
-ghost use Rattle.acc_desk.specs.Desks.{no_hold, IsSeated, IsSound, HasReopened, HasReopenedStrictly};
-ghost use Rattle.acc_desk.specs.Outcomes.{CameTo};
+ghost use Rattle.acc_desk.specs.Choices.{HasEntered};
+ghost use Rattle.acc_desk.specs.Desks.{IsSoundDesk, IsSoundOrMarked, HasReopened, HasReopenedStrictly};
+ghost use Rattle.acc_desk.specs.Outcomes.{HasTurned};
 ghost use Rattle.acc_desk.specs.declared.turning.Turned.{Turned as Answer};
 
 use crate::desk::Desk;
@@ -82,12 +84,13 @@ impl<D: Rig + Drop, J: Planned> Desk<D, J> {
     ) -> Result<Turned, OutOfMemory>
         requires plan { plan.now ≡ J.plan }
         requires limits { tape.now.limits.items ≤ most_items }
-        requires desk { IsSound D.Disk J.strict plan.now tape.now self.old.actor self.old.seat self.old.slot self.old.commands self.old.gone }
+        requires desk { IsSoundDesk D.Disk J.strict plan.now tape.now self.old }
         requires next { (command : Step) × (drop self.old.gone self.old.commands ≡ command ∷ drop (self.old.gone + 1) self.old.commands) × (is_restart command ≡ true) }
         ensures same { (self.new.actor ≡ self.old.actor) × (self.new.commands ≡ self.old.commands) }
-        ensures ok { OnOk result (IsSound D.Disk J.strict plan.now tape.now self.new.actor self.new.seat self.new.slot self.new.commands self.new.gone) }
-        ensures err { OnErr result (IsSeated tape.now self.new.actor no_hold self.new.seat) }
-        ensures came { IfOk result (λ turned. CameTo plan.now tape.now self.old.actor self.old.commands turned self.old.seat.mine self.old.gone self.new.seat self.new.gone) }
+        ensures ok { OnOk result (IsSoundDesk D.Disk J.strict plan.now tape.now self.new) }
+        ensures err { OnErr result (IsSoundOrMarked D.Disk J.strict plan.now tape.now self.new) }
+        ensures came { IfOk result (λ turned. HasTurned plan.now tape.now turned self.old self.new) }
+        ensures took { result ≡ Ok Answer.Taken → (self.new.gone ≡ self.old.gone + 1) × HasEntered self.old.actor (AnEvent.Restart 0 ∷ []) self.old.seat self.new.seat }
         ensures told { result ≢ Ok Answer.Idle }
     {
         if self.gone >= self.commands.len() {
@@ -101,6 +104,7 @@ impl<D: Rig + Drop, J: Planned> Desk<D, J> {
         }
         let Ok(given) = reopen(self.alloc, &mut self.slot, plan, self.actor, choice) else {
             tape.release(rt, &mut self.seat, 1, 0);
+            self.unsound = true;
             return Err(OutOfMemory);
         };
         let item = item_for(self.actor, Event::Restart { kept: 0 }, given);

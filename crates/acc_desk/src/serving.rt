@@ -1,7 +1,7 @@
 //! Serving desks.
-ghost use Rattle.std.specs.Prelude.{◌≡◌, ◌≤◌, false, map, IfOk, OnOk, OnErr};
+ghost use Rattle.std.specs.Prelude.{◌≡◌, ◌≤◌, true, false, map, IfOk, OnOk, OnErr};
 ghost use Rattle.acc_schedule_runs.specs.Limits.{most_items};
-ghost use Rattle.acc_desk.specs.Desks.{AreSound, AreSeated, name_of};
+ghost use Rattle.acc_desk.specs.Desks.{AreSound, AreSoundButOne, AreSeated, name_of};
 ghost use Rattle.acc_desk.specs.Outcomes.{HaveComeTo};
 
 use crate::desk::Desks;
@@ -45,7 +45,7 @@ fn round<W: Wait, G: Gate, D: Rig + Drop, J: Planned>(
     requires desks { AreSound D.Disk J.strict plan.now tape.now desks.old.items }
     ensures same { map name_of desks.new.items ≡ map name_of desks.old.items }
     ensures ok { OnOk result (AreSound D.Disk J.strict plan.now tape.now desks.new.items) }
-    ensures err { OnErr result (AreSeated tape.now desks.new.items) }
+    ensures err { OnErr result (AreSoundButOne D.Disk J.strict plan.now tape.now desks.new.items) }
     ensures came { IfOk result (λ turned. HaveComeTo plan.now tape.now turned desks.old.items desks.new.items) }
 {
     let mut all = Turned::Idle;
@@ -77,7 +77,7 @@ fn rounds<W: Wait, G: Gate, D: Rig + Drop, J: Planned>(
     requires desks { AreSound D.Disk J.strict plan.now tape.now desks.old.items }
     ensures same { map name_of desks.new.items ≡ map name_of desks.old.items }
     ensures ok { OnOk result (AreSound D.Disk J.strict plan.now tape.now desks.new.items) }
-    ensures err { OnErr result (AreSeated tape.now desks.new.items) }
+    ensures err { OnErr result (AreSoundButOne D.Disk J.strict plan.now tape.now desks.new.items) }
 {
     let mut turns = 0;
     for _ in rt.forever() {
@@ -93,8 +93,9 @@ fn rounds<W: Wait, G: Gate, D: Rig + Drop, J: Planned>(
 }
 
 /// Goes round the desks of a worker and gives each a turn, until there is nothing to do on the whole floor or the tape is full. Where
-/// memory is refused it ends with `refused`: then each desk still keeps its actor, its commands and its seat, which holds nothing reserved.
-/// It waits where the tape is taken, and for calls of other workers while its own desks have nothing to do.
+/// memory is refused it ends with `refused`: then each desk still keeps its actor, its commands and its seat, which holds nothing
+/// reserved, and all are sound but the one that took its turn then, if that is marked. It waits where the tape is taken, and for calls of
+/// other workers while its own desks have nothing to do.
 pub fn serve<W: Wait, G: Gate, D: Rig + Drop, J: Planned>(
     rt: &W,
     plan: &Plan,
@@ -109,6 +110,7 @@ pub fn serve<W: Wait, G: Gate, D: Rig + Drop, J: Planned>(
     requires desks { AreSound D.Disk J.strict plan.now tape.now desks.items }
     ensures same { map name_of result.desks.items ≡ map name_of desks.items }
     ensures sound { result.refused ≡ false → AreSound D.Disk J.strict plan.now tape.now result.desks.items }
+    ensures refused { result.refused ≡ true → AreSoundButOne D.Disk J.strict plan.now tape.now result.desks.items }
     ensures seated { AreSeated tape.now result.desks.items }
 {
     keep(&desks, worker, floor);

@@ -1,9 +1,10 @@
 //! Steps of the actor of a desk.
-ghost use Rattle.std.specs.Prelude.{◌≡◌, ◌≢◌, ◌≤◌, drop, Ok, IfOk, OnOk, OnErr};
+ghost use Rattle.std.specs.Prelude.{◌≡◌, ◌≢◌, ◌≤◌, [], ◌∷◌, drop, Ok, IfOk, OnOk, OnErr};
 ghost use Rattle.acc_schedule_runs.specs.Limits.{most_items};
 ghost use Rattle.acc_desk.specs.Asks.{event_of, act_of_ask};
-ghost use Rattle.acc_desk.specs.Desks.{newest, item_of, no_hold, IsSeated, IsSound, MayStep};
-ghost use Rattle.acc_desk.specs.Outcomes.{CameTo};
+ghost use Rattle.acc_desk.specs.Choices.{HasEntered};
+ghost use Rattle.acc_desk.specs.Desks.{newest, item_of, IsSoundDesk, IsSoundOrMarked, MayStep};
+ghost use Rattle.acc_desk.specs.Outcomes.{HasTurned};
 ghost use Rattle.acc_desk.specs.declared.turning.Turned.{Turned as Answer};
 
 use crate::ask::{Ask, step, weigh};
@@ -66,12 +67,13 @@ impl<D: Rig + Drop, J: Planned> Desk<D, J> {
     ) -> Result<Turned, OutOfMemory>
         requires plan { plan.now ≡ J.plan }
         requires limits { tape.now.limits.items ≤ most_items }
-        requires desk { IsSound D.Disk J.strict plan.now tape.now self.old.actor self.old.seat self.old.slot self.old.commands self.old.gone }
+        requires desk { IsSoundDesk D.Disk J.strict plan.now tape.now self.old }
         requires may { MayStep plan.now (newest self.old.seat) self.old.actor (event_of ask) (act_of_ask ask) (drop self.old.gone self.old.commands) (drop gone self.old.commands) }
         ensures same { (self.new.actor ≡ self.old.actor) × (self.new.commands ≡ self.old.commands) }
-        ensures ok { OnOk result (IsSound D.Disk J.strict plan.now tape.now self.new.actor self.new.seat self.new.slot self.new.commands self.new.gone) }
-        ensures err { OnErr result (IsSeated tape.now self.new.actor no_hold self.new.seat) }
-        ensures came { IfOk result (λ turned. CameTo plan.now tape.now self.old.actor self.old.commands turned self.old.seat.mine self.old.gone self.new.seat self.new.gone) }
+        ensures ok { OnOk result (IsSoundDesk D.Disk J.strict plan.now tape.now self.new) }
+        ensures err { OnErr result (IsSoundOrMarked D.Disk J.strict plan.now tape.now self.new) }
+        ensures came { IfOk result (λ turned. HasTurned plan.now tape.now turned self.old self.new) }
+        ensures took { result ≡ Ok Answer.Taken → (self.new.gone ≡ gone) × HasEntered self.old.actor (event_of ask.entry ∷ []) self.old.seat self.new.seat }
         ensures told { result ≢ Ok Answer.Idle }
     {
         gate.enter(self.actor.0, turn);
@@ -83,6 +85,7 @@ impl<D: Rig + Drop, J: Planned> Desk<D, J> {
         }
         let Ok(given) = step(&mut self.slot, plan, self.actor, ask) else {
             tape.release(rt, &mut self.seat, 1, weight);
+            self.unsound = true;
             return Err(OutOfMemory);
         };
         let keepers = count_sent(floor, &given);

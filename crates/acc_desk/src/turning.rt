@@ -1,5 +1,6 @@
 //! Turns.
-ghost use Rattle.std.specs.Prelude.{◌≡◌, ◌≤◌, take, Ok, IfOk, OnOk, OnErr, Some, true, false};
+ghost use Rattle.std.specs.Prelude.{◌≡◌, ◌+◌, ◌≤◌, take, Ok, IfOk, OnOk, OnErr, Some, true, false};
+ghost use mathlib.Core.List.{IsPrefix};
 ghost use Rattle.std.specs.Option.{option_copied};
 ghost use Rattle.acc_stamp.specs.declared.actors.Actor.{Actor as AnActor};
 ghost use Rattle.std.specs.List.{slice_get, list_any};
@@ -10,8 +11,9 @@ ghost use Rattle.acc_schedule_runs.specs.Situations.{Situation};
 ghost use Rattle.acc_schedule_runs.specs.Limits.{most_items};
 ghost use Rattle.acc_actors.specs.Slots.{SlotStands};
 ghost use Rattle.acc_tape.specs.Seats.{TapeName};
-ghost use Rattle.acc_desk.specs.Desks.{newest, no_hold, IsSeated, IsSound, begins_it};
-ghost use Rattle.acc_desk.specs.Outcomes.{CameTo, IsTakenAtOnce};
+ghost use Rattle.acc_desk.specs.Choices.{TakesCommand, TakesMessages, NoneAtOnce, HasTaken};
+ghost use Rattle.acc_desk.specs.Desks.{newest, IsSoundDesk, IsSoundOrMarked, begins_it};
+ghost use Rattle.acc_desk.specs.Outcomes.{HasTurned, IsTakenAtOnce};
 ghost use Rattle.acc_desk.specs.declared.turning.Turned.{Turned as Answer};
 
 use crate::ask::Ask;
@@ -93,7 +95,8 @@ fn is_store<D: Rig>(slot: &Slot<D>) -> bool
 
 impl<D: Rig + Drop, J: Planned> Desk<D, J> {
     /// Takes the actor's next command if it can be taken, else its oldest message, and a store up to sixteen. Where memory is refused the
-    /// desk keeps its seat, which holds nothing reserved, and its actor may stand for nothing any more. It waits where the tape is taken.
+    /// desk keeps its seat, which holds nothing reserved, and stays sound unless its actor found no memory while it stepped over its disk:
+    /// then the desk is marked, and its actor may stand for nothing any more. It waits where the tape is taken.
     pub fn turn<W: Wait, G: Gate>(
         &mut self,
         rt: &W,
@@ -105,12 +108,13 @@ impl<D: Rig + Drop, J: Planned> Desk<D, J> {
     ) -> Result<Turned, OutOfMemory>
         requires plan { plan.now ≡ J.plan }
         requires limits { tape.now.limits.items ≤ most_items }
-        requires desk { IsSound D.Disk J.strict plan.now tape.now self.old.actor self.old.seat self.old.slot self.old.commands self.old.gone }
+        requires desk { IsSoundDesk D.Disk J.strict plan.now tape.now self.old }
         ensures same { (self.new.actor ≡ self.old.actor) × (self.new.commands ≡ self.old.commands) }
-        ensures ok { OnOk result (IsSound D.Disk J.strict plan.now tape.now self.new.actor self.new.seat self.new.slot self.new.commands self.new.gone) }
-        ensures err { OnErr result (IsSeated tape.now self.new.actor no_hold self.new.seat) }
-        ensures came { IfOk result (λ turned. CameTo plan.now tape.now self.old.actor self.old.commands turned self.old.seat.mine self.old.gone self.new.seat self.new.gone) }
-        ensures waits { result ≡ Ok Answer.Idle → is_down self.old.actor (newest self.old.seat) ≡ false → (command : AStep) → slice_get self.old.commands self.old.gone ≡ Some command → ¬ IsTakenAtOnce plan.now (take self.old.gone self.old.commands) command }
+        ensures ok { OnOk result (IsSoundDesk D.Disk J.strict plan.now tape.now self.new) }
+        ensures err { OnErr result (IsSoundOrMarked D.Disk J.strict plan.now tape.now self.new) }
+        ensures came { IfOk result (λ turned. HasTurned plan.now tape.now turned self.old self.new) }
+        ensures waits { result ≡ Ok Answer.Idle → is_down self.old.actor (newest self.old.seat) ≡ false → NoneAtOnce plan.now self.old.commands self.old.gone }
+        ensures took { result ≡ Ok Answer.Taken → HasTaken plan.now self.old self.new }
     {
         match self.command(rt, plan, floor, tape, gate, turn)? {
             Turned::Idle => self.message(rt, plan, floor, tape, gate, turn),
@@ -121,7 +125,7 @@ impl<D: Rig + Drop, J: Planned> Desk<D, J> {
 
     // Whether the actor is down.
     fn is_down(&self) -> bool
-        ensures { (plan : Content) (tape : TapeName) → IsSound D.Disk J.strict plan tape self.now.actor self.now.seat self.now.slot self.now.commands self.now.gone
+        ensures { (plan : Content) (tape : TapeName) → IsSoundDesk D.Disk J.strict plan tape self.now
             → result ≡ is_down self.now.actor (newest self.now.seat) }
     {
         self.slot.is_down()
@@ -154,12 +158,15 @@ impl<D: Rig + Drop, J: Planned> Desk<D, J> {
     ) -> Result<Turned, OutOfMemory>
         requires plan { plan.now ≡ J.plan }
         requires limits { tape.now.limits.items ≤ most_items }
-        requires desk { IsSound D.Disk J.strict plan.now tape.now self.old.actor self.old.seat self.old.slot self.old.commands self.old.gone }
+        requires desk { IsSoundDesk D.Disk J.strict plan.now tape.now self.old }
         ensures same { (self.new.actor ≡ self.old.actor) × (self.new.commands ≡ self.old.commands) }
-        ensures ok { OnOk result (IsSound D.Disk J.strict plan.now tape.now self.new.actor self.new.seat self.new.slot self.new.commands self.new.gone) }
-        ensures err { OnErr result (IsSeated tape.now self.new.actor no_hold self.new.seat) }
-        ensures came { IfOk result (λ turned. CameTo plan.now tape.now self.old.actor self.old.commands turned self.old.seat.mine self.old.gone self.new.seat self.new.gone) }
-        ensures waits { result ≡ Ok Answer.Idle → is_down self.old.actor (newest self.old.seat) ≡ false → (command : AStep) → slice_get self.old.commands self.old.gone ≡ Some command → ¬ IsTakenAtOnce plan.now (take self.old.gone self.old.commands) command }
+        ensures ok { OnOk result (IsSoundDesk D.Disk J.strict plan.now tape.now self.new) }
+        ensures err { OnErr result (IsSoundOrMarked D.Disk J.strict plan.now tape.now self.new) }
+        ensures came { IfOk result (λ turned. HasTurned plan.now tape.now turned self.old self.new) }
+        ensures waits { result ≡ Ok Answer.Idle → is_down self.old.actor (newest self.old.seat) ≡ false → NoneAtOnce plan.now self.old.commands self.old.gone }
+        ensures seen { result ≡ Ok Answer.Idle → IsPrefix self.old.seat.seen self.new.seat.seen }
+        ensures up { result ≡ Ok Answer.Idle → is_down self.new.actor (newest self.new.seat) ≡ false → is_down self.old.actor (newest self.old.seat) ≡ false }
+        ensures took { result ≡ Ok Answer.Taken → (command : AStep) × (slice_get self.old.commands self.old.gone ≡ Some command) × (self.new.gone ≡ self.old.gone + 1) × TakesCommand self.old.actor command self.old.seat self.new.seat }
     {
         if self.is_down() {
             return Ok(Turned::Idle);
@@ -189,14 +196,16 @@ impl<D: Rig + Drop, J: Planned> Desk<D, J> {
     ) -> Result<Turned, OutOfMemory>
         requires plan { plan.now ≡ J.plan }
         requires limits { tape.now.limits.items ≤ most_items }
-        requires desk { IsSound D.Disk J.strict plan.now tape.now self.old.actor self.old.seat self.old.slot self.old.commands self.old.gone }
+        requires desk { IsSoundDesk D.Disk J.strict plan.now tape.now self.old }
         requires up { is_down self.old.actor (newest self.old.seat) ≡ false }
         requires next { slice_get self.old.commands self.old.gone ≡ Some (AStep.Begin txn) }
         ensures same { (self.new.actor ≡ self.old.actor) × (self.new.commands ≡ self.old.commands) }
-        ensures ok { OnOk result (IsSound D.Disk J.strict plan.now tape.now self.new.actor self.new.seat self.new.slot self.new.commands self.new.gone) }
-        ensures err { OnErr result (IsSeated tape.now self.new.actor no_hold self.new.seat) }
-        ensures came { IfOk result (λ turned. CameTo plan.now tape.now self.old.actor self.old.commands turned self.old.seat.mine self.old.gone self.new.seat self.new.gone) }
+        ensures ok { OnOk result (IsSoundDesk D.Disk J.strict plan.now tape.now self.new) }
+        ensures err { OnErr result (IsSoundOrMarked D.Disk J.strict plan.now tape.now self.new) }
+        ensures came { IfOk result (λ turned. HasTurned plan.now tape.now turned self.old self.new) }
         ensures waits { result ≡ Ok Answer.Idle → ¬ IsTakenAtOnce plan.now (take self.old.gone self.old.commands) (AStep.Begin txn) }
+        ensures seen { result ≡ Ok Answer.Idle → self.new.seat ≡ self.old.seat }
+        ensures took { result ≡ Ok Answer.Taken → (self.new.gone ≡ self.old.gone + 1) × TakesCommand self.old.actor (AStep.Begin txn) self.old.seat self.new.seat }
     {
         let Some(home) = home_of(plan, txn) else {
             return Ok(Turned::Idle);
@@ -226,12 +235,14 @@ impl<D: Rig + Drop, J: Planned> Desk<D, J> {
     ) -> Result<Turned, OutOfMemory>
         requires plan { plan.now ≡ J.plan }
         requires limits { tape.now.limits.items ≤ most_items }
-        requires desk { IsSound D.Disk J.strict plan.now tape.now self.old.actor self.old.seat self.old.slot self.old.commands self.old.gone }
+        requires desk { IsSoundDesk D.Disk J.strict plan.now tape.now self.old }
         requires next { slice_get self.old.commands self.old.gone ≡ Some (AStep.Recover txn node) }
         ensures same { (self.new.actor ≡ self.old.actor) × (self.new.commands ≡ self.old.commands) }
-        ensures ok { OnOk result (IsSound D.Disk J.strict plan.now tape.now self.new.actor self.new.seat self.new.slot self.new.commands self.new.gone) }
-        ensures err { OnErr result (IsSeated tape.now self.new.actor no_hold self.new.seat) }
-        ensures came { IfOk result (λ turned. CameTo plan.now tape.now self.old.actor self.old.commands turned self.old.seat.mine self.old.gone self.new.seat self.new.gone) }
+        ensures ok { OnOk result (IsSoundDesk D.Disk J.strict plan.now tape.now self.new) }
+        ensures err { OnErr result (IsSoundOrMarked D.Disk J.strict plan.now tape.now self.new) }
+        ensures came { IfOk result (λ turned. HasTurned plan.now tape.now turned self.old self.new) }
+        ensures seen { result ≡ Ok Answer.Idle → IsPrefix self.old.seat.seen self.new.seat.seen }
+        ensures took { result ≡ Ok Answer.Taken → (self.new.gone ≡ self.old.gone + 1) × TakesCommand self.old.actor (AStep.Recover txn node) self.old.seat self.new.seat }
     {
         let Some(body) = body_of(plan, txn) else {
             return Ok(Turned::Idle);
@@ -265,11 +276,12 @@ impl<D: Rig + Drop, J: Planned> Desk<D, J> {
     ) -> Result<Turned, OutOfMemory>
         requires plan { plan.now ≡ J.plan }
         requires limits { tape.now.limits.items ≤ most_items }
-        requires desk { IsSound D.Disk J.strict plan.now tape.now self.old.actor self.old.seat self.old.slot self.old.commands self.old.gone }
+        requires desk { IsSoundDesk D.Disk J.strict plan.now tape.now self.old }
         ensures same { (self.new.actor ≡ self.old.actor) × (self.new.commands ≡ self.old.commands) }
-        ensures ok { OnOk result (IsSound D.Disk J.strict plan.now tape.now self.new.actor self.new.seat self.new.slot self.new.commands self.new.gone) }
-        ensures err { OnErr result (IsSeated tape.now self.new.actor no_hold self.new.seat) }
-        ensures came { IfOk result (λ turned. CameTo plan.now tape.now self.old.actor self.old.commands turned self.old.seat.mine self.old.gone self.new.seat self.new.gone) }
+        ensures ok { OnOk result (IsSoundDesk D.Disk J.strict plan.now tape.now self.new) }
+        ensures err { OnErr result (IsSoundOrMarked D.Disk J.strict plan.now tape.now self.new) }
+        ensures came { IfOk result (λ turned. HasTurned plan.now tape.now turned self.old self.new) }
+        ensures took { result ≡ Ok Answer.Taken → (self.new.gone ≡ self.old.gone) × (is_down self.old.actor (newest self.old.seat) ≡ false) × TakesMessages self.old.actor self.old.seat self.new.seat }
     {
         if self.is_down() {
             return Ok(Turned::Idle);
@@ -296,11 +308,12 @@ impl<D: Rig + Drop, J: Planned> Desk<D, J> {
     ) -> Result<Turned, OutOfMemory>
         requires plan { plan.now ≡ J.plan }
         requires limits { tape.now.limits.items ≤ most_items }
-        requires desk { IsSound D.Disk J.strict plan.now tape.now self.old.actor self.old.seat self.old.slot self.old.commands self.old.gone }
+        requires desk { IsSoundDesk D.Disk J.strict plan.now tape.now self.old }
         ensures same { (self.new.actor ≡ self.old.actor) × (self.new.commands ≡ self.old.commands) }
-        ensures ok { OnOk result (IsSound D.Disk J.strict plan.now tape.now self.new.actor self.new.seat self.new.slot self.new.commands self.new.gone) }
-        ensures err { OnErr result (IsSeated tape.now self.new.actor no_hold self.new.seat) }
-        ensures came { IfOk result (λ turned. CameTo plan.now tape.now self.old.actor self.old.commands turned self.old.seat.mine self.old.gone self.new.seat self.new.gone) }
+        ensures ok { OnOk result (IsSoundDesk D.Disk J.strict plan.now tape.now self.new) }
+        ensures err { OnErr result (IsSoundOrMarked D.Disk J.strict plan.now tape.now self.new) }
+        ensures came { IfOk result (λ turned. HasTurned plan.now tape.now turned self.old self.new) }
+        ensures took { result ≡ Ok Answer.Taken → (self.new.gone ≡ self.old.gone) × TakesMessages self.old.actor self.old.seat self.new.seat }
     {
         let mut found = Vec::with_capacity(self.alloc, 1)?;
         tape.collect(rt, &mut self.seat, self.actor.0, &mut found)?;

@@ -1,5 +1,5 @@
 -- Desks in the hands of workers.
-use Rattle.std.specs.Prelude.{◌≡◌, ℕ, Bool, false, List, map, Option}
+use Rattle.std.specs.Prelude.{◌≡◌, Bool, false, List, map}
 use Rattle.acc_ports.specs.declared.disk.Disk.{Ghosts}
 use Rattle.acc_schedule.specs.Content.{Content}
 use Rattle.acc_tape.specs.Seats.{TapeName}

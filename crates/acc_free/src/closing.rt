@@ -3,6 +3,7 @@ ghost use Rattle.std.specs.Prelude.{◌≡◌, ◌≤◌, length, map, IfOk};
 ghost use Rattle.acc_schedule.specs.Plan.{IsPlan};
 ghost use Rattle.acc_schedule_runs.specs.Limits.{most_items, most_bytes};
 ghost use Rattle.acc_desk.specs.Desks.{AreSound};
+ghost use Rattle.acc_desk.specs.Threads.{AreEnteredBy};
 ghost use Rattle.acc_free_ending.specs.Finish.{HaveRested};
 ghost use Rattle.acc_free.specs.Opened.{desk_actor};
 ghost use Rattle.acc_free.specs.Parts.{seat_in, rest_in};
@@ -10,7 +11,9 @@ ghost use Rattle.acc_free_ending.specs.Queues.{rest_actor, AreAllActors};
 
 use crate::opening::First;
 use acc_base::OutOfMemory;
-use acc_desk::laws::{closed_items_are_within, desks_stand_at_the_end, nobody_goes_down};
+use acc_desk::laws::{
+    closed_items_are_within, desks_stand_at_the_end, nobody_goes_down, threads_make_one_run,
+};
 use acc_desk::{Desks, Parts, PlanRules, PlanTape, Planned};
 use acc_free_ending::{Rest, Rests};
 use acc_free_laws::laws::turns_go_by;
@@ -20,7 +23,7 @@ use acc_schedule::Plan;
 use acc_tape::Seats;
 use std::alloc::Global;
 
-/// Closes the tape of a plan, at which each actor has a desk.
+/// Closes the tape of a plan, at which each actor has a desk. What the desks entered there is one run.
 pub(crate) fn closed<D: Rig + Drop, J: Planned>(
     alloc: Global,
     plan: &Plan,
@@ -36,11 +39,13 @@ pub(crate) fn closed<D: Rig + Drop, J: Planned>(
     requires actors { AreAllActors plan.now (map desk_actor desks.items) }
     requires sound { AreSound D.Disk J.strict plan.now tape desks.items }
     ensures actors { IfOk result (λ parts. AreAllActors plan.now (map rest_actor parts.0.items)) }
+    ensures entered { IfOk result (λ parts. AreEnteredBy plan.now desks.items parts.1.items) }
     ensures rested { IfOk result (λ parts. HaveRested D.Disk J.strict plan.now parts.0.items parts.1.items) }
 {
     desks_stand_at_the_end::<D>();
     nobody_goes_down();
     closed_items_are_within();
+    threads_make_one_run::<D, J>();
     turns_go_by();
     let _plan = plan;
     let (seats, rests) = apart(alloc, desks)?;

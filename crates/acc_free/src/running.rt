@@ -1,14 +1,15 @@
 //! The actors of a plan side by side.
-ghost use Rattle.std.specs.Prelude.{◌≡◌, ◌≤◌, ℕ, [], true, IsTrue, reverse, map, IfOk, IfErr};
+ghost use Rattle.std.specs.Prelude.{◌≡◌, ◌≤◌, ℕ, List, [], true, IsTrue, reverse, map, IfOk, IfErr};
 ghost use Rattle.acc_message.specs.declared.error.Which.{Which};
 ghost use Rattle.acc_message.specs.declared.error.RunError.{RunError as Why};
+ghost use Rattle.acc_message.specs.declared.item.Item.{Item as AnItem};
 ghost use Rattle.acc_schedule.specs.Plan.{IsPlan};
 ghost use Rattle.acc_schedule_runs.specs.Laws.{NobodyIsDown};
-ghost use Rattle.acc_schedule_runs.specs.Limits.{IsWithin};
+ghost use Rattle.acc_schedule_runs.specs.Limits.{IsWithin, EndsAt};
 ghost use Rattle.acc_free_laws.specs.Served.{IsServed};
-ghost use Rattle.acc_free.specs.Given.{GivesBackFreely};
+ghost use Rattle.acc_free.specs.Given.{GivesBackFreely, GivesBackAtLimit};
 ghost use Rattle.acc_free_ending.specs.Finish.{HaveRested};
-ghost use Rattle.acc_free_ending.specs.Moves.{EndsFreely};
+ghost use Rattle.acc_free_ending.specs.Moves.{IsFreeFront};
 ghost use Rattle.acc_free_ending.specs.Queues.{rest_actor, AreAllActors};
 
 use crate::closing::closed;
@@ -32,8 +33,9 @@ use std::sync::Wait;
 use std::thread::Threads;
 
 /// Lets so many threads take the turns of a plan's actors over new disks, brings what they leave to its end, and gives the disks back, in
-/// rising order of the actors' numbers, and what the actors knew to `remains`. Each turn on a thread comes through the gate. A run past a limit, or without memory, has no items,
-/// and its disks may be gone. It waits for the threads, and they wait for one another where they enter what they did.
+/// rising order of the actors' numbers, and what the actors knew to `remains`. Each turn on a thread comes through the gate. A run past a
+/// limit gives the disks back too, and has no items. Without memory the disks may be gone. It waits for the threads, and they wait for one
+/// another where they enter what they did.
 pub fn run_free<R: Threads + Wait + Sync, M: DiskMaker, G: Gate + Sync>(
     rt: &R,
     alloc: Global,
@@ -51,7 +53,9 @@ where
     // Whatever the disks answered and in whatever order turns came, every actor took its turns, and the items are within the limits.
     ensures served { IfOk result (λ items. IsServed plan.now (reverse items)) }
     ensures within { IfOk result (λ items. IsWithin (reverse items)) }
-    ensures limit { IfErr result (λ e. (which : Which) (number : ℕ) → e ≡ Why.Limit which number → EndsFreely (M.strict disks.old) plan.now [] which number) }
+    ensures limit { IfErr result (λ e. (which : Which) (number : ℕ) → e ≡ Why.Limit which number →
+        (front : List AnItem) × EndsAt (IsFreeFront (M.strict disks.old) plan.now []) front which number
+        × GivesBackAtLimit M.D.Disk plan.now front (M.given disks.old) (M.given disks.new)) }
     ensures stayed { IsTrue (M.strict disks.old) → IfOk result (λ items. NobodyIsDown (reverse items)) }
 
     ensures given { IfOk result (λ items. GivesBackFreely M.D.Disk plan.now (reverse items) (M.given disks.old) (M.given disks.new)) }
@@ -78,14 +82,17 @@ where
     requires is_plan { IsPlan plan.now }
     ensures served { IfOk result (λ items. IsServed plan.now (reverse items)) }
     ensures within { IfOk result (λ items. IsWithin (reverse items)) }
-    ensures limit { IfErr result (λ e. (which : Which) (number : ℕ) → e ≡ Why.Limit which number → EndsFreely J.strict plan.now [] which number) }
+    ensures limit { IfErr result (λ e. (which : Which) (number : ℕ) → e ≡ Why.Limit which number →
+        (front : List AnItem) × EndsAt (IsFreeFront J.strict plan.now []) front which number
+        × GivesBackAtLimit M.D.Disk plan.now front (M.given disks.old) (M.given disks.new)) }
     ensures stayed { J.strict ≡ true → IfOk result (λ items. NobodyIsDown (reverse items)) }
     ensures given { IfOk result (λ items. GivesBackFreely M.D.Disk plan.now (reverse items) (M.given disks.old) (M.given disks.new)) }
     ensures kind { M.strict disks.new ≡ M.strict disks.old }
 {
     let (rests, entered) = entered_by::<R, M, G, J>(rt, alloc, plan, workers, disks, gate)?;
-    let ended = finish(alloc, plan, rests, entered, remains)?;
+    let (ended, gone) = finish(alloc, plan, rests, entered, remains)?;
     give_back(disks, ended.disks)?;
+    gone?;
     Ok(ended.items)
 }
 

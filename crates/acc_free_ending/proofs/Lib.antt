@@ -5,3 +5,4 @@ pub mod Rounds
 pub mod Steps
 pub mod Strictly
 pub mod Turning
+pub mod Within

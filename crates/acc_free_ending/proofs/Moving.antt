@@ -1,5 +1,5 @@
 -- Several commands of an actor, one after another.
-use Rattle.std.proofs.Common.{◌≡◌, ℕ, ◌<◌, ◌≤◌, Bool, true, false, List, length, Option, refl, sym, ◌∙◌, subst, arith}
+use Rattle.std.proofs.Common.{◌≡◌, ℕ, ◌<◌, ◌≤◌, Bool, true, false, List, length, refl, sym, ◌∙◌, subst, arith}
 use Rattle.std.proofs.lemmas.Bool.{true≢false}
 use Rattle.acc_stamp.specs.declared.actors.Actor.{Actor}
 use Rattle.acc_ports.specs.declared.disk.Disk.{Ghosts}
@@ -13,7 +13,7 @@ use Rattle.acc_schedule_runs.proofs.Beginnings.{begins_itself, begins_chain}
 use Rattle.acc_cluster.specs.declared.cluster.Cluster.{Cluster}
 use Rattle.acc_free_laws.specs.Commands.{IsHeld}
 use Rattle.acc_free_laws.specs.Serving.{HasGone}
-use Rattle.acc_free_ending.specs.Moves.{Serves, HasMoved, EachWent, EndsFreely}
+use Rattle.acc_free_ending.specs.Moves.{Serves, HasMoved, EachWent, StopsFreely}
 use Rattle.acc_free_ending.proofs.Steps.{ends_later, each_goes_on}
 
 -- some commands went by so far
@@ -55,11 +55,11 @@ module _ {D : Type 0} (port : Ghosts D) (strict_run : Bool) (plan : Content) (a 
     gone_so_far = subst (λ (c : Actor). HasGone plan m.reached c mid) (sym is) m.gone
 
     -- a limit of what follows
-    pub moved_limit : (which : Which) (number : ℕ)
-        → ((t : Situation) → Serves port strict_run plan cluster t → HasGone plan t b mid → EachWent plan t → EndsFreely strict_run plan t.own which number) → EachWent plan s
-        → EndsFreely strict_run plan s.own which number
-    moved_limit which number ends each =
-        ends_later strict_run plan s.own m.reached.own which number m.behind (ends m.reached m.serves gone_so_far (each_goes_on plan a s m.reached mid m.gone m.others each))
+    pub moved_limit : (new : Cluster D) (which : Which) (number : ℕ)
+        → ((t : Situation) → Serves port strict_run plan cluster t → HasGone plan t b mid → EachWent plan t → StopsFreely port strict_run plan t.own new which number) → EachWent plan s
+        → StopsFreely port strict_run plan s.own new which number
+    moved_limit new which number ends each =
+        ends_later port strict_run plan s.own m.reached.own new which number m.behind (ends m.reached m.serves gone_so_far (each_goes_on plan a s m.reached mid m.gone m.others each))
 
     module _ (now : List Step) (moved : Bool) (new : Cluster D) (told : HasMoved port strict_run plan b mid now moved new m.reached) where
       move : HasMoved port strict_run plan a mid now moved new m.reached

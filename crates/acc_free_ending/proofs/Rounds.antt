@@ -1,5 +1,5 @@
 -- Rounds of all actors, with all deliveries behind each.
-use Rattle.std.proofs.Common.{◌≡◌, ℕ, zero, suc, ◌+◌, ◌<◌, ◌≤◌, Bool, true, false, List, [], ◌∷◌, length, map, Contains, Option, Some, refl, sym, ◌∙◌, ap, subst, arith, ⊎_elim}
+use Rattle.std.proofs.Common.{◌≡◌, ◌⊎◌, ℕ, zero, suc, ◌+◌, ◌<◌, ◌≤◌, Bool, true, false, List, [], ◌∷◌, length, map, Contains, Some, refl, sym, ◌∙◌, ap, subst, arith, ⊎_elim}
 use Rattle.std.specs.List.{slice_get, slice_set}
 use Rattle.std.proofs.lemmas.Bool.{true≢false}
 use mathlib.Core.Logic.{dite}
@@ -9,6 +9,7 @@ use Rattle.std.proofs.lemmas.Option.{same_Some, slice_get_within, get_or_from_sl
 use Rattle.acc_stamp.specs.declared.actors.Actor.{Actor}
 use Rattle.acc_ports.specs.declared.disk.Disk.{Ghosts}
 use Rattle.acc_message.specs.declared.error.Which.{Which}
+use Rattle.acc_message.specs.declared.item.Item.{Item}
 use Rattle.acc_message.specs.Items.{same_actor}
 use Rattle.acc_message.specs.declared.entry.Event.TheVariants.{Message as MessageEvent}
 use Rattle.acc_schedule.specs.Actors.{actors}
@@ -20,19 +21,22 @@ use Rattle.acc_schedule_runs.specs.Situations.{Situation, NothingWaits, receiver
 use Rattle.acc_schedule_runs.specs.Moves.{Answers, tried, Drains}
 use Rattle.acc_schedule_runs.specs.Schedules.{cluster_of}
 use Rattle.acc_schedule_runs.specs.StrictMoves.{StrictSituation}
+use Rattle.acc_schedule_runs.specs.Limits.{EndsAt}
 use Rattle.acc_schedule_runs.proofs.Answering.{next_answered}
 use Rattle.acc_schedule_runs.specs.Fronts.{DrainsTo, comes, goes_on, Begins}
 use Rattle.acc_schedule_runs.proofs.Beginnings.{begins_itself, begins_chain}
 use Rattle.acc_schedule_runs.proofs.Reached.{next_adds, comes_adds}
 use Rattle.acc_cluster.specs.declared.cluster.Cluster.{Cluster}
 use Rattle.acc_cluster.specs.Stands.{StandsFor, StandsStrictly}
-use Rattle.acc_cluster.specs.Steps.{StepsTo, StepsStrictly, EndsIn, EndsStrictlyIn}
+use Rattle.acc_cluster.specs.Steps.{StepsTo, StepsStrictly, EndsIn, LimitLeaves, EndsStrictlyIn}
+use Rattle.acc_cluster.specs.Limits.{HasEntered}
+use Rattle.acc_cluster.proofs.Limited.{entered_there}
 use Rattle.acc_free_laws.specs.Commands.{IsHeld}
 use Rattle.acc_free_laws.specs.Serving.{IsServing, HasGone}
 use Rattle.acc_free_ending.specs.declared.rest.Queue.{Queue}
 use Rattle.acc_free_ending.specs.Queues.{left_in, actor_in, AreAllActors, HaveGone, AreHeld, count_in, count_left}
-use Rattle.acc_free_ending.specs.Moves.{StaysUp, Serves, HasMoved, HasGoneRound, IsEmptied, HasEnded, EachWent, EndsFreely}
-use Rattle.acc_free_ending.proofs.Steps.{some_answers}
+use Rattle.acc_free_ending.specs.Moves.{StaysUp, Serves, HasMoved, HasGoneRound, IsEmptied, HasEnded, EachWent, IsFreeFront, StopsFreely}
+use Rattle.acc_free_ending.proofs.Steps.{some_answers, same_entered}
 use Rattle.acc_free_ending.proofs.Strictly.{up_drained, DeliveryLaw, drained_to}
 use Rattle.acc_free_ending.proofs.Lists.{set_cases, each_at_place, contained_at, apart_at, mapped_at, from_map}
 
@@ -64,56 +68,64 @@ module _ (plan : Content) (valid : IsPlan plan) where
     abbrev there : StaysUp port plan cluster s → StrictSituation
     there up = record { found = s; disks = up.disks }
 
-    pub drain_limit : DeliveryLaw → (answers : Answers) (which : Which) (number : ℕ) → EndsIn plan answers 0 Drain s which number
-        → Strictly (λ t. EndsStrictlyIn plan 0 Drain t which number) → EachWent plan s → EndsFreely strict_run plan s.own which number
-    drain_limit law answers which number e strictly each = by strict_run refl
+    -- where the actors were led to
+    led_serves : DeliveryLaw → (answers : Answers) (reached : Situation) → (reached ≡ s) ⊎ DrainsTo (cluster_of plan) answers reached s → IsServing plan reached
+    led_serves law answers reached =
+        ⊎_elim (λ same. subst (IsServing plan) (sym same) serves.serving) (λ comes. (part_serves law answers reached s comes serves.serving).0)
+
+    pub drain_limit : DeliveryLaw → (answers : Answers) (which : Which) (number : ℕ) (new : Cluster D) (e : EndsIn plan answers 0 Drain s which number)
+        → LimitLeaves port plan cluster new s e.items e.reached
+        → Strictly (λ t. (ends : EndsStrictlyIn plan 0 Drain t which number) × HasEntered new ends.items) → EachWent plan s → StopsFreely port strict_run plan s.own new which number
+    drain_limit law answers which number new e leaves strictly each = record {
+      items = e.items;
+      ends = by strict_run refl;
+      reached = e.reached;
+      serving = led_serves law e.other e.reached e.led;
+      stops = leaves.stops;
+    }
       where
-        by : (test : Bool) → strict_run ≡ test → EndsFreely strict_run plan s.own which number
+        by : (test : Bool) → strict_run ≡ test → EndsAt (IsFreeFront strict_run plan s.own) e.items which number
         by false off =
             let ends = e.ends e.other (λ place below. (refl, refl)) in
             let f = ends.front in
             let part = part_serves law e.other f.0 s f.1 serves.serving in
             record {
-              items = e.items;
-              ends =
+              next = ends.next;
+              front =
                   record {
-                    next = ends.next;
-                    front =
-                        record {
-                          reached = f.0;
-                          serving = part.0;
-                          went = λ a member. let h = each a member in (h.0, part.1 a h.0 h.1);
-                          behind = comes_adds (cluster_of plan) e.other 0 Drain s f.0 f.1;
-                          begins = f.2;
-                          stayed = λ on. absurd (true≢false (sym on ∙ off));
-                        };
-                    within = ends.within;
-                    passed = ends.passed;
+                    reached = f.0;
+                    serving = part.0;
+                    went = λ a member. let h = each a member in (h.0, part.1 a h.0 h.1);
+                    behind = comes_adds (cluster_of plan) e.other 0 Drain s f.0 f.1;
+                    begins = f.2;
+                    stayed = λ on. absurd (true≢false (sym on ∙ off));
                   };
+              within = ends.within;
+              passed = ends.passed;
             }
         by true on =
             let up = serves.stayed on in
-            let told = strictly (there up) (record { stands = serves.stands; strictly = up.strictly }) in
+            let said = strictly (there up) (record { stands = serves.stands; strictly = up.strictly }) in
+            let told = said.0 in
             let f = told.ends.front in
             let part = drained_to plan valid law f.0 (there up) f.1 serves.serving (record { unarmed = up.unarmed; up = up.up }) in
+            let ends : EndsAt (IsFreeFront strict_run plan s.own) told.items which number =
             record {
-              items = told.items;
-              ends =
+              next = told.ends.next;
+              front =
                   record {
-                    next = told.ends.next;
-                    front =
-                        record {
-                          reached = f.0.found;
-                          serving = part.serving;
-                          went = λ a member. let h = each a member in (h.0, part.gone a h.0 h.1);
-                          behind = part.behind;
-                          begins = f.2;
-                          stayed = λ _. part.up.up;
-                        };
-                    within = told.ends.within;
-                    passed = told.ends.passed;
+                    reached = f.0.found;
+                    serving = part.serving;
+                    went = λ a member. let h = each a member in (h.0, part.gone a h.0 h.1);
+                    behind = part.behind;
+                    begins = f.2;
+                    stayed = λ _. part.up.up;
                   };
-            }
+              within = told.ends.within;
+              passed = told.ends.passed;
+            } in
+            subst (λ (items : List Item). EndsAt (IsFreeFront strict_run plan s.own) items which number)
+            (same_entered new told.items e.items said.1 (entered_there port plan new e.items e.reached leaves.stops)) ends
 
     pub drained : DrainLaw → (answers : Answers) (new : Cluster D) → StepsTo port plan answers 0 Drain cluster new s
         → Strictly (λ t. StepsStrictly port plan 0 Drain new t)

@@ -1,7 +1,8 @@
 -- The next command of an actor, as a cluster takes it.
-use Rattle.std.proofs.Common.{◌≡◌, ℕ, ◌+◌, ◌<◌, ◌≤◌, Bool, true, false, List, [], ◌∷◌, reverse, length, drop, get_or, Contains, Option, IsTrue, Result, Ok, Err, IfErr, OnOk, refl, sym, ◌∙◌, ap, subst, arith}
+use Rattle.std.proofs.Common.{◌≡◌, ℕ, ◌+◌, ◌<◌, ◌≤◌, Bool, true, false, List, [], ◌∷◌, reverse, length, drop, get_or, Contains, IsTrue, Result, Ok, Err, IfErr, OnOk, refl, sym, ◌∙◌, ap, subst, arith, ◌⊎◌, ⊎_elim}
 use Rattle.std.specs.Result.{IsErrAnd}
 use Rattle.std.proofs.lemmas.Bool.{true≢false}
+use Rattle.std.proofs.lemmas.List.{reverse-reverse}
 use Rattle.std.proofs.lemmas.Result.{err_from_is_err_and}
 use Rattle.acc_stamp.specs.declared.actors.Actor.{Actor}
 use Rattle.acc_ports.specs.declared.disk.Disk.{Ghosts}
@@ -24,6 +25,7 @@ use Rattle.acc_schedule_runs.specs.Moves.{Answers, IsNext}
 use Rattle.acc_schedule_runs.specs.Schedules.{cluster_of}
 use Rattle.acc_schedule_runs.specs.Laws.{NobodyIsDown}
 use Rattle.acc_schedule_runs.specs.StrictMoves.{StrictSituation, IsStrictNext}
+use Rattle.acc_schedule_runs.specs.Limits.{EndsAt}
 use Rattle.acc_schedule_runs.proofs.Answering.{next_answered}
 use Rattle.acc_schedule_runs.specs.Fronts.{ComesTo, Begins}
 use Rattle.acc_schedule_runs.specs.StrictFronts.{StrictlyComesTo}
@@ -31,14 +33,16 @@ use Rattle.acc_schedule_runs.proofs.Beginnings.{begins_itself, begins_chain}
 use Rattle.acc_schedule_runs.proofs.Reached.{next_adds}
 use Rattle.acc_cluster.specs.declared.cluster.Cluster.{Cluster}
 use Rattle.acc_cluster.specs.Stands.{StandsFor, StandsStrictly}
-use Rattle.acc_cluster.specs.Steps.{StepsTo, StepsStrictly, IfLimit, EndsIn, EndsStrictlyIn}
+use Rattle.acc_cluster.specs.Steps.{StepsTo, StepsStrictly, IfLimit, EndsIn, LimitLeaves, EndsStrictlyIn}
+use Rattle.acc_cluster.specs.Limits.{HasEntered}
+use Rattle.acc_cluster.proofs.Limited.{entered_there}
 use Rattle.acc_free_laws.specs.Commands.{is_command_of, IsPassed, IsReady, IsHeld}
 use Rattle.acc_free_laws.specs.Serving.{IsServing, HasGone}
 use Rattle.acc_free_ending.specs.declared.rest.Queue.{Queue}
 use Rattle.acc_free_ending.specs.Queues.{left_in}
 use Rattle.acc_free_ending.proofs.Lists.{none_left, one_left}
 use Rattle.acc_free_ending.specs.declared.command.Turn.TheVariants.{Takes, Passes, Waits}
-use Rattle.acc_free_ending.specs.Moves.{StaysUp, Serves, IsTurn, HasMoved, EachWent, IsFreeFront, EndsFreely}
+use Rattle.acc_free_ending.specs.Moves.{StaysUp, Serves, IsTurn, HasMoved, EachWent, IsFreeFront, StopsFreely}
 use Rattle.acc_free_ending.proofs.Strictly.{up_command}
 
 -- an error that is handed on
@@ -83,8 +87,9 @@ pub some_answers : Answers
 some_answers = record { fails = λ place. false; keeps = λ place. false }
 
 -- a limit of a later front
-pub ends_later : (strict_run : Bool) (plan : Content) (one other : List Item) (which : Which) (number : ℕ) → Begins one other → EndsFreely strict_run plan other which number → EndsFreely strict_run plan one which number
-ends_later strict_run plan one other which number begins e =
+pub ends_later : {D : Type 0} (port : Ghosts D) (strict_run : Bool) (plan : Content) (one other : List Item) (cluster : Cluster D) (which : Which) (number : ℕ) → Begins one other
+    → StopsFreely port strict_run plan other cluster which number → StopsFreely port strict_run plan one cluster which number
+ends_later port strict_run plan one other cluster which number begins e =
     let f = e.ends.front in
     record {
       items = e.items;
@@ -103,7 +108,14 @@ ends_later strict_run plan one other which number begins e =
             within = e.ends.within;
             passed = e.ends.passed;
           };
+      reached = e.reached;
+      serving = e.serving;
+      stops = e.stops;
     }
+
+-- a cluster has entered one list
+pub same_entered : {D : Type 0} (cluster : Cluster D) (items other : List Item) → HasEntered cluster items → HasEntered cluster other → items ≡ other
+same_entered cluster items other is also = sym (reverse-reverse items) ∙ ap reverse (sym is ∙ also) ∙ reverse-reverse other
 
 -- one actor's commands go by, and all others' stay
 pub each_goes_on : (plan : Content) (a : Actor) (s reached : Situation) (now : List Step) → HasGone plan reached a now
@@ -298,46 +310,55 @@ module _ {D : Type 0} (port : Ghosts D) (strict_run : Bool) (plan : Content) (a 
           stayed = stayed;
         }
 
-    pub limit_in : CommandLaw → IsPlan plan → Contains (actors plan.topology) a → (answers : Answers) (which : Which) (number : ℕ) (cluster : Cluster D)
-        → Serves port strict_run plan cluster s → IsTurn Takes a (whole s) command
-        → EndsIn plan answers 0 command s which number
-        → ((t : StrictSituation) → StandsStrictly port plan cluster t
-        → EndsStrictlyIn plan 0 command t which number) → EachWent plan s → EndsFreely strict_run plan s.own which number
-    limit_in law valid there answers which number cluster serves turn e strictly each = by strict_run refl
+    -- where the actors were led to
+    led_serves : CommandLaw → IsPlan plan → Contains (actors plan.topology) a → IsServing plan s → IsTurn Takes a (whole s) command → (answers : Answers) (reached : Situation)
+        → (reached ≡ s) ⊎ ComesTo (cluster_of plan) answers 0 command s reached → IsServing plan reached
+    led_serves law valid there serving turn answers reached =
+        ⊎_elim (λ same. subst (IsServing plan) (sym same) serving)
+        (λ comes. (law plan answers 0 s reached a command now valid there turn (comes_next answers reached turn comes) serving gone_on).0)
+
+    pub limit_in : CommandLaw → IsPlan plan → Contains (actors plan.topology) a → (answers : Answers) (which : Which) (number : ℕ) (old new : Cluster D)
+        → Serves port strict_run plan old s → IsTurn Takes a (whole s) command
+        → (e : EndsIn plan answers 0 command s which number) → LimitLeaves port plan old new s e.items e.reached
+        → ((t : StrictSituation) → StandsStrictly port plan old t
+        → (ends : EndsStrictlyIn plan 0 command t which number) × HasEntered new ends.items) → EachWent plan s → StopsFreely port strict_run plan s.own new which number
+    limit_in law valid there answers which number old new serves turn e leaves strictly each = record {
+      items = e.items;
+      ends = by strict_run refl;
+      reached = e.reached;
+      serving = led_serves law valid there serves.serving turn e.other e.reached e.led;
+      stops = leaves.stops;
+    }
       where
-        by : (test : Bool) → strict_run ≡ test → EndsFreely strict_run plan s.own which number
+        by : (test : Bool) → strict_run ≡ test → EndsAt (IsFreeFront strict_run plan s.own) e.items which number
         by false off =
             let ends = e.ends e.other (λ place below. (refl, refl)) in
             let f = ends.front in
             record {
-              items = e.items;
-              ends =
-                  record {
-                    next = ends.next;
-                    front =
-                        front_of law valid there serves.serving turn each (ends.next ∷ e.items) e.other f.0 (comes_next e.other f.0 turn f.1) f.2
-                        (λ on. absurd (true≢false (sym on ∙ off)));
-                    within = ends.within;
-                    passed = ends.passed;
-                  };
+              next = ends.next;
+              front =
+                  front_of law valid there serves.serving turn each (ends.next ∷ e.items) e.other f.0 (comes_next e.other f.0 turn f.1) f.2
+                  (λ on. absurd (true≢false (sym on ∙ off)));
+              within = ends.within;
+              passed = ends.passed;
             }
         by true on =
             let up = serves.stayed on in
             let t : StrictSituation = record { found = s; disks = up.disks } in
-            let told = strictly t (record { stands = serves.stands; strictly = up.strictly }) in
+            let said = strictly t (record { stands = serves.stands; strictly = up.strictly }) in
+            let told = said.0 in
             let f = told.ends.front in
             let next : IsStrictNext (cluster_of plan) 0 command t f.0 = strictly_next f.0 t turn f.1 in
             let found = next_answered (cluster_of plan) some_answers 0 t f.0 command next in
             let later = up_command (cluster_of plan) 0 a command t f.0 (is_own plan valid s a command now gone_on) next
             (record { unarmed = up.unarmed; up = up.up }) in
+            let ends : EndsAt (IsFreeFront strict_run plan s.own) told.items which number =
             record {
-              items = told.items;
-              ends =
-                  record {
-                    next = told.ends.next;
-                    front =
-                        front_of law valid there serves.serving turn each (told.ends.next ∷ told.items) found.0 f.0.found found.2 f.2 (λ _. later.up);
-                    within = told.ends.within;
-                    passed = told.ends.passed;
-                  };
-            }
+              next = told.ends.next;
+              front =
+                  front_of law valid there serves.serving turn each (told.ends.next ∷ told.items) found.0 f.0.found found.2 f.2 (λ _. later.up);
+              within = told.ends.within;
+              passed = told.ends.passed;
+            } in
+            subst (λ (items : List Item). EndsAt (IsFreeFront strict_run plan s.own) items which number)
+            (same_entered new told.items e.items said.1 (entered_there port plan new e.items e.reached leaves.stops)) ends

@@ -1,7 +1,6 @@
 -- From what actors entered by themselves to items that are served.
-use Rattle.std.specs.Prelude.{◌≡◌, ℕ, Bool, true, List, ◌++◌, reverse, map, Option}
+use Rattle.std.specs.Prelude.{◌≡◌, Bool, true, List, ◌++◌, reverse, map}
 use Rattle.std.specs.List.{AllByRecursion}
-use Rattle.acc_stamp.specs.declared.actors.Actor.{Actor}
 use Rattle.acc_ports.specs.declared.disk.Disk.{Ghosts}
 use Rattle.acc_message.specs.declared.item.Item.{Item}
 use Rattle.acc_schedule.specs.Content.{Content}
@@ -11,6 +10,7 @@ use Rattle.acc_schedule_runs.specs.Disks.{fresh_disks}
 use Rattle.acc_schedule_runs.specs.Limits.{IsWithin}
 use Rattle.acc_cluster.specs.declared.ending.Ended.{Ended}
 use Rattle.acc_cluster.specs.Ends.{KeepsIn, AreDisksOf}
+use Rattle.acc_cluster.specs.Limits.{IsMoveAhead}
 use Rattle.acc_cluster.specs.Over.{behind_items, IsOver, AreStrictSlots}
 use Rattle.acc_free_laws.specs.Served.{IsServed}
 use Rattle.acc_free_laws.specs.Serving.{IsServing, HasGone}
@@ -36,6 +36,17 @@ pub record HasFinished {D : Type 0} (port : Ghosts D) (plan : Content) (entered 
   pub serving : IsServing plan last
   pub last_is : reverse ended.items ≡ last.own
   pub kept : AllByRecursion (KeepsIn port plan last) ended.disks.items
+
+-- A limit kept further items out. The items begin with those that were entered. The disks are those of the actors, rising, and each keeps
+-- its actor in a situation that free steps came to: it has these items, or is a move ahead of them.
+pub record HasStopped {D : Type 0} (port : Ghosts D) (plan : Content) (entered : List Item) (ended : Ended D) : Type 0 where
+  pub later : List Item
+  pub items_are : ended.items ≡ entered ++ later
+  pub reached : Situation
+  pub serving : IsServing plan reached
+  pub ahead : IsMoveAhead (reverse ended.items) reached.own
+  pub disks_are : AreDisksOf plan ended.disks.items
+  pub kept : AllByRecursion (KeepsIn port plan reached) ended.disks.items
 
 -- Such actors, after turns that they took by themselves. Where all their disks are strict and nothing was armed on any, nobody went down.
 pub record HaveRested {D : Type 0} (port : Ghosts D) (strict_run : Bool) (plan : Content) (rests : List (Rest D)) (entered : List Item) : Type 0 where

@@ -1,5 +1,5 @@
 -- What the turns of a cluster lead to that finishes.
-use Rattle.std.specs.Prelude.{◌≡◌, ℕ, ◌<◌, ◌≤◌, Bool, true, false, List, ◌∷◌, length, Contains, Option, None, IsTrue}
+use Rattle.std.specs.Prelude.{◌≡◌, ℕ, ◌<◌, ◌≤◌, Bool, true, false, List, ◌∷◌, length, Contains, None, IsTrue}
 use Rattle.acc_stamp.specs.declared.actors.Actor.{Actor}
 use Rattle.acc_ports.specs.declared.disk.Disk.{Ghosts}
 use Rattle.acc_message.specs.declared.item.Item.{Item}
@@ -15,6 +15,7 @@ use Rattle.acc_schedule_runs.specs.Limits.{EndsAt}
 use Rattle.acc_schedule_runs.specs.Fronts.{Begins}
 use Rattle.acc_cluster.specs.declared.cluster.Cluster.{Cluster}
 use Rattle.acc_cluster.specs.Stands.{StandsFor, AreStrict}
+use Rattle.acc_cluster.specs.Limits.{StopsAt}
 use Rattle.acc_free_laws.specs.Commands.{IsPassed, IsReady, IsHeld}
 use Rattle.acc_free_laws.specs.Serving.{IsServing, HasGone}
 use Rattle.acc_free_ending.specs.declared.command.Turn.{Turn}
@@ -98,7 +99,11 @@ pub record IsFreeFront (strict_run : Bool) (plan : Content) (entered front : Lis
   pub begins : Begins front reached.own
   pub stayed : IsTrue strict_run → NobodyIsDown reached.own
 
--- the limit ends the free run behind these items
-pub record EndsFreely (strict_run : Bool) (plan : Content) (entered : List Item) (which : Which) (number : ℕ) : Type 0 where
+-- The limit ends a free run, which begins with the items that were entered, behind all that the cluster has entered by now. Its actors with
+-- their disks came there by free steps, or to what a move adds, whose items the limit keeps out.
+pub record StopsFreely {D : Type 0} (port : Ghosts D) (strict_run : Bool) (plan : Content) (entered : List Item) (cluster : Cluster D) (which : Which) (number : ℕ) : Type 0 where
   pub items : List Item
   pub ends : EndsAt (IsFreeFront strict_run plan entered) items which number
+  pub reached : Situation
+  pub serving : IsServing plan reached
+  pub stops : StopsAt port plan cluster items reached

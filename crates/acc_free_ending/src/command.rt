@@ -11,7 +11,7 @@ ghost use Rattle.acc_cluster.specs.Steps.{IfLimit};
 ghost use Rattle.acc_free_laws.specs.Commands.{is_command_of};
 ghost use Rattle.acc_free_laws.specs.Serving.{HasGone};
 ghost use Rattle.acc_free_ending.specs.Queues.{left_in};
-ghost use Rattle.acc_free_ending.specs.Moves.{Serves, IsTurn, HasMoved, EachWent, EndsFreely};
+ghost use Rattle.acc_free_ending.specs.Moves.{Serves, IsTurn, HasMoved, EachWent, StopsFreely};
 
 use crate::rest::Queue;
 use acc_cluster::Cluster;
@@ -89,7 +89,7 @@ fn take_command<D: Rig + Drop>(
     ensures ok { IfOk result (λ went. (strict_run : Bool) (s : Situation) → Serves D.Disk strict_run plan.now cluster.old s → HasGone plan.now s queue.old.actor (left_in queue.old)
         → HasMoved D.Disk strict_run plan.now queue.old.actor (left_in queue.old) (left_in queue.new) went cluster.new s) }
     ensures limit { IfErr result (IfLimit (λ which most. (strict_run : Bool) (s : Situation) → Serves D.Disk strict_run plan.now cluster.old s → HasGone plan.now s queue.old.actor (left_in queue.old)
-        → EachWent plan.now s → EndsFreely strict_run plan.now s.own which most)) }
+        → EachWent plan.now s → StopsFreely D.Disk strict_run plan.now s.own cluster.new which most)) }
 {
     schedule_steps_serve();
     let commands = queue.commands.as_slice();
@@ -124,7 +124,7 @@ pub(crate) fn take_commands<D: Rig + Drop>(
     ensures ok { IfOk result (λ went. (strict_run : Bool) (s : Situation) → Serves D.Disk strict_run plan.now cluster.old s → HasGone plan.now s queue.old.actor (left_in queue.old)
         → HasMoved D.Disk strict_run plan.now queue.old.actor (left_in queue.old) (left_in queue.new) went cluster.new s) }
     ensures limit { IfErr result (IfLimit (λ which most. (strict_run : Bool) (s : Situation) → Serves D.Disk strict_run plan.now cluster.old s → HasGone plan.now s queue.old.actor (left_in queue.old)
-        → EachWent plan.now s → EndsFreely strict_run plan.now s.own which most)) }
+        → EachWent plan.now s → StopsFreely D.Disk strict_run plan.now s.own cluster.new which most)) }
 {
     let mut went = false;
     'commands: while take_command(cluster, plan, queue)? {

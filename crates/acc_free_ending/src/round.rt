@@ -4,7 +4,7 @@ ghost use Rattle.acc_schedule.specs.Plan.{IsPlan};
 ghost use Rattle.acc_schedule_runs.specs.Situations.{Situation};
 ghost use Rattle.acc_cluster.specs.Steps.{IfLimit};
 ghost use Rattle.acc_free_ending.specs.Queues.{actor_in, AreAllActors, HaveGone};
-ghost use Rattle.acc_free_ending.specs.Moves.{Serves, HasGoneRound, IsEmptied, HasEnded, EachWent, EndsFreely};
+ghost use Rattle.acc_free_ending.specs.Moves.{Serves, HasGoneRound, IsEmptied, HasEnded, EachWent, StopsFreely};
 
 use crate::command::take_commands;
 use crate::rest::Queues;
@@ -19,7 +19,7 @@ fn drain<D: Rig + Drop>(cluster: &mut Cluster<D>, plan: &Plan) -> Result<(), Run
     requires is_plan { IsPlan plan.now }
     requires standing { (s : Situation) × Serves D.Disk false plan.now cluster.old s }
     ensures ok { OnOk result ((strict_run : Bool) (s : Situation) → Serves D.Disk strict_run plan.now cluster.old s → IsEmptied D.Disk strict_run plan.now cluster.new s) }
-    ensures limit { IfErr result (IfLimit (λ which most. (strict_run : Bool) (s : Situation) → Serves D.Disk strict_run plan.now cluster.old s → EachWent plan.now s → EndsFreely strict_run plan.now s.own which most)) }
+    ensures limit { IfErr result (IfLimit (λ which most. (strict_run : Bool) (s : Situation) → Serves D.Disk strict_run plan.now cluster.old s → EachWent plan.now s → StopsFreely D.Disk strict_run plan.now s.own cluster.new which most)) }
 {
     schedule_steps_serve();
     cluster.step(plan, 0, &Step::Drain)
@@ -38,7 +38,7 @@ fn round<D: Rig + Drop>(
     ensures ok { IfOk result (λ went. (strict_run : Bool) (s : Situation) → Serves D.Disk strict_run plan.now cluster.old s → HaveGone plan.now s queues.old.items
         → HasGoneRound D.Disk strict_run plan.now queues.old.items queues.new.items went cluster.new s) }
     ensures limit { IfErr result (IfLimit (λ which most. (strict_run : Bool) (s : Situation) → Serves D.Disk strict_run plan.now cluster.old s → HaveGone plan.now s queues.old.items
-        → EndsFreely strict_run plan.now s.own which most)) }
+        → StopsFreely D.Disk strict_run plan.now s.own cluster.new which most)) }
 {
     let mut went = false;
     for place in 0..queues.len() {
@@ -62,7 +62,7 @@ pub(crate) fn rounds<D: Rig + Drop>(
     ensures ok { OnOk result ((strict_run : Bool) (s : Situation) → Serves D.Disk strict_run plan.now cluster.old s → HaveGone plan.now s queues.old.items
         → HasEnded D.Disk strict_run plan.now queues.new.items cluster.new s) }
     ensures limit { IfErr result (IfLimit (λ which most. (strict_run : Bool) (s : Situation) → Serves D.Disk strict_run plan.now cluster.old s → HaveGone plan.now s queues.old.items
-        → EndsFreely strict_run plan.now s.own which most)) }
+        → StopsFreely D.Disk strict_run plan.now s.own cluster.new which most)) }
 {
     drain(cluster, plan)?;
     'rounds: while round(cluster, plan, queues)? {

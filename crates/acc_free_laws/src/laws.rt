@@ -45,23 +45,27 @@ pub fn free_runs_begin()
     plans_have_few_bodies();
 }
 
-/// The items of other actors change nothing for an actor: what its next entry would be, whether it may be taken, and whether its message
-/// was taken.
+/// The items of other actors change nothing for an actor: whether something may be taken, what its next entry would be, and whether its
+/// message was taken.
 pub fn others_change_nothing()
     ensures untouched { (cluster : Cluster) (seen others : List Item) (a : Actor) → AreOthers a others →
         IsUntouched cluster seen (others ++ seen) a }
     ensures may { (cluster : Cluster) (seen others : List Item) (a : Actor) (event : Event) (act : Act) → AreOthers a others →
         EachStands cluster (others ++ seen) → is_plain_event event ≡ true → MayTake cluster seen a event act →
         MayTake cluster (others ++ seen) a event act }
+    ensures entering { (cluster : Cluster) (seen others : List Item) (a : Actor) (event : Event) (act : Act) (lost : Bool) → AreOthers a others →
+        MayTake cluster seen a event act → entering cluster (others ++ seen) a event lost ≡ entering cluster seen a event lost }
+    ensures untaken { (cluster : Cluster) (seen others : List Item) (a : Actor) (event : Event) (act : Act) → AreOthers a others →
+        EachStands cluster (others ++ seen) → MayTake cluster seen a event act → IsUntaken seen event → IsUntaken (others ++ seen) event }
+{}
+
+/// Nor do they change what the actor's steps would be, one after another.
+pub fn others_change_no_step()
     ensures same { (cluster : Cluster) (seen others : List Item) (a : Actor) (event : Event) (act : Act) → AreOthers a others →
         MayTake cluster seen a event act → IsSameStep cluster seen (others ++ seen) a event }
     ensures all { (cluster : Cluster) (seen others : List Item) (a : Actor) (events : List Event) (lost : Bool) → AreOthers a others →
         AllByRecursion (λ event. (act : Act) × MayTake cluster seen a event act) events →
         AreSameSteps cluster seen (others ++ seen) a events lost }
-    ensures entering { (cluster : Cluster) (seen others : List Item) (a : Actor) (event : Event) (act : Act) (lost : Bool) → AreOthers a others →
-        MayTake cluster seen a event act → entering cluster (others ++ seen) a event lost ≡ entering cluster seen a event lost }
-    ensures untaken { (cluster : Cluster) (seen others : List Item) (a : Actor) (event : Event) (act : Act) → AreOthers a others →
-        EachStands cluster (others ++ seen) → MayTake cluster seen a event act → IsUntaken seen event → IsUntaken (others ++ seen) event }
 {}
 
 /// What an actor makes by the items that it has seen fits behind these and any further items of others, be it an entry or a down.
@@ -121,8 +125,8 @@ pub fn alone_are_entered()
         ≡ alone (entering cluster items a (Event.Restart 0) false ∷ items) (without a stopped) }
 {}
 
-/// A whole turn of an actor serves: it stepped by what it had seen, and its item came behind items of others. It is an entry, the down of
-/// steps that its disk stopped, a restart that kept nothing, or the down of a restart whose disk failed.
+/// A whole turn of an actor serves: it stepped by what it had seen, and its item came after items of others. It is an entry, or the down
+/// of steps that its disk stopped.
 pub fn turns_serve()
     ensures entry { (plan : Content) (seen others : List Item) (a : Actor) (stopped : List Stopped) (event : Event) (act : Act) →
         Contains (actors plan.topology) a → AreOthers a others → AreStopsOf a stopped → MayTake (cluster_of plan) seen a event act →
@@ -134,6 +138,10 @@ pub fn turns_serve()
         AllByRecursion (MayStop (cluster_of plan) seen a) events → AreDifferent events → length events ≤ 16 →
         IsFreeRun plan (others ++ seen) → IsServing plan (alone seen stopped) →
         IsServing plan (alone (Item.Down a ∷ others ++ seen) (stops_of a events ++ without a stopped)) }
+{}
+
+/// The turn of a restart serves likewise: one that kept nothing, or the down of one whose disk failed.
+pub fn restarting_turns_serve()
     ensures restart { (plan : Content) (seen others : List Item) (a : Actor) (stopped : List Stopped) → Contains (actors plan.topology) a →
         AreOthers a others → AreStopsOf a stopped → IsFreeRun plan (others ++ seen) → IsServing plan (alone seen stopped) →
         IsServing plan (alone (entering (cluster_of plan) seen a (Event.Restart 0) false ∷ others ++ seen) (without a stopped)) }
@@ -142,24 +150,32 @@ pub fn turns_serve()
         IsServing plan (alone (Item.Down a ∷ others ++ seen) stopped) }
 {}
 
-/// Such a turn is that of the actor's next command, or of messages.
+/// Such a turn may be that of the actor's next command: its entry, or the down of its step that a fault stopped.
 pub fn commands_go_by()
     ensures entry { (plan : Content) (seen others : List Item) (a : Actor) (stopped : List Stopped) (event : Event) (act : Act) (command : Step)
         (left : List Step) → AreOthers a others → MayTake (cluster_of plan) seen a event act → is_event_of command event ≡ true →
         is_restart command ≡ false → HasGone plan (alone seen stopped) a (command ∷ left) →
         HasGone plan (alone (entering (cluster_of plan) seen a event false ∷ others ++ seen) stopped) a left }
-    ensures message { (plan : Content) (seen others : List Item) (a : Actor) (stopped : List Stopped) (event : Event) (act : Act)
-        (left : List Step) → AreOthers a others → MayTake (cluster_of plan) seen a event act → is_message event ≡ true →
-        HasGone plan (alone seen stopped) a left →
-        HasGone plan (alone (entering (cluster_of plan) seen a event false ∷ others ++ seen) stopped) a left }
     ensures stop { (plan : Content) (seen others : List Item) (a : Actor) (stopped : List Stopped) (event : Event) (command : Step)
         (left : List Step) → AreOthers a others → is_event_of command event ≡ true → is_restart command ≡ false →
         is_down a seen ≡ false → HasGone plan (alone seen stopped) a (command ∷ left) →
         HasGone plan (alone (Item.Down a ∷ others ++ seen) (stops_of a (event ∷ []) ++ without a stopped)) a left }
+{}
+
+/// Such a turn may be that of messages, and then no command goes by.
+pub fn messages_go_by()
+    ensures message { (plan : Content) (seen others : List Item) (a : Actor) (stopped : List Stopped) (event : Event) (act : Act)
+        (left : List Step) → AreOthers a others → MayTake (cluster_of plan) seen a event act → is_message event ≡ true →
+        HasGone plan (alone seen stopped) a left →
+        HasGone plan (alone (entering (cluster_of plan) seen a event false ∷ others ++ seen) stopped) a left }
     ensures message_stop { (plan : Content) (seen others : List Item) (a : Actor) (stopped : List Stopped) (events : List Event)
         (left : List Step) → AreOthers a others → AllByRecursion (λ event. is_message event ≡ true) events → is_down a seen ≡ false →
         HasGone plan (alone seen stopped) a left →
         HasGone plan (alone (Item.Down a ∷ others ++ seen) (stops_of a events ++ without a stopped)) a left }
+{}
+
+/// Such a turn may be that of a restart that is the actor's next command, whether its disk fails or not.
+pub fn restarts_go_by()
     ensures restart { (plan : Content) (seen others : List Item) (a : Actor) (stopped : List Stopped) (command : Step) (left : List Step) →
         AreOthers a others → is_restart command ≡ true → HasGone plan (alone seen stopped) a (command ∷ left) →
         HasGone plan (alone (entering (cluster_of plan) seen a (Event.Restart 0) false ∷ others ++ seen) (without a stopped)) a left }

@@ -7,6 +7,7 @@ use Rattle.acc_desk.specs.declared.turning.Turned.{Turned}
 use Rattle.acc_desk.specs.declared.turning.Turned.TheVariants.{Taken, Idle, Full}
 use Rattle.acc_desk.specs.Outcomes.{CameTo}
 use Rattle.acc_desk.proofs.Rounds.{SoFar, all_done, after_idle, after_taken, after_full}
+use Rattle.acc_desk.proofs.Marked.{on_err, one_turned}
 use Rattle.acc_desk.proofs.serving.round.Goals.{in-Idle, in-Taken}
 use Rattle.acc_desk.proofs.serving.round.Goals as goal
 
@@ -70,3 +71,6 @@ returns-in-Full-clause-came g c =
 
 pub returns-clause-came : goal.returns-clause-came
 returns-clause-came g c = all_done c.args.plan.now c.args.tape.now c.args.desks.now.items c.loop-place.desks.items c.loop-place.all c.loop-place.invariant.came
+
+pub returns-in_err-turn-clause-err : goal.returns-in_err-turn-clause-err
+returns-in_err-turn-clause-err g c = on_err c.from_residual.result (one_turned g.D.Disk g.J.Planned.strict c.args.plan.now c.args.tape.now c.loop-place.desks.items c.loop-place.place c.turn.new.self c.loop-place.invariant.sound c.in_err-turn.ensures.err)

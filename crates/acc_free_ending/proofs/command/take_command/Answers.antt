@@ -57,9 +57,9 @@ returns-in_err-step-in-Takes-clause-limit g c =
     limit_handed _ _ c.from_residual.result c.in_err-step-in-Takes.field-0.0 c.from_residual.ensures.1
     (λ which most ends strict_run s serves gone each.
     limit_in g.D.Disk strict_run c.args.plan.now queue.actor s (left_in queue) (drop (queue.gone + 1) queue.commands) command is gone
-    c.schedule_steps_serve.ensures.command c.requires.is_plan c.requires.known some_answers which most c.args.cluster.now serves
+    c.schedule_steps_serve.ensures.command c.requires.is_plan c.requires.known some_answers which most c.args.cluster.now c.step.new.self serves
     (subst (λ (turn : Turn). IsTurn turn queue.actor (whole s) command) c.in-Takes.is (c.turn_of.ensures c.args.plan.now s serves.stands))
-    (ends.0 s some_answers serves.stands).0 (λ t stands. (ends.1 t stands).0) each)
+    (ends.0 s some_answers serves.stands).0 (ends.0 s some_answers serves.stands).1 ends.1 each)
     (both_limits _ _ c.in_err-step-in-Takes.field-0.0 c.in_err-step-in-Takes.ensures.limit c.in_err-step-in-Takes.ensures.strict_limit)
 
 pub returns-in-Passes-clause-ok : goal.returns-in-Passes-clause-ok

@@ -65,5 +65,5 @@ returns-in_err-take_command-clause-limit g c =
     (λ which most ends strict_run s serves gone each.
     let m = c.commands.invariant.moving strict_run s serves gone in
     moved_limit g.D.Disk strict_run c.args.plan.now c.args.queue.now.actor s (left_in c.args.queue.now) (left_in c.commands.queue) c.commands.went c.commands.cluster m
-    c.commands.queue.actor c.commands.invariant.same which most (ends strict_run) each)
+    c.commands.queue.actor c.commands.invariant.same c.take_command.new.cluster which most (ends strict_run) each)
     c.in_err-take_command.ensures.limit

@@ -19,5 +19,5 @@ returns-clause-limit g c =
     on_limit _ _ c.step.result
     (λ which most ends strict_run s serves each.
     drain_limit c.args.plan.now c.requires.is_plan g.D.Disk strict_run s c.args.cluster.now serves
-    c.schedule_steps_serve.ensures.delivery some_answers which most (ends.0 s some_answers serves.stands).0 (λ t stands. (ends.1 t stands).0) each)
+    c.schedule_steps_serve.ensures.delivery some_answers which most c.step.new.self (ends.0 s some_answers serves.stands).0 (ends.0 s some_answers serves.stands).1 ends.1 each)
     (both_on_limit _ _ c.step.result c.step.ensures.limit c.step.ensures.strict_limit)

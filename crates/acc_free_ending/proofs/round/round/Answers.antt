@@ -72,7 +72,7 @@ returns-in_err-take_commands-clause-limit g c =
     limit_handed _ _ c.from_residual.result c.in_err-take_commands.field-0.0 c.from_residual.ensures.1
     (λ which most ends strict_run s serves gone.
     let under = c.loop-place.invariant.under strict_run s serves gone in
-    ends_later strict_run c.args.plan.now s.own under.reached.own which most under.behind
+    ends_later g.D.Disk strict_run c.args.plan.now s.own under.reached.own c.take_commands.new.cluster which most under.behind
     (ends strict_run under.reached under.serves (under.gone c.loop-place.place queue there)
     (each_went c.args.plan.now c.loop-place.queues.items names c.loop-place.invariant.same c.requires.actors under.reached under.gone)))
     c.in_err-take_commands.ensures.limit

@@ -68,7 +68,7 @@ returns-in_err-round-clause-limit g c =
     limit_handed _ _ c.from_residual-in_err-round.result c.in_err-round.field-0.0 c.from_residual-in_err-round.ensures.1
     (λ which most ends strict_run s serves gone.
     let come = c.rounds.invariant.come strict_run s serves gone in
-    ends_later strict_run c.args.plan.now s.own come.reached.own which most come.behind (ends strict_run come.reached come.serves come.gone))
+    ends_later g.D.Disk strict_run c.args.plan.now s.own come.reached.own c.round.new.cluster which most come.behind (ends strict_run come.reached come.serves come.gone))
     c.in_err-round.ensures.limit
 
 pub returns-in_err-drain-2-clause-limit : goal.returns-in_err-drain-2-clause-limit
@@ -78,8 +78,8 @@ returns-in_err-drain-2-clause-limit g c =
     let come = c.rounds.invariant.come strict_run s serves gone in
     let turned = c.in_ok-round.ensures.ok strict_run come.reached come.serves come.gone in
     let names = map actor_in c.args.queues.now.items in
-    ends_later strict_run c.args.plan.now s.own come.reached.own which most come.behind
-    (ends_later strict_run c.args.plan.now come.reached.own turned.next.own which most turned.behind
+    ends_later g.D.Disk strict_run c.args.plan.now s.own come.reached.own c.drain-in-rounds.new.cluster which most come.behind
+    (ends_later g.D.Disk strict_run c.args.plan.now come.reached.own turned.next.own c.drain-in-rounds.new.cluster which most turned.behind
     (ends strict_run turned.next turned.serves
     (each_went c.args.plan.now c.round.new.queues.items names (c.in_ok-round.ensures.same ∙ c.rounds.invariant.same) c.requires.actors turned.next turned.gone))))
     c.in_err-drain-2.ensures.limit

@@ -1,4 +1,4 @@
-use Rattle.acc_free_laws.proofs.Others.{untouched_by, may_over, untaken_over, no_entries, same_over, all_over, entering_over}
+use Rattle.acc_free_laws.proofs.Others.{untouched_by, may_over, untaken_over, no_entries, entering_over}
 use Rattle.acc_free_laws.proofs.laws.others_change_nothing.Goals as goal
 
 pub returns-clause-untouched : goal.returns-clause-untouched
@@ -6,12 +6,6 @@ returns-clause-untouched c = λ cluster seen others a apart. untouched_by cluste
 
 pub returns-clause-may : goal.returns-clause-may
 returns-clause-may c = λ cluster seen others a event act apart stands plain may. may_over cluster seen a event act others apart stands plain may
-
-pub returns-clause-same : goal.returns-clause-same
-returns-clause-same c = λ cluster seen others a event act apart may. same_over cluster seen others a event act (no_entries a others apart) may.act_is
-
-pub returns-clause-all : goal.returns-clause-all
-returns-clause-all c = all_over
 
 pub returns-clause-entering : goal.returns-clause-entering
 returns-clause-entering c = λ cluster seen others a event act lost apart may.

@@ -1,4 +1,4 @@
-use Rattle.acc_free_laws.proofs.Turns.{entry_serves, stop_serves, restart_serves, failure_serves}
+use Rattle.acc_free_laws.proofs.Turns.{entry_serves, stop_serves}
 use Rattle.acc_free_laws.proofs.laws.turns_serve.Goals as goal
 
 pub returns-clause-entry : goal.returns-clause-entry
@@ -8,9 +8,3 @@ returns-clause-entry c = λ plan seen others a stopped event act there apart sto
 pub returns-clause-stop : goal.returns-clause-stop
 returns-clause-stop c = λ plan seen others a stopped events there apart stops may different few free h.
     stop_serves plan seen others a stopped apart there stops free h events may different few
-
-pub returns-clause-restart : goal.returns-clause-restart
-returns-clause-restart c = λ plan seen others a stopped there apart stops free h. restart_serves plan seen others a stopped apart there stops free h
-
-pub returns-clause-failure : goal.returns-clause-failure
-returns-clause-failure c = λ plan seen others a stopped there apart stops free h. failure_serves plan seen others a stopped apart there stops free h

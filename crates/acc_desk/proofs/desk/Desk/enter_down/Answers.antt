@@ -6,6 +6,7 @@ use Rattle.acc_tape.specs.Seats.{Turns, FitsBehind, ComesLast}
 use Rattle.acc_desk.specs.Fits.{fits_plan}
 use Rattle.acc_desk.proofs.Seating.{holds_items, holds_weight, held_none}
 use Rattle.acc_desk.proofs.Puts.{down_own, down_short, down_weighs, down_fits_behind, down_on}
+use Rattle.acc_desk.proofs.Chosen.{entered_down}
 use Rattle.acc_desk.proofs.desk.Desk.enter_down.Goals as goal
 
 pub put-requires-clause-held : goal.put-requires-clause-held
@@ -43,3 +44,6 @@ returns-clause-sound g c =
     down_on g.D.Disk g.J.Planned.strict c.args.plan.now c.args.tape.now c.requires.limits self.actor self.commands self.gone q.0 self.slot q.1 c.args.hold self.seat q.2 c.put.new.seat turns
     (held_none self.seat c.put.new.seat c.args.hold q.2.desk.seated.held_is c.put.ensures.held.0 c.put.ensures.held.1)
     (subst (λ p. ComesLast actor_of_item (fits_plan p) self.seat c.put.new.seat.seen (Down self.actor)) (sym c.requires.plan) c.put.ensures.behind)
+
+pub returns-clause-entered : goal.returns-clause-entered
+returns-clause-entered g c = λ events. entered_down c.args.self.now.actor events c.args.self.now.seat c.put.new.seat c.put.ensures.turn.seen c.put.ensures.mine

@@ -15,3 +15,6 @@ pub settle-requires-clause-group : goal.settle-requires-clause-group
 settle-requires-clause-group g c =
     let q = c.requires.group in
     (q.0, q.1, q.2, some_joined q.1 c.args.staged q.3 c.if-staged-eq0.false, q.4)
+
+pub returns-clause-took : goal.returns-clause-took
+returns-clause-took g c = λ _. (c.if-staged-eq0.false, λ first joinings used long gathering. c.in_ok-settle.ensures.entered first joinings used (some_joined joinings c.args.staged long c.if-staged-eq0.false) gathering)

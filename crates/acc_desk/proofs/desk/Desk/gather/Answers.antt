@@ -2,11 +2,13 @@ use Rattle.std.proofs.Common.{◌≡◌, ℕ, List, [], ◌∷◌, map, take, dr
 use Rattle.std.specs.Prelude.{MatchOption, slice_get}
 use Rattle.std.specs.List.{AllByRecursion}
 use Rattle.std.proofs.lemmas.List.{length-map}
+use mathlib.Core.List.{IsPrefix}
 use Rattle.acc_message_index.specs.declared.posting.Post.{Post}
 use Rattle.acc_message.specs.declared.message.Message.{Message}
 use Rattle.acc_message_code.specs.Weight.{weight_of}
 use Rattle.acc_tape.specs.ItemViews.{actor_of_item}
-use Rattle.acc_tape.specs.Seats.{Turns}
+use Rattle.acc_message.specs.declared.item.Item.{Item}
+use Rattle.acc_tape.specs.Seats.{SeatView, Turns}
 use Rattle.acc_desk.specs.Desks.{newest, no_hold}
 use Rattle.acc_desk.specs.Fits.{fits_plan}
 use Rattle.acc_desk.specs.Groups.{Joining, joining_of, CanJoin, CanAllJoin, IsGathering}
@@ -65,3 +67,15 @@ returns-in-Ok-Some-clause-gathering g c =
     let long = length-map found joining_of in
     let few = c.join_others-staged.ensures.count.1 in
     (all.0, length-take-le count (map joining_of found) (omega arith), all.1)
+
+pub returns-in_default-clause-seen : goal.returns-in_default-clause-seen
+returns-in_default-clause-seen g c = λ some. absurd (some refl)
+
+pub returns-in-Ok-None-clause-seen : goal.returns-in-Ok-None-clause-seen
+returns-in-Ok-None-clause-seen g c = λ some. absurd (some refl)
+
+pub returns-in-Err-clause-seen : goal.returns-in-Err-clause-seen
+returns-in-Err-clause-seen g c = λ some. absurd (some refl)
+
+pub returns-in-Ok-Some-clause-seen : goal.returns-in-Ok-Some-clause-seen
+returns-in-Ok-Some-clause-seen g c = λ some. subst (λ (s : SeatView Item). IsPrefix c.args.self.now.seat.seen s.seen) (sym c.join_others-staged.ensures.same.1) c.in-Ok-Some.ensures.on.seen

@@ -1,4 +1,4 @@
-use Rattle.std.proofs.Common.{◌≡◌, List, [], ◌∷◌, ◌++◌, length, map, refl, sym, ◌∙◌, ap, arith}
+use Rattle.std.proofs.Common.{◌≡◌, List, [], ◌∷◌, ◌++◌, length, map, refl, sym, ◌∙◌, ap, arith, length-append}
 use Rattle.std.specs.Vec.Iter.{into_iter_items}
 use Rattle.std.proofs.lemmas.List.{append-nil, append_assoc}
 use Rattle.acc_payloads.specs.declared.stops.Unsent.{Unsent}
@@ -19,12 +19,26 @@ loop-one-preserved g c =
       can_next = tt;
       is_finite = tt;
       made =
-          ap (λ (l : List Item). l ++ later) c.in_ok-push.ensures.items
+          ap (λ (l : List Item). l ++ later) c.push_reserved.ensures.items
           ∙ append_assoc items (c.item_for.result ∷ []) later
           ∙ ap (λ (item : Item). items ++ item ∷ later) c.item_for.ensures
           ∙ sym (ap (λ (l : List Unsent). items ++ map (item_of_unsent a) l) c.in-Some.ensures.steps.0)
           ∙ c.loop-one.invariant.made;
+      capacity = c.push_reserved.ensures.capacity ∙ c.loop-one.invariant.capacity;
+      room =
+          (let r = c.loop-one.invariant.room in
+          let n = ap (λ (l : List Unsent). length l) c.in-Some.ensures.steps.0 in
+          let m = ap (λ (l : List Item). length l) c.push_reserved.ensures.items in
+          let k = length-append items (c.item_for.result ∷ []) in
+          omega arith);
     }
+
+pub push_reserved-requires : goal.push_reserved-requires
+push_reserved-requires g c =
+    let r = c.loop-one.invariant.room in
+    let n = ap (λ (l : List Unsent). length l) c.in-Some.ensures.steps.0 in
+    let k = c.loop-one.invariant.capacity in
+    omega arith
 
 pub returns : goal.returns
 returns g c =

@@ -11,3 +11,9 @@ group-requires-clause-kind g c =
 
 pub group-requires-clause-up : goal.group-requires-clause-up
 group-requires-clause-up g c = sym (c.is_down.ensures c.args.plan.now c.args.tape.now c.requires.desk) ∙ c.if-is_down.false
+
+pub returns-then-is_store-clause-took : goal.returns-then-is_store-clause-took
+returns-then-is_store-clause-took g c = λ is. let took = c.group.ensures.took is in (took.0, sym (c.is_down.ensures c.args.plan.now c.args.tape.now c.requires.desk) ∙ c.if-is_down.false, took.1)
+
+pub returns-else-is_store-clause-took : goal.returns-else-is_store-clause-took
+returns-else-is_store-clause-took g c = λ is. let took = c.one_message.ensures.took is in (took.0, sym (c.is_down.ensures c.args.plan.now c.args.tape.now c.requires.desk) ∙ c.if-is_down.false, took.1)

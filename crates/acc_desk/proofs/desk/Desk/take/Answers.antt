@@ -1,4 +1,4 @@
-use Rattle.std.proofs.Common.{◌+◌, length, refl, sym, ap, ◌∙◌, subst, arith}
+use Rattle.std.proofs.Common.{true, ◌+◌, length, refl, sym, ap, ◌∙◌, subst, arith}
 use Rattle.acc_message_code.specs.Weight.{weight_of}
 use Rattle.std.specs.Prelude.{sum_by}
 use Rattle.acc_tape.specs.Refusals.{Refuses}
@@ -7,9 +7,12 @@ use Rattle.acc_tape.specs.Seats.{Turns, FitsBehind, ComesLast}
 use Rattle.acc_desk.specs.Asks.{event_of, act_of_ask}
 use Rattle.acc_desk.specs.declared.hold.Hold.{Hold}
 use Rattle.acc_desk.specs.Desks.{no_hold, item_of}
+use Rattle.acc_desk.specs.declared.turning.Turned.TheVariants.{Idle}
 use Rattle.acc_desk.specs.Fits.{fits_plan}
-use Rattle.acc_desk.proofs.Seating.{desk_on, may_on, asks, own, short, noted, weighs, fits, taken, holds_items, holds_weight, held_same, held_first, held_none}
+use Rattle.acc_desk.proofs.Seating.{desk_on, may_on, asks, own, short, noted, weighs, fits, taken, seated_on, holds_items, holds_weight, held_same, held_first, held_none}
 use Rattle.acc_desk.proofs.Rooms.{asked_no_room}
+use Rattle.acc_desk.proofs.Chosen.{entered_one}
+use Rattle.acc_desk.proofs.Marked.{on_err, no_answer, still_sound, marked}
 use Rattle.acc_desk.proofs.desk.Desk.take.Goals as goal
 
 pub weigh-requires : goal.weigh-requires
@@ -126,3 +129,39 @@ returns-in-Err-Full-clause-came g c =
       asked_no_room g.D.Disk g.J.Planned.strict c.args.plan.now c.args.tape.now c.requires.limits a c.args.self.now.commands c.args.self.now.gone c.args.self.now.slot event act c.args.gone no_hold new desk may
           c.in_ok-weight.weight c.in_ok-weight.ensures c.in-Err-Full.field-0-0 c.in-Err-Full.field-0-1 refuses,
     )
+
+pub returns-clause-took : goal.returns-clause-took
+returns-clause-took g c = λ _.
+    let self = c.args.self.now in
+    let event = event_of c.args.ask in
+    let item_is = c.item_for-item.ensures ∙ ap (λ e. item_of self.actor e c.in-Ok-step.given) c.event.ensures in
+    (refl, entered_one self.actor event c.in-Ok-step.given c.item_for-item.result self.seat c.reserve.new.seat c.put.new.seat item_is c.reserve.ensures.turn.seen c.put.ensures.turn.seen c.reserve.ensures.same.0 c.put.ensures.mine)
+
+pub returns-in-Err-OutOfMemory-clause-err : goal.returns-in-Err-OutOfMemory-clause-err
+returns-in-Err-OutOfMemory-clause-err g c =
+    let self = c.args.self.now in
+    let new = c.reserve.new.seat in
+    let turns = subst (λ p. Turns actor_of_item weight_of (fits_plan p) self.seat new) (sym c.requires.plan) c.reserve.ensures.turn in
+    still_sound g.D.Disk g.J.Planned.strict c.args.plan.now c.args.tape.now (record self { seat = new })
+    (desk_on c.args.plan.now c.args.tape.now c.requires.limits self.actor g.D.Disk g.J.Planned.strict self.commands self.gone self.slot no_hold no_hold self.seat new c.requires.desk turns c.reserve.ensures.same.0
+    (held_same self.seat new no_hold c.requires.desk.seated.held_is c.in-Err-OutOfMemory.ensures.err.0 c.in-Err-OutOfMemory.ensures.err.1))
+
+pub returns-in_default-clause-err : goal.returns-in_default-clause-err
+returns-in_default-clause-err g c =
+    let self = c.args.self.now in
+    let w = c.in_ok-weight.weight in
+    let hold : Hold = record { items = 1; weight = w } in
+    let new = c.reserve.new.seat in
+    let free = c.release.new.seat in
+    let turns = subst (λ p. Turns actor_of_item weight_of (fits_plan p) self.seat new) (sym c.requires.plan) c.reserve.ensures.turn in
+    let later = subst (λ p. Turns actor_of_item weight_of (fits_plan p) new free) (sym c.requires.plan) c.release.ensures.turn in
+    let held = held_first self.seat new hold c.requires.desk.seated.held_is c.in-Ok.ensures.ok.0 c.in-Ok.ensures.ok.1 in
+    let seated = seated_on c.args.plan.now c.args.tape.now c.requires.limits self.actor no_hold hold self.seat new c.requires.desk.seated turns held in
+    marked g.D.Disk g.J.Planned.strict c.args.plan.now c.args.tape.now (record self { seat = free; slot = c.step.new.slot; unsound = true })
+    (seated_on c.args.plan.now c.args.tape.now c.requires.limits self.actor hold no_hold new free seated later (held_none new free hold held c.release.ensures.held.0 c.release.ensures.held.1)) refl
+
+pub returns-in_err-weight-clause-err : goal.returns-in_err-weight-clause-err
+returns-in_err-weight-clause-err g c = on_err c.from_residual.result (still_sound g.D.Disk g.J.Planned.strict c.args.plan.now c.args.tape.now c.args.self.now c.requires.desk)
+
+pub returns-in_err-weight-clause-told : goal.returns-in_err-weight-clause-told
+returns-in_err-weight-clause-told g c = no_answer _ c.from_residual.result Idle c.from_residual.ensures.1
