@@ -122,7 +122,7 @@ module _ (cluster : Cluster) (items : List Item) (h : EachStands cluster items) 
     by_sending m f g b body t deps outcome act act_is is there (AsksForViews y brought store) = absurd (grind arith)
     by_sending m f g b body t deps outcome act act_is is there (Proposes on y k s store reacts) = absurd (grind arith)
     by_sending m f g b body t deps outcome act act_is is there (CommitsTo on y k s store reacts) = absurd (grind arith)
-    by_sending m f g b body t deps outcome act act_is is there (Decides on y k path s store reacts) = absurd (grind arith)
+    by_sending m f g b body t deps outcome act act_is is there (Decides on y k path s store reacts noted) = absurd (grind arith)
     by_sending m f g b body t deps outcome act act_is is there (Finishes on y k s o store reacts) =
         by_reaction on y k s o f g b body t deps act_is
         (subst (λ w. IsIn w (node_emits cluster.layout (node_of a) (clock_start cluster.starts (node_of a)) past on).out)

@@ -1,4 +1,4 @@
--- Delivered attempts end, and where each store has opened the transaction they have finished.
+-- Delivered attempts end, and where each store has opened the transaction they have finished, and their clients have replies.
 use Rattle.std.proofs.Common.{◌≡◌, ℕ, suc, ◌≤◌, Bool, true, false, cond, List, [], ◌∷◌, ◌++◌, length, None, Some, refl, sym, ◌∙◌, ap, subst, arith, inl, inr, ⊎_elim}
 use Rattle.std.specs.List.{list_any}
 use Rattle.std.specs.Prelude.{◌==◌}
@@ -20,40 +20,43 @@ use Rattle.acc_message.specs.declared.entry.Emitted.{Emitted}
 use Rattle.acc_message.specs.declared.item.Item.{Item}
 use Rattle.acc_message.specs.declared.item.Item.TheVariants.{Step}
 use Rattle.acc_message.specs.declared.note.Note.{Note}
-use Rattle.acc_message.specs.declared.note.Note.TheVariants.{Outcome as OutcomeNote}
+use Rattle.acc_message.specs.declared.note.Note.TheVariants.{Begin as BeginNote, Outcome as OutcomeNote, Reply as ReplyNote}
 use Rattle.acc_message.specs.Fields.{from_of}
-use Rattle.acc_message.specs.Items.{notes_of}
+use Rattle.acc_message.specs.Items.{notes_of, replies}
 use Rattle.acc_message.specs.Shares.{shards_used, stores_of_shard, stores_used}
 use Rattle.acc_message.specs.Taken.{Taken}
 use Rattle.acc_message.specs.Opening.{is_opened}
 use Rattle.acc_message.specs.Attempts.{Attempt, Executing, fits, same_seat, known_among, has_read, read_everywhere}
-use Rattle.acc_message.specs.NodeRules.{Deed, attempt_of}
+use Rattle.acc_message.specs.Coordinator.{home_node}
+use Rattle.acc_message.specs.NodeRules.{Deed, is_open, attempt_of}
 use Rattle.acc_message.specs.Run.{Cluster, taken_with, taken_from, deeds_of, taken_of}
 use Rattle.acc_actor_laws.proofs.OpeningFacts.{some_is}
 use Rattle.acc_safety.specs.Places.{IsIn, StandsAt, IsPast, Whole, InOrder, IsOlder, IsSame, IsNewer}
-use Rattle.acc_safety.specs.Histories.{NodeStep}
+use Rattle.acc_safety.specs.Histories.{Noting, NodeStep}
 use Rattle.acc_safety.specs.Polls.{IsBody}
 use Rattle.acc_safety.specs.Valid.{IsStanding}
 use Rattle.acc_safety.proofs.PlaceOrder.{in_order, any_from, flat_map-IsIn, map-IsIn, IsPast-trans, StandsAt-IsPast}
-use Rattle.acc_safety.proofs.Bridge.{node_step, each_answers, taking_deed, taken_of-past}
-use Rattle.acc_safety.proofs.BodiesBegun.{recover_body}
+use Rattle.acc_safety.proofs.Bridge.{EachStands-past, node_step, each_answers, taking_deed, taken_of-past}
+use Rattle.acc_safety.proofs.BodiesBegun.{recover_body, attempt_body}
 use Rattle.acc_safety.proofs.Frame.{past_of}
 use Rattle.acc_safety.proofs.Meetings.{used-HasShard}
+use Rattle.acc_safety_laws.proofs.BegunIds.{begin_noted}
 use Rattle.acc_safety_laws.proofs.Within.{begun_has_store}
 use Rattle.acc_calm.proofs.AllAnswered.{in_among}
 use Rattle.acc_calm.proofs.Undecided.{store_place, shard_of_store, used_is_store}
 use Rattle.acc_calm.proofs.Finished.{noted_there, all_of, some_replica, no_outcome, took_outcome}
 use Rattle.acc_delivered.specs.Stretches.{TakesAll}
 use Rattle.acc_delivered.specs.Rounds.{IsRecover}
-use Rattle.acc_delivered.specs.Ends.{disturbs, IsAttempt, tells_ended, tells_blocked, is_ended, is_blocked, AtEachStore, took_apply, has_opened, IsFinished, HasEnd}
-use Rattle.acc_delivered.specs.Laws.{LacksIn, AttemptsEnd, OpenedAttemptsFinish}
+use Rattle.acc_delivered.specs.Ends.{disturbs, IsAttempt, tells_ended, tells_blocked, is_ended, is_blocked, AtEachStore, took_apply, has_opened, IsFinished, KeepsClient, is_replied, HasEnd}
+use Rattle.acc_delivered.specs.Laws.{LacksIn, AttemptsEnd, OpenedAttemptsFinish, OpenedAttemptsReply}
 use Rattle.acc_delivered.proofs.Courses.{request}
 use Rattle.acc_delivered.proofs.Asked.{past_length}
 use Rattle.acc_delivered.proofs.AnsweredReads.{stables_are_answered}
-use Rattle.acc_delivered.proofs.Overs.{b as drawn, Became, Runs, WasEnded, WasBlocked, HasFinished, NotedIn}
+use Rattle.acc_delivered.proofs.Overs.{b as drawn, Became, Runs, WasEnded, WasBlocked, HasFinished, FinishedIn, NotedIn}
 use Rattle.acc_delivered.proofs.Started.{start, deeds, body, it, past, it_at, is_of_node, ballot_is, becomes}
 use Rattle.acc_delivered.proofs.Resting.{deeds_here, asks_of, asked_items, asked_deeds, course, request_taken, request_to, answer_known, delivered, body_is}
 use Rattle.acc_delivered.proofs.Executing.{executes}
+use Rattle.acc_delivered.proofs.Clients.{replied_past, served_before}
 use Rattle.acc_delivered.proofs.Decided.{outcome_noted, taken_place, is_decided_at}
 
 note_told : (test : Note → Bool) (items earlier : List Item) (e : Entry) (note : Note) → StandsAt (Step e) earlier items → IsIn note e.emitted.notes → test note ≡ true
@@ -187,11 +190,15 @@ module _ (cluster : Cluster) (base since : List Item) (e : Entry) (x : TxnId) (b
       recover_body cluster whole standing.stands e.actor (is_of_node cluster base since e x b standing recover) (it cluster base since e x b standing recover)
       (past cluster base since e x b standing recover) x brought (it_at cluster base since e x b standing recover) refl
 
-  pub finishes : is_ended x b whole ≡ false → is_blocked x b whole ≡ false → AtEachStore cluster whole x (λ store. has_opened cluster whole x store ≡ true)
-      → IsFinished cluster whole x
-  finishes unended unblocked opened = by (becomes cluster base since e x b standing recover alone)
+  abbrev Finished : Type 0
+  Finished =
+      FinishedIn cluster.layout (node_of e.actor) the_start x (it cluster base since e x b standing recover) (past cluster base since e x b standing recover) brought refl the_deeds
+
+  -- the step in which it had its outcome
+  finished_in : is_ended x b whole ≡ false → is_blocked x b whole ≡ false → AtEachStore cluster whole x (λ store. has_opened cluster whole x store ≡ true) → Finished
+  finished_in unended unblocked opened = by (becomes cluster base since e x b standing recover alone)
     where
-      by : Becomes → IsFinished cluster whole x
+      by : Becomes → Finished
       by (Runs at is of_ballot of_body) =
           let ballot = of_ballot ∙ ballot_is cluster base since e x b standing recover in
           let s = executes cluster base since e x b standing recover all at is ballot in
@@ -199,47 +206,80 @@ module _ (cluster : Cluster) (base since : List Item) (e : Entry) (x : TxnId) (b
           (λ store there. opened at.body store (body_is cluster base since e x b standing recover all at is ballot) there))
       by (WasEnded above n) = absurd (true≢false (sym (told (tells_ended x b) _ n (and_from (id_eq x x) (ballot_eq _ b) (eq_itself id_order x) of_it)) ∙ unended))
       by (WasBlocked ids n) = absurd (true≢false (sym (told (tells_blocked x b) _ n (and_from (id_eq x x) (ballot_eq _ b) (eq_itself id_order x) of_it)) ∙ unblocked))
-      by (HasFinished f) =
-          record {
-            outcome = outcome_noted whole n.earlier n.entry x f.outcome.reply n.at (subst (λ (w : Emitted). IsIn (OutcomeNote x f.outcome.reply) w.notes) (sym n.emitted_is) f.noted);
-            applies = λ parts store is there. applied store (subst (λ c. IsIn store (stores_used cluster.layout c)) (some_is parts brought (sym is ∙ brought_is)) there);
-          }
-        where
-          n : NodeStep cluster e.actor whole f.finishing f.before
-          n = node_step cluster e.actor whole standing.stands f.finishing f.before f.at
+      by (HasFinished f) = f
 
-          applied : (store : Actor) → IsIn store (stores_used cluster.layout brought) → took_apply cluster whole x store ≡ true
-          applied store there =
-              let c : Ballot = drawn cluster.layout (node_of e.actor) the_start x (it cluster base since e x b standing recover) (past cluster base since e x b standing recover) brought refl in
-              let m : Message = Apply own store x c brought f.settled.t f.settled.deps f.outcome in
-              let t = delivered cluster base since e x b standing recover all m refl (ballot_is cluster base since e x b standing recover)
-              (record { entry = n.entry; earlier = n.earlier; at = n.at; sent = subst (λ (w : Emitted). IsIn m w.out) (sym n.emitted_is) (f.applies store there) }) in
-              took_outcome m x f.outcome (ap (λ o. cond o (Some f.outcome) None) (eq_itself id_order x)) (taken_of cluster store whole)
-              (record {
-                step = record { message = m; sent = t.entry.emitted.out };
-                past = taken_of cluster store t.before;
-                at = taken_place cluster store whole t.before t.entry m t.at t.actor_is t.act_is;
-                message_is = refl;
-              })
+  module _ (f : Finished) where
+    n : NodeStep cluster e.actor whole f.finishing f.before
+    n = node_step cluster e.actor whole standing.stands f.finishing f.before f.at
+
+    applied : (store : Actor) → IsIn store (stores_used cluster.layout brought) → took_apply cluster whole x store ≡ true
+    applied store there =
+        let c : Ballot = drawn cluster.layout (node_of e.actor) the_start x (it cluster base since e x b standing recover) (past cluster base since e x b standing recover) brought refl in
+        let m : Message = Apply own store x c brought f.settled.t f.settled.deps f.outcome in
+        let t = delivered cluster base since e x b standing recover all m refl (ballot_is cluster base since e x b standing recover)
+        (record { entry = n.entry; earlier = n.earlier; at = n.at; sent = subst (λ (w : Emitted). IsIn m w.out) (sym n.emitted_is) (f.applies store there) }) in
+        took_outcome m x f.outcome (ap (λ o. cond o (Some f.outcome) None) (eq_itself id_order x)) (taken_of cluster store whole)
+        (record {
+          step = record { message = m; sent = t.entry.emitted.out };
+          past = taken_of cluster store t.before;
+          at = taken_place cluster store whole t.before t.entry m t.at t.actor_is t.act_is;
+          message_is = refl;
+        })
+
+    pub finishes : IsFinished cluster whole x
+    finishes =
+        record {
+          outcome = outcome_noted whole n.earlier n.entry x f.outcome.reply n.at (subst (λ (w : Emitted). IsIn (OutcomeNote x f.outcome.reply) w.notes) (sym n.emitted_is) f.noted);
+          applies = λ parts store is there. applied store (subst (λ c. IsIn store (stores_used cluster.layout c)) (some_is parts brought (sym is ∙ brought_is)) there);
+        }
+
+    -- x was begun before it
+    begun_before : Noting n.earlier (BeginNote x)
+    begun_before =
+        begin_noted cluster n.earlier x f.attempt.body
+        (attempt_body cluster n.earlier (EachStands-past cluster n.earlier whole (past_of (Step n.entry) n.earlier whole n.at) standing.stands) e.actor
+        (is_of_node cluster base since e x b standing recover) f.before x f.attempt
+        (subst (λ p. IsPast p (deeds_of cluster e.actor n.earlier)) n.past_is (Whole (deeds_of cluster e.actor n.earlier))) f.is)
+
+    pub replied : e.actor ≡ home_node x → KeepsClient x whole → is_replied x whole ≡ true
+    replied home_is k =
+        ⊎_elim
+        (λ waits.
+        note_told (replies x) whole n.earlier n.entry (ReplyNote x f.outcome.reply) n.at
+        (subst (λ (w : Emitted). IsIn (ReplyNote x f.outcome.reply) w.notes) (sym n.emitted_is)
+        (f.replies (ap (is_open x) (sym n.past_is) ∙ ap (λ c. is_open x (deeds_of cluster c n.earlier)) home_is ∙ waits)))
+        (eq_itself id_order x))
+        (λ before. replied_past cluster x n.earlier whole (past_of (Step n.entry) n.earlier whole n.at) before)
+        (served_before cluster x whole n.earlier (Step n.entry) standing.stands k n.at begun_before)
 
 -- ---- the laws
 
 module _ (cluster : Cluster) where
   with_entry : (a : Actor) (x : TxnId) (b : Ballot) (later : List Item) → IsAttempt a x b later → (P : List Item → Type 0)
-      → ((since : List Item) (e : Entry) → IsRecover e.actor x b e → list_any (disturbs e.actor x) since ≡ false → P (since ++ Step e ∷ [])) → P later
+      → ((since : List Item) (e : Entry) → e.actor ≡ a → IsRecover e.actor x b e → list_any (disturbs e.actor x) since ≡ false → P (since ++ Step e ∷ [])) → P later
   with_entry a x b later k P h =
       subst P (sym k.items_are)
-      (h k.since k.entry (record { txn = k.recover.txn; event_is = k.recover.event_is; actor_is = refl; noted = k.recover.noted })
+      (h k.since k.entry k.recover.actor_is (record { txn = k.recover.txn; event_is = k.recover.event_is; actor_is = refl; noted = k.recover.noted })
       (subst (λ c. list_any (disturbs c x) k.since ≡ false) (sym k.recover.actor_is) k.alone))
 
   pub attempts_end : AttemptsEnd cluster
   attempts_end a x b base later standing k all =
       with_entry a x b later k (λ l. IsStanding cluster (l ++ base) → TakesAll base l → HasEnd cluster (l ++ base) x b)
-      (λ since e recover alone s t. ends cluster base since e x b s recover t alone) standing all
+      (λ since e actor_is recover alone s t. ends cluster base since e x b s recover t alone) standing all
 
   pub opened_attempts_finish : OpenedAttemptsFinish cluster
   opened_attempts_finish a x b base later standing k all unended unblocked opened =
       with_entry a x b later k
       (λ l. IsStanding cluster (l ++ base) → TakesAll base l → is_ended x b (l ++ base) ≡ false → is_blocked x b (l ++ base) ≡ false
       → AtEachStore cluster (l ++ base) x (λ store. has_opened cluster (l ++ base) x store ≡ true) → IsFinished cluster (l ++ base) x)
-      (λ since e recover alone s t u v w. finishes cluster base since e x b s recover t alone u v w) standing all unended unblocked opened
+      (λ since e actor_is recover alone s t u v w. finishes cluster base since e x b s recover t alone (finished_in cluster base since e x b s recover t alone u v w))
+      standing all unended unblocked opened
+
+  pub opened_attempts_reply : OpenedAttemptsReply cluster
+  opened_attempts_reply x b base later standing k all unended unblocked opened client =
+      with_entry (home_node x) x b later k
+      (λ l. IsStanding cluster (l ++ base) → TakesAll base l → is_ended x b (l ++ base) ≡ false → is_blocked x b (l ++ base) ≡ false
+      → AtEachStore cluster (l ++ base) x (λ store. has_opened cluster (l ++ base) x store ≡ true) → KeepsClient x (l ++ base) → is_replied x (l ++ base) ≡ true)
+      (λ since e actor_is recover alone s t u v w z.
+      replied cluster base since e x b s recover t alone (finished_in cluster base since e x b s recover t alone u v w) actor_is z)
+      standing all unended unblocked opened client

@@ -74,7 +74,7 @@ module _ (cluster : Cluster) (items : List Item) (h : EachStands cluster items) 
   node_drawn deed past act m at act_is (AsksForViews x body store) drew = recover_noted deed past x body at act_is
   node_drawn deed past act m at act_is (Proposes on x k s store reacts) drew = moving_drawn past x on k _ (past_of deed past (deeds_of cluster a items) at) reacts drew
   node_drawn deed past act m at act_is (CommitsTo on x k s store reacts) drew = moving_drawn past x on k _ (past_of deed past (deeds_of cluster a items) at) reacts drew
-  node_drawn deed past act m at act_is (Decides on x k path s store reacts) drew = moving_drawn past x on k _ (past_of deed past (deeds_of cluster a items) at) reacts drew
+  node_drawn deed past act m at act_is (Decides on x k path s store reacts noted) drew = moving_drawn past x on k _ (past_of deed past (deeds_of cluster a items) at) reacts drew
   node_drawn deed past act m at act_is (Finishes on x k s outcome store reacts) drew = moving_drawn past x on k _ (past_of deed past (deeds_of cluster a items) at) reacts drew
   node_drawn deed past act m at act_is (Informs on x k s outcome reacts) drew = moving_drawn past x on k _ (past_of deed past (deeds_of cluster a items) at) reacts drew
 

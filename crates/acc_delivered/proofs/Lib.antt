@@ -9,6 +9,7 @@ pub mod Answering
 pub mod Resting
 pub mod Executing
 pub mod Decided
+pub mod Clients
 pub mod DeliveredEnds
 pub mod RoundsOwn
 pub mod Addressed

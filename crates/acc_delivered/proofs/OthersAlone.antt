@@ -3,6 +3,7 @@ use Rattle.std.proofs.Common.{◌≡◌, ℕ, Bool, true, false, ◌&&◌, ◌||
 use Rattle.std.specs.List.{list_any}
 use Rattle.std.proofs.lemmas.Bool.{true≢false, and_parts, false_from_ne_true}
 use Rattle.std.proofs.lemmas.List.{append_assoc, append-nil}
+use Rattle.std.proofs.lemmas.List.Folds.{list_any-append}
 use Rattle.acc_stamp.specs.declared.stamps.TxnId.{TxnId}
 use Rattle.acc_stamp.specs.declared.stamps.Ballot.{Ballot}
 use Rattle.acc_stamp.specs.declared.actors.Actor.{Actor}
@@ -43,14 +44,6 @@ use Rattle.acc_delivered.proofs.Seconds.{taken_own}
 
 -- ---- lists of notes
 
-pub any_append : {T : Type 0} (test : T → Bool) (xs ys : List T) → list_any test (xs ++ ys) ≡ (list_any test xs || list_any test ys)
-any_append test [] ys = refl
-any_append test (x ∷ xs) ys = ap (λ o. test x || o) (any_append test xs ys) ∙ assoc (test x) (list_any test xs) (list_any test ys)
-  where
-    assoc : (a b c : Bool) → (a || (b || c)) ≡ ((a || b) || c)
-    assoc true b c = refl
-    assoc false b c = refl
-
 pub notes_append : (later base : List Item) → notes_of (later ++ base) ≡ notes_of base ++ notes_of later
 notes_append [] base = sym (append-nil (notes_of base))
 notes_append (item ∷ later) base =
@@ -66,7 +59,7 @@ quiet false p q f g = refl
 quiet true p q f g = both_none p q f g
 
 pub none_both : {T : Type 0} (test : T → Bool) (xs ys : List T) → list_any test xs ≡ false → list_any test ys ≡ false → list_any test (xs ++ ys) ≡ false
-none_both test xs ys f g = any_append test xs ys ∙ both_none (list_any test xs) (list_any test ys) f g
+none_both test xs ys f g = list_any-append test xs ys ∙ both_none (list_any test xs) (list_any test ys) f g
 
 -- no note of any of the items passes the test
 notes_none : (test : Note → Bool) (items : List Item) → ((item : Item) → IsIn item items → list_any test (noted_in item) ≡ false) → list_any test (notes_of items) ≡ false

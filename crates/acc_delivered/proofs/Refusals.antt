@@ -61,7 +61,7 @@ nodes_refuse_nothing layout node start past act m from to id b promised is (Asks
 nodes_refuse_nothing layout node start past act m from to id b promised is (AsksForViews x body store) = grind arith
 nodes_refuse_nothing layout node start past act m from to id b promised is (Proposes on x k s store reacts) = grind arith
 nodes_refuse_nothing layout node start past act m from to id b promised is (CommitsTo on x k s store reacts) = grind arith
-nodes_refuse_nothing layout node start past act m from to id b promised is (Decides on x k path s store reacts) = grind arith
+nodes_refuse_nothing layout node start past act m from to id b promised is (Decides on x k path s store reacts noted) = grind arith
 nodes_refuse_nothing layout node start past act m from to id b promised is (Finishes on x k s outcome store reacts) = grind arith
 nodes_refuse_nothing layout node start past act m from to id b promised is (Informs on x k s outcome reacts) = grind arith
 

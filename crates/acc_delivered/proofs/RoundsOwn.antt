@@ -191,7 +191,7 @@ node_own x b layout node st before act m s is own (Proposes on y a k store react
     inr (own_moves x b m y a own (reacts_own layout node st before y on m a (Propose k) is reacts tt))
 node_own x b layout node st before act m s is own (CommitsTo on y a k store reacts) =
     inr (own_moves x b m y a own (reacts_own layout node st before y on m a (CommitTo k) is reacts tt))
-node_own x b layout node st before act m s is own (Decides on y a path k store reacts) =
+node_own x b layout node st before act m s is own (Decides on y a path k store reacts noted) =
     inr (own_moves x b m y a own (reacts_own layout node st before y on m a (DecideBy path k) is reacts tt))
 node_own x b layout node st before act m s is own (Finishes on y a k outcome store reacts) = inl refl
 node_own x b layout node st before act m s is own (Informs on y a k outcome reacts) = inl refl

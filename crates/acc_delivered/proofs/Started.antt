@@ -5,6 +5,7 @@ use Rattle.std.specs.List.{list_any, flat_map, slice_get}
 use Rattle.std.specs.Option.{option_map}
 use Rattle.std.proofs.lemmas.Bool.{true≢false, false_from_ne_true}
 use Rattle.std.proofs.lemmas.List.{append_assoc}
+use Rattle.acc_stamp.specs.declared.stamps.Stamp.{Stamp}
 use Rattle.acc_stamp.specs.declared.stamps.TxnId.{TxnId}
 use Rattle.acc_stamp.specs.declared.stamps.Ballot.{Ballot}
 use Rattle.acc_stamp.specs.declared.actors.Actor.{Actor}
@@ -73,7 +74,7 @@ pub or_both : (b c : Bool) → (b || c) ≡ false → (b ≡ false) × (c ≡ fa
 or_both true c h = absurd (true≢false h)
 or_both false c h = (refl, h)
 
-and_rest : (b c : Bool) → b ≡ true → (b && c) ≡ false → c ≡ false
+pub and_rest : (b c : Bool) → b ≡ true → (b && c) ≡ false → c ≡ false
 and_rest true c h k = k
 and_rest false c h k = absurd (true≢false (sym h))
 
@@ -86,14 +87,14 @@ last_place (y ∷ xs) x = Back x y [] (xs ++ x ∷ []) (last_place xs x)
 
 -- ---- drawn once
 
-drawn_there : (items : List Item) (e : Entry) (earlier : List Item) (x : TxnId) (b : Ballot) → StandsAt (Step e) earlier items → IsIn (RecoverNote x b) e.emitted.notes
-    → IsIn b.0 (drawn_of items)
-drawn_there items e earlier x b at there = by (Step e) earlier items at there
+pub drawn_there : (items : List Item) (e : Entry) (earlier : List Item) (s : Stamp) (note : Note) → StandsAt (Step e) earlier items → IsIn note e.emitted.notes
+    → IsIn s (drawn_in note) → IsIn s (drawn_of items)
+drawn_there items e earlier s note at there draws = by (Step e) earlier items at there
   where
-    by : (i : Item) (past all : List Item) → StandsAt i past all → IsIn (RecoverNote x b) (noted_in i) → IsIn b.0 (drawn_of all)
+    by : (i : Item) (past all : List Item) → StandsAt i past all → IsIn note (noted_in i) → IsIn s (drawn_of all)
     by i past all (Here j rest) there =
-        IsIn-append_left b.0 (flat_map drawn_in (noted_in j)) (drawn_of rest) (flat_map-IsIn drawn_in b.0 (RecoverNote x b) (noted_in j) there (First b.0 []))
-    by i past all (Back j k rest others place) there = IsIn-append_right b.0 (flat_map drawn_in (noted_in k)) (drawn_of others) (by j rest others place there)
+        IsIn-append_left s (flat_map drawn_in (noted_in j)) (drawn_of rest) (flat_map-IsIn drawn_in s note (noted_in j) there draws)
+    by i past all (Back j k rest others place) there = IsIn-append_right s (flat_map drawn_in (noted_in k)) (drawn_of others) (by j rest others place there)
 
 module _ (cluster : Cluster) (base since : List Item) (e : Entry) (x : TxnId) (b : Ballot) (standing : IsStanding cluster ((since ++ Step e ∷ []) ++ base))
     (recover : IsRecover e.actor x b e) where
@@ -197,7 +198,7 @@ module _ (cluster : Cluster) (base since : List Item) (e : Entry) (x : TxnId) (b
   not_noted : Noting base (RecoverNote x b) → ⊥
   not_noted n =
       true≢false
-      (sym (any_from (λ s. stamp_eq s b.0) b.0 (drawn_of base) (drawn_there base n.entry n.earlier x b n.at n.noted) (eq_itself stamp_order b.0)) ∙ (distinct recover.noted).0)
+      (sym (any_from (λ s. stamp_eq s b.0) b.0 (drawn_of base) (drawn_there base n.entry n.earlier b.0 (RecoverNote x b) n.at n.noted (First b.0 [])) (eq_itself stamp_order b.0)) ∙ (distinct recover.noted).0)
     where
       distinct : e.emitted.notes ≡ RecoverNote x b ∷ [] → AreDistinct (b.0 ∷ drawn_of base)
       distinct is =

@@ -13,7 +13,8 @@ use Rattle.acc_message.specs.declared.note.Note.{Note}
 use Rattle.acc_message.specs.declared.note.Note.TheVariants.{Begin as BeginNote, Recover as RecoverNote, Blocked, Ended, Decide, Outcome as OutcomeNote, Reply as ReplyNote}
 use Rattle.acc_message.specs.declared.item.Item.{Item}
 use Rattle.acc_message.specs.declared.item.Item.TheVariants.{Step, Skipped, Down}
-use Rattle.acc_message.specs.Items.{same_actor, notes_of}
+use Rattle.acc_message.specs.Items.{same_actor, notes_of, begins, replies}
+use Rattle.acc_message.specs.Coordinator.{home_node}
 use Rattle.acc_message.specs.Shares.{stores_used}
 use Rattle.acc_message.specs.BallotRules.{kept_outcome}
 use Rattle.acc_message.specs.Opening.{is_opened}
@@ -106,6 +107,22 @@ pub record IsDecidedAt (cluster : Cluster) (items : List Item) (x : TxnId) (b : 
 pub record IsFinished (cluster : Cluster) (items : List Item) (x : TxnId) : Type 0 where
   pub outcome : had_outcome x items ≡ true
   pub applies : AtEachStore cluster items x (λ store. took_apply cluster items x store ≡ true)
+
+-- ---- its client
+
+-- An entry begins x, and the node of x restarts in none of the items after it. A restart would close the client.
+pub record KeepsClient (x : TxnId) (items : List Item) : Type 0 where
+  pub entry : Entry
+  pub after : List Item
+  pub earlier : List Item
+  pub items_are : items ≡ after ++ Step entry ∷ earlier
+  pub begins_it : list_any (begins x) entry.emitted.notes ≡ true
+  pub up : list_any (restarts (home_node x)) after ≡ false
+
+abbrev pub is_replied : TxnId → List Item → Bool
+is_replied x items = list_any (replies x) (notes_of items)
+
+-- ---- all its ends
 
 -- the attempt at x with the ballot was ended, was blocked, or decided
 abbrev pub HasEnd : Cluster → List Item → TxnId → Ballot → Type 0

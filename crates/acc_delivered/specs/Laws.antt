@@ -3,6 +3,7 @@
 --     BallotsAreDrawn      a ballot was drawn by a recover of the transaction
 --     AttemptsEnd      an attempt all of whose messages are taken was ended, was blocked, or decided
 --     OpenedAttemptsFinish      and where each store has opened the transaction it has finished
+--     OpenedAttemptsReply      and where it is at the home of a client that is kept, the client has its reply
 --     StablesAreAnswered      a store that has opened a transaction has answered each Stable about it
 --     RoundsSendTheirOwn      what a round sends belongs to its own attempt, but for reads and what comes of them
 --     RoundsStartOne, RoundsLeaveOthersAlone      a round starts one attempt, and ends or blocks none of another transaction
@@ -30,6 +31,7 @@ use Rattle.std.specs.List.{list_any}
 use Rattle.acc_message.specs.Fields.{id_of, ballot_of}
 use Rattle.acc_message.specs.Items.{notes_of, begins}
 use Rattle.acc_message.specs.Shares.{shards_used}
+use Rattle.acc_message.specs.Coordinator.{home_node}
 use Rattle.acc_message.specs.Taken.{Taken}
 use Rattle.acc_message.specs.Evidence.{is_awaited}
 use Rattle.acc_message.specs.Opening.{is_opened}
@@ -42,7 +44,7 @@ use Rattle.acc_safety.specs.Polls.{IsBody}
 use Rattle.acc_safety.specs.Valid.{IsStanding}
 use Rattle.acc_delivered.specs.Stretches.{TakesAll}
 use Rattle.acc_delivered.specs.Rounds.{IsRound}
-use Rattle.acc_delivered.specs.Ends.{disturbs, IsAttempt, was_decided, had_outcome, is_ended, is_blocked, AtEachStore, has_opened, IsFinished, HasEnd}
+use Rattle.acc_delivered.specs.Ends.{disturbs, IsAttempt, was_decided, had_outcome, is_ended, is_blocked, AtEachStore, has_opened, IsFinished, KeepsClient, is_replied, HasEnd}
 
 -- ---- what an attempt lacks
 
@@ -79,6 +81,13 @@ OpenedAttemptsFinish cluster =
     → IsAttempt a x b later → TakesAll base later → is_ended x b (later ++ base) ≡ false → is_blocked x b (later ++ base) ≡ false
     → AtEachStore cluster (later ++ base) x (λ store. has_opened cluster (later ++ base) x store ≡ true)
     → IsFinished cluster (later ++ base) x
+
+abbrev pub OpenedAttemptsReply : Cluster → Type 0
+OpenedAttemptsReply cluster =
+    (x : TxnId) (b : Ballot) (base later : List Item) → IsStanding cluster (later ++ base)
+    → IsAttempt (home_node x) x b later → TakesAll base later → is_ended x b (later ++ base) ≡ false → is_blocked x b (later ++ base) ≡ false
+    → AtEachStore cluster (later ++ base) x (λ store. has_opened cluster (later ++ base) x store ≡ true)
+    → KeepsClient x (later ++ base) → is_replied x (later ++ base) ≡ true
 
 -- ---- reads
 

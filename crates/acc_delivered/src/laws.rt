@@ -6,7 +6,7 @@ ghost use Rattle.acc_topology.specs.Layout.{Layout};
 ghost use Rattle.acc_message.specs.NodeRules.{Deed};
 ghost use Rattle.acc_message.specs.Run.{Cluster, EachStands};
 ghost use Rattle.acc_safety.specs.StoreFactStatements.{OfEachStore};
-ghost use Rattle.acc_delivered.specs.Laws.{AttemptsLack, BallotsAreDrawn, AttemptsEnd, OpenedAttemptsFinish, StablesAreAnswered, RoundsSendTheirOwn, RoundsStartOne, RoundsLeaveOthersAlone, SecondsAreNotEnded, BlockedHaveWaited, AppliesAreTold};
+ghost use Rattle.acc_delivered.specs.Laws.{AttemptsLack, BallotsAreDrawn, AttemptsEnd, OpenedAttemptsFinish, OpenedAttemptsReply, StablesAreAnswered, RoundsSendTheirOwn, RoundsStartOne, RoundsLeaveOthersAlone, SecondsAreNotEnded, BlockedHaveWaited, AppliesAreTold};
 
 /// After its first phase an attempt of any ballot that has answers never rests with a majority everywhere of its phase's answers, nor with
 /// all the reads that it waits for.
@@ -22,10 +22,11 @@ pub fn ballots_are_drawn()
 /// Where a recover started an attempt, and its node neither restarted nor started another one at the transaction since, and what was sent
 /// since the recover is all taken, the attempt was ended by a greater ballot, was blocked, or decided, with its Stable taken by every store
 /// of the transaction. Once each of these stores has opened the transaction, the attempt has its outcome, with its Apply taken by every
-/// store.
+/// store. Where the attempt is at the node that began the transaction, and that hasn't restarted since, the client has its reply then.
 pub fn delivered_attempts_end()
     ensures ended { (cluster : Cluster) → AttemptsEnd cluster }
     ensures finished { (cluster : Cluster) → OpenedAttemptsFinish cluster }
+    ensures replied { (cluster : Cluster) → OpenedAttemptsReply cluster }
 {}
 
 /// A store that took a Stable of a transaction, with any ballot, and has opened the transaction, has answered it since.

@@ -8,14 +8,13 @@ use Rattle.std.specs.BTreeMap.{is_at}
 use Rattle.std.specs.Ordering.{is_lt}
 use Rattle.std.proofs.lemmas.Bool.Decides.{nat_tests}
 use Rattle.std.proofs.lemmas.Bool.{true≢false, or_left, or_right}
+use Rattle.std.proofs.lemmas.List.Folds.{list_any-append}
 use Rattle.acc_base.specs.Faults.{or_else}
 use Rattle.acc_stamp.specs.declared.stamps.TxnId.{TxnId}
 use Rattle.acc_stamp.specs.Stamp.{id_cmp, id_eq, id_lt}
 use Rattle.acc_stamp.specs.Rising.{IsRisingBy, id_among}
 use Rattle.acc_stamp.proofs.Order.{id_order, eq_itself}
-use Rattle.acc_stamp.proofs.Rising.{each_weaker, is_among-union, IsRisingBy-union, same_from_among}
-use Rattle.acc_message.specs.declared.note.Note.{Note}
-use Rattle.acc_message.specs.declared.note.Note.TheVariants.{Begin, Recover, Blocked, Ended, Decide, Outcome, Reply}
+use Rattle.acc_stamp.proofs.Rising.{each_weaker, IsRisingBy-union, same_from_among}
 use Rattle.acc_message.specs.declared.item.Item.{Item}
 use Rattle.acc_message.specs.declared.item.Item.TheVariants.{Step, Skipped, Down}
 use Rattle.acc_message.specs.Items.{begins, noted_in, notes_of, txn_begun, txn_in, txn_of}
@@ -23,25 +22,12 @@ use Rattle.acc_message.specs.Run.{Cluster, EachStands}
 use Rattle.acc_actor_laws.proofs.Standing.{not_none}
 use Rattle.acc_safety.specs.Decisions.{body_at}
 use Rattle.acc_report.specs.Known.{Numbers, number_at}
-use Rattle.acc_delivered.proofs.OthersAlone.{any_append}
 use Rattle.acc_heal_laws.specs.Healed.{was_begun}
 use Rattle.acc_heal_laws.specs.Stages.{begun_ids, id_begun_by}
 use Rattle.acc_heal_laws.proofs.TurnFacts.{begun_has_body}
+use Rattle.acc_heal_laws.proofs.Turns.{among_begun}
 
--- ---- ids that notes begin
-
-begun_among : (x : TxnId) (notes : List Note) → id_among x (flat_map id_begun_by notes) ≡ list_any (begins x) notes
-begun_among x [] = refl
-begun_among x (Begin id ∷ notes) = ap (λ o. id_eq id x || o) (begun_among x notes)
-begun_among x (Recover id ballot ∷ notes) = begun_among x notes
-begun_among x (Blocked id ballot by ∷ notes) = begun_among x notes
-begun_among x (Ended id ballot by ∷ notes) = begun_among x notes
-begun_among x (Decide id t path deps ∷ notes) = begun_among x notes
-begun_among x (Outcome id reply ∷ notes) = begun_among x notes
-begun_among x (Reply id reply ∷ notes) = begun_among x notes
-
-among_begun : (x : TxnId) (items : List Item) → id_among x (begun_ids items) ≡ was_begun x items
-among_begun x items = is_among-union id_order x [] (flat_map id_begun_by (notes_of items)) ∙ begun_among x (notes_of items)
+-- ---- what has a number was begun
 
 txn_noted : (x : TxnId) (item : Item) (txn : ℕ) → txn_in x item ≡ Some txn → list_any (begins x) (noted_in item) ≡ true
 txn_noted x (Step e) txn is = by (list_any (begins x) e.emitted.notes) refl is
@@ -52,10 +38,9 @@ txn_noted x (Step e) txn is = by (list_any (begins x) e.emitted.notes) refl is
 txn_noted x (Skipped step cause) txn is = absurd (not_none txn is)
 txn_noted x (Down actor) txn is = absurd (not_none txn is)
 
--- what has a number was begun
 txn_was_begun : (x : TxnId) (items : List Item) (txn : ℕ) → txn_of items x ≡ Some txn → was_begun x items ≡ true
 txn_was_begun x [] txn is = absurd (not_none txn is)
-txn_was_begun x (item ∷ earlier) txn is = any_append (begins x) (notes_of earlier) (noted_in item) ∙ by (txn_of earlier x) refl is (txn_was_begun x earlier)
+txn_was_begun x (item ∷ earlier) txn is = list_any-append (begins x) (notes_of earlier) (noted_in item) ∙ by (txn_of earlier x) refl is (txn_was_begun x earlier)
   where
     by : (o : Option ℕ) → txn_of earlier x ≡ o → or_else o (txn_in x item) ≡ Some txn → ((k : ℕ) → txn_of earlier x ≡ Some k → was_begun x earlier ≡ true)
         → (list_any (begins x) (notes_of earlier) || list_any (begins x) (noted_in item)) ≡ true

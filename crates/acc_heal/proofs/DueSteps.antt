@@ -1,12 +1,10 @@
 -- A due step leads a cluster that is being healed from one place to the next, or a limit ends its healing on the way.
-use Rattle.std.proofs.Common.{◌≡◌, ℕ, ◌+◌, ◌≤◌, Bool, true, false, List, [], ◌∷◌, ◌++◌, length, Some, refl, sym, ◌∙◌, ap, subst, arith, inr}
+use Rattle.std.proofs.Common.{◌≡◌, ℕ, ◌+◌, Bool, true, false, List, [], ◌∷◌, ◌++◌, length, Some, refl, sym, ◌∙◌, ap, subst, arith, inr}
 use Rattle.std.proofs.lemmas.List.{length-append}
 use Rattle.acc_ports.specs.declared.disk.Disk.{Ghosts}
 use Rattle.acc_message.specs.declared.error.Which.{Which}
 use Rattle.acc_message.specs.declared.error.RunError.{RunError}
 use Rattle.acc_message.specs.declared.error.RunError.TheVariants.{Limit, OutOfMemory}
-use Rattle.acc_message.specs.declared.item.Item.{Item}
-use Rattle.acc_safety.specs.Places.{IsPast, Whole, Behind}
 use Rattle.acc_schedule.specs.Content.{Content}
 use Rattle.acc_schedule.specs.declared.plan.Step.{Step}
 use Rattle.acc_schedule_runs.specs.Situations.{Situation, opened, whole}
@@ -25,6 +23,7 @@ use Rattle.acc_cluster.specs.declared.cluster.Cluster.{Cluster}
 use Rattle.acc_cluster.specs.Stands.{StandsFor, StandsStrictly}
 use Rattle.acc_cluster.proofs.Next.{EndsHere, EndsStrictlyHere}
 use Rattle.acc_cluster.specs.Steps.{StepsTo, StepsStrictly, IfLimit, EndsIn, EndsStrictlyIn}
+use Rattle.acc_delivered.proofs.Asked.{past_length}
 use Rattle.acc_heal_laws.specs.Stages.{due, stage_after}
 use Rattle.acc_heal_laws.specs.Healings.{Standing, Goes, due_at, moving_with, beginning, moving_strictly, beginning_strictly}
 use Rattle.acc_heal_laws.specs.FrontLaws.{GoesOneStepMore, AnswersCountAtItems}
@@ -37,10 +36,6 @@ pub record StepByStep : Type 0 where
   pub step : (plan : Content) (answers : Answers) → GoesOneStepMore (moving_with plan answers)
   pub strictly : (plan : Content) → GoesOneStepMore (moving_strictly plan)
   pub answers : AnswersCountAtItems
-
-past_length : (past items : List Item) → IsPast past items → length past ≤ length items
-past_length past items (Whole xs) = omega arith
-past_length past items (Behind item ys xs there) = omega (arith, past_length ys xs there)
 
 module _ {D : Type 0} (port : Ghosts D) (plan : Content) where
   -- the whole past is what the cluster entered itself

@@ -1,5 +1,6 @@
 pub mod DueSteps
 pub mod SeenFacts
+pub mod Marks
 pub mod Turning
 pub mod BegunFacts
 pub mod ActorSets

@@ -1,10 +1,12 @@
 -- What the tables of items tell with one item more.
-use Rattle.std.proofs.Common.{◌≡◌, ℕ, zero, suc, ◌+◌, ◌<◌, ◌≤◌, ◌==◌, ◌&&◌, ◌||◌, Bool, true, false, cond, List, [], ◌∷◌, ◌++◌, length, length-take-le, take, reverse, Option, None, Some, is_some, refl, sym, ◌∙◌, ap, arith}
+use Rattle.std.proofs.Common.{◌≡◌, ℕ, suc, ◌+◌, ◌&&◌, ◌||◌, Bool, true, false, cond, List, ◌∷◌, ◌++◌, length, map, take, reverse, Option, None, Some, is_some, refl, sym, ◌∙◌, ap, arith}
 use Rattle.std.specs.List.{list_any, slice_get}
-use Rattle.std.specs.Option.{option_map}
+use Rattle.std.specs.Option.{option_flatten, option_map}
 use Rattle.std.specs.Ordering.{is_eq}
 use Rattle.std.proofs.lemmas.Bool.Decides.{nat_tests}
-use Rattle.std.proofs.lemmas.List.{length-append, reverse-append, reverse-reverse, length-reverse, take-append-le, take_all}
+use Rattle.std.proofs.lemmas.List.{map-append, reverse-append, reverse-reverse, length-reverse, take-append-le, take_all}
+use Rattle.std.proofs.lemmas.List.Folds.{list_any-append}
+use Rattle.std.proofs.lemmas.Option.{slice_get-map}
 use Rattle.acc_base.specs.Faults.{or_else}
 use Rattle.acc_stamp.specs.declared.stamps.TxnId.{TxnId}
 use Rattle.acc_stamp.specs.declared.stamps.Ballot.{Ballot}
@@ -24,9 +26,9 @@ use Rattle.acc_message.specs.Taken.{Taken}
 use Rattle.acc_message.specs.BallotRules.{kept_outcome, outcome_in}
 use Rattle.acc_message.specs.Run.{Cluster, act_of, recovers, deed_with, deed_if, deeds_of, taken_from, taken_of}
 use Rattle.acc_delivered.specs.Ends.{took_apply, is_ended, tells_ended}
-use Rattle.acc_delivered.proofs.OthersAlone.{any_append}
 use Rattle.acc_heal.specs.declared.seen.Seen.{Seen}
-use Rattle.acc_heal.specs.Seen.{applied_by, applied_in, apply_in, AreApplies, applied_with, is_id, taker_cmp, attempt_cmp, takes, takes_apply, takes_in, has_taker, has_attempt, Tells}
+use Rattle.acc_heal.specs.Applies.{applied_by, apply_at, AreApplies}
+use Rattle.acc_heal.specs.Seen.{is_id, taker_cmp, attempt_cmp, takes, takes_apply, takes_in, has_taker, has_attempt, Tells}
 
 -- ---- keys
 
@@ -45,63 +47,17 @@ one_key false false = refl
 
 -- ---- messages that were sent
 
-pub get_push : {X : Type 0} (xs : List X) (x : X) (n : ℕ) → slice_get (xs ++ x ∷ []) n ≡ cond (n == length xs) (Some x) (slice_get xs n)
-get_push [] x zero = refl
-get_push [] x (suc n) = ap (λ o. cond o (Some x) None) (sym (apart n))
-  where
-    apart : (n : ℕ) → (suc n == 0) ≡ false
-    apart n = grind (arith, nat_tests)
-get_push (y ∷ ys) x zero = ap (λ o. cond o (Some x) (Some y)) (sym (apart (length ys)))
-  where
-    apart : (n : ℕ) → (0 == suc n) ≡ false
-    apart n = grind (arith, nat_tests)
-get_push (y ∷ ys) x (suc n) = get_push ys x n ∙ ap (λ o. cond o (Some x) (slice_get ys n)) (same n (length ys))
-  where
-    same : (n k : ℕ) → (n == k) ≡ (suc n == suc k)
-    same n k = grind (arith, nat_tests)
+abbrev applied_in : Option Message → Option TxnId
+applied_in None = None
+applied_in (Some m) = applied_by m
 
-get_past : {X : Type 0} (xs : List X) → slice_get xs (length xs) ≡ None
-get_past [] = refl
-get_past (x ∷ xs) = get_past xs
-
--- a message that is no Apply adds no entry
-pub none_more : (entries : List (ℕ × TxnId)) (sent : List Message) (m : Message) → applied_by m ≡ None → AreApplies entries sent → AreApplies entries (sent ++ m ∷ [])
-none_more entries sent m none are number = by (number == length sent) refl
+apply_is : (applies : List (Option TxnId)) (sent : List Message) (number : ℕ) → AreApplies applies sent → apply_at applies number ≡ applied_in (slice_get sent number)
+apply_is applies sent number are =
+    ap (λ l. apply_at l number) are ∙ ap option_flatten (slice_get-map applied_by sent number) ∙ flat (slice_get sent number)
   where
-    by : (o : Bool) → (number == length sent) ≡ o → apply_in entries number ≡ applied_in (slice_get (sent ++ m ∷ []) number)
-    by true e =
-        are number ∙ ap (λ n. applied_in (slice_get sent n)) (is_length number (length sent) e) ∙ ap applied_in (get_past sent) ∙ sym none
-        ∙ sym (ap applied_in (get_push sent m number ∙ ap (λ o. cond o (Some m) (slice_get sent number)) e))
-      where
-        is_length : (n k : ℕ) → (n == k) ≡ true → n ≡ k
-        is_length n k h = grind (arith, nat_tests)
-    by false e = are number ∙ sym (ap applied_in (get_push sent m number ∙ ap (λ o. cond o (Some m) (slice_get sent number)) e))
-
--- an Apply adds its own
-pub one_more : (old new : List (ℕ × TxnId)) (sent : List Message) (m : Message) (id : TxnId) → applied_by m ≡ Some id
-    → ((n : ℕ) → apply_in new n ≡ cond (n == length sent) (Some id) (apply_in old n)) → AreApplies old sent → AreApplies new (sent ++ m ∷ [])
-one_more old new sent m id one put are number =
-    put number ∙ by (number == length sent) ∙ sym (ap applied_in (get_push sent m number))
-  where
-    by : (o : Bool) → cond o (Some id) (apply_in old number) ≡ applied_in (cond o (Some m) (slice_get sent number))
-    by true = sym one
-    by false = are number
-
-pub so_far_long : {X : Type 0} (sent out : List X) (i first number : ℕ) → first ≡ length sent → number ≡ first + i → i < length out
-    → number ≡ length (sent ++ take i out)
-so_far_long sent out i first number is place within =
-    place ∙ ap (λ n. n + i) is ∙ ap (λ n. length sent + n) (sym (length-take-le i out (low i (length out) within))) ∙ sym (length-append sent (take i out))
-  where
-    low : (n k : ℕ) → n < k → n ≤ k
-    low n k h = omega (arith, h)
-
-pub message_more : (old new : List (ℕ × TxnId)) (sent : List Message) (m : Message) (number : ℕ) → number ≡ length sent
-    → ((n : ℕ) → apply_in new n ≡ applied_with (applied_by m) number (apply_in old n) n) → AreApplies old sent → AreApplies new (sent ++ m ∷ [])
-message_more old new sent m number place put are = by (applied_by m) refl put
-  where
-    by : (o : Option TxnId) → applied_by m ≡ o → ((n : ℕ) → apply_in new n ≡ applied_with o number (apply_in old n) n) → AreApplies new (sent ++ m ∷ [])
-    by None is put = λ n. put n ∙ none_more old sent m is are n
-    by (Some id) is put = one_more old new sent m id is (λ n. put n ∙ ap (λ k. cond (n == k) (Some id) (apply_in old n)) place) are
+    flat : (o : Option Message) → option_flatten (option_map applied_by o) ≡ applied_in o
+    flat None = refl
+    flat (Some m) = refl
 
 -- ---- what stores took
 
@@ -139,7 +95,7 @@ module _ (cluster : Cluster) (x : TxnId) (a : Actor) (earlier : List Item) where
   past = taken_of cluster a earlier
 
   -- the entry of a, by its event
-  taken_now : (applies : List (ℕ × TxnId)) (e : Entry) → AreApplies applies (sent_of earlier) → (event : Event) → e.event ≡ event
+  taken_now : (applies : List (Option TxnId)) (e : Entry) → AreApplies applies (sent_of earlier) → (event : Event) → e.event ≡ event
       → is_some (kept_outcome (taken_from (deed_with (act_of cluster earlier event) e.emitted ++ deeds_of cluster a earlier)) x) ≡ (is_some (kept_outcome past x) || takes applies event x)
   taken_now applies e are (Begin txn) is = by (slice_get cluster.bodies txn)
     where
@@ -161,7 +117,7 @@ module _ (cluster : Cluster) (x : TxnId) (a : Actor) (earlier : List Item) where
       by None = or_false (is_some (kept_outcome past x))
       by (Some y) = or_false (is_some (kept_outcome past x))
   taken_now applies e are (Restart kept) is = or_false (is_some (kept_outcome past x))
-  taken_now applies e are (TakesMessage number) is = by (message_at earlier number) ∙ ap (λ o. is_some (kept_outcome past x) || is_id o x) (sym (are number))
+  taken_now applies e are (TakesMessage number) is = by (message_at earlier number) ∙ ap (λ o. is_some (kept_outcome past x) || is_id o x) (sym (apply_is applies (sent_of earlier) number are))
     where
       by : (o : Option Message)
           → is_some (kept_outcome (taken_from (deed_with (option_map Takes o) e.emitted ++ deeds_of cluster a earlier)) x)
@@ -169,7 +125,7 @@ module _ (cluster : Cluster) (x : TxnId) (a : Actor) (earlier : List Item) where
       by None = or_false (is_some (kept_outcome past x))
       by (Some m) = some_or (kept_outcome past x) (outcome_in x m) ∙ ap (λ o. is_some (kept_outcome past x) || o) (outcome_is x m)
 
-  pub took_more : (applies : List (ℕ × TxnId)) (e : Entry) → AreApplies applies (sent_of earlier)
+  pub took_more : (applies : List (Option TxnId)) (e : Entry) → AreApplies applies (sent_of earlier)
       → took_apply cluster (Step e ∷ earlier) x a ≡ (took_apply cluster earlier x a || takes_apply applies e.actor e.event x a)
   took_more applies e are = by (same_actor e.actor a)
     where
@@ -178,7 +134,7 @@ module _ (cluster : Cluster) (x : TxnId) (a : Actor) (earlier : List Item) where
       by true = taken_now applies e are e.event refl
       by false = or_false (is_some (kept_outcome past x))
 
-  pub took_with : (applies : List (ℕ × TxnId)) (item : Item) → AreApplies applies (sent_of earlier)
+  pub took_with : (applies : List (Option TxnId)) (item : Item) → AreApplies applies (sent_of earlier)
       → took_apply cluster (item ∷ earlier) x a ≡ (took_apply cluster earlier x a || takes_in applies item x a)
   took_with applies (Step e) are = took_more applies e are
   took_with applies (Skipped step cause) are = or_false (is_some (kept_outcome past x))
@@ -188,23 +144,21 @@ module _ (cluster : Cluster) (x : TxnId) (a : Actor) (earlier : List Item) where
 
 pub ended_more : (x : TxnId) (b : Ballot) (item : Item) (earlier : List Item)
     → is_ended x b (item ∷ earlier) ≡ (is_ended x b earlier || list_any (tells_ended x b) (noted_in item))
-ended_more x b item earlier = any_append (tells_ended x b) (notes_of earlier) (noted_in item)
+ended_more x b item earlier = list_any-append (tells_ended x b) (notes_of earlier) (noted_in item)
 
 -- ---- one item more
 
-pub one_item : (old new : Seen) (item : Item) (earlier : List Item) → new.items ≡ old.items + 1 → new.sent ≡ old.sent + length (sent_in item)
-    → ((sent : List Message) → old.sent ≡ length sent → AreApplies old.applies.entries sent → AreApplies new.applies.entries (sent ++ sent_in item))
-    → ((x : TxnId) (a : Actor) → has_taker new.taken.keys x a ≡ (has_taker old.taken.keys x a || takes_in old.applies.entries item x a))
+pub one_item : (old new : Seen) (item : Item) (earlier : List Item) → new.items ≡ old.items + 1 → new.applies ≡ old.applies ++ map applied_by (sent_in item)
+    → ((x : TxnId) (a : Actor) → has_taker new.taken.keys x a ≡ (has_taker old.taken.keys x a || takes_in old.applies item x a))
     → ((x : TxnId) (b : Ballot) → has_attempt new.ended.keys x b ≡ (has_attempt old.ended.keys x b || list_any (tells_ended x b) (noted_in item)))
     → Tells old earlier → Tells new (item ∷ earlier)
-one_item old new item earlier count sent applies taken ended tells =
+one_item old new item earlier count applies taken ended tells =
     record {
       count = count ∙ ap (λ n. n + 1) tells.count ∙ more (length earlier);
-      sent = sent ∙ ap (λ n. n + length (sent_in item)) tells.sent ∙ sym (length-append (sent_of earlier) (sent_in item));
-      applies = applies (sent_of earlier) tells.sent tells.applies;
+      applies = applies ∙ ap (λ l. l ++ map applied_by (sent_in item)) tells.applies ∙ sym (map-append applied_by (sent_of earlier) (sent_in item));
       taken = λ cluster x a.
-          taken x a ∙ ap (λ o. o || takes_in old.applies.entries item x a) (tells.taken cluster x a)
-          ∙ sym (took_with cluster x a earlier old.applies.entries item tells.applies);
+          taken x a ∙ ap (λ o. o || takes_in old.applies item x a) (tells.taken cluster x a)
+          ∙ sym (took_with cluster x a earlier old.applies item tells.applies);
       ended = λ x b. ended x b ∙ ap (λ o. o || list_any (tells_ended x b) (noted_in item)) (tells.ended x b) ∙ sym (ended_more x b item earlier);
     }
   where

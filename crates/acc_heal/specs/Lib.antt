@@ -1,4 +1,5 @@
 pub mod Actors
+pub mod Applies
 pub mod Seen
 pub mod Places
 pub mod Healed

@@ -1,8 +1,7 @@
 -- What items tell of outcomes that reached stores, and of attempts that were ended, as tables.
-use Rattle.std.specs.Prelude.{◌≡◌, ℕ, ◌==◌, ◌&&◌, if◌then◌else◌, Bool, false, List, ◌++◌, length, Option, None, Some}
-use Rattle.std.specs.List.{list_any, slice_get}
-use Rattle.std.specs.Map.{lookup}
-use Rattle.std.specs.Ordering.{nat_cmp, ordering_then}
+use Rattle.std.specs.Prelude.{◌≡◌, ◌&&◌, Bool, false, List, ◌++◌, length, Option, None, Some}
+use Rattle.std.specs.List.{list_any}
+use Rattle.std.specs.Ordering.{ordering_then}
 use Rattle.std.specs.declared.cmp.Ordering.{Ordering}
 use Rattle.std.specs.BTreeMap.{is_at}
 use Rattle.acc_stamp.specs.declared.stamps.TxnId.{TxnId}
@@ -10,8 +9,6 @@ use Rattle.acc_stamp.specs.declared.stamps.Ballot.{Ballot}
 use Rattle.acc_stamp.specs.declared.actors.Actor.{Actor}
 use Rattle.acc_stamp.specs.Actor.{actor_cmp}
 use Rattle.acc_stamp.specs.Stamp.{id_cmp, id_eq, ballot_cmp}
-use Rattle.acc_message.specs.declared.message.Message.{Message}
-use Rattle.acc_message.specs.declared.message.Message.TheVariants.{Apply}
 use Rattle.acc_message.specs.declared.item.Item.{Item}
 use Rattle.acc_message.specs.declared.entry.Event.{Event}
 use Rattle.acc_message.specs.declared.entry.Event.TheVariants.{Message as TakesMessage}
@@ -19,30 +16,10 @@ use Rattle.acc_message.specs.declared.item.Item.TheVariants.{Step, Skipped, Down
 use Rattle.acc_message.specs.Items.{same_actor, sent_of}
 use Rattle.acc_message.specs.Run.{Cluster}
 use Rattle.acc_delivered.specs.Ends.{took_apply, is_ended}
+use Rattle.acc_heal.specs.Applies.{apply_at, AreApplies}
 use Rattle.acc_heal.specs.declared.seen.Seen.{Seen}
 
--- the transaction of an Apply
-abbrev pub applied_by : Message → Option TxnId
-applied_by (Apply from to id ballot body t deps outcome) = Some id
-applied_by _ = None
-
-abbrev pub applied_in : Option Message → Option TxnId
-applied_in None = None
-applied_in (Some m) = applied_by m
-
 -- ---- entries of the tables
-
-abbrev pub apply_in : List (ℕ × TxnId) → ℕ → Option TxnId
-apply_in entries number = lookup (is_at (nat_cmp number)) entries
-
--- the entries are the Applys among these messages, by their places
-abbrev pub AreApplies : List (ℕ × TxnId) → List Message → Type 0
-AreApplies entries sent = (number : ℕ) → apply_in entries number ≡ applied_in (slice_get sent number)
-
--- what stands at a place once the message with this number was entered, where it is an Apply of this transaction
-abbrev pub applied_with : Option TxnId → ℕ → Option TxnId → ℕ → Option TxnId
-applied_with None number before n = before
-applied_with (Some id) number before n = if n == number then Some id else before
 
 abbrev pub is_id : Option TxnId → TxnId → Bool
 is_id None x = false
@@ -60,16 +37,16 @@ attempt_cmp a b = ordering_then (id_cmp a.0 b.0) (ballot_cmp a.1 b.1)
 abbrev pub has_attempt : List (TxnId × Ballot) → TxnId → Ballot → Bool
 has_attempt keys x b = list_any (is_at (attempt_cmp (x, b))) keys
 
--- the actor a takes an Apply of x, where these entries have the Applys by their numbers
-abbrev pub takes : List (ℕ × TxnId) → Event → TxnId → Bool
-takes applies (TakesMessage number) x = is_id (apply_in applies number) x
+-- an actor takes an Apply of x, where these are the Applys by their numbers
+abbrev pub takes : List (Option TxnId) → Event → TxnId → Bool
+takes applies (TakesMessage number) x = is_id (apply_at applies number) x
 takes applies _ x = false
 
-abbrev pub takes_apply : List (ℕ × TxnId) → Actor → Event → TxnId → Actor → Bool
+abbrev pub takes_apply : List (Option TxnId) → Actor → Event → TxnId → Actor → Bool
 takes_apply applies actor event x a = same_actor actor a && takes applies event x
 
 -- the same of the actor's item
-abbrev pub takes_in : List (ℕ × TxnId) → Item → TxnId → Actor → Bool
+abbrev pub takes_in : List (Option TxnId) → Item → TxnId → Actor → Bool
 takes_in applies (Step e) x a = takes_apply applies e.actor e.event x a
 takes_in applies (Skipped step cause) x a = false
 takes_in applies (Down actor) x a = false
@@ -79,8 +56,7 @@ takes_in applies (Down actor) x a = false
 -- the tables are those of these items, the newest first
 pub record Tells (seen : Seen) (items : List Item) : Type 0 where
   pub count : seen.items ≡ length items
-  pub sent : seen.sent ≡ length (sent_of items)
-  pub applies : AreApplies seen.applies.entries (sent_of items)
+  pub applies : AreApplies seen.applies (sent_of items)
   pub taken : (cluster : Cluster) (x : TxnId) (a : Actor) → has_taker seen.taken.keys x a ≡ took_apply cluster items x a
   pub ended : (x : TxnId) (b : Ballot) → has_attempt seen.ended.keys x b ≡ is_ended x b items
 

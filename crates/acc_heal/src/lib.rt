@@ -1,6 +1,7 @@
 //! Healings: what losses, crashes and blocked recoveries left open is finished.
 #![tactic(auto)]
 
+mod applies;
 mod begun;
 mod healing;
 mod lacking;

@@ -1,5 +1,5 @@
 //! What items tell of outcomes that reached stores, and of attempts that were ended.
-ghost use Rattle.std.specs.Prelude.{◌≡◌, ◌+◌, ◌==◌, ◌&&◌, ◌||◌, ℕ, if◌then◌else◌, List, [], ◌∷◌, ◌++◌, length, reverse, Some, IfOk, OnOk};
+ghost use Rattle.std.specs.Prelude.{◌≡◌, ◌+◌, ◌&&◌, ◌||◌, List, [], ◌∷◌, reverse, IfOk, OnOk};
 ghost use Rattle.std.specs.List.{list_any};
 ghost use Rattle.acc_stamp.specs.declared.actors.Actor.{Actor as AnActor};
 ghost use Rattle.acc_stamp.specs.declared.stamps.Ballot.{Ballot as ABallot};
@@ -10,23 +10,23 @@ ghost use Rattle.acc_message.specs.declared.message.Message.{Message as AMessage
 ghost use Rattle.acc_message.specs.Items.{noted_in, same_actor, sent_in};
 ghost use Rattle.acc_message.specs.Shown.{with_sent};
 ghost use Rattle.acc_delivered.specs.Ends.{tells_ended};
-ghost use Rattle.acc_heal.specs.Seen.{apply_in, applied_by, applied_with, has_attempt, has_taker, takes_apply, takes_in, AreApplies, Tells, TellsOldest};
+ghost use Rattle.acc_heal.specs.Seen.{has_attempt, has_taker, takes_apply, takes_in, Tells, TellsOldest};
 
+use crate::applies::Applies;
 use acc_base::OutOfMemory;
 use acc_message::{Event, GrowingItems, Message, Note, Shown};
 use acc_stamp::{Actor, Ballot, TxnId};
 use std::alloc::Global;
-use std::collections::{BTreeMap, BTreeSet};
+use std::collections::BTreeSet;
 
 /// What the first items of a run tell of outcomes that reached stores, and of attempts that were ended. It grows with the items, each of
 /// which is gone over once.
 #[derive(Debug, Drop)]
 pub(crate) struct Seen {
-    // How many items they are, and how many messages these sent.
+    // How many items they are.
     items: usize,
-    sent: u64,
-    // The transactions of the Applys among these messages, by the messages' numbers.
-    applies: BTreeMap<u64, TxnId>,
+    // The Applys among the messages that these sent.
+    applies: Applies,
     // Who took an Apply of which transaction.
     taken: BTreeSet<(TxnId, Actor)>,
     // The attempts that a note tells to be ended.
@@ -40,8 +40,7 @@ impl Seen {
     {
         Seen {
             items: 0,
-            sent: 0,
-            applies: BTreeMap::new(alloc),
+            applies: Applies::new(alloc),
             taken: BTreeSet::new(alloc),
             ended: BTreeSet::new(alloc),
         }
@@ -77,18 +76,10 @@ impl Seen {
             Tells self.old earlier → Tells self.new (with_sent item.entry told ∷ earlier)) }
     {
         enter_step(&mut self.taken, &mut self.ended, &self.applies, item)?;
-        enter_sent(&mut self.applies, self.sent, out)?;
-        self.sent = sum(self.sent, out.len())?;
+        self.applies.extend(out)?;
         self.items = one_more(self.items)?;
         Ok(())
     }
-}
-
-// More messages than 64 bits count are more than memory holds.
-fn sum(sent: u64, more: usize) -> Result<u64, OutOfMemory>
-    ensures { IfOk result (λ sum. sum ≡ sent + more) }
-{
-    sent.checked_add(more as u64).ok_or(OutOfMemory)
 }
 
 // More items than an address counts are more than memory holds.
@@ -102,11 +93,11 @@ fn one_more(items: usize) -> Result<usize, OutOfMemory>
 fn enter_step(
     taken: &mut BTreeSet<(TxnId, Actor)>,
     ended: &mut BTreeSet<(TxnId, Ballot)>,
-    applies: &BTreeMap<u64, TxnId>,
+    applies: &Applies,
     item: Shown<'_>,
 ) -> Result<(), OutOfMemory>
     ensures taken { OnOk result ((told : List AMessage) (x : AnId) (a : AnActor) →
-        has_taker taken.new.keys x a ≡ (has_taker taken.old.keys x a || takes_in applies.now.entries (with_sent item.entry told) x a)) }
+        has_taker taken.new.keys x a ≡ (has_taker taken.old.keys x a || takes_in applies.now (with_sent item.entry told) x a)) }
     ensures ended { OnOk result ((told : List AMessage) (x : AnId) (b : ABallot) →
         has_attempt ended.new.keys x b ≡ (has_attempt ended.old.keys x b || list_any (tells_ended x b) (noted_in (with_sent item.entry told)))) }
 {
@@ -126,16 +117,16 @@ fn enter_step(
 // Enters what an actor takes, if it is an Apply.
 fn enter_take(
     taken: &mut BTreeSet<(TxnId, Actor)>,
-    applies: &BTreeMap<u64, TxnId>,
+    applies: &Applies,
     actor: Actor,
     event: Event,
 ) -> Result<(), OutOfMemory>
     ensures { OnOk result ((x : AnId) (a : AnActor) →
-        has_taker taken.new.keys x a ≡ (has_taker taken.old.keys x a || takes_apply applies.now.entries actor event x a)) }
+        has_taker taken.new.keys x a ≡ (has_taker taken.old.keys x a || takes_apply applies.now actor event x a)) }
 {
     if let Event::Message { number } = event {
-        if let Some(id) = applies.get(&number) {
-            insert_taker(taken, *id, actor)?;
+        if let Some(id) = applies.get(number) {
+            insert_taker(taken, id, actor)?;
         }
     }
     Ok(())
@@ -150,23 +141,6 @@ fn enter_notes(ended: &mut BTreeSet<(TxnId, Ballot)>, notes: &[Note]) -> Result<
         if let Note::Ended { id, ballot, .. } = note {
             insert_attempt(ended, *id, *ballot)?;
         }
-    }
-    Ok(())
-}
-
-// Enters the Applys among these messages, of which the first has this number.
-fn enter_sent(
-    applies: &mut BTreeMap<u64, TxnId>,
-    first: u64,
-    out: &[Message],
-) -> Result<(), OutOfMemory>
-    ensures { OnOk result ((sent : List AMessage) → first ≡ length sent → AreApplies applies.old.entries sent →
-        AreApplies applies.new.entries (sent ++ out.now)) }
-{
-    let mut number = first;
-    for message in out {
-        enter_message(applies, number, message)?;
-        number = sum(number, 1)?;
     }
     Ok(())
 }
@@ -194,31 +168,5 @@ fn insert_attempt(
         has_attempt ended.new.keys x b ≡ (has_attempt ended.old.keys x b || (id_eq id x && ballot_eq ballot b))) }
 {
     ended.insert((id, ballot))?;
-    Ok(())
-}
-
-// Enters the message with this number, if it is an Apply.
-fn enter_message(
-    applies: &mut BTreeMap<u64, TxnId>,
-    number: u64,
-    message: &Message,
-) -> Result<(), OutOfMemory>
-    ensures { OnOk result ((n : ℕ) → apply_in applies.new.entries n ≡ applied_with (applied_by message.now) number (apply_in applies.old.entries n) n) }
-{
-    if let Message::Apply { id, .. } = message {
-        insert_apply(applies, number, *id)?;
-    }
-    Ok(())
-}
-
-// Enters the Apply with this number.
-fn insert_apply(
-    applies: &mut BTreeMap<u64, TxnId>,
-    number: u64,
-    id: TxnId,
-) -> Result<(), OutOfMemory>
-    ensures { OnOk result ((n : ℕ) → apply_in applies.new.entries n ≡ (if n == number then Some id else apply_in applies.old.entries n)) }
-{
-    applies.insert(number, id)?;
     Ok(())
 }

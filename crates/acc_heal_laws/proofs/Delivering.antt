@@ -5,6 +5,7 @@ use Rattle.std.specs.Prelude.{nat_lt, ◌==◌, Contains}
 use Rattle.std.proofs.lemmas.Bool.{true≢false, and_parts, and_from, or_cases, eqb-true}
 use Rattle.std.proofs.lemmas.List.{append_assoc, length-append}
 use Rattle.std.proofs.lemmas.Option.{slice_get_within}
+use Rattle.std.proofs.lemmas.List.Folds.{list_any-append}
 use Rattle.acc_stamp.specs.declared.actors.Actor.{Actor}
 use Rattle.acc_topology.specs.Sets.{is_among}
 use Rattle.acc_message.specs.declared.message.Message.{Message}
@@ -34,7 +35,6 @@ use Rattle.acc_delivered.specs.Stretches.{item_takes_from, TakesAll}
 use Rattle.acc_delivered.specs.Rounds.{is_delivery}
 use Rattle.acc_delivered.proofs.Asked.{past_length, place_length}
 use Rattle.acc_delivered.proofs.Deliveries.{place_cases}
-use Rattle.acc_delivered.proofs.OthersAlone.{any_append}
 use Rattle.acc_heal_laws.proofs.Growing.{GoesTo, tried_goes, drained_goes}
 
 -- ---- places
@@ -294,7 +294,7 @@ module _ (cluster : Cluster) (bound final later : List Item) (final_is : final �
           ⊎_elim (λ new. new)
           (λ old. absurd (true≢false (sym old ∙ none_taken cluster s.own number (EachStands-past cluster s.own final inside standing.stands) least)))
           (or_cases (list_any (item_takes number) items) (list_any (item_takes number) s.own)
-          (sym (any_append (item_takes number) items s.own) ∙ ap (list_any (item_takes number)) (sym own_is) ∙ taken))
+          (sym (list_any-append (item_takes number) items s.own) ∙ ap (list_any (item_takes number)) (sym own_is) ∙ taken))
       by (inr rest) =
           ⊎_elim (λ was_dropped. absurd (late (sane.drops number (subst (λ l. is_among l number ≡ true) dropped was_dropped)) least))
           (λ lost. absurd (true≢false (sym lost ∙ ap (λ l. is_sent_lost l number) own_is ∙ none_lost items s.own number kept least within)))

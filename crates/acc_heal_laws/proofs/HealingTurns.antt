@@ -1,6 +1,6 @@
 -- A healing in which nobody goes down gives each transaction that was begun its turn.
 use Rattle.std.proofs.Common.{◌≡◌, ℕ, zero, suc, ◌+◌, ◌<◌, ◌≤◌, Bool, true, false, not, cond, List, [], ◌∷◌, ◌++◌, length, Option, None, Some, refl, sym, ◌∙◌, ap, subst, arith, ⊎_elim}
-use Rattle.std.specs.List.{list_all}
+use Rattle.std.specs.List.{list_any, list_all}
 use Rattle.std.specs.Option.{option_map}
 use Rattle.std.specs.Prelude.{Contains, IsTrue}
 use Rattle.std.proofs.lemmas.Bool.{true≢false, and_parts}
@@ -52,11 +52,12 @@ use Rattle.acc_delivered.specs.Ends.{is_ended, took_apply}
 use Rattle.acc_heal_laws.specs.Stages.{Stage, Turns, EndsFirst, Repeats, EndsSecond, Turn, turn_or, turn_at, turn_step, recover_unless, all_took_apply, next_turn, reopening, due, newest_ballot, ballot_in, stage_of_turn, begun_ids}
 use Rattle.acc_heal_laws.specs.Healings.{Standing, Goes, standing_after, moving_with, beginning, IsHealing}
 use Rattle.acc_heal_laws.specs.Turned.{EachTookApply, Turned, NoneLeft, PassedOver, Once, Twice, HasTurned}
-use Rattle.acc_heal_laws.specs.Laws.{HealingTurns}
+use Rattle.acc_heal_laws.specs.Laws.{is_recover_of, IsHealingWithoutDowns, HealingTurns}
 use Rattle.acc_heal_laws.proofs.Growing.{GoesTo, next_goes, drained_goes, follows_goes}
 use Rattle.acc_heal_laws.proofs.Delivering.{IsSane, Through, drained, entered_sane, entered_through, tried_enters, all_through, all_taken, all_append}
 use Rattle.acc_heal_laws.proofs.Reopened.{each_reopens, down_is_reopened, goes_goes, reopens, TurnsBegin}
 use Rattle.acc_heal_laws.proofs.KnownSteps.{reopening_known}
+use Rattle.acc_heal_laws.proofs.Recovers.{few_none, few_nothing}
 use Rattle.acc_heal_laws.proofs.Numbers.{Numbered, numbered, numbered_past, NotesRecover, recover_notes}
 use Rattle.acc_heal_laws.proofs.SoundHealing.{one_step, is_turn, goes_sound}
 
@@ -66,6 +67,11 @@ pub past_begins : (past items : List Item) → IsPast past items → Begins past
 past_begins past items (Whole ys) = record { later = []; items_are = refl }
 past_begins past items (Behind item ys zs there) =
     let rest = past_begins ys zs there in record { later = item ∷ rest.later; items_are = ap (λ k. item ∷ k) rest.items_are }
+
+-- each transaction has its turn, and none is recovered before the turns
+pub record TurnedAlone (cluster : Cluster) (before items : List Item) : Type 0 where
+  pub turned : HasTurned cluster before items
+  pub none : (x : TxnId) → list_any (is_recover_of x) turned.begins.later ≡ false
 
 -- ---- turns that are passed over
 
@@ -354,14 +360,18 @@ module _ (plan : Content) (answers : Answers) (bound final later : List Item) (f
   walks (suc most) ids number steps s to few quiet inside g done = one_turn most (walks most) ids number steps s to few quiet inside g done
 
   pub walks_all : (to : Standing Situation) → TurnsBegin plan answers bound final later final_is nobody standing receivers to → IsPast to.at.own final
-      → IsDone to → HasTurned cluster bound to.at.own
+      → IsDone to → TurnedAlone cluster bound to.at.own
   walks_all to t inside done =
+      let begins : Begins bound t.quiet.own = past_begins bound t.quiet.own t.behind in
       record {
-        base = t.quiet.own;
-        begins = past_begins bound t.quiet.own t.behind;
-        turned =
-            walks (suc (length t.steps)) (begun_ids t.quiet.own) t.number t.steps t.quiet to (omega arith)
-            (record { sane = t.sane; through = t.through; behind = t.behind }) inside t.goes done;
+        turned = record {
+          base = t.quiet.own;
+          begins = begins;
+          turned =
+              walks (suc (length t.steps)) (begun_ids t.quiet.own) t.number t.steps t.quiet to (omega arith)
+              (record { sane = t.sane; through = t.through; behind = t.behind }) inside t.goes done;
+        };
+        none = λ x. few_nothing x bound t.quiet.own begins.later (t.few x) begins.items_are;
       }
 
 -- ---- all of it
@@ -399,21 +409,27 @@ healing_stands plan answers steps between last is_plan valid h =
           (sound_run (cluster_of plan) [] last comes.ends).stands;
     }
 
-pub healing_turns : ((plan : Content) → IsPlan plan → IsValidCluster (cluster_of plan))
-    → ((cluster : Cluster) (items : List Item) (number : ℕ) (m : Message) → IsStanding cluster items → message_at items number ≡ Some m → Contains (actors cluster.layout) (to_of m))
-    → ((layout : Layout) (node : ℕ) → IsTrue (is_among layout.nodes node) → Contains (actors layout) (actor_of node 0)) → HealingTurns
-healing_turns valid_of receivers nodes plan answers steps between last h =
-    let cluster : Cluster = cluster_of plan in
-    let valid = valid_of plan h.is_plan in
-    let todo : List Step = reopening plan (whole between) in
-    let to : Standing Situation = record { stage = h.healing.heals.stage; at = last } in
-    let first_sound = (healing_comes plan answers steps between last h.is_plan valid h.healing).starts in
-    let alone : whole between ≡ between.own = whole_alone between (sound_earlier cluster [] between first_sound) in
-    let standing : IsStanding cluster last.own = healing_stands plan answers steps between last h.is_plan valid h.healing in
-    let begin =
-    reopens plan answers between.own last.own h.later h.items_are h.nobody_down standing (receivers cluster) todo (length plan.steps) steps between to
-    (each_reopens plan (whole between)) (sound_earlier cluster [] between first_sound)
-    ((follows_goes cluster answers 0 plan.steps (opened []) between h.healing.follows).drops (λ n none. absurd (true≢false (sym none))))
-    (λ a there down. down_is_reopened plan (whole between) a there (ap (is_down a) alone ∙ down)) (Whole between.own) (Whole last.own) h.healing.heals.goes h.healing.heals.done in
-    walks_all plan answers between.own last.own h.later h.items_are h.nobody_down standing (receivers cluster) (nodes plan.topology) to begin (Whole last.own)
-    h.healing.heals.done
+module _ (valid_of : (plan : Content) → IsPlan plan → IsValidCluster (cluster_of plan))
+    (receivers : (cluster : Cluster) (items : List Item) (number : ℕ) (m : Message) → IsStanding cluster items → message_at items number ≡ Some m → Contains (actors cluster.layout) (to_of m))
+    (nodes : (layout : Layout) (node : ℕ) → IsTrue (is_among layout.nodes node) → Contains (actors layout) (actor_of node 0)) where
+  pub turned_alone : (plan : Content) (answers : Answers) (steps : List Step) (between last : Situation) → IsHealingWithoutDowns plan answers steps between last
+      → TurnedAlone (cluster_of plan) between.own last.own
+  turned_alone plan answers steps between last h =
+      let cluster : Cluster = cluster_of plan in
+      let valid = valid_of plan h.is_plan in
+      let todo : List Step = reopening plan (whole between) in
+      let to : Standing Situation = record { stage = h.healing.heals.stage; at = last } in
+      let first_sound = (healing_comes plan answers steps between last h.is_plan valid h.healing).starts in
+      let alone : whole between ≡ between.own = whole_alone between (sound_earlier cluster [] between first_sound) in
+      let standing : IsStanding cluster last.own = healing_stands plan answers steps between last h.is_plan valid h.healing in
+      let begin =
+      reopens plan answers between.own last.own h.later h.items_are h.nobody_down standing (receivers cluster) todo (length plan.steps) steps between to
+      (each_reopens plan (whole between)) (sound_earlier cluster [] between first_sound)
+      ((follows_goes cluster answers 0 plan.steps (opened []) between h.healing.follows).drops (λ n none. absurd (true≢false (sym none))))
+      (λ a there down. down_is_reopened plan (whole between) a there (ap (is_down a) alone ∙ down)) (Whole between.own) (Whole last.own)
+      (λ x. few_none x between.own between.own refl) h.healing.heals.goes h.healing.heals.done in
+      walks_all plan answers between.own last.own h.later h.items_are h.nobody_down standing (receivers cluster) (nodes plan.topology) to begin (Whole last.own)
+      h.healing.heals.done
+
+  pub healing_turns : HealingTurns
+  healing_turns plan answers steps between last h = (turned_alone plan answers steps between last h).turned

@@ -10,6 +10,7 @@ pub mod KnownSteps
 pub mod SoundHealing
 pub mod HealingTurns
 pub mod Healed
+pub mod HealedNotes
 pub mod Alike
 pub mod GoesOn
 pub mod Stepwise

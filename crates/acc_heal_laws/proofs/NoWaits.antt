@@ -32,7 +32,8 @@ use Rattle.acc_delivered.specs.Laws.{HasWaited, BlockedHaveWaited}
 use Rattle.acc_delivered.proofs.Started.{sent_later}
 use Rattle.acc_delivered.proofs.AskedStores.{asked_store}
 use Rattle.acc_heal_laws.specs.Laws.{WasStable, OfEachBegun, RoundsAreNotBlocked}
-use Rattle.acc_heal_laws.proofs.StableApplied.{body_was_begun, some_of}
+use Rattle.acc_safety_laws.proofs.Parts.{body_is_begun}
+use Rattle.acc_heal_laws.proofs.StableApplied.{some_of}
 
 -- what is stable stays so
 pub stable_still : (past history : List Taken) (x : TxnId) (s : Settled) → IsPast past history → stable_of past x ≡ Some s → stable_of history x ≡ Some s
@@ -82,7 +83,7 @@ module _ (cluster : Cluster) (base ds : List Item) (e : Entry) (x : TxnId) (b : 
     never : ⊥
     never =
         let was = some_of (stable_of (taken_of cluster w.store base) w.awaited)
-        (stable w.awaited (body_was_begun cluster whole w.awaited w.their_body w.their_body_is) w.older w.their_body w.store w.their_body_is store_of) in
+        (stable w.awaited (body_is_begun cluster whole w.awaited w.their_body w.their_body_is) w.older w.their_body w.store w.their_body_is store_of) in
         let now = stable_still (taken_of cluster w.store base) w.past w.awaited was.0 base_past was.1 in
         true≢false
         (sym (and_parts (accepted_above x w.awaited (accepted_of w.past w.awaited)) (is_none (stable_of w.past w.awaited)) w.waits).1 ∙ ap is_none now)

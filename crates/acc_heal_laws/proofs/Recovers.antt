@@ -1,9 +1,9 @@
 -- What steps of a healing add to the recovers of one transaction: a turn one at most, at the node of its id, and any other step none.
-use Rattle.std.proofs.Common.{◌≡◌, ℕ, ◌+◌, ◌≤◌, Bool, true, false, not, ◌&&◌, ◌||◌, cond, List, [], ◌∷◌, ◌++◌, length, Option, None, Some, refl, sym, ◌∙◌, ap, subst, arith, length-append}
+use Rattle.std.proofs.Common.{◌≡◌, ℕ, suc, ◌+◌, ◌≤◌, Bool, true, false, not, ◌&&◌, ◌||◌, cond, List, [], ◌∷◌, ◌++◌, length, Option, None, Some, refl, sym, ◌∙◌, ap, subst, arith, length-append}
 use Rattle.std.specs.Prelude.{filter}
 use Rattle.std.specs.List.{list_any, slice_get, AllByRecursion}
 use Rattle.std.specs.Option.{option_map}
-use Rattle.std.proofs.lemmas.List.{append_assoc}
+use Rattle.std.proofs.lemmas.List.{append_assoc, append_cancel_right}
 use Rattle.std.proofs.lemmas.List.Elements.{filter-append}
 use Rattle.acc_stamp.specs.declared.stamps.TxnId.{TxnId}
 use Rattle.acc_stamp.specs.declared.actors.Actor.{Actor}
@@ -36,7 +36,12 @@ use Rattle.acc_schedule.specs.declared.plan.Step.TheVariants.{Begin, Deliver, Dr
 use Rattle.acc_schedule_runs.specs.Situations.{Situation, whole, receiver_in}
 use Rattle.acc_schedule_runs.specs.Moves.{Answers, fails_in, is_journalled, event_in, entry_of, entered, entered_all, tried_if, tried, stepped_unless, recover_skip, kept_if, with_kept, reopened, restarted_if, Drains, stops, delivers, IsNext}
 use Rattle.acc_heal_laws.specs.Laws.{recovers_it, is_recover_of, is_at_home}
-use Rattle.acc_heal_laws.proofs.Reopened.{IsReopen}
+
+-- a step of a reopening
+abbrev pub IsReopen : Step → Type 0
+IsReopen (Restart actor choice) = Unit {0}
+IsReopen (Fail actor calls) = Unit {0}
+IsReopen _ = ⊥
 
 module _ (x : TxnId) where
   -- ---- so many recovers of it
@@ -92,6 +97,23 @@ module _ (x : TxnId) where
             few = subst (λ l. length l ≤ 1) (sym one) (omega arith);
             home = subst (AllByRecursion (is_at_home x)) (sym one) (home, tt);
           }
+
+  -- what was added has no recover of x
+  pub few_nothing : (before after later : List Item) → AddsFew 0 before after → after ≡ later ++ before → list_any (is_recover_of x) later ≡ false
+  few_nothing before after later a is =
+      subst (λ l. list_any (is_recover_of x) l ≡ false) (append_cancel_right a.later later before (sym a.items_are ∙ is)) (none a.later a.few)
+    where
+      none : (items : List Item) → length (filter (is_recover_of x) items) ≤ 0 → list_any (is_recover_of x) items ≡ false
+      none [] few = refl
+      none (item ∷ items) few = by (is_recover_of x item) few (none items)
+        where
+          never : {n : ℕ} → suc n ≤ 0 → ⊥
+          never h = omega (arith, h)
+
+          by : (o : Bool) → length (cond o (item ∷ filter (is_recover_of x) items) (filter (is_recover_of x) items)) ≤ 0
+              → (length (filter (is_recover_of x) items) ≤ 0 → list_any (is_recover_of x) items ≡ false) → (o || list_any (is_recover_of x) items) ≡ false
+          by true h rest = absurd (never h)
+          by false h rest = rest h
 
   -- how often x is y
   abbrev pub one_of : TxnId → ℕ

@@ -3,6 +3,7 @@ use Rattle.std.proofs.Common.{◌≡◌, ℕ, ◌+◌, ◌<◌, Bool, true, fals
 use Rattle.std.specs.List.{filter_map, cons_option}
 use Rattle.std.specs.Prelude.{nat_lt, Contains, if◌then◌else◌}
 use Rattle.std.proofs.lemmas.Bool.{true≢false, and_parts, cases_Bool}
+use Rattle.acc_stamp.specs.declared.stamps.TxnId.{TxnId}
 use Rattle.acc_stamp.specs.declared.actors.Actor.{Actor}
 use Rattle.acc_stamp.specs.Rising.{rising_with, rising_union}
 use Rattle.acc_topology.specs.Sets.{is_among}
@@ -29,6 +30,7 @@ use Rattle.acc_pasts.proofs.Situations.{whole_alone}
 use Rattle.acc_heal_laws.specs.Stages.{Reopens, Turns, actor_lt, actors_rising, is_armed, step_of_armed, calls_let_pass, reopening_step, reopening, begun_ids, due}
 use Rattle.acc_heal_laws.specs.Healings.{Standing, Moving, standing_after, Goes, moving_with}
 use Rattle.acc_heal_laws.proofs.Growing.{GoesTo, stays_there, goes_trans, next_goes}
+use Rattle.acc_heal_laws.proofs.Recovers.{IsReopen, AddsFew, few_chain, drain_few, reopen_few}
 use Rattle.acc_heal_laws.proofs.Delivering.{no_down, IsSane, Through, drained, all_through}
 
 -- ---- lists
@@ -79,11 +81,6 @@ mapped_in f a step (x ∷ xs) there is =
     by (Some k) h = Later step k (filter_map f xs) h
 
 -- ---- steps of a reopening
-
-abbrev pub IsReopen : Step → Type 0
-IsReopen (Restart actor choice) = Unit {0}
-IsReopen (Fail actor calls) = Unit {0}
-IsReopen _ = ⊥
 
 armed_reopens : (a : Actor) → IsReopen (step_of_armed a)
 armed_reopens a = by (is_node a)
@@ -200,6 +197,7 @@ module _ (plan : Content) (answers : Answers) (bound final later : List Item) (f
     pub sane : IsSane cluster bound final later final_is nobody standing receivers quiet
     pub through : Through cluster bound final later final_is nobody standing receivers quiet (length (sent_of quiet.own))
     pub behind : IsPast bound quiet.own
+    pub few : (x : TxnId) → AddsFew x 0 bound quiet.own
 
   no_step : (step : Step) → Some step ≡ None → ⊥
   no_step step e = cc
@@ -209,12 +207,12 @@ module _ (plan : Content) (answers : Answers) (bound final later : List Item) (f
 
   pub reopens : (todo : List Step) (number : ℕ) (steps : List Step) (s : Situation) (to : Standing Situation) → ((step : Step) → IsIn step todo → IsReopen step)
       → s.earlier ≡ [] → ((n : ℕ) → is_among s.dropped n ≡ true → n < length (sent_of s.own)) → Pending todo s → IsPast bound s.own → IsPast to.at.own final
-      → Goes moving number steps (record { stage = Reopens todo; at = s }) to → due cluster to.stage (whole to.at) ≡ None → TurnsBegin to
-  reopens [] number [] s to each earlier drops pending behind inside g done =
+      → ((x : TxnId) → AddsFew x 0 bound s.own) → Goes moving number steps (record { stage = Reopens todo; at = s }) to → due cluster to.stage (whole to.at) ≡ None → TurnsBegin to
+  reopens [] number [] s to each earlier drops pending behind inside few g done =
       absurd (no_step Drain (subst (λ (k : Standing Situation). due cluster k.stage (whole k.at) ≡ None) g done))
-  reopens (r ∷ todo) number [] s to each earlier drops pending behind inside g done =
+  reopens (r ∷ todo) number [] s to each earlier drops pending behind inside few g done =
       absurd (no_step r (subst (λ (k : Standing Situation). due cluster k.stage (whole k.at) ≡ None) g done))
-  reopens [] number (step ∷ steps) s to each earlier drops pending behind inside g done =
+  reopens [] number (step ∷ steps) s to each earlier drops pending behind inside few g done =
       let next : Situation = g.0 in
       let is_next : IsNext cluster answers number Drain s next = subst (λ k. IsNext cluster answers number k s next) (sym (same_step Drain step g.1)) g.2 in
       let sane : IsSane cluster bound final later final_is nobody standing receivers s = record {
@@ -233,6 +231,7 @@ module _ (plan : Content) (answers : Answers) (bound final later : List Item) (f
         sane = d.sane;
         through = all_through cluster bound final later final_is nobody standing receivers next d.sane next_inside d.none;
         behind = IsPast-trans bound s.own next.own behind (next_goes cluster answers number Drain s next is_next).grows;
+        few = λ x. few_chain x 0 0 bound s.own next.own (few x) (drain_few x cluster answers next s is_next);
       }
     where
       never : {n : ℕ} → n < 0 → ⊥
@@ -241,11 +240,12 @@ module _ (plan : Content) (answers : Answers) (bound final later : List Item) (f
       nobody_left : (a : Actor) → Contains (actors plan.topology) a → (is_down a s.own ≡ true) ⊎ (is_down a s.own ≡ false) → is_down a s.own ≡ false
       nobody_left a there (inl down) = elim (pending a there down) [ ]
       nobody_left a there (inr up) = up
-  reopens (r ∷ todo) number (step ∷ steps) s to each earlier drops pending behind inside g done =
+  reopens (r ∷ todo) number (step ∷ steps) s to each earlier drops pending behind inside few g done =
       let next : Situation = g.0 in
       let is_next : IsNext cluster answers number r s next = subst (λ k. IsNext cluster answers number k s next) (sym (same_step r step g.1)) g.2 in
       let one = next_goes cluster answers number r s next is_next in
       let next_inside : IsPast next.own final = IsPast-trans next.own to.at.own final (goes_goes plan answers (number + 1) steps (standing_after moving (record { stage = Reopens (r ∷ todo); at = s }) next) to g.3).grows inside in
       reopens todo (number + 1) steps next to (λ k there. each k (Later k r todo there)) (one.earlier_is ∙ earlier) (one.drops drops)
       (next_pending number r s next todo (each r (First r todo)) is_next behind next_inside pending)
-      (IsPast-trans bound s.own next.own behind one.grows) inside g.3 done
+      (IsPast-trans bound s.own next.own behind one.grows) inside
+      (λ x. few_chain x 0 0 bound s.own next.own (few x) (reopen_few x cluster answers number r s next (each r (First r todo)) is_next)) g.3 done

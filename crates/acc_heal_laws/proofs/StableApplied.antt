@@ -1,10 +1,7 @@
 -- Where each transaction is stable at its stores, and these take its Apply once all of them have opened it, it is applied at each. By the
 -- timestamps: what has the least one that isn't applied waits for nothing.
-use Rattle.std.proofs.Common.{◌≡◌, ℕ, Bool, true, false, cond, List, [], ◌∷◌, ◌++◌, Option, None, Some, is_some, refl, sym, ◌∙◌, ap, subst}
-use Rattle.std.proofs.lemmas.Bool.{true≢false, and_from, or_left, or_right}
-use Rattle.std.specs.List.{list_any}
-use Rattle.std.specs.Prelude.{◌||◌}
-use Rattle.acc_base.specs.Faults.{or_else}
+use Rattle.std.proofs.Common.{◌≡◌, true, false, List, Option, None, Some, is_some, refl, sym, ◌∙◌, ap, subst}
+use Rattle.std.proofs.lemmas.Bool.{true≢false, and_from}
 use Rattle.acc_stamp.specs.declared.stamps.Stamp.{Stamp}
 use Rattle.acc_stamp.specs.declared.stamps.TxnId.{TxnId}
 use Rattle.acc_stamp.specs.declared.actors.Actor.{Actor}
@@ -16,14 +13,10 @@ use Rattle.acc_deps.specs.declared.records.Settled.{Settled}
 use Rattle.acc_deps.specs.Deps.{of_shard}
 use Rattle.acc_txn.specs.declared.parts.BodyParts.{BodyParts}
 use Rattle.acc_message.specs.declared.item.Item.{Item}
-use Rattle.acc_message.specs.declared.item.Item.TheVariants.{Step, Skipped, Down}
-use Rattle.acc_message.specs.Items.{begins, noted_in, notes_of, txn_in, txn_of, txn_begun}
 use Rattle.acc_message.specs.Shares.{shards_used, stores_of_shard, stores_used}
 use Rattle.acc_message.specs.BallotRules.{stable_of, kept_outcome}
 use Rattle.acc_message.specs.Opening.{is_opened}
 use Rattle.acc_message.specs.Run.{Cluster, taken_of, is_node}
-use Rattle.acc_actor_laws.proofs.Standing.{not_none}
-use Rattle.acc_safety.specs.Decisions.{body_at}
 use Rattle.acc_safety.specs.Places.{IsIn}
 use Rattle.acc_safety.specs.Polls.{IsBody}
 use Rattle.acc_safety.specs.Valid.{IsStanding}
@@ -35,48 +28,13 @@ use Rattle.acc_safety_laws.proofs.Commits.{commits_have_roots}
 use Rattle.acc_safety_laws.proofs.Decisions.{decisions_have_roots, records_have_roots}
 use Rattle.acc_safety_laws.specs.AgreementPremises.{Premises}
 use Rattle.acc_safety_laws.proofs.Agreed.{one_timestamp}
+use Rattle.acc_safety_laws.proofs.Parts.{body_is_begun}
 use Rattle.acc_calm.proofs.AllAnswered.{among_in}
 use Rattle.acc_calm.proofs.Undecided.{StorePlace, store_place}
 use Rattle.acc_calm.proofs.Named.{UsesShard, record_named}
 use Rattle.acc_calm.proofs.CalmRuns.{by_stamp, opened_from, committed_seen}
-use Rattle.acc_heal_laws.specs.Healed.{was_begun}
 use Rattle.acc_heal_laws.specs.Turned.{EachTookApply}
 use Rattle.acc_heal_laws.specs.Laws.{IsStableEverywhere, IsAppliedEverywhere, IsOpenedEverywhere, OfEachBegun, StableIsApplied}
-
--- ---- what has a body was begun
-
-list_any-append : {T : Type 0} (test : T → Bool) (xs ys : List T) → list_any test (xs ++ ys) ≡ (list_any test xs || list_any test ys)
-list_any-append test [] ys = refl
-list_any-append test (x ∷ xs) ys = ap (λ o. test x || o) (list_any-append test xs ys) ∙ assoc (test x) (list_any test xs) (list_any test ys)
-  where
-    assoc : (a b c : Bool) → (a || (b || c)) ≡ ((a || b) || c)
-    assoc true b c = refl
-    assoc false b c = refl
-
-txn_noted : (x : TxnId) (item : Item) (txn : ℕ) → txn_in x item ≡ Some txn → list_any (begins x) (noted_in item) ≡ true
-txn_noted x (Step e) txn is = by (list_any (begins x) e.emitted.notes) refl is
-  where
-    by : (o : Bool) → list_any (begins x) e.emitted.notes ≡ o → cond o (txn_begun e.event) None ≡ Some txn → list_any (begins x) e.emitted.notes ≡ true
-    by true now k = now
-    by false none k = absurd (not_none txn k)
-txn_noted x (Skipped step cause) txn is = absurd (not_none txn is)
-txn_noted x (Down actor) txn is = absurd (not_none txn is)
-
-txn_was_begun : (x : TxnId) (items : List Item) (txn : ℕ) → txn_of items x ≡ Some txn → was_begun x items ≡ true
-txn_was_begun x [] txn is = absurd (not_none txn is)
-txn_was_begun x (item ∷ earlier) txn is = list_any-append (begins x) (notes_of earlier) (noted_in item) ∙ by (txn_of earlier x) refl is (txn_was_begun x earlier)
-  where
-    by : (o : Option ℕ) → txn_of earlier x ≡ o → or_else o (txn_in x item) ≡ Some txn → ((k : ℕ) → txn_of earlier x ≡ Some k → was_begun x earlier ≡ true)
-        → (list_any (begins x) (notes_of earlier) || list_any (begins x) (noted_in item)) ≡ true
-    by None none now old = or_right (list_any (begins x) (notes_of earlier)) (list_any (begins x) (noted_in item)) (txn_noted x item txn now)
-    by (Some k) was now old = or_left (list_any (begins x) (notes_of earlier)) (list_any (begins x) (noted_in item)) (old k was)
-
-pub body_was_begun : (cluster : Cluster) (items : List Item) (x : TxnId) (body : BodyParts) → IsBody cluster items x body → was_begun x items ≡ true
-body_was_begun cluster items x body is = by (txn_of items x) refl is
-  where
-    by : (o : Option ℕ) → txn_of items x ≡ o → body_at cluster o ≡ Some body → was_begun x items ≡ true
-    by None none k = absurd (not_none body k)
-    by (Some txn) was k = txn_was_begun x items txn was
 
 pub some_of : {T : Type 0} (o : Option T) → is_some o ≡ true → (t : T) × (o ≡ Some t)
 some_of None h = absurd (true≢false (sym h))
@@ -107,7 +65,7 @@ module _ (cluster : Cluster) (items : List Item) (standing : IsStanding cluster 
 
   stable_there : (x : TxnId) (body : BodyParts) → IsBody cluster items x body → (a : Actor) → IsIn a (stores_used cluster.layout body)
       → (s : Settled) × (stable_of (taken_of cluster a items) x ≡ Some s)
-  stable_there x body is a there = some_of (stable_of (taken_of cluster a items) x) (stable x (body_was_begun cluster items x body is) body a is there)
+  stable_there x body is a there = some_of (stable_of (taken_of cluster a items) x) (stable x (body_is_begun cluster items x body is) body a is there)
 
   -- what is stable at this timestamp at one of its stores is opened there
   IsOpenedAt : Stamp → Type 0
@@ -130,7 +88,7 @@ module _ (cluster : Cluster) (items : List Item) (standing : IsStanding cluster 
       (λ y has. let u = uses y has in ap is_some (stable_there y u.body u.is a (store_of a body place y u)).1)
       (λ y theirs has their_is first.
       let u = uses y has in
-      finish y (body_was_begun cluster items y u.body u.is)
+      finish y (body_is_begun cluster items y u.body u.is)
       (λ parts store parts_is there_too.
       let s = stable_there y parts parts_is store there_too in
       less theirs.t (ap (stamp_lt theirs.t) (sym time) ∙ first) y parts store s.0 parts_is there_too s.1

@@ -10,6 +10,7 @@ use Rattle.acc_txn.specs.declared.outcome.Outcome.{Outcome}
 use Rattle.acc_message.specs.declared.message.Message.{Message}
 use Rattle.acc_message.specs.declared.message.Message.TheVariants.{Stable, Apply}
 use Rattle.std.specs.Prelude.{nat_lt}
+use Rattle.std.proofs.lemmas.List.Folds.{list_any-append}
 use Rattle.acc_base.specs.Faults.{or_else}
 use Rattle.acc_stamp.specs.declared.stamps.TxnId.{TxnId}
 use Rattle.acc_stamp.specs.declared.stamps.Ballot.{Ballot}
@@ -43,7 +44,6 @@ use Rattle.acc_safety_laws.proofs.Noted.{noting}
 use Rattle.acc_calm.proofs.ZeroBallots.{asked_with}
 use Rattle.acc_calm.proofs.Finished.{took_stable as taken_is_stable}
 use Rattle.acc_delivered.specs.Stretches.{TakesAll}
-use Rattle.acc_delivered.proofs.OthersAlone.{any_append}
 use Rattle.acc_heal_laws.specs.Healed.{was_begun}
 
 -- ---- bodies
@@ -184,7 +184,7 @@ stable_is_stable history x b h =
 -- the stretches after the base and after the middle are one
 pub takes_both : (base first later : List Item) → TakesAll base first → TakesAll (first ++ base) later → TakesAll base (later ++ first)
 takes_both base first later one two number from within =
-    any_append (item_takes number) later first
+    list_any-append (item_takes number) later first
     ∙ by (cases_Bool (nat_lt number (length (sent_of (first ++ base)))))
   where
     by : (nat_lt number (length (sent_of (first ++ base))) ≡ true) ⊎ (nat_lt number (length (sent_of (first ++ base))) ≡ false)

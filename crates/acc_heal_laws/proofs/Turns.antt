@@ -1,46 +1,70 @@
 -- Items in which each begun transaction has had its turn are healed: the induction over the turns.
-use Rattle.std.proofs.Common.{◌≡◌, ℕ, ◌<◌, ◌≤◌, Bool, true, false, ◌||◌, List, [], ◌∷◌, ◌++◌, is_some, refl, sym, ◌∙◌, ap, subst, arith, ◌⊎◌, inl, inr, ⊎_elim}
+use Rattle.std.proofs.Common.{◌≡◌, ℕ, ◌<◌, ◌≤◌, Bool, true, false, not, ◌||◌, List, [], ◌∷◌, ◌++◌, is_some, refl, sym, ◌∙◌, ap, subst, arith, ◌⊎◌, inl, inr, ⊎_elim}
 use Rattle.std.specs.List.{list_any, flat_map}
-use Rattle.std.proofs.lemmas.Bool.{true≢false, or_cases, or_left, or_right}
-use Rattle.std.proofs.lemmas.List.{append_assoc}
+use Rattle.std.proofs.lemmas.Bool.{true≢false, and_parts, and_from, or_cases, or_left, or_right}
+use Rattle.std.proofs.lemmas.List.{append_assoc, append_cancel_right}
+use Rattle.std.proofs.lemmas.List.Folds.{list_any-append}
 use Rattle.acc_stamp.specs.declared.stamps.TxnId.{TxnId}
 use Rattle.acc_stamp.specs.declared.stamps.Ballot.{Ballot}
+use Rattle.acc_stamp.specs.declared.actors.Actor.{Actor}
 use Rattle.acc_stamp.specs.Stamp.{id_eq, id_lt}
 use Rattle.acc_stamp.specs.Rising.{IsRisingBy, id_among}
 use Rattle.acc_stamp.proofs.Order.{id_order, eq_itself}
 use Rattle.acc_stamp.proofs.Rising.{is_among-below, is_among-union, IsRisingBy-union, each_weaker}
 use Rattle.acc_txn.specs.declared.parts.BodyParts.{BodyParts}
 use Rattle.acc_message.specs.declared.item.Item.{Item}
-use Rattle.acc_message.specs.declared.item.Item.TheVariants.{Step}
+use Rattle.acc_message.specs.declared.item.Item.TheVariants.{Step, Skipped, Down}
 use Rattle.acc_message.specs.declared.note.Note.{Note}
 use Rattle.acc_message.specs.declared.note.Note.TheVariants.{Begin as BeginNote, Recover as RecoverNote, Blocked, Ended, Decide, Outcome as OutcomeNote, Reply as ReplyNote}
-use Rattle.acc_message.specs.Items.{begins, notes_of}
+use Rattle.acc_message.specs.Items.{begins, notes_of, same_actor}
 use Rattle.acc_message.specs.Shares.{stores_used}
 use Rattle.acc_message.specs.BallotRules.{stable_of}
 use Rattle.acc_message.specs.Coordinator.{home_node}
-use Rattle.acc_message.specs.Run.{Cluster, taken_of}
+use Rattle.acc_message.specs.Run.{Cluster, taken_of, is_restart_event}
 use Rattle.acc_actor_laws.proofs.OpeningFacts.{some_is}
 use Rattle.acc_safety.specs.Places.{IsIn, IsPast, Whole}
 use Rattle.acc_safety.specs.Histories.{Sending}
 use Rattle.acc_safety.specs.Polls.{IsBody}
 use Rattle.acc_safety.specs.Valid.{IsStanding}
-use Rattle.acc_safety.proofs.PlaceOrder.{IsPast-trans, Contains-IsIn}
-use Rattle.acc_safety.proofs.Bridge.{EachStands-past, taken_of-past}
+use Rattle.acc_safety.proofs.PlaceOrder.{IsPast-trans, Contains-IsIn, passing, any_from}
+use Rattle.acc_safety.proofs.Bridge.{same_itself, EachStands-past, taken_of-past}
 use Rattle.acc_safety_laws.proofs.Within.{begun_has_store}
 use Rattle.acc_calm.proofs.ZeroBallots.{step_sending}
 use Rattle.acc_delivered.specs.Stretches.{TakesAll}
 use Rattle.acc_delivered.specs.Rounds.{IsRound}
-use Rattle.acc_delivered.specs.Ends.{disturbs, IsAttempt, is_ended, is_blocked, was_decided, had_outcome, IsDecidedAt, IsFinished}
-use Rattle.acc_delivered.specs.Laws.{AttemptsEnd, OpenedAttemptsFinish, RoundsStartOne, RoundsLeaveOthersAlone, SecondsAreNotEnded, AppliesAreTold}
+use Rattle.acc_delivered.specs.Ends.{starts, disturbs, IsAttempt, is_ended, is_blocked, was_decided, had_outcome, IsDecidedAt, IsFinished, KeepsClient, is_replied}
+use Rattle.acc_delivered.specs.Laws.{AttemptsEnd, OpenedAttemptsFinish, OpenedAttemptsReply, RoundsStartOne, RoundsLeaveOthersAlone, SecondsAreNotEnded, AppliesAreTold}
 use Rattle.acc_delivered.proofs.Deliveries.{append_is_past}
-use Rattle.acc_delivered.proofs.OthersAlone.{any_append, notes_append, none_both}
+use Rattle.acc_delivered.proofs.OthersAlone.{notes_append, none_both}
 use Rattle.acc_heal_laws.specs.Healed.{IsHealed, was_begun}
 use Rattle.acc_heal_laws.specs.Stages.{id_begun_by, begun_ids}
 use Rattle.acc_heal_laws.specs.Turned.{EachTookApply, Turned, NoneLeft, PassedOver, Once, Twice}
-use Rattle.acc_heal_laws.specs.Laws.{WasStable, IsStableEverywhere, IsOpenedEverywhere, OfEachBegun, RoundsAreNotBlocked, StableIsApplied, TurnedIsHealed}
+use Rattle.acc_heal_laws.specs.Laws.{WasStable, IsStableEverywhere, IsOpenedEverywhere, OfEachBegun, RoundsAreNotBlocked, StableIsApplied, TurnedIsHealed, recovers_it, is_recover_of}
 use Rattle.acc_heal_laws.proofs.StableApplied.{some_of, opened_everywhere}
 use Rattle.acc_heal_laws.proofs.NoWaits.{stable_still}
 use Rattle.acc_heal_laws.proofs.TurnFacts.{body_still, begun_has_body, outcome_still, took_apply_step, apply_is_stable, stable_is_stable, takes_both}
+
+-- a recover of y disturbs an attempt at y
+recover_starts : (y : TxnId) (note : Note) → recovers_it y note ≡ true → starts y note ≡ true
+recover_starts y (RecoverNote id ballot) h = h
+recover_starts y (BeginNote id) h = absurd (true≢false (sym h))
+recover_starts y (Blocked id ballot by) h = absurd (true≢false (sym h))
+recover_starts y (Ended id ballot by) h = absurd (true≢false (sym h))
+recover_starts y (Decide id t path deps) h = absurd (true≢false (sym h))
+recover_starts y (OutcomeNote id reply) h = absurd (true≢false (sym h))
+recover_starts y (ReplyNote id reply) h = absurd (true≢false (sym h))
+
+recover_disturbs : (y : TxnId) (item : Item) (items : List Item) → IsIn item items → is_recover_of y item ≡ true → ((c : Actor) → list_any (disturbs c y) items ≡ false) → ⊥
+recover_disturbs y (Skipped step cause) items there h none = true≢false (sym h)
+recover_disturbs y (Down actor) items there h none = true≢false (sym h)
+recover_disturbs y (Step e) items there h none =
+    let p = passing (recovers_it y) e.emitted.notes (and_parts (not e.lost) (list_any (recovers_it y) e.emitted.notes) h).1 in
+    true≢false
+    (sym (any_from (disturbs e.actor y) (Step e) items there
+    (and_from (same_actor e.actor e.actor) _ (same_itself e.actor)
+    (or_right (is_restart_event e.event) (list_any (starts y) e.emitted.notes)
+    (any_from (starts y) p.element e.emitted.notes p.there (recover_starts y p.element p.passes)))))
+    ∙ none e.actor)
 
 module _ (cluster : Cluster) (items : List Item) (standing : IsStanding cluster items) where
   stands_past : (base : List Item) → IsPast base items → IsStanding cluster base
@@ -75,6 +99,7 @@ module _ (cluster : Cluster) (items : List Item) (standing : IsStanding cluster 
   record Walked (ids : List TxnId) (base : List Item) : Type 0 where
     pub tail : Tail ids base
     pub outcomes : (y : TxnId) → id_among y ids ≡ true → TurnedOut y
+    pub attempts : (y : TxnId) → list_any (is_recover_of y) tail.later ≡ true → AttemptIn y
 
   none_left : Tail [] items
   none_left =
@@ -141,11 +166,11 @@ module _ (cluster : Cluster) (items : List Item) (standing : IsStanding cluster 
   begun_or y later base h none =
       ⊎_elim (λ old. old) (λ new. absurd (true≢false (sym new ∙ none)))
       (or_cases (was_begun y base) (list_any (begins y) (notes_of later))
-      (sym (any_append (begins y) (notes_of base) (notes_of later)) ∙ sym (ap (list_any (begins y)) (notes_append later base)) ∙ h))
+      (sym (list_any-append (begins y) (notes_of base) (notes_of later)) ∙ sym (ap (list_any (begins y)) (notes_append later base)) ∙ h))
 
   begun_more : (y : TxnId) (later base : List Item) → was_begun y base ≡ true → was_begun y (later ++ base) ≡ true
   begun_more y later base h =
-      ap (list_any (begins y)) (notes_append later base) ∙ any_append (begins y) (notes_of base) (notes_of later)
+      ap (list_any (begins y)) (notes_append later base) ∙ list_any-append (begins y) (notes_of base) (notes_of later)
       ∙ or_left (was_begun y base) (list_any (begins y) (notes_of later)) h
 
   module _ (waits : RoundsAreNotBlocked cluster) (ends : AttemptsEnd cluster) (seconds : SecondsAreNotEnded cluster) (starts_one : RoundsStartOne cluster)
@@ -240,8 +265,22 @@ module _ (cluster : Cluster) (items : List Item) (standing : IsStanding cluster 
         let before = begun_or y first base begun ((starts_one (home_node x) x b base first (stands_past (first ++ base) within) round).begins_none y) in
         stable_on base (first ++ base) (append_is_past first base) y (stable_later base (first ++ base) (append_is_past first base) within y before (stable y before none))
 
+    -- a recover behind the base is one of the round, or one of the tail's
+    recovered_in : (x : TxnId) (b : Ballot) (base first later : List Item) → IsStanding cluster (first ++ base) → IsRound (home_node x) x b base first → AttemptIn x
+        → ((y : TxnId) → list_any (is_recover_of y) later ≡ true → AttemptIn y) → (y : TxnId) → list_any (is_recover_of y) (later ++ first) ≡ true → AttemptIn y
+    recovered_in x b base first later stands round mine others y h =
+        ⊎_elim (others y) (λ now. by (id_eq x y) refl now)
+        (or_cases (list_any (is_recover_of y) later) (list_any (is_recover_of y) first) (sym (list_any-append (is_recover_of y) later first) ∙ h))
+      where
+        by : (o : Bool) → id_eq x y ≡ o → list_any (is_recover_of y) first ≡ true → AttemptIn y
+        by true same now = subst AttemptIn ((id_order.decides x y).0 same) mine
+        by false other now =
+            let p = passing (is_recover_of y) first now in
+            absurd (recover_disturbs y p.element first p.there p.passes (λ c. (starts_one (home_node x) x b base first stands round).disturbs_none c y other))
+
     walk : (ids : List TxnId) (base : List Item) → Turned cluster items ids base → IsRisingBy id_lt ids → BegunBefore ids base → StableBefore ids base → Walked ids base
-    walk ids base NoneLeft rising begun stable = record { tail = none_left; outcomes = λ y h. absurd (true≢false (sym h)) }
+    unfolding none_left round_tail
+    walk ids base NoneLeft rising begun stable = record { tail = none_left; outcomes = λ y h. absurd (true≢false (sym h)); attempts = λ y h. absurd (true≢false (sym h)) }
     walk ids base (PassedOver x rest old took more) rising begun stable =
         let within = turned_past rest base more in
         let mine = applied_stable base x took in
@@ -258,6 +297,7 @@ module _ (cluster : Cluster) (items : List Item) (standing : IsStanding cluster 
             begun = w.tail.begun;
           };
           outcomes = outcome_cases x rest (record { stable = on_items base within x x_begun mine; outcome = inl (applies_on base within x x_begun took) }) w.outcomes;
+          attempts = w.attempts;
         }
     walk ids base (Once x rest b old first round unended more) rising begun stable =
         let within = turned_past rest (first ++ base) more in
@@ -267,14 +307,16 @@ module _ (cluster : Cluster) (items : List Item) (standing : IsStanding cluster 
         let x_begun = begun_more x first base (begun x (or_left (id_eq x x) (id_among x rest) (eq_itself id_order x))) in
         let w = walk rest (first ++ base) more rising.1 (λ y h. begun_more y first base (begun y (or_right (id_eq x y) (id_among y rest) h)))
         (stable_cases x rest (first ++ base) mine (stable_behind x b base first (x ∷ rest) within round stable)) in
+        let attempt = attempt_in x b base first rest stands round w.tail (not_later x rest rising) unended unblocked in
         record {
           tail = round_tail x b base first rest (x ∷ rest) stands round w.tail (λ y none. not_among x y rest none);
           outcomes =
               outcome_cases x rest
               (record {
                 stable = on_items (first ++ base) within x x_begun mine;
-                outcome = inr (attempt_in x b base first rest stands round w.tail (not_later x rest rising) unended unblocked);
+                outcome = inr attempt;
               }) w.outcomes;
+          attempts = recovered_in x b base first w.tail.later stands round attempt w.attempts;
         }
     walk ids base (Twice x rest b c old first second one ended two more) rising begun stable =
         let within = turned_past rest (second ++ (first ++ base)) more in
@@ -290,14 +332,18 @@ module _ (cluster : Cluster) (items : List Item) (standing : IsStanding cluster 
         (λ y h. begun_more y second (first ++ base) (begun_more y first base (begun y (or_right (id_eq x y) (id_among y rest) h))))
         (stable_cases x rest (second ++ (first ++ base)) mine (stable_behind x c (first ++ base) second (x ∷ rest) within two stable_middle)) in
         let between = round_tail x c (first ++ base) second rest (x ∷ rest) stands two w.tail (λ y none. not_among x y rest none) in
+        let attempt = attempt_in x c (first ++ base) second rest stands two w.tail (not_later x rest rising) unended unblocked in
         record {
           tail = round_tail x b base first (x ∷ rest) (x ∷ rest) stands_middle one between (λ y none. ((not_among x y rest none).0, none));
           outcomes =
               outcome_cases x rest
               (record {
                 stable = on_items (second ++ (first ++ base)) within x x_begun mine;
-                outcome = inr (attempt_in x c (first ++ base) second rest stands two w.tail (not_later x rest rising) unended unblocked);
+                outcome = inr attempt;
               }) w.outcomes;
+          attempts =
+              recovered_in x b base first between.later stands_middle one attempt
+              (recovered_in x c (first ++ base) second w.tail.later stands two attempt w.attempts);
         }
 
 -- ---- the begun transactions
@@ -312,7 +358,7 @@ begun_among x (Decide id t path deps ∷ notes) = begun_among x notes
 begun_among x (OutcomeNote id reply ∷ notes) = begun_among x notes
 begun_among x (ReplyNote id reply ∷ notes) = begun_among x notes
 
-among_begun : (x : TxnId) (items : List Item) → id_among x (begun_ids items) ≡ was_begun x items
+pub among_begun : (x : TxnId) (items : List Item) → id_among x (begun_ids items) ≡ was_begun x items
 among_begun x items = is_among-union id_order x [] (flat_map id_begun_by (notes_of items)) ∙ begun_among x (notes_of items)
 
 module _ (cluster : Cluster) (waits : RoundsAreNotBlocked cluster) (applied : StableIsApplied cluster) (ends : AttemptsEnd cluster) (finish : OpenedAttemptsFinish cluster)
@@ -375,6 +421,22 @@ module _ (cluster : Cluster) (waits : RoundsAreNotBlocked cluster) (applied : St
           body_is = k.1;
           applied = λ store there. applied items standing stable takes_applies x begun k.0 store k.1 (Contains-IsIn store (stores_used cluster.layout k.0) there);
         }
+
+    -- what turns recover has its reply, where its client is kept
+    pub replied : OpenedAttemptsReply cluster → (x : TxnId) (before first later : List Item) → base ≡ first ++ before → items ≡ later ++ before
+        → list_any (is_recover_of x) first ≡ false → list_any (is_recover_of x) later ≡ true → KeepsClient x items → is_replied x items ≡ true
+    replied reply x before first later base_is items_are none recovered client =
+        let parts : later ≡ walked.tail.later ++ first =
+        append_cancel_right later (walked.tail.later ++ first) before
+        (sym items_are ∙ walked.tail.items_are ∙ ap (λ l. walked.tail.later ++ l) base_is ∙ sym (append_assoc walked.tail.later first before)) in
+        let k = walked.attempts x
+        (⊎_elim (λ turn. turn) (λ early. absurd (true≢false (sym early ∙ none)))
+        (or_cases (list_any (is_recover_of x) walked.tail.later) (list_any (is_recover_of x) first)
+        (sym (list_any-append (is_recover_of x) walked.tail.later first) ∙ sym (ap (list_any (is_recover_of x)) parts) ∙ recovered))) in
+        subst (λ l. IsOpenedEverywhere cluster l x → KeepsClient x l → is_replied x l ≡ true) (sym k.items_are)
+        (reply x k.ballot k.base k.later (subst (IsStanding cluster) k.items_are standing) k.attempt k.all
+        (subst (λ l. is_ended x k.ballot l ≡ false) k.items_are k.unended) (subst (λ l. is_blocked x k.ballot l ≡ false) k.items_are k.unblocked))
+        (opened x) client
 
   pub turned_is_healed : TurnedIsHealed cluster
   turned_is_healed items base standing turned = healed items base standing turned

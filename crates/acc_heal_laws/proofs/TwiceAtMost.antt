@@ -35,9 +35,9 @@ use Rattle.acc_heal_laws.proofs.Growing.{next_goes}
 use Rattle.acc_heal_laws.proofs.HealingTurns.{between_sound}
 use Rattle.acc_heal_laws.proofs.KnownSteps.{reopening_known}
 use Rattle.acc_heal_laws.proofs.Numbers.{Numbered, numbered, numbered_past}
-use Rattle.acc_heal_laws.proofs.Reopened.{IsReopen, each_reopens}
+use Rattle.acc_heal_laws.proofs.Reopened.{each_reopens}
 use Rattle.acc_heal_laws.proofs.SoundHealing.{one_step, is_turn, IsSound, goes_sound}
-use Rattle.acc_heal_laws.proofs.Recovers.{one_of, AddsFew, few_none, few_weaker, few_chain, drain_few, reopen_few, recover_few}
+use Rattle.acc_heal_laws.proofs.Recovers.{IsReopen, one_of, AddsFew, few_none, few_weaker, few_chain, drain_few, reopen_few, recover_few}
 
 module _ (x : TxnId) where
   -- how often x is among the ids

@@ -10,6 +10,7 @@ use Rattle.acc_message.specs.declared.note.Note.{Note}
 use Rattle.acc_message.specs.declared.note.Note.TheVariants.{Recover as RecoverNote}
 use Rattle.acc_message.specs.declared.item.Item.{Item}
 use Rattle.acc_message.specs.declared.item.Item.TheVariants.{Step, Skipped, Down}
+use Rattle.acc_message.specs.Items.{notes_of}
 use Rattle.acc_message.specs.BallotRules.{stable_of}
 use Rattle.acc_message.specs.Opening.{is_applied}
 use Rattle.acc_message.specs.Coordinator.{home_node}
@@ -23,8 +24,8 @@ use Rattle.acc_schedule_runs.specs.Schedules.{Follows, cluster_of}
 use Rattle.acc_schedule_runs.specs.Laws.{NobodyIsDown, NothingIsLost}
 use Rattle.acc_safety.specs.Valid.{IsStanding}
 use Rattle.acc_delivered.specs.Rounds.{IsRound}
-use Rattle.acc_delivered.specs.Ends.{AtEachStore, has_opened, is_blocked}
-use Rattle.acc_heal_laws.specs.Healed.{IsHealed, was_begun}
+use Rattle.acc_delivered.specs.Ends.{AtEachStore, has_opened, is_blocked, KeepsClient, is_replied}
+use Rattle.acc_heal_laws.specs.Healed.{IsHealed, TellsEach, was_begun}
 use Rattle.acc_schedule_runs.specs.StrictMoves.{StrictSituation, opened_strictly}
 use Rattle.acc_schedule_runs.specs.StrictSchedules.{FollowsStrictly}
 use Rattle.acc_heal_laws.specs.Healings.{IsHealing, IsStrictHealing}
@@ -93,6 +94,10 @@ HealingHeals =
     (plan : Content) (answers : Answers) (steps : List PlanStep) (between last : Situation)
     → IsHealingWithoutDowns plan answers steps between last → IsHealed (cluster_of plan) last.own
 
+-- the notes of healed items tell of each transaction that they begin
+abbrev pub HealedItemsTell : Type 0
+HealedItemsTell = (cluster : Cluster) (items : List Item) → IsHealed cluster items → TellsEach (notes_of items)
+
 -- the plan and the answers fix a healing, and over strict disks the plan alone
 abbrev pub OneHealing : Type 0
 OneHealing =
@@ -159,6 +164,15 @@ HealingRecoversTwiceAtMost =
     (plan : Content) (answers : Answers) (steps : List PlanStep) (between last : Situation) (later : List Item)
     → IsPlan plan → IsHealing plan answers steps between last → last.own ≡ later ++ between.own
     → (x : TxnId) → RecoversTwiceAtMost x later
+
+-- ---- clients
+
+-- After a healing a transaction that one of its turns recovers has its reply, where its client is kept.
+abbrev pub WhoWaitsIsAnswered : Type 0
+WhoWaitsIsAnswered =
+    (plan : Content) (answers : Answers) (steps : List PlanStep) (between last : Situation)
+    → (h : IsHealingWithoutDowns plan answers steps between last) (x : TxnId)
+    → list_any (is_recover_of x) h.later ≡ true → KeepsClient x last.own → is_replied x last.own ≡ true
 
 -- ---- strict disks
 

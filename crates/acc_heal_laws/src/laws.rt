@@ -5,7 +5,7 @@ ghost use Rattle.acc_schedule_runs.specs.Moves.{Answers};
 ghost use Rattle.acc_heal_laws.specs.FrontLaws.{DueStepsAreKnown, StrictDueStepsAreKnown, GoesOneStepMore, AnswersCountAtItems, AnswersCountAtItemsReached, StandInLine, HealedIsLongest, StrictlyHealedIsLongest, OneHealingLimit, OneStrictHealingLimit, LimitOrHealed, LimitOrStrictlyHealed, StrictLimitsAreAnswered, OneStrictEnd};
 ghost use Rattle.acc_heal_laws.specs.HealingFronts.{IsFrontWithHealing, IsStrictFrontWithHealing};
 ghost use Rattle.acc_heal_laws.specs.Healings.{moving_with, moving_strictly};
-ghost use Rattle.acc_heal_laws.specs.Laws.{RoundsAreNotBlocked, StableIsApplied, TurnedIsHealed, HealingTurns, HealingHeals, OneHealing, OneStrictHealing, HealingGoesOn, StrictHealingsAreAnswered, StrictHealingGoesOn, StrictDisksHeal, HealingRecoversTwiceAtMost};
+ghost use Rattle.acc_heal_laws.specs.Laws.{RoundsAreNotBlocked, StableIsApplied, TurnedIsHealed, HealingTurns, HealingHeals, HealedItemsTell, OneHealing, OneStrictHealing, HealingGoesOn, StrictHealingsAreAnswered, StrictHealingGoesOn, StrictDisksHeal, HealingRecoversTwiceAtMost, WhoWaitsIsAnswered};
 
 use acc_plan_laws::laws::plans_are_valid;
 use acc_run_laws::receivers::{messages_go_to_actors, nodes_are_actors};
@@ -34,6 +34,11 @@ pub fn healing_heals()
     messages_go_to_actors();
     nodes_are_actors();
 }
+
+/// So the report of healed items, which prints their notes, has a decision and an outcome of each transaction whose begin it has.
+pub fn healed_items_tell()
+    ensures { HealedItemsTell }
+{}
 
 /// A plan and the answers of its disks fix the steps and the items of its healing, and over strict disks the plan alone does.
 pub fn one_healing()
@@ -105,10 +110,19 @@ pub fn strict_disks_heal()
 }
 
 /// After the plan's items a healing recovers each transaction at most twice, each time at the node of its id. Not counted are recovers that a
-/// fault had stopped before and that a journal kept, which a restart enters as lost: one at most for each node. Over strict disks there are
-/// none of these.
+/// fault had stopped before and that a journal kept, which a restart enters as lost. Over strict disks there are none of these.
 pub fn healing_recovers_twice_at_most()
     ensures { HealingRecoversTwiceAtMost }
 {
     plans_are_valid();
+}
+
+/// After a healing in which nobody goes down, a transaction that one of its turns recovered has its reply, where the node that began it hasn't
+/// restarted since: a client that waits for it is answered.
+pub fn who_waits_is_answered()
+    ensures { WhoWaitsIsAnswered }
+{
+    plans_are_valid();
+    messages_go_to_actors();
+    nodes_are_actors();
 }
