@@ -1,5 +1,5 @@
 -- The transactions of a case, one after another, and why a case is refused.
-use Rattle.std.proofs.Common.{◌≡◌, ◌⊎◌, ℕ, ◌+◌, ◌<◌, ◌≤◌, List, [], ◌∷◌, ◌++◌, append_assoc, length, take, map, get_or, codes, Option, None, Some, Result, Ok, Err, IfOk, IfErr, refl, sym, ap, subst, ◌∙◌, inl, inr, arith}
+use Rattle.std.proofs.Common.{◌≡◌, ℕ, ◌+◌, ◌<◌, ◌≤◌, List, [], ◌∷◌, ◌++◌, append_assoc, length, take, map, get_or, codes, Option, None, Some, Result, Ok, Err, IfOk, IfErr, refl, sym, ap, subst, ◌∙◌, inl, inr, arith}
 use Rattle.std.specs.Prelude.{IsSome}
 use Rattle.std.proofs.lemmas.List.{take-map, length-map}
 use Rattle.std.proofs.lemmas.Option.{none-some, same_Some}
@@ -13,12 +13,11 @@ use Rattle.acc_schedule.specs.declared.error.PlanKind.{PlanKind}
 use Rattle.acc_schedule.specs.declared.error.PlanKind.TheVariants.{Shape}
 use Rattle.acc_schedule.specs.declared.error.PlanError.{PlanError}
 use Rattle.acc_schedule.specs.declared.error.PlanError.TheVariants.{Bad, OutOfMemory}
-use Rattle.acc_schedule.specs.Document.{version_fault, IsNoJson, IsRefused, Reads}
+use Rattle.acc_schedule.specs.Document.{version_fault, IsRefused, Reads}
 use Rattle.acc_schedule.specs.Faults.{bad, Fault, IsFault}
 use Rattle.acc_schedule.specs.Fields.{field, is_text, items, object_fault}
 use Rattle.acc_schedule.specs.Transactions.{bodies_of, body_of, name_of, names_of}
 use Rattle.acc_schedule.proofs.AnswerFacts.{same_json}
-use Rattle.acc_document_fields.specs.Names.{AreOnce}
 use Rattle.acc_document_fields.proofs.EachFacts.{before, behind, AreRead, element_fails, list_read, none_read, one_more}
 use Rattle.acc_report_line.specs.declared.line.Line.{Line}
 use Rattle.acc_report_line.specs.Forms.{HasForm, HaveForms}
@@ -30,9 +29,7 @@ use Rattle.acc_report_reader.proofs.Slices.{parts-of}
 use Rattle.acc_report_reader.proofs.WholeReport.{no_fault, only_lines}
 use Rattle.acc_audit.specs.declared.cases.Case.{Case}
 use Rattle.acc_audit.specs.declared.judgement.Judgement.{Judgement}
-use Rattle.acc_audit.specs.Cases.{case_fault, report_of, report_path, transaction_fault, transactions_fault, no_report, txns, version_of, BreaksCase, GivesCase, GivesLines, IsCaseCause, IsDueOn, IsJudged, IsNoCase, IsReadCase, IsUnreadable, MeansCase, SaysCase}
-use Rattle.acc_audit.specs.Rules.{Differ}
-use Rattle.acc_audit.proofs.NumberFacts.{once_differ}
+use Rattle.acc_audit.specs.Cases.{case_fault, report_of, report_path, transaction_fault, transactions_fault, no_report, txns, version_of, BreaksCase, GivesCase, GivesLines, IsCaseCause, IsCauseIn, IsDueIn, IsDueOn, IsJudged, IsReadCase, IsUnreadable, MeansCase, SaysCase}
 
 -- the rule of each transaction, with the names before it
 abbrev pub rule_at : ℕ → List Data → ℕ → Data → Fault
@@ -100,24 +97,22 @@ as_many_of d names bodies lines s =
 
 -- ---- what bytes say
 
-pub case_means : (bytes : List ℕ) (d : Data) (r : Result Case PlanError) → Reads bytes d → GivesCase d r → IfOk r (λ said. MeansCase bytes said.names said.bodies said.lines)
-case_means bytes d (Ok said) reads h = record { utf8 = reads.utf8; json = d; reads = reads.reads; says = h }
-case_means bytes d (Err error) reads h = tt
+-- what is said of data is said of bytes that have these data
+pub is_due : (bytes : List ℕ) (d : Data) (r : Result Judgement PlanError) → Reads bytes d → IfOk r (IsDueIn d) → IfOk r (IsDueOn bytes)
+is_due bytes d (Ok said) reads h =
+    record { names = h.names; bodies = h.bodies; lines = h.lines; means = record { utf8 = reads.utf8; json = d; reads = reads.reads; says = h.says }; judged = h.judged }
+is_due bytes d (Err error) reads h = tt
 
-pub case_cause : (bytes : List ℕ) (d : Data) (r : Result Case PlanError) → Reads bytes d → GivesCase d r → IfErr r (IsCaseCause bytes)
-case_cause bytes d (Ok said) reads h = tt
-case_cause bytes d (Err OutOfMemory) reads h = tt
-case_cause bytes d (Err (Bad kind path detail at)) reads h = inr (record { utf8 = reads.utf8; json = d; reads = reads.reads; breaks = h })
+pub is_cause : (bytes : List ℕ) (d : Data) (r : Result Judgement PlanError) → Reads bytes d → IfErr r (IsCauseIn d) → IfErr r (IsCaseCause bytes)
+is_cause bytes d (Ok said) reads h = tt
+is_cause bytes d (Err OutOfMemory) reads h = tt
+is_cause bytes d (Err (Bad kind path detail at)) reads h = inr (record { utf8 = reads.utf8; json = d; reads = reads.reads; breaks = h })
 
 pub many_in : (d : Data) (r : Result Case PlanError) → GivesCase d r → IfOk r (λ said. length said.bodies ≡ length said.names)
 many_in d (Ok said) h = as_many_of d said.names said.bodies said.lines h
 many_in d (Err error) h = tt
 
-pub differ_in : (r : Result Case PlanError) → IfOk r (λ said. AreOnce said.names) → IfOk r (λ said. Differ said.names)
-differ_in (Ok said) h = once_differ said.names h
-differ_in (Err error) h = tt
-
--- ---- all bytes have one answer
+-- ---- all data have one answer
 
 -- two lines without a form of the same bytes have one number
 one_number : (before other : List Line) (rest more : List ℕ) → HaveForms before → HaveForms other → lines_text before ++ rest ≡ lines_text other ++ more → BeginsNoLine rest → BeginsNoLine more
@@ -165,18 +160,8 @@ case_no_cause bytes names bodies lines kind path detail at m (inr refused) =
     let json : refused.json ≡ m.json = same_json bytes refused.json m.json refused.reads m.reads in
     says_no_cause m.json names bodies lines (Bad kind path detail at) m.says (subst (λ (d : Data). BreaksCase d (Bad kind path detail at)) json refused.breaks)
 
-json_of_case : (bytes : List ℕ) (a b : PlanError) → IsNoJson bytes a → IsNoCase bytes b → ⊥
-json_of_case bytes a b no_json refused = no_json.broken (refused.utf8, subst (λ (o : Option Data). IsSome o) (sym refused.reads) refl)
-
-one_cause : (bytes : List ℕ) (a b : PlanError) → IsNoJson bytes a ⊎ IsNoCase bytes a → IsNoJson bytes b ⊎ IsNoCase bytes b → a ≡ b
-one_cause bytes a b (inl x) (inl y) = same_Some a b (sym x.says ∙ y.says)
-one_cause bytes a b (inl x) (inr y) = absurd (json_of_case bytes a b x y)
-one_cause bytes a b (inr x) (inl y) = absurd (json_of_case bytes b a y x)
-one_cause bytes a b (inr x) (inr y) =
-    let json : y.json ≡ x.json = same_json bytes y.json x.json y.reads x.reads in
-    breaks_once x.json a b x.breaks (subst (λ (d : Data). BreaksCase d b) json y.breaks)
-
-same_case : (bytes : List ℕ) (names other_names : List (List ℕ)) (bodies other_bodies : List BodyParts) (lines other_lines : List Line) → MeansCase bytes names bodies lines
+-- a case says one thing
+pub same_case : (bytes : List ℕ) (names other_names : List (List ℕ)) (bodies other_bodies : List BodyParts) (lines other_lines : List Line) → MeansCase bytes names bodies lines
     → MeansCase bytes other_names other_bodies other_lines → (names ≡ other_names) × (bodies ≡ other_bodies) × (lines ≡ other_lines)
 same_case bytes names other_names bodies other_bodies lines other_lines a b =
     let json : a.json ≡ b.json = same_json bytes a.json b.json a.reads b.reads in (
@@ -185,18 +170,20 @@ same_case bytes names other_names bodies other_bodies lines other_lines a b =
       only_lines (report_of b.json) lines other_lines (subst (λ (d : Data). IsReport (report_of d) lines) json a.says.says_lines) b.says.says_lines,
     )
 
-pub given_case : (bytes : List ℕ) (r : Result Case PlanError) → IfOk r (λ said. MeansCase bytes said.names said.bodies said.lines) → IfErr r (IsCaseCause bytes)
-    → (names : List (List ℕ)) (bodies : List BodyParts) (lines : List Line) → MeansCase bytes names bodies lines → IsReadCase names bodies lines r
-given_case bytes (Ok said) means cause names bodies lines m = same_case bytes said.names names said.bodies bodies said.lines lines means m
-given_case bytes (Err (Bad kind path detail at)) means cause names bodies lines m = case_no_cause bytes names bodies lines kind path detail at m cause
-given_case bytes (Err OutOfMemory) means cause names bodies lines m = tt
+pub given_case : (d : Data) (r : Result Case PlanError) → GivesCase d r → (names : List (List ℕ)) (bodies : List BodyParts) (lines : List Line) → SaysCase d names bodies lines → IsReadCase names bodies lines r
+given_case d (Ok said) gives names bodies lines s = (
+  gives.says_names ∙ sym s.says_names,
+  gives.says_bodies ∙ sym s.says_bodies,
+  only_lines (report_of d) said.lines lines gives.says_lines s.says_lines,
+)
+given_case d (Err (Bad kind path detail at)) gives names bodies lines s = says_no_cause d names bodies lines (Bad kind path detail at) s gives
+given_case d (Err OutOfMemory) gives names bodies lines s = tt
 
-pub given_refusal : (bytes : List ℕ) (r : Result Case PlanError) → IfOk r (λ said. MeansCase bytes said.names said.bodies said.lines) → IfErr r (IsCaseCause bytes)
-    → (error : PlanError) → IsCaseCause bytes error → IsRefused error r
-given_refusal bytes r means cause OutOfMemory x = tt
-given_refusal bytes (Ok said) means cause (Bad kind path detail at) x = case_no_cause bytes said.names said.bodies said.lines kind path detail at means x
-given_refusal bytes (Err OutOfMemory) means cause (Bad kind path detail at) x = tt
-given_refusal bytes (Err (Bad kind' path' detail' at')) means cause (Bad kind path detail at) x = one_cause bytes (Bad kind' path' detail' at') (Bad kind path detail at) cause x
+pub given_refusal : (d : Data) (r : Result Case PlanError) → GivesCase d r → (error : PlanError) → IsCauseIn d error → IsRefused error r
+given_refusal d r gives OutOfMemory x = tt
+given_refusal d (Ok said) gives (Bad kind path detail at) x = says_no_cause d said.names said.bodies said.lines (Bad kind path detail at) gives x
+given_refusal d (Err OutOfMemory) gives (Bad kind path detail at) x = tt
+given_refusal d (Err (Bad kind' path' detail' at')) gives (Bad kind path detail at) x = breaks_once d (Bad kind' path' detail' at') (Bad kind path detail at) gives x
 
 -- ---- the rules of a case, of which those before keep
 
@@ -236,7 +223,6 @@ keeps_all d version is_object is_version same are is_report =
     none_of_four (fields_rule d) (version_rule d) (transactions_fault (version_of d) (txns d)) (report_rule d) is_object is_version
     (ap (λ (v : ℕ). transactions_fault v (txns d)) (sym same) ∙ are) is_report
 
--- what is said of a case
-pub is_due : (bytes : List ℕ) (judgement : Judgement) (names : List (List ℕ)) (bodies : List BodyParts) (lines : List Line) → MeansCase bytes names bodies lines
-    → IsJudged judgement names bodies lines → IsDueOn bytes judgement
-is_due bytes judgement names bodies lines means judged = record { names = names; bodies = bodies; lines = lines; means = means; judged = judged }
+-- what is said of data
+pub due_in : (d : Data) (judgement : Judgement) (names : List (List ℕ)) (bodies : List BodyParts) (lines : List Line) → SaysCase d names bodies lines → IsJudged judgement names bodies lines → IsDueIn d judgement
+due_in d judgement names bodies lines says judged = record { names = names; bodies = bodies; lines = lines; says = says; judged = judged }

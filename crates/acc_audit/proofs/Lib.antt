@@ -3,6 +3,8 @@ pub mod CaseFacts
 mod DecisionFacts
 mod FaultFacts
 mod LeastFacts
+mod LeftFacts
+mod LookupFacts
 mod MarkFacts
 mod MissedFacts
 mod NumberFacts

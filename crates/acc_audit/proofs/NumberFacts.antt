@@ -1,5 +1,5 @@
 -- Names that differ, and their numbers.
-use Rattle.std.proofs.Common.{◌≡◌, ℕ, ◌<◌, List, [], length, take, get_or, Bool, true, false, not, Option, Some, None, ⊎_elim, is_some, refl, sym, ap, ◌∙◌, arith}
+use Rattle.std.proofs.Common.{◌≡◌, ℕ, ◌<◌, List, [], length, take, get_or, false, Option, Some, None, ⊎_elim, is_some, refl, sym, ap, ◌∙◌, arith}
 use Rattle.std.specs.List.{list_any}
 use Rattle.std.specs.Str.{bytes_eq}
 use Rattle.std.proofs.lemmas.Bool.{cases_lt, true≢false, false_from_ne_true}
@@ -8,23 +8,15 @@ use Rattle.std.proofs.lemmas.List.Folds.{Any-from_list_any, list_any_at}
 use Rattle.std.proofs.lemmas.List.Quantifiers.{position-Some}
 use Rattle.std.proofs.lemmas.Slice.Eq.{bytes_eq-Decides}
 use Rattle.acc_document_fields.specs.Names.{AreOnce}
-use Rattle.acc_document_fields.proofs.PlaceFacts.{known_is}
+use Rattle.acc_document_fields.proofs.PlaceFacts.{known_is, places_differ}
 use Rattle.acc_audit.specs.Fronts.{is_known, number_of}
 use Rattle.acc_audit.specs.Rules.{Differ}
-
--- two places of which one is before the other have names that differ
-apart : (names : List (List ℕ)) (i j : ℕ) → AreOnce names → i < j → j < length names → get_or names i [] ≡ get_or names j [] → ⊥
-apart names i j once before within same =
-    let there : list_any (bytes_eq (get_or names j [])) (take j names) ≡ true =
-    list_any_at (bytes_eq (get_or names j [])) (take j names) i [] (omega (arith, length-take j names, before, within))
-    ((bytes_eq-Decides (get_or names j []) (get_or (take j names) i [])).1 (sym same ∙ sym (get_or-take j names i [] before))) in
-    true≢false (sym (once j within) ∙ ap not there)
 
 -- names each of which stands once differ
 pub once_differ : (names : List (List ℕ)) → AreOnce names → Differ names
 once_differ names once i j here there same =
-    ⊎_elim (λ less. absurd (apart names i j once less there same)) (λ most.
-    ⊎_elim (λ less. absurd (apart names j i once less here (sym same))) (λ least. omega (arith, most, least)) (cases_lt j i)) (cases_lt i j)
+    ⊎_elim (λ less. absurd (places_differ names i j once less there same)) (λ most.
+    ⊎_elim (λ less. absurd (places_differ names j i once less here (sym same))) (λ least. omega (arith, most, least)) (cases_lt j i)) (cases_lt i j)
 
 -- of names that differ each is another than those before it
 pub is_new-differ : (names : List (List ℕ)) (i : ℕ) → Differ names → i < length names → list_any (bytes_eq (get_or names i [])) (take i names) ≡ false

@@ -13,6 +13,8 @@ use Rattle.acc_value.specs.declared.key.Key.{Key}
 use Rattle.acc_value.specs.Cells.{cells_of}
 use Rattle.acc_txn.specs.declared.parts.BodyParts.{BodyParts}
 use Rattle.acc_report_line.specs.declared.line.Line.{Line}
+use Rattle.acc_report_reader.specs.declared.placed.PlacedForm.{PlacedForm}
+use Rattle.acc_report_reader.specs.Placed.{line_said}
 use Rattle.acc_audit.specs.declared.decisions.Decisions.{Decisions}
 use Rattle.acc_audit.specs.declared.outcomes.Outcomes.{Outcomes}
 use Rattle.acc_audit.specs.declared.front.Front.{Front}
@@ -93,3 +95,7 @@ holds_none names bodies count front many marks begun timestamps owners first cel
   };
   outcomes = record { first = all_one names None count front.outcomes.first.items first many; cells = cells };
 }
+
+-- the line that these words say
+pub said : (form : PlacedForm) (line : Line) (words : PlacedForm) → form ≡ words → line_said form ≡ line → line_said words ≡ line
+said form line words is says = ap line_said (sym is) ∙ says

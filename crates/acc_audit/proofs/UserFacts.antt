@@ -101,10 +101,18 @@ pushed_at true w writes e old new before after all writers was is =
 pushed_at false w writes e old new before after all writers was is = ap (chosen w) is
 
 -- a key that has no entries yet
-pub made_at : (b w : Bool) (none : Users) (before after : Option Users) → none.all.items ≡ [] → none.writers.items ≡ [] → (b ≡ true → before ≡ None) → after ≡ cond b (Some none) before → chosen w after ≡ chosen w before
-made_at true true none before after all writers was is = ap (chosen true) is ∙ all ∙ ap (chosen true) (sym (was refl))
-made_at true false none before after all writers was is = ap (chosen false) is ∙ writers ∙ ap (chosen false) (sym (was refl))
-made_at false w none before after all writers was is = ap (chosen w) is
+pub begun_at : (b w writes : Bool) (e : Stamp × ℕ) (none new : Users) (before after : Option Users) → none.all.items ≡ [] → none.writers.items ≡ []
+    → new.all.items ≡ none.all.items ++ e ∷ [] → new.writers.items ≡ cond writes (none.writers.items ++ e ∷ []) none.writers.items
+    → (b ≡ true → before ≡ None) → after ≡ cond b (Some new) before
+    → chosen w after ≡ cond (b && (w || writes)) (chosen w before ++ e ∷ []) (chosen w before)
+begun_at true w writes e none new before after no_all no_writers all writers was is =
+    ap (chosen w) is ∙ pushed writes e none new all writers w
+    ∙ ap (λ (xs : List (Stamp × ℕ)). cond (w || writes) (xs ++ e ∷ []) xs) (empty w ∙ ap (chosen w) (sym (was refl)))
+  where
+    empty : (v : Bool) → chosen v (Some none) ≡ chosen v None
+    empty true = no_all
+    empty false = no_writers
+begun_at false w writes e none new before after no_all no_writers all writers was is = ap (chosen w) is
 
 pub missing : (o : Option Users) → is_some o ≡ false → o ≡ None
 missing None h = refl

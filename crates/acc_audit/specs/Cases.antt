@@ -80,6 +80,11 @@ pub record IsUnreadable (bytes : List ℕ) (error : PlanError) : Type 0 where
 abbrev pub BreaksCase : Data → PlanError → Type 0
 BreaksCase d error = (case_fault d ≡ Some error) ⊎ ((case_fault d ≡ None) × IsUnreadable (report_of d) error)
 
+-- why data are refused so. Want of memory has no cause in them
+abbrev pub IsCauseIn : Data → PlanError → Type 0
+IsCauseIn d OutOfMemory = Unit {0}
+IsCauseIn d (Bad kind path detail at) = BreaksCase d (Bad kind path detail at)
+
 -- ---- what bytes say
 
 -- the bytes are a case that breaks no rule, and this is what it says
@@ -112,8 +117,7 @@ GivesLines bytes (Err (Bad kind path detail at)) = IsUnreadable bytes (Bad kind 
 -- a case, or why the data are none, or want of memory
 abbrev pub GivesCase : Data → Result Case PlanError → Type 0
 GivesCase d (Ok said) = SaysCase d said.names said.bodies said.lines
-GivesCase d (Err OutOfMemory) = Unit {0}
-GivesCase d (Err (Bad kind path detail at)) = BreaksCase d (Bad kind path detail at)
+GivesCase d (Err error) = IsCauseIn d error
 
 -- what a case says, unless memory ran out
 abbrev pub IsReadCase : List (List ℕ) → List BodyParts → List Line → Result Case PlanError → Type 0
@@ -126,6 +130,14 @@ IsReadCase names bodies lines (Err OutOfMemory) = Unit {0}
 abbrev pub IsJudged : Judgement → List (List ℕ) → List BodyParts → List Line → Type 0
 IsJudged (Yes count) names bodies lines = KeepsRules names bodies lines × (count ≡ length lines)
 IsJudged (No line rule) names bodies lines = (1 ≤ line) × IsFirstFault names bodies lines (line - 1) rule
+
+-- the data are those of a case, of which this is said
+pub record IsDueIn (d : Data) (judgement : Judgement) : Type 0 where
+  pub names : List (List ℕ)
+  pub bodies : List BodyParts
+  pub lines : List Line
+  pub says : SaysCase d names bodies lines
+  pub judged : IsJudged judgement names bodies lines
 
 -- the bytes are a case, of which this is said
 pub record IsDueOn (bytes : List ℕ) (judgement : Judgement) : Type 0 where

@@ -1,6 +1,9 @@
 -- The transactions that use a key, behind the least timestamp that is decided for each.
-use Rattle.std.specs.Prelude.{◌≡◌, ℕ, ◌<◌, ◌==◌, nat_le, Bool, true, false, not, ◌&&◌, ◌||◌, IsTrue, List, [], ◌∷◌, length, Option, Some, None, is_some, slice_get, slice_index_or}
+use Rattle.std.specs.Prelude.{◌≡◌, ℕ, ◌<◌, ◌==◌, nat_le, Bool, true, false, not, ◌&&◌, ◌||◌, IsTrue, List, [], ◌∷◌, length, map, Option, Some, None, Vec, is_some, slice_get, slice_index_or}
+use Rattle.std.specs.Borrow.{Bor}
+use Rattle.std.specs.Global.{Global}
 use Rattle.std.specs.List.{list_any, list_all}
+use Rattle.std.specs.Option.{option_copied}
 use Rattle.std.specs.BTreeMap as tree
 use Rattle.acc_stamp.specs.declared.stamps.Stamp.{Stamp}
 use Rattle.acc_stamp.specs.Stamp.{stamp_lt}
@@ -86,3 +89,44 @@ pub record IsIndex (names : List (List ℕ)) (bodies : List BodyParts) (lines : 
   pub are_least : AreLeast names lines order
   pub are_users : AreUsers bodies order users
   pub rise : AllRise users
+
+-- ---- what stands by the keys of a transaction
+
+-- what stands by a key that a transaction uses, and whether it writes the key
+abbrev pub Stood : Type 0
+Stood = Option Users × Bool
+
+abbrev pub stands_at : Map → Key × Bool → Stood
+stands_at users used = (tree.get key_cmp users used.0, used.1)
+
+-- the same of each key of a transaction
+abbrev pub stand_by : Map → BodyParts → List Stood
+stand_by users body = map (stands_at users) (footprint_of body)
+
+abbrev pub shown : Option (Bor Users) × Bool → Stood
+shown pair = (option_copied pair.0, pair.1)
+
+abbrev pub shown_all : List (Vec (Option (Bor Users) × Bool) Global) → List (List Stood)
+shown_all lists = map (λ list. map shown list.items) lists
+
+-- some of it has an entry below the timestamp, of another transaction and without the mark
+abbrev pub lacks_at : ℕ → Stamp → List ℕ → ℕ → Stood → Bool
+lacks_at number t marks mark stood = list_any (is_lacking number t marks mark) (chosen stood.1 stood.0)
+
+abbrev pub stood_at : List (List Stood) → ℕ → List Stood
+stood_at all number = slice_index_or all number []
+
+abbrev pub lacks_in : List (List Stood) → ℕ → Stamp → List ℕ → ℕ → Bool
+lacks_in all number t marks mark = list_any (lacks_at number t marks mark) (stood_at all number)
+
+abbrev pub rises_at : Stood → Bool
+rises_at stood = rises (chosen stood.1 stood.0)
+
+abbrev pub AllStoodRise : List (List Stood) → Type 0
+AllStoodRise all = (number : ℕ) → IsTrue (list_all rises_at (stood_at all number))
+
+-- by the numbers of transactions, what stands by their keys
+pub record IsLookup (names : List (List ℕ)) (bodies : List BodyParts) (lines : List Line) (all : List (List Stood)) : Type 0 where
+  pub users : Map
+  pub index : IsIndex names bodies lines users
+  pub stands : all ≡ map (stand_by users) bodies

@@ -1,21 +1,18 @@
 //! Reads a case.
-ghost use Rattle.std.specs.Prelude.{◌≡◌, ℕ, List, [], ◌∷◌, ◌++◌, length, IfOk, IfErr};
+ghost use Rattle.std.specs.Prelude.{◌≡◌, ℕ, List, [], ◌∷◌, ◌++◌, length, IfOk};
 ghost use Rattle.serde_json.specs.View.{view};
 ghost use Rattle.acc_txn.specs.declared.parts.BodyParts.{BodyParts};
-ghost use Rattle.acc_document_fields.specs.Names.{AreOnce};
 ghost use Rattle.acc_report_line.specs.declared.line.Line.{Line};
 ghost use Rattle.acc_schedule.specs.declared.error.PlanError.{PlanError};
 ghost use Rattle.acc_schedule.specs.Document.{IsRefused};
 ghost use Rattle.acc_schedule.specs.Faults.{Gives};
 ghost use Rattle.acc_schedule.specs.Transactions.{bodies_of, body_of, name_of, names_of};
-ghost use Rattle.acc_audit.specs.Cases.{case_fault, report_of, transaction_fault, transactions_fault, txns, version_of, GivesCase, GivesLines, IsCaseCause, IsReadCase, MeansCase};
-ghost use Rattle.acc_audit.specs.Rules.{Differ};
+ghost use Rattle.acc_audit.specs.Cases.{case_fault, report_of, transaction_fault, transactions_fault, txns, version_of, GivesCase, GivesLines, IsCauseIn, IsReadCase, SaysCase};
 
 use acc_base::Sequence;
 use acc_document_fields::{NameTable, Part, body, detailed, list, name, object, text, version};
-use acc_report_line::{Lines, Names};
-use acc_report_reader::{ReportError, read_report};
-use acc_schedule::{Bodies, PlanError, PlanKind, read_json};
+use acc_report_reader::{PlacedLines, ReportError, read_report};
+use acc_schedule::{Bodies, PlanError, PlanKind};
 use acc_txn::Body;
 use serde_json::Value;
 use std::alloc::Global;
@@ -25,40 +22,34 @@ const MOST_TRANSACTIONS: usize = 10_000;
 
 /// Transactions with names and bodies, and the lines of a report that is judged against them.
 #[derive(Drop)]
-pub struct Case {
+pub struct Case<'r> {
     /// The names of the transactions.
-    pub names: Names,
+    pub names: NameTable,
     /// What each transaction does, in the order of the names.
     pub bodies: Bodies,
-    /// The lines of the report.
-    pub lines: Lines,
+    /// The lines of the report, whose names stand in its text.
+    pub lines: PlacedLines<'r>,
 }
 
 /// The case that a JSON object says: `version`, `txns`, objects with a name and a text, and `report`, a text.
 ///
 /// A case that breaks a rule is refused with the first that it breaks, in the order of `docs/AUDIT.md`. Of a report with a line
 /// that has no form, the path of the fault is `/report`, its detail 1 and its place the number of that line, counted from 1.
-#[tactic(auto, using(crate::proofs::CaseFacts::given_case, crate::proofs::CaseFacts::given_refusal))]
-pub fn read_case(alloc: Global, bytes: &[u8]) -> Result<Case, PlanError>
-    // What is answered, and what the answer says of the bytes.
-    ensures accepted { IfOk result (λ said. MeansCase bytes.now said.names said.bodies said.lines) }
-    ensures refused { IfErr result (IsCaseCause bytes.now) }
+pub fn read_case(alloc: Global, root: &Value) -> Result<Case<'_>, PlanError>
+    // What is answered, and what the answer says of the data.
+    ensures gives { GivesCase (view root.now) result }
     ensures as_many { IfOk result (λ said. length said.bodies ≡ length said.names) }
-    ensures differ { IfOk result (λ said. Differ said.names) }
 
-    // What all bytes give, unless memory runs out.
-    ensures read { (names : List (List ℕ)) (bodies : List BodyParts) (lines : List Line) → MeansCase bytes.now names bodies lines → IsReadCase names bodies lines result }
-    ensures refuses { (error : PlanError) → IsCaseCause bytes.now error → IsRefused error result }
+    // What all data give, unless memory runs out.
+    ensures read { (names : List (List ℕ)) (bodies : List BodyParts) (lines : List Line) → SaysCase (view root.now) names bodies lines → IsReadCase names bodies lines result }
+    ensures refuses { (error : PlanError) → IsCauseIn (view root.now) error → IsRefused error result }
 {
-    let root = read_json(alloc, bytes)?;
-    case_in(alloc, &root)
+    case_in(alloc, root)
 }
 
-// The case that the JSON of one says.
 #[tactic(auto, using(crate::proofs::CaseFacts::refused, crate::proofs::CaseFacts::unread))]
-fn case_in(alloc: Global, root: &Value) -> Result<Case, PlanError>
-    ensures gives { GivesCase (view root.now) result }
-    ensures once { IfOk result (λ said. AreOnce said.names) }
+fn case_in(alloc: Global, root: &Value) -> Result<Case<'_>, PlanError>
+    ensures { GivesCase (view root.now) result }
 {
     let Parts {
         names,
@@ -67,7 +58,7 @@ fn case_in(alloc: Global, root: &Value) -> Result<Case, PlanError>
     } = parts_in(alloc, root)?;
     let lines = lines_in(alloc, report)?;
     Ok(Case {
-        names: names.into_names(),
+        names,
         bodies,
         lines,
     })
@@ -146,7 +137,7 @@ fn transaction(
 }
 
 // The lines of a report.
-fn lines_in(alloc: Global, text: &str) -> Result<Lines, PlanError>
+fn lines_in(alloc: Global, text: &str) -> Result<PlacedLines<'_>, PlanError>
     ensures { GivesLines text.now result }
 {
     match read_report(alloc, text.as_bytes()) {

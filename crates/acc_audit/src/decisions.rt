@@ -9,10 +9,10 @@ ghost use Rattle.acc_audit.specs.Kept.{entry_of, is_below, is_not, is_other as i
 ghost use Rattle.acc_audit.specs.Rules.{Differ};
 ghost use Rattle.acc_audit.specs.Users.{rises};
 
-use crate::numbers::Numbers;
 use crate::users::Entry;
 use acc_base::OutOfMemory;
-use acc_report_line::Line;
+use acc_document_fields::NameTable;
+use acc_report_reader::{PlacedForm, PlacedLine};
 use acc_stamp::Stamp;
 use std::alloc::Global;
 use std::collections::BTreeMap;
@@ -20,8 +20,8 @@ use std::collections::BTreeMap;
 /// The least timestamp that the lines decide for each transaction.
 pub(crate) fn least(
     alloc: Global,
-    numbers: &Numbers,
-    lines: &[Line],
+    numbers: &NameTable,
+    lines: &[PlacedLine<'_>],
 ) -> Result<Vec<Option<Stamp>>, OutOfMemory>
     requires { Differ numbers.now }
     ensures { IfOk result (λ least. least.items ≡ map (λ name. least_in name (reverse lines.now)) numbers.now) }
@@ -40,7 +40,7 @@ fn no_timestamps(alloc: Global, count: usize) -> Result<Vec<Option<Stamp>>, OutO
 }
 
 // Lowers the timestamp of the transaction that the line decides, if it decides one.
-fn lower_by(least: &mut Vec<Option<Stamp>>, numbers: &Numbers, line: &Line)
+fn lower_by(least: &mut Vec<Option<Stamp>>, numbers: &NameTable, line: &PlacedLine<'_>)
     requires as_many { length least.old.items ≡ length numbers.now }
     requires differ { Differ numbers.now }
     ensures { (was : List ℕ → Option Stamp) → least.old.items ≡ map was numbers.now
@@ -53,23 +53,23 @@ fn lower_by(least: &mut Vec<Option<Stamp>>, numbers: &Numbers, line: &Line)
 }
 
 // Lowers the timestamp of the transaction with this name, if there is one.
-fn lower_at(least: &mut Vec<Option<Stamp>>, numbers: &Numbers, name: &[u8], t: Stamp)
+fn lower_at(least: &mut Vec<Option<Stamp>>, numbers: &NameTable, name: &[u8], t: Stamp)
     requires as_many { length least.old.items ≡ length numbers.now }
     requires differ { Differ numbers.now }
     ensures { (was : List ℕ → Option Stamp) → least.old.items ≡ map was numbers.now
         → least.new.items ≡ map (λ other. lowered (was other) (timestamp_of other (Some (name.now, t)))) numbers.now }
 {
-    match numbers.get(name) {
+    match numbers.place(name) {
         Some(number) => lower(least, number, t),
         None => {}
     }
 }
 
-fn decision_of(line: &Line) -> Option<(&[u8], Stamp)>
+fn decision_of<'r>(line: &PlacedLine<'r>) -> Option<(&'r [u8], Stamp)>
     ensures { option_map (λ decision. (decision.0.now, decision.1)) result ≡ decision_in line.now }
 {
-    match line {
-        Line::Decide { name, t, .. } => Some((name.as_slice(), *t)),
+    match line.form() {
+        PlacedForm::Decide { name, t, .. } => Some((*name, *t)),
         _ => None,
     }
 }

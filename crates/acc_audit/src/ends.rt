@@ -4,11 +4,11 @@ ghost use Rattle.acc_audit.specs.Rules.{has_counts as has_counts_of, rules};
 ghost use Rattle.acc_audit.specs.Said.{is_begin as is_begin_line, is_reply as is_reply_line};
 
 use crate::steps::last_rule;
-use acc_report_line::Line;
+use acc_report_reader::{PlacedForm, PlacedLine};
 
 /// A line that ends the report, with the counts of its lines.
 pub(crate) fn end(
-    lines: &[Line],
+    lines: &[PlacedLine<'_>],
     txns: u64,
     replied: u64,
     unreplied: u64,
@@ -20,13 +20,13 @@ pub(crate) fn end(
 }
 
 // Whether so many of the lines begin transactions and so many are replies, and whether the sum is right.
-fn has_counts(lines: &[Line], txns: u64, replied: u64, unreplied: u64) -> bool
+fn has_counts(lines: &[PlacedLine<'_>], txns: u64, replied: u64, unreplied: u64) -> bool
     ensures { result ≡ has_counts_of lines.now txns replied unreplied }
 {
     txns == begins(lines) && replied == replies(lines) && is_sum(replied, unreplied, txns)
 }
 
-fn begins(lines: &[Line]) -> u64
+fn begins(lines: &[PlacedLine<'_>]) -> u64
     ensures { result ≡ count_by is_begin_line lines.now }
 {
     let mut count = 0;
@@ -36,16 +36,16 @@ fn begins(lines: &[Line]) -> u64
     count
 }
 
-fn is_begin(line: &Line) -> bool
+fn is_begin(line: &PlacedLine<'_>) -> bool
     ensures { result ≡ is_begin_line line.now }
 {
-    match line {
-        Line::Begin { .. } => true,
+    match line.form() {
+        PlacedForm::Begin { .. } => true,
         _ => false,
     }
 }
 
-fn replies(lines: &[Line]) -> u64
+fn replies(lines: &[PlacedLine<'_>]) -> u64
     ensures { result ≡ count_by is_reply_line lines.now }
 {
     let mut count = 0;
@@ -55,11 +55,11 @@ fn replies(lines: &[Line]) -> u64
     count
 }
 
-fn is_reply(line: &Line) -> bool
+fn is_reply(line: &PlacedLine<'_>) -> bool
     ensures { result ≡ is_reply_line line.now }
 {
-    match line {
-        Line::Reply { .. } => true,
+    match line.form() {
+        PlacedForm::Reply { .. } => true,
         _ => false,
     }
 }

@@ -4,9 +4,9 @@ ghost use Rattle.acc_txn.specs.declared.parts.BodyParts.{BodyParts};
 ghost use Rattle.acc_audit.specs.Kept.{Holds};
 
 use crate::decisions::Decisions;
-use crate::numbers::Numbers;
 use crate::outcomes::Outcomes;
 use acc_base::OutOfMemory;
+use acc_document_fields::NameTable;
 use std::alloc::Global;
 
 /// What is kept of the lines before a line, by the numbers of transactions.
@@ -22,7 +22,7 @@ pub(crate) struct Front {
 
 impl Front {
     /// What is kept of no lines.
-    pub(crate) fn new(alloc: Global, numbers: &Numbers) -> Result<Front, OutOfMemory>
+    pub(crate) fn new(alloc: Global, numbers: &NameTable) -> Result<Front, OutOfMemory>
         ensures { IfOk result (λ front. (bodies : List BodyParts) → Holds numbers.now bodies [] 0 front) }
     {
         let count = numbers.len();

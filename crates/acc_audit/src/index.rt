@@ -1,81 +1,124 @@
 //! The transactions by the keys that they use.
-ghost use Rattle.std.specs.Prelude.{◌≡◌, ◌&&◌, ◌||◌, Bool, ℕ, length, IfOk, IsTrue, OnOk};
-ghost use Rattle.std.specs.List.{list_any};
+ghost use Rattle.std.specs.Prelude.{◌≡◌, ◌&&◌, ◌||◌, Bool, ℕ, length, map, IfOk, IsTrue, OnOk};
+ghost use Rattle.std.specs.List.{list_all, list_any};
 ghost use Rattle.acc_stamp.specs.declared.stamps.Stamp.{Stamp};
 ghost use Rattle.acc_value.specs.declared.key.Key.{Key};
 ghost use Rattle.acc_audit.specs.Rules.{Differ};
-ghost use Rattle.acc_audit.specs.Users.{is_lacking, lacks_some, rises, touches, users_at, uses_at, AllRise, AreUsers, IsIndex, NoneAbove};
+ghost use Rattle.acc_audit.specs.Users.{lacks_at, lacks_in, rises, rises_at, shown, stand_by, stands_at, touches, users_at, uses_at, AllRise, AllStoodRise, AreUsers, IsIndex, NoneAbove};
 
 use crate::decisions::{least, ordered};
-use crate::numbers::Numbers;
 use crate::users::{Entry, Users, add, lack};
 use acc_base::OutOfMemory;
-use acc_report_line::Line;
+use acc_document_fields::NameTable;
+use acc_report_reader::PlacedLine;
 use acc_stamp::Stamp;
 use acc_txn::Body;
 use acc_value::Key;
 use std::alloc::Global;
 use std::collections::BTreeMap;
+use std::marker::Model;
 
 /// The transactions that some line decides, by the keys that they use.
-#[derive(Drop)]
-pub(crate) struct Index {
-    users: BTreeMap<Key, Users>,
+pub(crate) fn by_keys(
+    alloc: Global,
+    numbers: &NameTable,
+    bodies: &[Body],
+    lines: &[PlacedLine<'_>],
+) -> Result<BTreeMap<Key, Users>, OutOfMemory>
+    requires as_many { length numbers.now ≡ length bodies.now }
+    requires differ { Differ numbers.now }
+    ensures { IfOk result (IsIndex numbers.now bodies.now lines.now) }
+{
+    let least = least(alloc, numbers, lines)?;
+    let order = ordered(alloc, least.as_slice())?;
+    let users = users(alloc, bodies, order.as_slice())?;
+    Ok(users)
 }
 
-impl Index {
-    /// The index of all that these lines decide.
+/// By the numbers of transactions, what stands by the keys that they use. Each key is looked up once for each of its users.
+#[derive(Drop)]
+pub(crate) struct Lookup<'a> {
+    stood: Vec<Vec<(Option<&'a Users>, bool)>>,
+}
+
+impl<'a> Model for Lookup<'a> {
+    ghost use Rattle.std.specs.Prelude.{List};
+    ghost use Rattle.acc_audit.specs.Users.{shown_all, Stood};
+
+    ghost Value = { List (List Stood) };
+
+    ghost view = { λ t. shown_all t.stood.items };
+}
+
+impl<'a> Lookup<'a> {
+    /// What stands by the keys of transactions with these bodies.
     pub(crate) fn of(
         alloc: Global,
-        numbers: &Numbers,
         bodies: &[Body],
-        lines: &[Line],
-    ) -> Result<Index, OutOfMemory>
-        requires as_many { length numbers.now ≡ length bodies.now }
-        requires differ { Differ numbers.now }
-        ensures { IfOk result (λ index. IsIndex numbers.now bodies.now lines.now index.users) }
+        users: &'a BTreeMap<Key, Users>,
+    ) -> Result<Lookup<'a>, OutOfMemory>
+        ensures { IfOk result (λ lookup. lookup ≡ map (stand_by users.now) bodies.now) }
     {
-        let least = least(alloc, numbers, lines)?;
-        let order = ordered(alloc, least.as_slice())?;
-        let its = users(alloc, bodies, order.as_slice())?;
-        Ok(Index { users: its })
-    }
-
-    /// Whether a transaction with these uses conflicts with another that has a lesser timestamp and no mark.
-    pub(crate) fn lacks(
-        &self,
-        uses: &[(Key, bool)],
-        number: usize,
-        t: Stamp,
-        marks: &[u64],
-        mark: u64,
-    ) -> bool
-        requires { AllRise self.now.users }
-        ensures { result ≡ lacks_some self.now.users number t marks.now mark uses.now }
-    {
-        for used in uses {
-            if self.lacks_at(used, number, t, marks, mark) {
-                return true;
-            }
+        let mut stood = Vec::with_capacity(alloc, bodies.len())?;
+        for body in bodies {
+            stood.push(stand(alloc, users, body.uses().pairs())?)?;
         }
-        false
+        Ok(Lookup { stood })
     }
 
-    fn lacks_at(
-        &self,
-        used: &(Key, bool),
-        number: usize,
-        t: Stamp,
-        marks: &[u64],
-        mark: u64,
-    ) -> bool
-        requires { AllRise self.now.users }
-        ensures { result ≡ list_any (is_lacking number t marks.now mark) (users_at self.now.users used.now.0 used.now.1) }
+    /// Whether the transaction conflicts with another that has a lesser timestamp and no mark.
+    pub(crate) fn lacks(&self, number: usize, t: Stamp, marks: &[u64], mark: u64) -> bool
+        requires { AllStoodRise self.now }
+        ensures { result ≡ lacks_in self.now number t marks.now mark }
     {
-        match self.users.get(&used.0) {
-            Some(users) => lack(users.against(used.1), number, t, marks, mark),
+        match self.stood.get(number) {
+            Some(stood) => lack_some(stood.as_slice(), number, t, marks, mark),
             None => false,
         }
+    }
+}
+
+// What stands by these keys.
+fn stand<'a>(
+    alloc: Global,
+    users: &'a BTreeMap<Key, Users>,
+    uses: &[(Key, bool)],
+) -> Result<Vec<(Option<&'a Users>, bool)>, OutOfMemory>
+    ensures { IfOk result (λ stood. map shown stood.items ≡ map (stands_at users.now) uses.now) }
+{
+    let mut stood = Vec::with_capacity(alloc, uses.len())?;
+    for used in uses {
+        stood.push((users.get(&used.0), used.1))?;
+    }
+    Ok(stood)
+}
+
+// Whether some of it has an entry that lacks.
+fn lack_some(
+    stood: &[(Option<&Users>, bool)],
+    number: usize,
+    t: Stamp,
+    marks: &[u64],
+    mark: u64,
+) -> bool
+    requires { IsTrue (list_all rises_at (map shown stood.now)) }
+    ensures { result ≡ list_any (lacks_at number t marks.now mark) (map shown stood.now) }
+{
+    for one in stood {
+        if lack_one(one, number, t, marks, mark) {
+            return true;
+        }
+    }
+    false
+}
+
+fn lack_one(one: &(Option<&Users>, bool), number: usize, t: Stamp, marks: &[u64], mark: u64) -> bool
+    requires { IsTrue (rises_at (shown one.now)) }
+    ensures { result ≡ lacks_at number t marks.now mark (shown one.now) }
+{
+    match one.0 {
+        Some(users) => lack(users.against(one.1), number, t, marks, mark),
+        None => false,
     }
 }
 

@@ -1,11 +1,14 @@
 //! Judges a case.
 ghost use Rattle.std.specs.Prelude.{IfOk, IfErr};
-ghost use Rattle.acc_audit.specs.Cases.{IsCaseCause, IsDueOn};
+ghost use Rattle.serde_json.specs.View.{view};
+ghost use Rattle.acc_audit.specs.Cases.{IsCaseCause, IsCauseIn, IsDueIn, IsDueOn};
 
 use crate::cases::{Case, read_case};
 use crate::error::AuditError;
-use crate::judge::audit;
-use acc_schedule::PlanError;
+use crate::judge::judged;
+use crate::remains::Remains;
+use acc_schedule::{PlanError, read_json};
+use serde_json::Value;
 use std::alloc::Global;
 
 /// What is said of a case that is one.
@@ -25,18 +28,38 @@ pub enum Judgement {
     },
 }
 
-/// Reads a case, as `read_case` does, and judges its report, as `audit` does. `OutOfMemory` says nothing of the bytes.
-#[tactic(auto, using(crate::proofs::CaseFacts::is_due))]
-pub fn judge_case(alloc: Global, bytes: &[u8]) -> Result<Judgement, PlanError>
+/// Reads a case, as `read_case` does, and judges its report, as `audit` does. `OutOfMemory` says nothing of the bytes. What is
+/// needed no longer goes to `remains`.
+#[tactic(auto, using(crate::proofs::CaseFacts::is_due, crate::proofs::CaseFacts::is_cause))]
+pub fn judge_case(
+    alloc: Global,
+    bytes: &[u8],
+    remains: &mut Remains,
+) -> Result<Judgement, PlanError>
     ensures judged { IfOk result (IsDueOn bytes.now) }
     ensures refused { IfErr result (IsCaseCause bytes.now) }
+{
+    let root = read_json(alloc, bytes)?;
+    let judgement = judge(alloc, &root, remains);
+    remains.root = Some(root);
+    judgement
+}
+
+// What is said of the case that the JSON says.
+#[tactic(auto, using(crate::proofs::CaseFacts::due_in))]
+fn judge(alloc: Global, root: &Value, remains: &mut Remains) -> Result<Judgement, PlanError>
+    ensures judged { IfOk result (IsDueIn (view root.now)) }
+    ensures refused { IfErr result (IsCauseIn (view root.now)) }
 {
     let Case {
         names,
         bodies,
         lines,
-    } = read_case(alloc, bytes)?;
-    match audit(&names, &bodies, &lines) {
+    } = read_case(alloc, root)?;
+    let answer = judged(alloc, &names, &bodies, &lines, remains);
+    remains.names = Some(names);
+    remains.bodies = Some(bodies);
+    match answer {
         Ok(()) => Ok(Judgement::Yes {
             lines: lines.len() as u64,
         }),

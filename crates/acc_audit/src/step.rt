@@ -5,71 +5,71 @@ ghost use Rattle.acc_report_line.specs.declared.line.Line.{Line};
 ghost use Rattle.acc_report_line.specs.declared.line.Line.TheVariants.{Decide, Outcome};
 ghost use Rattle.acc_audit.specs.Kept.{AreSized, Holds};
 ghost use Rattle.acc_audit.specs.Rules.{rule_of, Differ};
-ghost use Rattle.acc_audit.specs.Users.{AllRise, IsIndex};
+ghost use Rattle.acc_audit.specs.Users.{AllStoodRise, IsLookup};
 
 use crate::ends::end;
 use crate::front::Front;
-use crate::index::Index;
-use crate::numbers::Numbers;
+use crate::index::Lookup;
 use crate::steps::{Decision, begin, blocked, decide, last_rule, named, outcome, reply};
 use acc_base::OutOfMemory;
-use acc_report_line::{Line, Names};
+use acc_document_fields::NameTable;
+use acc_report_reader::{PlacedForm, PlacedLine, PlacedNames};
 use acc_stamp::Stamp;
 use acc_txn::{Body, Reply};
 
 /// What each line is judged against: transactions by their numbers, and all lines.
 #[derive(Drop)]
-pub(crate) struct Against<'a> {
-    pub(crate) numbers: &'a Numbers,
+pub(crate) struct Against<'a, 'k, 'r> {
+    pub(crate) numbers: &'a NameTable,
     pub(crate) bodies: &'a [Body],
-    pub(crate) lines: &'a [Line],
-    pub(crate) index: &'a Index,
+    pub(crate) lines: &'a [PlacedLine<'r>],
+    pub(crate) lookup: &'a Lookup<'k>,
 }
 
 /// The least rule that a line breaks, before which so many others stand. Where it breaks none, it is noted.
 pub(crate) fn step(
     front: &mut Front,
-    against: &Against<'_>,
-    line: &Line,
+    against: &Against<'_, '_, '_>,
+    line: &PlacedLine<'_>,
     place: u64,
     last: bool,
 ) -> Result<Option<u32>, OutOfMemory>
     requires sized { AreSized against.now.numbers.now against.now.bodies.now front.old }
     requires differ { Differ against.now.numbers.now }
     requires room { place + 1 < 2 ^ 64 }
-    requires rise { AllRise against.now.index.now.users }
+    requires rise { AllStoodRise against.now.lookup.now }
     ensures rule { IfOk result (λ rule. (earlier : List Line) → Holds against.now.numbers.now against.now.bodies.now earlier place front.old
-        → IsIndex against.now.numbers.now against.now.bodies.now against.now.lines.now against.now.index.now.users
+        → IsLookup against.now.numbers.now against.now.bodies.now against.now.lines.now against.now.lookup.now
         → rule ≡ rule_of against.now.numbers.now against.now.bodies.now against.now.lines.now earlier last line.now) }
     ensures holds { IfOk result (λ rule. rule ≡ None → (earlier : List Line) → Holds against.now.numbers.now against.now.bodies.now earlier place front.old
         → Holds against.now.numbers.now against.now.bodies.now (line.now ∷ earlier) (place + 1) front.new) }
 {
     let numbers = against.numbers;
-    match line {
-        Line::Begin { name, .. } => { Ok(begin(&mut front.begun, numbers, name.as_slice(), last)) }
-        Line::Recover { name, .. } => Ok(named(numbers, name.as_slice(), last)),
-        Line::Blocked { name, by, .. } => Ok(blocked(numbers, name.as_slice(), by, last)),
-        Line::Ended { name, .. } => Ok(named(numbers, name.as_slice(), last)),
-        Line::Decide { name, t, deps, .. } => {
-            let rule = decision(front, against, name.as_slice(), *t, deps, place, last)?;
+    match line.form() {
+        PlacedForm::Begin { name, .. } => { Ok(begin(&mut front.begun, numbers, name, last)) }
+        PlacedForm::Recover { name, .. } => Ok(named(numbers, name, last)),
+        PlacedForm::Blocked { name, by, .. } => Ok(blocked(numbers, name, by, last)),
+        PlacedForm::Ended { name, .. } => Ok(named(numbers, name, last)),
+        PlacedForm::Decide { name, t, deps, .. } => {
+            let rule = decision(front, against, name, *t, deps, place, last)?;
             Ok(rule)
         }
-        Line::Outcome { name, reply } => {
-            let rule = told(front, against, name.as_slice(), reply, last)?;
+        PlacedForm::Outcome { name, reply } => {
+            let rule = told(front, against, name, reply, last)?;
             Ok(rule)
         }
-        Line::Reply { name, reply: said } => {
-            Ok(reply(&front.outcomes, numbers, name.as_slice(), said, last))
+        PlacedForm::Reply { name, reply: said } => {
+            Ok(reply(&front.outcomes, numbers, name, said, last))
         }
-        Line::SkipNoMessage { .. } => Ok(last_rule(last)),
-        Line::SkipDown { .. } => Ok(last_rule(last)),
-        Line::SkipBegun { name, .. } => Ok(named(numbers, name.as_slice(), last)),
-        Line::SkipUnknown { name, .. } => Ok(named(numbers, name.as_slice(), last)),
-        Line::SkipNoQuorum { name, .. } => Ok(named(numbers, name.as_slice(), last)),
-        Line::Down { .. } => Ok(last_rule(last)),
-        Line::Restart { .. } => Ok(last_rule(last)),
-        Line::Decided { .. } => Ok(Some(7)),
-        Line::End {
+        PlacedForm::SkipNoMessage { .. } => Ok(last_rule(last)),
+        PlacedForm::SkipDown { .. } => Ok(last_rule(last)),
+        PlacedForm::SkipBegun { name, .. } => Ok(named(numbers, name, last)),
+        PlacedForm::SkipUnknown { name, .. } => Ok(named(numbers, name, last)),
+        PlacedForm::SkipNoQuorum { name, .. } => Ok(named(numbers, name, last)),
+        PlacedForm::Down { .. } => Ok(last_rule(last)),
+        PlacedForm::Restart { .. } => Ok(last_rule(last)),
+        PlacedForm::Decided { .. } => Ok(Some(7)),
+        PlacedForm::End {
             txns,
             replied,
             unreplied,
@@ -80,24 +80,24 @@ pub(crate) fn step(
 // The same of a line that decides a transaction.
 fn decision(
     front: &mut Front,
-    against: &Against<'_>,
+    against: &Against<'_, '_, '_>,
     name: &[u8],
     t: Stamp,
-    deps: &Names,
+    deps: &PlacedNames<'_>,
     place: u64,
     last: bool,
 ) -> Result<Option<u32>, OutOfMemory>
     requires sized { AreSized against.now.numbers.now against.now.bodies.now front.old }
     requires differ { Differ against.now.numbers.now }
     requires room { place + 1 < 2 ^ 64 }
-    requires rise { AllRise against.now.index.now.users }
+    requires rise { AllStoodRise against.now.lookup.now }
     ensures rule { IfOk result (λ rule. (earlier : List Line) (path : Path) → Holds against.now.numbers.now against.now.bodies.now earlier place front.old
-        → IsIndex against.now.numbers.now against.now.bodies.now against.now.lines.now against.now.index.now.users
+        → IsLookup against.now.numbers.now against.now.bodies.now against.now.lines.now against.now.lookup.now
         → rule ≡ rule_of against.now.numbers.now against.now.bodies.now against.now.lines.now earlier last (Decide name.now t path deps.now)) }
     ensures holds { IfOk result (λ rule. rule ≡ None → (earlier : List Line) (path : Path) → Holds against.now.numbers.now against.now.bodies.now earlier place front.old
         → Holds against.now.numbers.now against.now.bodies.now (Decide name.now t path deps.now ∷ earlier) (place + 1) front.new) }
 {
-    match against.numbers.get(name) {
+    match against.numbers.place(name) {
         Some(number) => {
             let decision = Decision {
                 name,
@@ -110,8 +110,7 @@ fn decision(
                 &mut front.marks,
                 &mut front.decisions,
                 against.numbers,
-                against.index,
-                against.bodies,
+                against.lookup,
                 &decision,
                 last,
             )?;
@@ -124,7 +123,7 @@ fn decision(
 // The same of a line that tells the outcome of a transaction.
 fn told(
     front: &mut Front,
-    against: &Against<'_>,
+    against: &Against<'_, '_, '_>,
     name: &[u8],
     reply: &Reply,
     last: bool,

@@ -19,16 +19,17 @@ ghost use Rattle.acc_audit.specs.Said.{begins, same_reply as is_same_reply};
 ghost use Rattle.acc_audit.specs.Fronts.{answer_of, first_reply, has_outcome, is_known, number_of};
 ghost use Rattle.acc_audit.specs.Kept.{is_not, is_other, AreDecisions, AreMarks, AreOutcomes};
 ghost use Rattle.acc_audit.specs.Rules.{differs_from, rule_of, rules, Differ};
-ghost use Rattle.acc_audit.specs.Users.{lacks_some, uses_at, AllRise, IsIndex};
+ghost use Rattle.acc_audit.specs.Users.{lacks_in, AllStoodRise, IsLookup};
 
 use crate::decisions::Decisions;
-use crate::index::Index;
+use crate::index::Lookup;
 use crate::marks::mark;
-use crate::numbers::Numbers;
+use crate::numbers::has_each;
 use crate::outcomes::Outcomes;
 use crate::replies::same_reply;
 use acc_base::OutOfMemory;
-use acc_report_line::Names;
+use acc_document_fields::NameTable;
+use acc_report_reader::PlacedNames;
 use acc_stamp::Stamp;
 use acc_txn::{Body, Reply};
 
@@ -40,7 +41,7 @@ pub(crate) fn last_rule(last: bool) -> Option<u32>
 }
 
 /// A line with a name.
-pub(crate) fn named(numbers: &Numbers, name: &[u8], last: bool) -> Option<u32>
+pub(crate) fn named(numbers: &NameTable, name: &[u8], last: bool) -> Option<u32>
     ensures { result ≡ rules (not (list_all (is_known numbers.now) (name.now ∷ []))) false false false false false last }
 {
     if numbers.has(name) {
@@ -51,10 +52,15 @@ pub(crate) fn named(numbers: &Numbers, name: &[u8], last: bool) -> Option<u32>
 }
 
 /// A line with a name and with names of others.
-pub(crate) fn blocked(numbers: &Numbers, name: &[u8], by: &Names, last: bool) -> Option<u32>
+pub(crate) fn blocked(
+    numbers: &NameTable,
+    name: &[u8],
+    by: &PlacedNames<'_>,
+    last: bool,
+) -> Option<u32>
     ensures { result ≡ rules (not (list_all (is_known numbers.now) (name.now ∷ by.now))) false false false false false last }
 {
-    if numbers.has(name) && numbers.has_each(by) {
+    if numbers.has(name) && has_each(numbers, by) {
         last_rule(last)
     } else {
         Some(1)
@@ -64,7 +70,7 @@ pub(crate) fn blocked(numbers: &Numbers, name: &[u8], by: &Names, last: bool) ->
 /// A line that begins a transaction.
 pub(crate) fn begin(
     begun: &mut Vec<bool>,
-    numbers: &Numbers,
+    numbers: &NameTable,
     name: &[u8],
     last: bool,
 ) -> Option<u32>
@@ -75,7 +81,7 @@ pub(crate) fn begin(
     ensures noted { (was : List ℕ → Bool) → begun.old.items ≡ map was numbers.now → result ≡ None
         → begun.new.items ≡ map (λ other. bytes_eq other name.now || was other) numbers.now }
 {
-    match numbers.get(name) {
+    match numbers.place(name) {
         Some(number) => begin_at(begun, number, last),
         None => Some(1),
     }
@@ -97,26 +103,25 @@ fn begin_at(begun: &mut Vec<bool>, number: usize, last: bool) -> Option<u32>
 pub(crate) fn decide(
     marks: &mut Vec<u64>,
     decisions: &mut Decisions,
-    numbers: &Numbers,
-    index: &Index,
-    bodies: &[Body],
-    decision: &Decision<'_>,
+    numbers: &NameTable,
+    lookup: &Lookup<'_>,
+    decision: &Decision<'_, '_>,
     last: bool,
 ) -> Result<Option<u32>, OutOfMemory>
-    requires as_many { (length marks.old.items ≡ length numbers.now) × (length decisions.old.timestamps.items ≡ length numbers.now) × (length bodies.now ≡ length numbers.now) }
+    requires as_many { (length marks.old.items ≡ length numbers.now) × (length decisions.old.timestamps.items ≡ length numbers.now) }
     requires differ { Differ numbers.now }
     requires room { decision.now.place + 1 < 2 ^ 64 }
     requires number { number_of numbers.now decision.now.name.now ≡ Some decision.now.number }
-    requires rise { AllRise index.now.users }
-    ensures rule { IfOk result (λ rule. (earlier lines : List Line) (path : Path) → AreMarks numbers.now decision.now.place marks.old.items → AreDecisions numbers.now earlier decisions.old
-        → IsIndex numbers.now bodies.now lines index.now.users → rule ≡ rule_of numbers.now bodies.now lines earlier last (Decide decision.now.name.now decision.now.t path decision.now.deps.now)) }
+    requires rise { AllStoodRise lookup.now }
+    ensures rule { IfOk result (λ rule. (bodies : List BodyParts) (earlier lines : List Line) (path : Path) → length bodies ≡ length numbers.now → AreMarks numbers.now decision.now.place marks.old.items
+        → AreDecisions numbers.now earlier decisions.old → IsLookup numbers.now bodies lines lookup.now → rule ≡ rule_of numbers.now bodies lines earlier last (Decide decision.now.name.now decision.now.t path decision.now.deps.now)) }
     ensures marks { IfOk result (λ rule. rule ≡ None → AreMarks numbers.now decision.now.place marks.old.items → AreMarks numbers.now (decision.now.place + 1) marks.new.items) }
     ensures noted { IfOk result (λ rule. rule ≡ None → (earlier : List Line) (path : Path) → AreDecisions numbers.now earlier decisions.old
         → AreDecisions numbers.now (Decide decision.now.name.now decision.now.t path decision.now.deps.now ∷ earlier) decisions.new) }
 {
     let known = mark(marks, numbers, decision.deps, decision.place + 1);
     if known {
-        let rule = decide_marked(decisions, index, bodies, decision, marks.as_slice(), last)?;
+        let rule = decide_marked(decisions, lookup, decision, marks.as_slice(), last)?;
         Ok(rule)
     } else {
         Ok(Some(1))
@@ -126,19 +131,17 @@ pub(crate) fn decide(
 // The same where the names of the line are known and have their marks.
 fn decide_marked(
     decisions: &mut Decisions,
-    index: &Index,
-    bodies: &[Body],
-    decision: &Decision<'_>,
+    lookup: &Lookup<'_>,
+    decision: &Decision<'_, '_>,
     marks: &[u64],
     last: bool,
 ) -> Result<Option<u32>, OutOfMemory>
     requires timestamps { decision.now.number < length decisions.old.timestamps.items }
-    requires bodies { decision.now.number < length bodies.now }
     requires room { decision.now.place + 1 < 2 ^ 64 }
-    requires rise { AllRise index.now.users }
+    requires rise { AllStoodRise lookup.now }
     ensures rule { IfOk result (λ rule. rule ≡ rules false false
         (is_other (slice_index_or decisions.old.timestamps.items decision.now.number None) decision.now.t || is_not (get stamp_cmp decisions.old.owners decision.now.t) decision.now.number)
-        (lacks_some index.now.users decision.now.number decision.now.t marks.now (decision.now.place + 1) (uses_at bodies.now decision.now.number)) false false last) }
+        (lacks_in lookup.now decision.now.number decision.now.t marks.now (decision.now.place + 1)) false false last) }
     ensures timestamps { IfOk result (λ rule. rule ≡ None → decisions.new.timestamps.items ≡ slice_set decisions.old.timestamps.items decision.now.number (Some decision.now.t)) }
     ensures owners { IfOk result (λ rule. rule ≡ None → (u : Stamp) → get stamp_cmp decisions.new.owners u
         ≡ (if stamp_eq decision.now.t u then Some decision.now.number else get stamp_cmp decisions.old.owners u)) }
@@ -147,8 +150,7 @@ fn decide_marked(
     if disagrees {
         return Ok(Some(3));
     }
-    let misses = misses(index, bodies, decision, marks);
-    if misses {
+    if misses(lookup, decision, marks) {
         return Ok(Some(4));
     }
     decisions.note(decision.number, decision.t)?;
@@ -156,29 +158,21 @@ fn decide_marked(
 }
 
 // Whether another transaction conflicts with this one, is decided below it and has no mark of this line.
-fn misses(index: &Index, bodies: &[Body], decision: &Decision<'_>, marks: &[u64]) -> bool
-    requires bodies { decision.now.number < length bodies.now }
+fn misses(lookup: &Lookup<'_>, decision: &Decision<'_, '_>, marks: &[u64]) -> bool
     requires room { decision.now.place + 1 < 2 ^ 64 }
-    requires rise { AllRise index.now.users }
-    ensures { result ≡ lacks_some index.now.users decision.now.number decision.now.t marks.now (decision.now.place + 1) (uses_at bodies.now decision.now.number) }
+    requires rise { AllStoodRise lookup.now }
+    ensures { result ≡ lacks_in lookup.now decision.now.number decision.now.t marks.now (decision.now.place + 1) }
 {
-    let body = &bodies[decision.number];
-    index.lacks(
-        body.uses().pairs(),
-        decision.number,
-        decision.t,
-        marks,
-        decision.place + 1,
-    )
+    lookup.lacks(decision.number, decision.t, marks, decision.place + 1)
 }
 
 /// What a line decides of a transaction, and how many lines stand before it.
 #[derive(Drop)]
-pub(crate) struct Decision<'a> {
+pub(crate) struct Decision<'a, 'r> {
     pub(crate) name: &'a [u8],
     pub(crate) number: usize,
     pub(crate) t: Stamp,
-    pub(crate) deps: &'a Names,
+    pub(crate) deps: &'a PlacedNames<'r>,
     pub(crate) place: u64,
 }
 
@@ -186,7 +180,7 @@ pub(crate) struct Decision<'a> {
 pub(crate) fn outcome(
     outcomes: &mut Outcomes,
     begun: &[bool],
-    numbers: &Numbers,
+    numbers: &NameTable,
     bodies: &[Body],
     name: &[u8],
     reply: &Reply,
@@ -200,7 +194,7 @@ pub(crate) fn outcome(
     ensures noted { IfOk result (λ rule. rule ≡ None → (earlier : List Line) → AreOutcomes numbers.now bodies.now earlier outcomes.old
         → AreOutcomes numbers.now bodies.now (Outcome name.now reply.now ∷ earlier) outcomes.new) }
 {
-    match numbers.get(name) {
+    match numbers.place(name) {
         Some(number) => {
             let body = &bodies[number];
             let rule = outcome_at(outcomes, begun, number, body, reply, last)?;
@@ -243,7 +237,7 @@ fn outcome_at(
 /// A line that tells the reply to a transaction.
 pub(crate) fn reply(
     outcomes: &Outcomes,
-    numbers: &Numbers,
+    numbers: &NameTable,
     name: &[u8],
     reply: &Reply,
     last: bool,
@@ -252,7 +246,7 @@ pub(crate) fn reply(
     ensures { (bodies : List BodyParts) (earlier : List Line) → AreOutcomes numbers.now bodies earlier outcomes.now
         → result ≡ rules (not (list_all (is_known numbers.now) (name.now ∷ []))) false false false (not (has_outcome name.now earlier)) (differs_from (first_reply name.now earlier) reply.now) last }
 {
-    match numbers.get(name) {
+    match numbers.place(name) {
         Some(number) => reply_after(outcomes.first(number), reply, last),
         None => Some(1),
     }

@@ -1,5 +1,5 @@
 //! The transactions that use a key.
-ghost use Rattle.std.specs.Prelude.{◌≡◌, ◌||◌, ◌&&◌, Bool, List, [], ◌∷◌, ◌++◌, IsTrue, OnOk, Some, if◌then◌else◌};
+ghost use Rattle.std.specs.Prelude.{◌≡◌, ◌||◌, ◌&&◌, Bool, false, List, [], ◌∷◌, ◌++◌, IsTrue, OnOk, Some, if◌then◌else◌};
 ghost use Rattle.std.specs.List.{list_any};
 ghost use Rattle.acc_value.specs.declared.key.Key.{Key};
 ghost use Rattle.acc_value.specs.Key.{key_eq};
@@ -57,39 +57,33 @@ pub(crate) fn add(
     ensures { OnOk result ((k : Key) (w : Bool) → users_at users.new k w
         ≡ (if key_eq k key.now && (w || writes) then users_at users.old k w ++ entry ∷ [] else users_at users.old k w)) }
 {
-    reserve(users, alloc, key)?;
-    push(users, key, writes, entry)
-}
-
-// Makes an entry of the key, where there is none.
-fn reserve(users: &mut BTreeMap<Key, Users>, alloc: Global, key: &Key) -> Result<(), OutOfMemory>
-    ensures same { (k : Key) (w : Bool) → users_at users.new k w ≡ users_at users.old k w }
-    ensures made { OnOk result (IsTrue (has_entry users.new key.now)) }
-{
-    if !users.contains_key(key) {
-        let none = Users {
-            all: Vec::new(alloc),
-            writers: Vec::new(alloc),
-        };
-        users.insert(key.copy()?, none)?;
+    match users.get_mut(key) {
+        Some(found) => {
+            found.push(writes, entry)?;
+            Ok(())
+        }
+        None => begin(users, alloc, key, writes, entry),
     }
-    Ok(())
 }
 
-// Appends an entry to those that use the key, which has an entry.
-fn push(
+// Appends an entry to those that use the key, which are none yet.
+fn begin(
     users: &mut BTreeMap<Key, Users>,
+    alloc: Global,
     key: &Key,
     writes: bool,
     entry: Entry,
 ) -> Result<(), OutOfMemory>
-    requires { IsTrue (has_entry users.old key.now) }
+    requires { has_entry users.old key.now ≡ false }
     ensures { OnOk result ((k : Key) (w : Bool) → users_at users.new k w
         ≡ (if key_eq k key.now && (w || writes) then users_at users.old k w ++ entry ∷ [] else users_at users.old k w)) }
 {
-    if let Some(found) = users.get_mut(key) {
-        found.push(writes, entry)?;
-    }
+    let mut first = Users {
+        all: Vec::new(alloc),
+        writers: Vec::new(alloc),
+    };
+    first.push(writes, entry)?;
+    users.insert(key.copy()?, first)?;
     Ok(())
 }
 

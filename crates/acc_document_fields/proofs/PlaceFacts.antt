@@ -10,7 +10,7 @@ use Rattle.std.specs.Ordering.{eq_by_cmp, is_eq, nat_cmp}
 use Rattle.std.specs.Str.{bytes_eq}
 use Rattle.std.proofs.lemmas.Bool.{cases_Bool, cases_lt, cond-true, cond-false, true≢false, false_from_ne_true}
 use Rattle.std.proofs.lemmas.Bool.Decides.{nat_tests}
-use Rattle.std.proofs.lemmas.List.{get_or_append_left, get_or_push, length-append, take_at, take-append-le}
+use Rattle.std.proofs.lemmas.List.{get_or_append_left, get_or_default, get_or_push, get_or-take, length-append, length-take, take_at, take-append-le}
 use Rattle.std.proofs.lemmas.List.Folds.{Any-from_list_any, list_any_at, position_or_len_push}
 use Rattle.std.proofs.lemmas.List.Quantifiers.{position-Some}
 use Rattle.std.proofs.lemmas.List.Sums.{fails_before_first, prefix_len-le-length}
@@ -125,3 +125,37 @@ once_push names name once fresh place within =
     let last : length names ≡ place = omega (arith, most, within, length-append names (name ∷ [])) in
     (λ i. not (list_any (bytes_eq (get_or_push names name [] place last i)) (take_at names (name ∷ []) place last i))) ∙ ap not fresh)
     (cases_lt place (length names))
+
+-- ---- names that stand once
+
+-- two places of which one is before the other have names that differ
+pub places_differ : (names : List (List ℕ)) (i j : ℕ) → AreOnce names → i < j → j < length names → get_or names i [] ≡ get_or names j [] → ⊥
+places_differ names i j once before within same =
+    let there : list_any (bytes_eq (get_or names j [])) (take j names) ≡ true =
+    list_any_at (bytes_eq (get_or names j [])) (take j names) i [] (omega (arith, length-take j names, before, within))
+    ((bytes_eq-Decides (get_or names j []) (get_or (take j names) i [])).1 (sym same ∙ sym (get_or-take j names i [] before))) in
+    true≢false (sym (once j within) ∙ ap not there)
+
+-- a name has the place at which it stands
+pub place_is : (names : List (List ℕ)) (place : ℕ) (name : List ℕ) → AreOnce names → place < length names → get_or names place [] ≡ name → position (bytes_eq name) names ≡ Some place
+place_is names place name once within there = by (position (bytes_eq name) names) refl
+  where
+    here : bytes_eq name (get_or names place []) ≡ true
+    here = (bytes_eq-Decides name (get_or names place [])).1 (sym there)
+
+    by : (o : Option ℕ) → position (bytes_eq name) names ≡ o → o ≡ Some place
+    by None is = absurd (true≢false (sym (list_any_at (bytes_eq name) names place [] within here) ∙ known_is names name ∙ ap is_some is))
+    by (Some i) is =
+        let at = position-Some (bytes_eq name) names i [] is in
+        let same : get_or names i [] ≡ get_or names place [] = sym ((bytes_eq-Decides name (get_or names i [])).0 at.1) ∙ sym there in
+        ⊎_elim (λ less. absurd (places_differ names i place once less within same)) (λ most.
+        ⊎_elim (λ less. absurd (places_differ names place i once less at.0 (sym same))) (λ least. ap Some (omega (arith, most, least))) (cases_lt place i)) (cases_lt i place)
+
+-- a name that is equal to the one at a place has that place
+pub place_tested : (items names : List (List ℕ)) (place : ℕ) (found other name : List ℕ) (same : Bool) → AreOnce names → items ≡ names → place < length items
+    → found ≡ get_or items place found → other ≡ found → same ≡ bytes_eq other name → same ≡ true → position (bytes_eq name) names ≡ Some place
+place_tested items names place found other name same once are within at is tests equals =
+    let low : place < length names = subst (λ (l : List (List ℕ)). place < length l) are within in
+    let here : get_or names place [] ≡ found = get_or_default names place [] found low ∙ ap (λ (l : List (List ℕ)). get_or l place found) (sym are) ∙ sym at in
+    let equal : other ≡ name = (bytes_eq-Decides other name).0 (sym tests ∙ equals) in
+    place_is names place name once low (here ∙ sym is ∙ equal)

@@ -3,6 +3,7 @@
 #![tactic(auto)]
 
 mod fields;
+mod guesses;
 mod names;
 mod path;
 mod texts;

@@ -1,10 +1,11 @@
-//! Names, found by their order, so that no choice of names makes a look-up slow.
-ghost use Rattle.std.specs.Prelude.{◌≡◌, [], ◌∷◌, ◌++◌, length, not, position, IfOk, OnOk, OnErr, ℕ, List, if◌then◌else◌, Some};
+//! Names, found by their bytes or by their order, so that no choice of names makes a look-up slow.
+ghost use Rattle.std.specs.Prelude.{◌≡◌, [], ◌∷◌, ◌++◌, length, not, position, IfOk, IfSome, IsTrue, OnOk, OnErr, ℕ, List, if◌then◌else◌, Some};
 ghost use Rattle.std.specs.List.{list_any};
 ghost use Rattle.std.specs.Str.{bytes_eq};
 ghost use Rattle.acc_document_fields.specs.Names.{place_in, AreOnce};
 
-use acc_base::{OutOfMemory, Sequence, Text};
+use crate::guesses::Guesses;
+use acc_base::{InlineText, OutOfMemory, Sequence};
 use std::alloc::Global;
 use std::collections::BTreeMap;
 use std::marker::Model;
@@ -12,8 +13,9 @@ use std::marker::Model;
 /// Names in the order in which they were added, each once.
 #[derive(Drop)]
 pub struct NameTable {
-    names: Sequence<Text>,
+    names: Sequence<InlineText>,
     places: BTreeMap<Vec<u8>, usize>,
+    guesses: Guesses,
 }
 
 impl Model for NameTable {
@@ -35,6 +37,7 @@ impl NameTable {
         NameTable {
             names: Sequence::new(alloc),
             places: BTreeMap::new(alloc),
+            guesses: Guesses::new(alloc),
         }
     }
 
@@ -49,9 +52,12 @@ impl NameTable {
             return Ok(false);
         }
         let place = self.names.len();
-        self.names.push(Sequence::from_slice(alloc, name)?)?;
+        self.names.push(InlineText::from_slice(alloc, name)?)?;
         match enter(&mut self.places, alloc, name, place) {
-            Ok(()) => Ok(true),
+            Ok(()) => {
+                self.guesses.add(name, place);
+                Ok(true)
+            }
             Err(OutOfMemory) => {
                 self.names.truncate(place);
                 Err(OutOfMemory)
@@ -63,14 +69,43 @@ impl NameTable {
     pub fn place(&self, name: &[u8]) -> Option<usize>
         ensures { result ≡ position (bytes_eq name.now) self.now }
     {
-        self.places.get(name).copied()
+        match self.guessed(name) {
+            Some(place) => Some(place),
+            None => self.places.get(name).copied(),
+        }
+    }
+
+    // The place that is guessed, if the name stands there.
+    fn guessed(&self, name: &[u8]) -> Option<usize>
+        ensures { IfSome result (λ place. position (bytes_eq name.now) self.now ≡ Some place) }
+    {
+        match self.guesses.get(name) {
+            Some(place) if self.stands_at(place, name) => Some(place),
+            _ => None,
+        }
+    }
+
+    fn stands_at(&self, place: usize, name: &[u8]) -> bool
+        ensures { IsTrue result → position (bytes_eq name.now) self.now ≡ Some place }
+    {
+        match self.names.as_slice().get(place) {
+            Some(found) => found.as_slice() == name,
+            None => false,
+        }
     }
 
     /// Whether there is such a name.
     pub fn has(&self, name: &[u8]) -> bool
         ensures { result ≡ list_any (bytes_eq name.now) self.now }
     {
-        self.places.contains_key(name)
+        self.place(name).is_some()
+    }
+
+    /// No name stands twice.
+    pub fn stand_once(&self)
+        ensures { AreOnce self.now }
+    {
+        let _names = &self.names;
     }
 
     /// How many there are.
@@ -78,14 +113,6 @@ impl NameTable {
         ensures { result ≡ length self.now }
     {
         self.names.len()
-    }
-
-    /// The names as a plain list.
-    pub fn into_names(self) -> Sequence<Text>
-        ensures names { result ≡ self }
-        ensures once { AreOnce result }
-    {
-        self.names
     }
 }
 

@@ -11,8 +11,8 @@ use Rattle.acc_message.specs.declared.note.Path.TheVariants.{Fast, Slow, Recover
 use Rattle.acc_report_line.specs.Forms.{is_name, is_name_byte, IsName, AreNames}
 use Rattle.acc_report_line.specs.Texts.{names_text, path_text}
 use Rattle.acc_report_reader.specs.Gives.{guarded}
-use Rattle.acc_report_reader.specs.Fields.{turned, piece_at, name_in, list_in, names_in, path_in}
-use Rattle.acc_report_reader.proofs.Options.{guarded_some}
+use Rattle.acc_report_reader.specs.Fields.{turned, piece_at, pieces, each_in, name_in, list_in, names_in, path_in}
+use Rattle.acc_report_reader.proofs.Options.{bind_some, guarded_some}
 use Rattle.acc_report_reader.proofs.Slices.{Lacks, lacks_from, same_bytes}
 use Rattle.acc_report_reader.proofs.Pieces.{IsPiece, list-of, list-is, not_empty}
 
@@ -111,6 +111,21 @@ names_found bytes (n ∷ ns) false is e =
 pub names-is : (bytes : List ℕ) (names : List (List ℕ)) → names_in bytes ≡ Some names → AreNames names × (names_text names ≡ bytes)
 unfolding names_in
 names-is bytes names e = names_found bytes names (bytes_eq bytes (codes "-")) refl e
+
+-- names are what stands between the commas
+each_name : (ps ys : List (List ℕ)) → each_in name_in ps ≡ Some ys → ys ≡ ps
+each_name [] ys e = cc
+each_name (x ∷ xs) ys e =
+    let y = bind_some (name_in x) _ ys e in
+    let zs = bind_some (each_in name_in xs) _ ys y.2 in
+    let same : y.0 ∷ zs.0 ≡ ys = cc in
+    let one : y.0 ≡ x = (name-is x y.0 y.1).1 in
+    let others : zs.0 ≡ xs = each_name xs zs.0 zs.1 in
+    sym same ∙ ap (λ (a : List ℕ). a ∷ zs.0) one ∙ ap (λ (rest : List (List ℕ)). x ∷ rest) others
+
+pub names_are_pieces : (bytes : List ℕ) (names : List (List ℕ)) → list_in name_in bytes ≡ Some names → names ≡ pieces false bytes
+unfolding list_in
+names_are_pieces bytes names e = each_name (pieces false bytes) names e
 
 -- ---- paths
 

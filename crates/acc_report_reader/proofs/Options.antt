@@ -1,5 +1,5 @@
 -- Steps that may fail, where they ended well.
-use Rattle.std.proofs.Common.{◌≡◌, Bool, true, false, cond, Option, Some, None, refl}
+use Rattle.std.proofs.Common.{◌≡◌, Bool, true, false, cond, List, [], ◌++◌, Option, Some, None, refl}
 use Rattle.std.specs.Prelude.{option_map}
 use Rattle.acc_report_reader.specs.Gives.{◌>>=◌, guarded}
 
@@ -22,6 +22,10 @@ cond_some false o y e = cc
 pub map_none : {A B : Type 0} (f : A → B) (o : Option A) → option_map f o ≡ None → o ≡ None
 map_none f None e = refl
 map_none f (Some x) e = cc
+
+pub nothing_before : {X : Type 0} (o : Option (List X)) → o ≡ option_map (λ ys. [] ++ ys) o
+nothing_before None = refl
+nothing_before (Some ys) = refl
 
 pub map_map : {A B C : Type 0} (f : B → C) (g : A → B) (o : Option A) → option_map f (option_map g o) ≡ option_map (λ x. f (g x)) o
 map_map f g None = refl

@@ -1,5 +1,6 @@
 -- What the fields of a line say.
 use Rattle.std.specs.Prelude.{ℕ, ◌-◌, ◌==◌, Bool, true, false, not, ◌&&◌, ◌||◌, if◌then◌else◌, nat_lt, nat_le, List, [], ◌∷◌, codes, length, Option, Some, None, option_map, pos, negsuc}
+use Rattle.std.specs.Borrow.{Bor}
 use Rattle.std.specs.Char.{is_ascii_digit}
 use Rattle.std.specs.List.{list_all, onto_first}
 use Rattle.std.specs.Str.{bytes_eq}
@@ -46,6 +47,11 @@ piece_at inside (b ∷ bs) = if (b == 44) && not inside then Some ([], bs) else 
 abbrev pub pieces : Bool → List ℕ → List (List ℕ)
 pieces inside [] = [] ∷ []
 pieces inside (b ∷ bs) = if (b == 44) && not inside then [] ∷ pieces false bs else onto_first b (pieces (turned inside (b == 39)) bs)
+
+-- those of a text, if there is one
+abbrev pub pieces_of : Option (Bor (List ℕ)) → List (List ℕ)
+pieces_of None = []
+pieces_of (Some text) = pieces false text.now
 
 -- what each of them says
 abbrev pub each_in : {Y : Type 0} → (List ℕ → Option Y) → List (List ℕ) → Option (List Y)

@@ -1,4 +1,5 @@
 pub mod Fields
 pub mod Gives
+pub mod Placed
 pub mod Reading
 pub mod Report

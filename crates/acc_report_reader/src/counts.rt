@@ -5,21 +5,23 @@ ghost use Rattle.acc_report_reader.specs.Reading.{restart_in, decided_in, end_in
 
 use crate::numbers::{actor, count, number};
 use crate::parts::{both_parts, rest_behind};
+use crate::placed::{PlacedForm, PlacedLine};
 use crate::refusal::Refusal;
-use acc_report_line::Line;
 
 #[tactic(auto, unfolding(crate::specs::Reading::restart_in))]
-pub(crate) fn restart(bytes: &[u8]) -> Result<Line, Refusal>
+pub(crate) fn restart(bytes: &[u8]) -> Result<PlacedLine<'_>, Refusal>
     ensures { Gives (λ line. line) result (restart_in bytes.now) }
 {
     let (first, rest) = both_parts(bytes, b' ')?;
     let actor = actor(first)?;
     let kept = number(rest_behind(rest, b"kept")?)?;
-    Ok(Line::Restart { actor, kept })
+    Ok(PlacedLine {
+        form: PlacedForm::Restart { actor, kept },
+    })
 }
 
 #[tactic(auto, unfolding(crate::specs::Reading::decided_in))]
-pub(crate) fn decided(bytes: &[u8]) -> Result<Line, Refusal>
+pub(crate) fn decided(bytes: &[u8]) -> Result<PlacedLine<'_>, Refusal>
     ensures { Gives (λ line. line) result (decided_in bytes.now) }
 {
     let (first, rest) = both_parts(bytes, b' ')?;
@@ -29,16 +31,18 @@ pub(crate) fn decided(bytes: &[u8]) -> Result<Line, Refusal>
     let (third, rest) = both_parts(rest, b' ')?;
     let recovered = count(third, b"recovered")?;
     let adopted = count(rest, b"adopted")?;
-    Ok(Line::Decided {
-        fast,
-        slow,
-        recovered,
-        adopted,
+    Ok(PlacedLine {
+        form: PlacedForm::Decided {
+            fast,
+            slow,
+            recovered,
+            adopted,
+        },
     })
 }
 
 #[tactic(auto, unfolding(crate::specs::Reading::end_in))]
-pub(crate) fn end(bytes: &[u8]) -> Result<Line, Refusal>
+pub(crate) fn end(bytes: &[u8]) -> Result<PlacedLine<'_>, Refusal>
     ensures { Gives (λ line. line) result (end_in bytes.now) }
 {
     let (first, rest) = both_parts(bytes, b' ')?;
@@ -46,9 +50,11 @@ pub(crate) fn end(bytes: &[u8]) -> Result<Line, Refusal>
     let (second, rest) = both_parts(rest, b' ')?;
     let replied = count(second, b"replied")?;
     let unreplied = count(rest, b"open")?;
-    Ok(Line::End {
-        txns,
-        replied,
-        unreplied,
+    Ok(PlacedLine {
+        form: PlacedForm::End {
+            txns,
+            replied,
+            unreplied,
+        },
     })
 }

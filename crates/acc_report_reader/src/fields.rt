@@ -6,21 +6,20 @@ ghost use Rattle.acc_report_reader.specs.Gives.{Gives};
 ghost use Rattle.acc_report_reader.specs.Fields.{name_in, list_in, names_in, path_in};
 
 use crate::parts::{is_word, piece};
+use crate::placed::PlacedNames;
 use crate::refusal::Refusal;
-use acc_base::Text;
 use acc_message::Path;
-use acc_report_line::Names;
-use std::alloc::Global;
 
 /// The name of a transaction.
 #[tactic(auto, unfolding(crate::specs::Fields::name_in))]
-pub(crate) fn name(alloc: Global, bytes: &[u8]) -> Result<Text, Refusal>
-    ensures { Gives (λ name. name) result (name_in bytes.now) }
+pub(crate) fn name(bytes: &[u8]) -> Result<&[u8], Refusal>
+    ensures { Gives (λ name. name.now) result (name_in bytes.now) }
 {
-    if !is_name(bytes) {
-        return Err(Refusal::Form);
+    if is_name(bytes) {
+        Ok(bytes)
+    } else {
+        Err(Refusal::Form)
     }
-    Ok(Text::from_slice(alloc, bytes)?)
 }
 
 fn is_name(bytes: &[u8]) -> bool
@@ -48,28 +47,27 @@ fn is_name_byte(byte: u8) -> bool
 
 /// The names of transactions, or a hyphen for none.
 #[tactic(auto, unfolding(crate::specs::Fields::names_in))]
-pub(crate) fn names(alloc: Global, bytes: &[u8]) -> Result<Names, Refusal>
+pub(crate) fn names(bytes: &[u8]) -> Result<PlacedNames<'_>, Refusal>
     ensures { Gives (λ names. names) result (names_in bytes.now) }
 {
     if is_word(bytes, b"-") {
-        Ok(Names::new(alloc))
+        Ok(PlacedNames::none())
     } else {
-        some_names(alloc, bytes)
+        some_names(bytes)
     }
 }
 
 /// Names with commas between them.
-fn some_names(alloc: Global, bytes: &[u8]) -> Result<Names, Refusal>
+fn some_names(bytes: &[u8]) -> Result<PlacedNames<'_>, Refusal>
     ensures { Gives (λ names. names) result (list_in name_in bytes.now) }
 {
-    let mut names = Names::new(alloc);
     let mut rest = bytes;
     while let Some((first, others)) = piece(rest) {
-        names.push(name(alloc, first)?)?;
+        let _name = name(first)?;
         rest = others;
     }
-    names.push(name(alloc, rest)?)?;
-    Ok(names)
+    let _name = name(rest)?;
+    Ok(PlacedNames::of(bytes))
 }
 
 /// How a decision was made.

@@ -10,9 +10,11 @@ mod lines;
 mod notes;
 mod numbers;
 mod parts;
+mod placed;
 mod refusal;
 mod report;
 mod skips;
 
 pub use error::ReportError;
+pub use placed::{PlacedForm, PlacedLine, PlacedLines, PlacedNames};
 pub use report::read_report;

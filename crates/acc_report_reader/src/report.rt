@@ -6,16 +6,16 @@ ghost use Rattle.acc_report_reader.specs.Report.{Reads, Says};
 use crate::error::ReportError;
 use crate::lines::line;
 use crate::parts::parts;
+use crate::placed::{PlacedLine, PlacedLines};
 use crate::refusal::Refusal;
-use acc_report_line::{Line, Lines};
 use std::alloc::Global;
 
 /// The lines that these bytes are the text of, each with its line feed. A report is read by its lines alone, which may stand in
 /// any order and number. The first line that has no form, or no line feed behind it, is refused.
-pub fn read_report(alloc: Global, bytes: &[u8]) -> Result<Lines, ReportError>
+pub fn read_report(alloc: Global, bytes: &[u8]) -> Result<PlacedLines<'_>, ReportError>
     ensures { Reads result bytes.now }
 {
-    let mut lines = Lines::new(alloc);
+    let mut lines = PlacedLines::new(alloc);
     let mut rest = bytes;
     while let Some((first, others)) = parts(rest, b'\n') {
         let number = lines.len() as u64 + 1;
@@ -31,7 +31,7 @@ pub fn read_report(alloc: Global, bytes: &[u8]) -> Result<Lines, ReportError>
 }
 
 /// The line with this number.
-fn numbered(alloc: Global, bytes: &[u8], number: u64) -> Result<Line, ReportError>
+fn numbered(alloc: Global, bytes: &[u8], number: u64) -> Result<PlacedLine<'_>, ReportError>
     ensures { Says result (line_in bytes.now) number }
 {
     match line(alloc, bytes) {

@@ -8,7 +8,7 @@ use Rattle.acc_audit.proofs.step.decision.Goals as goal
 
 pub returns-in_ok-rule-in-Some-clause-rule : goal.returns-in_ok-rule-in-Some-clause-rule
 returns-in_ok-rule-in-Some-clause-rule c = λ (earlier : List Line) (path : Path) holds index.
-    c.in_ok-rule-in-Some.ensures.rule earlier c.args.against.now.lines.now path holds.marks holds.decisions index
+    c.in_ok-rule-in-Some.ensures.rule c.args.against.now.bodies.now earlier c.args.against.now.lines.now path c.requires.sized.as_many holds.marks holds.decisions index
 
 pub returns-in_ok-rule-in-Some-clause-holds : goal.returns-in_ok-rule-in-Some-clause-holds
 returns-in_ok-rule-in-Some-clause-holds c = λ none (earlier : List Line) (path : Path) holds.

@@ -1,5 +1,6 @@
 use Rattle.std.proofs.Common.{◌<◌, ◌+◌, ◌||◌, ℕ, List, Bool, false, length, refl, subst, sym, ap, ◌∙◌}
 use Rattle.std.specs.List.{list_any}
+use Rattle.acc_txn.specs.declared.parts.BodyParts.{BodyParts}
 use Rattle.acc_message.specs.declared.note.Path.{Path}
 use Rattle.acc_report_line.specs.declared.line.Line.{Line}
 use Rattle.acc_report_line.specs.declared.line.Line.TheVariants.{Decide}
@@ -7,6 +8,7 @@ use Rattle.acc_audit.specs.Said.{decides_another, decides_otherwise}
 use Rattle.acc_audit.specs.Rules.{is_missed, rules}
 use Rattle.acc_audit.proofs.NumberFacts.{numbered}
 use Rattle.acc_audit.proofs.DecisionFacts.{disagreement, noted}
+use Rattle.acc_audit.proofs.LookupFacts.{lookup_is}
 use Rattle.acc_audit.proofs.MarkFacts.{marks_kept, marks_tell}
 use Rattle.acc_audit.proofs.MissedFacts.{missed_is}
 use Rattle.acc_audit.proofs.RuleFacts.{agreed, all_known, not_all_known}
@@ -16,18 +18,14 @@ pub decide_marked-requires-clause-timestamps : goal.decide_marked-requires-claus
 decide_marked-requires-clause-timestamps c =
     subst (λ (n : ℕ). c.args.decision.now.number < n) (sym c.requires.as_many.1) (numbered c.args.numbers.now c.args.decision.now.name.now c.args.decision.now.number c.requires.number).0
 
-pub decide_marked-requires-clause-bodies : goal.decide_marked-requires-clause-bodies
-decide_marked-requires-clause-bodies c =
-    subst (λ (n : ℕ). c.args.decision.now.number < n) (sym c.requires.as_many.2) (numbered c.args.numbers.now c.args.decision.now.name.now c.args.decision.now.number c.requires.number).0
-
 pub returns-else-known-clause-rule : goal.returns-else-known-clause-rule
-returns-else-known-clause-rule c = λ (earlier lines : List Line) (path : Path) marks are index.
+returns-else-known-clause-rule c = λ (bodies : List BodyParts) (earlier lines : List Line) (path : Path) many marks are lookup.
     let d = c.args.decision.now in
-    ap (λ (b : Bool). rules b false (list_any (decides_otherwise d.name.now d.t) earlier || list_any (decides_another d.name.now d.t) earlier) (list_any (is_missed c.args.numbers.now c.args.bodies.now d.name.now d.t d.deps.now) lines) false false c.args.last)
+    ap (λ (b : Bool). rules b false (list_any (decides_otherwise d.name.now d.t) earlier || list_any (decides_another d.name.now d.t) earlier) (list_any (is_missed c.args.numbers.now bodies d.name.now d.t d.deps.now) lines) false false c.args.last)
     (not_all_known c.args.numbers.now d.name.now d.deps.now c.mark-known.result c.mark-known.ensures.known c.if-known.false)
 
 pub returns-in_ok-rule-clause-rule : goal.returns-in_ok-rule-clause-rule
-returns-in_ok-rule-clause-rule c = λ (earlier lines : List Line) (path : Path) marks are index.
+returns-in_ok-rule-clause-rule c = λ (bodies : List BodyParts) (earlier lines : List Line) (path : Path) many marks are lookup.
     let d = c.args.decision.now in
     let names : List (List ℕ) = c.args.numbers.now in
     let deps : List (List ℕ) = d.deps.now in
@@ -36,7 +34,10 @@ returns-in_ok-rule-clause-rule c = λ (earlier lines : List Line) (path : Path) 
     marks_tell names deps marks.0 new d.place (c.as_slice.ensures.value ∙ c.mark-known.ensures.marked c.if-known.true marks.0 marks.1) marks.2 m within in
     let known = all_known names d.name.now deps d.number c.mark-known.result c.requires.number c.mark-known.ensures.known c.if-known.true in
     let disagrees = disagreement names earlier c.args.decisions.now d.number d.name.now d.t c.requires.number are in
-    let missed = missed_is names c.args.bodies.now lines c.args.index.now.users d.number d.name.now d.t deps new (d.place + 1) c.requires.differ c.requires.number index tell in
+    let within : d.number < length bodies = subst (λ (n : ℕ). d.number < n) (sym many) (numbered names d.name.now d.number c.requires.number).0 in
+    let missed =
+    lookup_is lookup.users bodies c.args.lookup.now d.number d.t new (d.place + 1) lookup.stands within
+    ∙ missed_is names bodies lines lookup.users d.number d.name.now d.t deps new (d.place + 1) c.requires.differ c.requires.number lookup.index tell in
     c.in_ok-rule.ensures.rule ∙ (λ i. rules (known i) false (disagrees i) (missed i) false false c.args.last)
 
 pub returns-in_ok-rule-clause-marks : goal.returns-in_ok-rule-clause-marks

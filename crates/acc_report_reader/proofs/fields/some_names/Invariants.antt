@@ -1,11 +1,11 @@
--- The names that are left go on from those so far.
-use Rattle.std.proofs.Common.{◌≡◌, ◌++◌, length}
+-- The names that are left go on from some before them.
+use Rattle.std.proofs.Common.{◌≡◌, ℕ, List, ◌++◌, length}
 use Rattle.std.specs.Prelude.{option_map}
 use Rattle.acc_report_reader.specs.Fields.{list_in, name_in}
 use Rattle.acc_report_reader.proofs.fields.some_names.Given as goal
 
 abbrev pub invariant-loop-first : goal.invariant-loop-first
-invariant-loop-first l = list_in name_in l.bytes ≡ option_map (λ ys. l.names ++ ys) (list_in name_in l.rest)
+invariant-loop-first l = (before : List (List ℕ)) × (list_in name_in l.bytes ≡ option_map (λ ys. before ++ ys) (list_in name_in l.rest))
 
 abbrev pub decreases-loop-first : goal.decreases-loop-first
 decreases-loop-first l = length l.rest

@@ -24,8 +24,8 @@ loop-first-preserved c =
     subst P (sym c.in_ok-push.ensures.ok)
     (one_more c.args.bytes.now c.loop-first.rest.now c.in-Some.first.now c.in-Some.others.now c.loop-first.lines c.in_ok-numbered.field-0 c.loop-first.invariant cut c.in_ok-numbered.ensures)
 
-pub returns-else-is_empty : goal.returns-else-is_empty
-returns-else-is_empty c =
+pub returns : goal.returns
+returns c =
     let cut : None ≡ parts_at 10 c.loop-first.rest.now = search rules in
     unfinished_line c.args.bytes.now c.loop-first.rest.now c.loop-first.lines (c.len-else-is_empty.result + 1) c.loop-first.invariant cut
     (λ empty. let f : (length c.loop-first.rest.now == 0) ≡ true = eq-eqb (length c.loop-first.rest.now) 0 empty in cc)
