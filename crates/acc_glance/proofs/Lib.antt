@@ -1,0 +1,17 @@
+pub mod AnswerFacts
+pub mod NodeSets
+pub mod Lines
+pub mod LookFacts
+pub mod SerialFacts
+pub mod SightFacts
+pub mod SameCells
+pub mod Splits
+pub mod Lefts
+pub mod StoreFacts
+pub mod VisitFacts
+pub mod Pushed
+pub mod Passing
+pub mod Moments
+pub mod ReadCells
+pub mod Looked
+pub mod OneSight

@@ -1,0 +1,9 @@
+pub mod Documents
+pub mod Stages
+pub mod Visits
+pub mod Serial
+pub mod Seen
+pub mod Sights
+pub mod Runs
+pub mod UnderWay
+pub mod Texts
