@@ -1,3 +1,2 @@
-mod LineFacts
 mod FreeReports
 mod FreeCounts

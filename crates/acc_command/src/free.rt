@@ -1,19 +1,21 @@
 //! The command `free`.
-ghost use Rattle.std.specs.Prelude.{◌≡◌, ◌≢◌, ◌≤◌, length, IfOk, IfSome};
-ghost use Rattle.acc_ports.specs.Faults.{Rose};
+ghost use Rattle.std.specs.Prelude.{◌≡◌, ◌≤◌, length, IfOk};
 ghost use Rattle.acc_schedule.specs.Plan.{IsPlan};
 ghost use Rattle.acc_command_alone.specs.declared.words.Command.TheVariants.{Run};
-ghost use Rattle.acc_command_alone.specs.Command.{document_limit, Ends, EndsOnGiven, IsAccepted, IsDone, IsDue, Leaves, PlanEnds};
+ghost use Rattle.acc_command_alone.specs.Streams.{streams_of};
+ghost use Rattle.acc_command_alone.specs.Ends.{document_limit};
+ghost use Rattle.acc_command_alone.specs.Responds.{Responds};
+ghost use Rattle.acc_command_alone.specs.Command.{DoesOn, IsDue, PlanEnds};
 ghost use Rattle.acc_command.specs.Free.{OverThreads};
 
 use acc_base::{Bytes, OutOfMemory, Sequence};
 use acc_command_alone::{
-    DOCUMENT_LIMIT, Remains, Reply, Status, TOO_LONG, limit_line, read_plan, refusal_line, say,
+    Remains, Reply, Status, limit_line, read_document, read_plan, refusal_line, tell,
 };
 use acc_free::run_free;
 use acc_free_laws::laws::free_runs_are_safe;
 use acc_message::RunError;
-use acc_ports::{DiskMaker, Gate, ReadError, Sink, Source, read_all};
+use acc_ports::{DiskMaker, Gate, Sink, Source};
 use acc_report::text;
 use acc_schedule::Plan;
 use std::alloc::Global;
@@ -34,48 +36,11 @@ pub(crate) fn free<R: Threads + Wait + Sync, S: Source, K: Sink, M: DiskMaker, G
 where
     M::D: Drop + Send,
     requires workers { (1 ≤ workers) × (workers ≤ 16) }
-    ensures ends { EndsOnGiven (OverThreads M.D.Disk (M.strict disks.old) (M.given disks.old) (M.given disks.new)) Run (S.left source.old) result (K.written sink.old) (K.written sink.new) }
-    ensures words { result ≢ Status.Usage }
-    ensures leaves { Leaves result (S.left source.old) (S.left source.new) }
-    ensures read_fault { result ≡ Status.ReadFault → Rose (S.faults source.old) (S.faults source.new) }
-    ensures unwritten { result ≡ Status.ReadFault → K.written sink.new ≡ K.written sink.old }
-    ensures read_first { result ≢ Status.ReadFault → S.faults source.new ≡ S.faults source.old }
-    ensures write_fault { result ≡ Status.WriteFault → Rose (K.faults sink.old) (K.faults sink.new) }
-    ensures no_write_fault { result ≢ Status.WriteFault → K.faults sink.new ≡ K.faults sink.old }
-    ensures complete { ¬ (Rose (S.faults source.old) (S.faults source.new)) → ¬ (Rose (K.faults sink.old) (K.faults sink.new))
-        → IfSome (S.left source.old) (λ bytes. IsAccepted bytes → length bytes ≤ document_limit → IsDone Run result) }
+    ensures { Responds (IsDue (OverThreads M.D.Disk (M.strict disks.old) (M.given disks.old) (M.given disks.new)) Run) (DoesOn Run) (streams_of S.Source K.Sink source.old sink.old) (streams_of S.Source K.Sink source.new sink.new) result }
 {
-    match read_all(alloc, source, DOCUMENT_LIMIT) {
-        Ok(bytes) => respond(rt, alloc, workers, bytes, sink, disks, gate, remains),
-        Err(ReadError::TooLong) => say(sink, TOO_LONG, Status::Limit),
-        Err(ReadError::Failed) => Status::ReadFault,
-        Err(ReadError::OutOfMemory) => Status::OutOfMemory,
-    }
-}
-
-// Writes what the command answers to a document.
-fn respond<R: Threads + Wait + Sync, K: Sink, M: DiskMaker, G: Gate + Sync>(
-    rt: &R,
-    alloc: Global,
-    workers: u32,
-    bytes: Bytes,
-    sink: &mut K,
-    disks: &mut M,
-    gate: &G,
-    remains: &mut Remains,
-) -> Status
-where
-    M::D: Drop + Send,
-    requires workers { (1 ≤ workers) × (workers ≤ 16) }
-    requires short { length bytes ≤ document_limit }
-    ensures ends { Ends (IsDue (OverThreads M.D.Disk (M.strict disks.old) (M.given disks.old) (M.given disks.new)) Run bytes) result (K.written sink.old) (K.written sink.new) }
-    ensures cause { result ≡ Status.WriteFault → Rose (K.faults sink.old) (K.faults sink.new) }
-    ensures still { result ≢ Status.WriteFault → K.faults sink.new ≡ K.faults sink.old }
-    ensures reads { result ≢ Status.ReadFault }
-{
-    match reply(rt, alloc, workers, bytes, disks, gate, remains) {
-        Ok(reply) => say(sink, reply.text.as_slice(), reply.status),
-        Err(OutOfMemory) => Status::OutOfMemory,
+    match read_document(alloc, source, sink) {
+        Ok(bytes) => tell(sink, reply(rt, alloc, workers, bytes, disks, gate, remains)),
+        Err(status) => status,
     }
 }
 

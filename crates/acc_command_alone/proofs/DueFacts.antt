@@ -20,7 +20,8 @@ use Rattle.acc_command_alone.specs.declared.status.Status.{Status}
 use Rattle.acc_command_alone.specs.declared.status.Status.TheVariants.{Done, No, Usage, ReadFault, WriteFault, BadInput, Limit, OutOfMemory}
 use Rattle.acc_command_alone.specs.declared.words.Command.TheVariants.{Run}
 use Rattle.acc_command_alone.specs.Lines.{line, run_limit_text}
-use Rattle.acc_command_alone.specs.Command.{document_limit, IsDue, Over, OverDisks, PlanEnds, Reports, TellsLimit}
+use Rattle.acc_command_alone.specs.Ends.{document_limit}
+use Rattle.acc_command_alone.specs.Command.{IsDue, Over, OverDisks, PlanEnds, Reports, TellsLimit}
 
 pub plan_due : (over : Over) (bytes : List ℕ) (plan : Content) (status : Status) (text : List ℕ) → length bytes ≤ document_limit → Means bytes plan
     → PlanEnds over plan status text → IsDue over Run bytes status text

@@ -1,15 +1,21 @@
-mod Begun
+pub mod Begun
 pub mod CalmReports
+pub mod CarryFacts
 pub mod CommandFacts
-mod Counted
+pub mod Counted
 pub mod DueFacts
-mod EndsFacts
-mod FewReplies
+pub mod FewReplies
+pub mod FinishedReports
 pub mod GeneratedFacts
-mod GeneratedReports
-pub mod LeavesFacts
-mod LineFacts
-mod NumberFacts
-mod SpellingFacts
-mod StrictReports
+pub mod GeneratedReports
+pub mod GlanceFacts
+pub mod HealingFacts
 pub mod JudgeFacts
+pub mod LineFacts
+pub mod NumberFacts
+pub mod ReadFacts
+pub mod RespondFacts
+pub mod SaidFacts
+pub mod SpellingFacts
+pub mod StrictReports
+pub mod StrictLooks

@@ -3,7 +3,8 @@ use Rattle.std.proofs.Common.{◌≡◌, ℕ, List, [], ◌∷◌, Option, sym, 
 use Rattle.acc_command_alone.specs.Number.{value_of}
 use Rattle.acc_command_alone.specs.declared.status.Status.{Status}
 use Rattle.acc_command_alone.specs.Words.{IsGenerateLine}
-use Rattle.acc_command_alone.specs.Command.{Ends, IsGenerated}
+use Rattle.acc_command_alone.specs.Ends.{Ends}
+use Rattle.acc_command_alone.specs.Command.{IsGenerated}
 
 third : List (List ℕ) → List ℕ
 third (a ∷ b ∷ c ∷ words) = c

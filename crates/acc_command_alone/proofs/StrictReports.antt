@@ -1,6 +1,5 @@
 -- Over strict disks a document has one report.
-use Rattle.std.proofs.Common.{◌≡◌, ℕ, ◌<◌, ◌≤◌, true, List, [], length, inl, inr, refl, sym, ◌∙◌, ap, subst, arith}
-use Rattle.acc_ports.specs.declared.disk.Disk.{Ghosts}
+use Rattle.std.proofs.Common.{◌≡◌, ℕ, ◌<◌, ◌≤◌, List, [], length, inl, inr, refl, sym, ◌∙◌, ap, subst, arith}
 use Rattle.acc_message.specs.declared.error.Which.{Which}
 use Rattle.acc_message.specs.declared.item.Item.{Item}
 use Rattle.acc_schedule.specs.declared.error.PlanKind.{PlanKind}
@@ -8,65 +7,76 @@ use Rattle.acc_schedule.specs.declared.error.PlanError.TheVariants.{Bad}
 use Rattle.acc_schedule.specs.Content.{Content}
 use Rattle.acc_schedule.specs.Document.{Means}
 use Rattle.acc_schedule.proofs.AnswerFacts.{same_plan, says_no_fault, one_fault}
-use Rattle.acc_schedule_runs.specs.StrictSchedules.{ObeysStrictly}
 use Rattle.acc_schedule_runs.specs.Limits.{IsWithin}
-use Rattle.acc_schedule_runs.specs.StrictFronts.{StrictLimitEnds}
 use Rattle.acc_report.specs.Report.{report_text}
 use Rattle.acc_command_alone.specs.declared.status.Status.{Status}
 use Rattle.acc_command_alone.specs.declared.status.Status.TheVariants.{Done, No, Usage, ReadFault, WriteFault, BadInput, Limit, OutOfMemory}
 use Rattle.acc_command_alone.specs.declared.words.Command.TheVariants.{Run}
 use Rattle.acc_command_alone.specs.Lines.{line, run_limit_text, refusal_text}
-use Rattle.acc_command_alone.specs.Command.{document_limit, IsDue, IsLimited, IsRefusal, IsReport, Over, OverDisks}
+use Rattle.acc_command_alone.specs.Ends.{document_limit}
+use Rattle.acc_command_alone.specs.Command.{IsDue, IsLimited, IsRefusal, IsReport, Over, Reports, TellsLimit}
 
--- what strict disks fix: one run of a plan, one limit of it, and never both
-pub record FixRuns : Type 0 where
-  pub items : (plan : Content) (one other : List Item) → ObeysStrictly plan one → ObeysStrictly plan other → one ≡ other
-  pub limit : (plan : Content) (one other : List Item) (which which_other : Which) (number number_other : ℕ) → StrictLimitEnds plan one which number
-      → StrictLimitEnds plan other which_other number_other → (one ≡ other) × (which ≡ which_other) × (number ≡ number_other)
-  pub not_both : (plan : Content) (items front : List Item) (which : Which) (number : ℕ) → ObeysStrictly plan items → IsWithin items
-      → StrictLimitEnds plan front which number → ⊥
+-- What strict disks fix: one list of items of a plan that are run so, one limit that stops them, and never both.
+pub record FixRuns (Runs : Content → List Item → Type 0) (Stops : Content → List Item → Which → ℕ → Type 0) : Type 0 where
+  pub items : (plan : Content) (one other : List Item) → Runs plan one → Runs plan other → one ≡ other
+  pub limit : (plan : Content) (one other : List Item) (which which_other : Which) (number number_other : ℕ) → Stops plan one which number
+      → Stops plan other which_other number_other → (one ≡ other) × (which ≡ which_other) × (number ≡ number_other)
+  pub not_both : (plan : Content) (items front : List Item) (which : Which) (number : ℕ) → Runs plan items → IsWithin items → Stops plan front which number → ⊥
 
-same_refusal : (kind : PlanKind) (path : List ℕ) (detail at : ℕ) (other_kind : PlanKind) (other_path : List ℕ) (other_detail other_at : ℕ)
+-- what is reported is run and stopped so
+pub record AreFixed (Runs : Content → List Item → Type 0) (Stops : Content → List Item → Which → ℕ → Type 0) (over : Over) : Type 0 where
+  pub runs : (plan : Content) (items : List Item) → over.Items plan items → Runs plan items
+  pub stops : (plan : Content) (items : List Item) (which : Which) (number : ℕ) → over.Limits plan items which number → Stops plan items which number
+
+pub same_refusal : (kind : PlanKind) (path : List ℕ) (detail at : ℕ) (other_kind : PlanKind) (other_path : List ℕ) (other_detail other_at : ℕ)
     → Bad kind path detail at ≡ Bad other_kind other_path other_detail other_at
     → refusal_text kind path detail at ≡ refusal_text other_kind other_path other_detail other_at
 same_refusal kind path detail at other_kind other_path other_detail other_at same = cc
 
-module _ {D : Type 0} (port : Ghosts D) (fixed : FixRuns) (before after other_before other_after : List (ℕ × D)) (bytes : List ℕ) where
-  abbrev one : Over
-  one = OverDisks port true before after
+-- ---- the reports of a plan
 
-  abbrev other : Over
-  other = OverDisks port true other_before other_after
+module _ (Runs : Content → List Item → Type 0) (Stops : Content → List Item → Which → ℕ → Type 0) (fixed : FixRuns Runs Stops) (one other : Over)
+    (of_one : AreFixed Runs Stops one) (of_other : AreFixed Runs Stops other) (plan : Content) where
+  pub same_reports : (text other_text : List ℕ) → Reports one plan text → Reports other plan other_text → text ≡ other_text
+  same_reports text other_text a b =
+      let items : a.items ≡ b.items = fixed.items plan a.items b.items (of_one.runs plan a.items a.also) (of_other.runs plan b.items b.also) in
+      a.prints ∙ ap (λ own. report_text plan.print plan.names [] own) items ∙ sym b.prints
 
+  pub same_limits : (text other_text : List ℕ) → TellsLimit one plan text → TellsLimit other plan other_text → text ≡ other_text
+  same_limits text other_text a b =
+      let all =
+      fixed.limit plan a.items b.items a.which b.which a.number b.number (of_one.stops plan a.items a.which a.number a.also)
+      (of_other.stops plan b.items b.which b.number b.also) in
+      a.prints ∙ ap (λ which. line (run_limit_text which a.number)) all.1 ∙ ap (λ number. line (run_limit_text b.which number)) all.2 ∙ sym b.prints
+
+  pub never_both : (text other_text : List ℕ) → Reports one plan text → TellsLimit other plan other_text → ⊥
+  never_both text other_text a b =
+      fixed.not_both plan a.items b.items b.which b.number (of_one.runs plan a.items a.also) a.within (of_other.stops plan b.items b.which b.number b.also)
+
+-- ---- those of a document
+
+module _ (Runs : Content → List Item → Type 0) (Stops : Content → List Item → Which → ℕ → Type 0) (fixed : FixRuns Runs Stops) (one other : Over)
+    (of_one : AreFixed Runs Stops one) (of_other : AreFixed Runs Stops other) (bytes : List ℕ) where
   reports : (text other_text : List ℕ) → IsReport one bytes text → IsReport other bytes other_text → text ≡ other_text
   reports text other_text a b =
-      let plan : b.plan ≡ a.plan = same_plan bytes b.plan a.plan b.says a.says in
-      let strictly : ObeysStrictly a.plan b.reports.items = subst (λ p. ObeysStrictly p b.reports.items) plan (b.reports.also.strictly refl) in
-      let items : a.reports.items ≡ b.reports.items = fixed.items a.plan a.reports.items b.reports.items (a.reports.also.strictly refl) strictly in
-      a.reports.prints ∙ ap (λ own. report_text a.plan.print a.plan.names [] own) items
-      ∙ ap (λ (p : Content). report_text p.print p.names [] b.reports.items) (sym plan) ∙ sym b.reports.prints
+      same_reports Runs Stops fixed one other of_one of_other a.plan text other_text a.reports
+      (subst (λ p. Reports other p other_text) (same_plan bytes b.plan a.plan b.says a.says) b.reports)
 
   limits : (text other_text : List ℕ) → IsLimited one bytes text → IsLimited other bytes other_text → text ≡ other_text
   limits text other_text a b =
-      let plan : b.plan ≡ a.plan = same_plan bytes b.plan a.plan b.says a.says in
-      let strictly : StrictLimitEnds a.plan b.tells.items b.tells.which b.tells.number =
-      subst (λ p. StrictLimitEnds p b.tells.items b.tells.which b.tells.number) plan (b.tells.also.1 refl) in
-      let all = fixed.limit a.plan a.tells.items b.tells.items a.tells.which b.tells.which a.tells.number b.tells.number (a.tells.also.1 refl) strictly in
-      a.tells.prints ∙ ap (λ which. line (run_limit_text which a.tells.number)) all.1 ∙ ap (λ number. line (run_limit_text b.tells.which number)) all.2
-      ∙ sym b.tells.prints
+      same_limits Runs Stops fixed one other of_one of_other a.plan text other_text a.tells
+      (subst (λ p. TellsLimit other p other_text) (same_plan bytes b.plan a.plan b.says a.says) b.tells)
 
   refusals : (text other_text : List ℕ) → IsRefusal bytes text → IsRefusal bytes other_text → text ≡ other_text
   refusals text other_text a b =
       let same = one_fault bytes (Bad a.kind a.path a.detail a.at) (Bad b.kind b.path b.detail b.at) a.cause b.cause in
       a.prints ∙ ap line (same_refusal a.kind a.path a.detail a.at b.kind b.path b.detail b.at same) ∙ sym b.prints
 
-  never_both : (one_over other_over : Over) (text other_text : List ℕ) → ((plan : Content) (items : List Item) → one_over.Items plan items → ObeysStrictly plan items)
-      → ((plan : Content) (items : List Item) (which : Which) (number : ℕ) → other_over.Limits plan items which number → StrictLimitEnds plan items which number)
+  never_both_of : (one_over other_over : Over) (text other_text : List ℕ) → AreFixed Runs Stops one_over → AreFixed Runs Stops other_over
       → IsReport one_over bytes text → IsLimited other_over bytes other_text → ⊥
-  never_both one_over other_over text other_text obeys ends a b =
-      let plan : b.plan ≡ a.plan = same_plan bytes b.plan a.plan b.says a.says in
-      fixed.not_both a.plan a.reports.items b.tells.items b.tells.which b.tells.number (obeys a.plan a.reports.items a.reports.also) a.reports.within
-      (subst (λ p. StrictLimitEnds p b.tells.items b.tells.which b.tells.number) plan (ends b.plan b.tells.items b.tells.which b.tells.number b.tells.also))
+  never_both_of one_over other_over text other_text of_one_over of_other_over a b =
+      never_both Runs Stops fixed one_over other_over of_one_over of_other_over a.plan text other_text a.reports
+      (subst (λ p. TellsLimit other_over p other_text) (same_plan bytes b.plan a.plan b.says a.says) b.tells)
 
   refused_or_said : (plan : Content) (text : List ℕ) → Means bytes plan → IsRefusal bytes text → ⊥
   refused_or_said plan text says a = says_no_fault bytes plan a.kind a.path a.detail a.at says a.cause
@@ -79,11 +89,11 @@ module _ {D : Type 0} (port : Ghosts D) (fixed : FixRuns) (before after other_be
 
   done_limit : (text other_text : List ℕ) → IsDue one Run bytes Done text → IsDue other Run bytes Limit other_text → ⊥
   done_limit text other_text a (inl long) = not_long a.0 long.0
-  done_limit text other_text a (inr past) = never_both one other text other_text (λ plan items also. also.strictly refl) (λ plan items which number also. also.1 refl) a.1 past.1
+  done_limit text other_text a (inr past) = never_both_of one other text other_text of_one of_other a.1 past.1
 
   limit_done : (text other_text : List ℕ) → IsDue one Run bytes Limit text → IsDue other Run bytes Done other_text → ⊥
   limit_done text other_text (inl long) b = not_long b.0 long.0
-  limit_done text other_text (inr past) b = never_both other one other_text text (λ plan items also. also.strictly refl) (λ plan items which number also. also.1 refl) b.1 past.1
+  limit_done text other_text (inr past) b = never_both_of other one other_text text of_other of_one b.1 past.1
 
   bad_limit : (over : Over) (text other_text : List ℕ) → (length bytes ≤ document_limit) × IsRefusal bytes text → IsDue over Run bytes Limit other_text → ⊥
   bad_limit over text other_text a (inl long) = not_long a.0 long.0

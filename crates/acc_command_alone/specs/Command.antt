@@ -1,8 +1,6 @@
--- What a command writes and how it ends, from its words and the bytes of its document.
-use Rattle.std.specs.Prelude.{◌≡◌, ◌⊎◌, ℕ, ◌+◌, ◌<◌, ◌≤◌, Bool, IsTrue, List, [], length, Option, IfSome}
+-- What is due of a command, from its words and the bytes of its document.
+use Rattle.std.specs.Prelude.{◌≡◌, ◌⊎◌, ℕ, ◌≤◌, Bool, IsTrue, List, [], length}
 use Rattle.acc_ports.specs.declared.disk.Disk.{Ghosts}
-use Rattle.acc_ports.specs.Sink.{followed_by, WritesPart}
-use Rattle.acc_ports.specs.Source.{without_first, none_left, TakesAtMost}
 use Rattle.acc_message.specs.declared.error.Which.{Which}
 use Rattle.acc_message.specs.declared.item.Item.{Item}
 use Rattle.acc_message.specs.Run.{IsRun}
@@ -20,25 +18,14 @@ use Rattle.acc_schedule_runs.specs.StrictFronts.{StrictLimitEnds}
 use Rattle.acc_report.specs.Report.{report_text}
 use Rattle.acc_run.specs.Given.{HasRun, HasStopped}
 use Rattle.acc_generator.specs.Document.{document_text}
-use Rattle.acc_command_alone.specs.Lines.{line, document_limit_text, run_limit_text, ok_text, refusal_text, usage_text}
+use Rattle.acc_command_alone.specs.Lines.{line, run_limit_text, ok_text, refusal_text, usage_text}
+use Rattle.acc_command_alone.specs.Streams.{Streams}
+use Rattle.acc_command_alone.specs.Ends.{document_limit, EndsOnSome}
+use Rattle.acc_command_alone.specs.Responds.{IsTooLong}
 use Rattle.acc_command_alone.specs.declared.words.Command.{Command}
 use Rattle.acc_command_alone.specs.declared.words.Command.TheVariants.{Run, Check}
 use Rattle.acc_command_alone.specs.declared.status.Status.{Status}
 use Rattle.acc_command_alone.specs.declared.status.Status.TheVariants.{Done, No, Usage, ReadFault, WriteFault, BadInput, Limit, OutOfMemory}
-
-abbrev pub code_of : Status → ℕ
-code_of Done = 0
-code_of No = 1
-code_of Usage = 2
-code_of ReadFault = 3
-code_of WriteFault = 4
-code_of BadInput = 5
-code_of Limit = 6
-code_of OutOfMemory = 7
-
--- the most bytes that a document may have
-abbrev pub document_limit : ℕ
-document_limit = 16777216
 
 -- ---- what a run is over
 
@@ -126,10 +113,6 @@ pub record IsRefusal (bytes text : List ℕ) : Type 0 where
   pub cause : IsCause bytes (Bad kind path detail at)
   pub prints : text ≡ line (refusal_text kind path detail at)
 
--- a document that is too long
-abbrev pub IsTooLong : List ℕ → List ℕ → Type 0
-IsTooLong bytes text = (document_limit < length bytes) × (text ≡ line document_limit_text)
-
 -- the text of a command on a document that it accepts, and the limits that a command meets besides that of the document
 abbrev pub IsText : Over → Command → List ℕ → List ℕ → Type 0
 IsText over Run bytes text = IsReport over bytes text
@@ -153,49 +136,9 @@ IsDue over command bytes ReadFault text = ⊥
 IsDue over command bytes WriteFault text = ⊥
 IsDue over command bytes OutOfMemory text = ⊥
 
--- what a sink holds after a text that was due with a status: the whole text, or with a write fault or want of memory a part
-abbrev pub Writes : (Status → List ℕ → Type 0) → Status → Option (List ℕ) → Option (List ℕ) → Type 0
-Writes P status old new = (text : List ℕ) × P status text × (new ≡ followed_by text old)
-
-abbrev pub WritesLess : (Status → List ℕ → Type 0) → Option (List ℕ) → Option (List ℕ) → Type 0
-WritesLess P old new = (status : Status) × (text : List ℕ) × P status text × WritesPart text old new
-
-abbrev pub Ends : (Status → List ℕ → Type 0) → Status → Option (List ℕ) → Option (List ℕ) → Type 0
-Ends P Done old new = Writes P Done old new
-Ends P No old new = Writes P No old new
-Ends P Usage old new = Writes P Usage old new
-Ends P ReadFault old new = new ≡ old
-Ends P WriteFault old new = WritesLess P old new
-Ends P BadInput old new = Writes P BadInput old new
-Ends P Limit old new = Writes P Limit old new
-Ends P OutOfMemory old new = (new ≡ old) ⊎ WritesLess P old new
-
--- it ends as is due on a document that the source gives: on the bytes that it tells, and on some where it tells none
-pub record EndsOnSome (DueOn : List ℕ → Status → List ℕ → Type 0) (left : Option (List ℕ)) (status : Status) (old new : Option (List ℕ)) : Type 0 where
-  pub bytes : List ℕ
-  pub given : IfSome left (λ told. bytes ≡ told)
-  pub ends : Ends (DueOn bytes) status old new
-
-abbrev pub EndsOnGiven : Over → Command → Option (List ℕ) → Status → Option (List ℕ) → Option (List ℕ) → Type 0
+-- it ends as is due on a document that the source gives
+abbrev pub EndsOnGiven : Over → Command → Streams → Streams → Status → Type 0
 EndsOnGiven over command = EndsOnSome (IsDue over command)
-
--- What is left of the source: all behind the byte past the limit, which is nothing where the document was read whole; with a fault of
--- the source or want of memory no less than that.
-abbrev pub Leaves : Status → Option (List ℕ) → Option (List ℕ) → Type 0
-Leaves Done old new = (new ≡ none_left old) × (new ≡ without_first (document_limit + 1) old)
-Leaves No old new = (new ≡ none_left old) × (new ≡ without_first (document_limit + 1) old)
-Leaves Usage old new = ⊥
-Leaves ReadFault old new = TakesAtMost (document_limit + 1) old new
-Leaves WriteFault old new = new ≡ without_first (document_limit + 1) old
-Leaves BadInput old new = (new ≡ none_left old) × (new ≡ without_first (document_limit + 1) old)
-Leaves Limit old new = new ≡ without_first (document_limit + 1) old
-Leaves OutOfMemory old new = TakesAtMost (document_limit + 1) old new
-
--- a text was written with its status, or the sink failed or had no memory before the end
-abbrev pub Says : Status → List ℕ → Status → Option (List ℕ) → Option (List ℕ) → Type 0
-Says status text result old new =
-    ((result ≡ status) × (new ≡ followed_by text old))
-    ⊎ (((result ≡ WriteFault) ⊎ (result ≡ OutOfMemory)) × WritesPart text old new)
 
 -- the usage line is due for every other list of words
 abbrev pub IsUsage : Status → List ℕ → Type 0
@@ -230,6 +173,10 @@ IsDone command Usage = ⊥
 IsDone command ReadFault = ⊥
 IsDone command WriteFault = ⊥
 IsDone command BadInput = ⊥
+
+-- on a document that it accepts
+abbrev pub DoesOn : Command → List ℕ → Status → Type 0
+DoesOn command bytes status = IsAccepted bytes → IsDone command status
 
 -- the document is made, unless memory ran out
 abbrev pub IsMade : Status → Type 0

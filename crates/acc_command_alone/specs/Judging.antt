@@ -8,7 +8,8 @@ use Rattle.acc_audit.specs.declared.judgement.Judgement.{Judgement}
 use Rattle.acc_audit.specs.declared.judgement.Judgement.TheVariants.{Yes, No as Not}
 use Rattle.acc_audit.specs.Cases.{IsCaseCause, IsDueOn, MeansCase}
 use Rattle.acc_command_alone.specs.Lines.{line, refusal_text}
-use Rattle.acc_command_alone.specs.Command.{document_limit, IsTooLong}
+use Rattle.acc_command_alone.specs.Ends.{document_limit}
+use Rattle.acc_command_alone.specs.Responds.{IsTooLong}
 use Rattle.acc_command_alone.specs.declared.status.Status.{Status}
 use Rattle.acc_command_alone.specs.declared.status.Status.TheVariants.{Done, No, Usage, ReadFault, WriteFault, BadInput, Limit, OutOfMemory}
 
@@ -63,3 +64,7 @@ IsAnswered ReadFault = ⊥
 IsAnswered WriteFault = ⊥
 IsAnswered BadInput = ⊥
 IsAnswered Limit = ⊥
+
+-- on bytes that are a case
+abbrev pub JudgesOn : List ℕ → Status → Type 0
+JudgesOn bytes status = IsCase bytes → IsAnswered status

@@ -1,7 +1,14 @@
+pub mod CarriesOut
 pub mod Command
 pub mod Counts
+pub mod Ends
+pub mod Finished
+pub mod Glancing
+pub mod Healing
+pub mod Judging
 pub mod Lines
 pub mod Number
 pub mod Reader
+pub mod Responds
+pub mod Streams
 pub mod Words
-pub mod Judging

@@ -5,7 +5,7 @@ use Rattle.acc_command_alone.specs.declared.words.Command.{Command}
 use Rattle.acc_command_alone.specs.declared.words.Command.TheVariants.{Run, Check}
 use Rattle.acc_command_alone.specs.declared.words.Numbers.{Numbers}
 use Rattle.acc_command_alone.specs.declared.words.Line.{Line}
-use Rattle.acc_command_alone.specs.declared.words.Line.TheVariants.{Document, Audit, Generate}
+use Rattle.acc_command_alone.specs.declared.words.Line.TheVariants.{Document, Heal, Audit, Glance, Generate}
 
 abbrev pub IsRunLine : List (List ℕ) → Type 0
 IsRunLine words = words ≡ codes "run" ∷ []
@@ -13,12 +13,26 @@ IsRunLine words = words ≡ codes "run" ∷ []
 abbrev pub IsCheckLine : List (List ℕ) → Type 0
 IsCheckLine words = words ≡ codes "check" ∷ []
 
+abbrev pub IsHealLine : List (List ℕ) → Type 0
+IsHealLine words = words ≡ codes "heal" ∷ []
+
 abbrev pub IsAuditLine : List (List ℕ) → Type 0
 IsAuditLine words = words ≡ codes "audit" ∷ []
 
--- the command reads a document, or a case
+abbrev pub IsGlanceLine : List (List ℕ) → Type 0
+IsGlanceLine words = words ≡ codes "glance" ∷ []
+
+-- the command runs a document without looks, step by step
+abbrev pub IsSteppedLine : List (List ℕ) → Type 0
+IsSteppedLine words = IsRunLine words ⊎ IsHealLine words
+
+-- it takes disks for a run, and asks for no threads
+abbrev pub UsesDisksAlone : List (List ℕ) → Type 0
+UsesDisksAlone words = IsSteppedLine words ⊎ IsGlanceLine words
+
+-- the command reads a document, with looks or without, or a case
 abbrev pub IsDocumentLine : List (List ℕ) → Type 0
-IsDocumentLine words = (IsRunLine words ⊎ IsCheckLine words) ⊎ IsAuditLine words
+IsDocumentLine words = (((IsRunLine words ⊎ IsCheckLine words) ⊎ IsHealLine words) ⊎ IsAuditLine words) ⊎ IsGlanceLine words
 
 -- the words make a document of this seed, with so many transactions
 pub record IsGenerateLine (words : List (List ℕ)) (seed txns : ℕ) : Type 0 where
@@ -49,6 +63,22 @@ pub record IsFreeLine (words : List (List ℕ)) (workers : ℕ) : Type 0 where
 abbrev pub AsksForWorkers : List (List ℕ) → Type 0
 AsksForWorkers words = (workers : ℕ) × IsFreeLine words workers
 
+-- a line that is built
+abbrev pub IsLine : List (List ℕ) → Type 0
+IsLine words = IsLineAlone words ⊎ AsksForWorkers words
+
+-- the words read a document, or a case
+abbrev pub ReadsDocument : List (List ℕ) → Type 0
+ReadsDocument words = IsDocumentLine words ⊎ AsksForWorkers words
+
+-- they run one without looks
+abbrev pub RunsDocument : List (List ℕ) → Type 0
+RunsDocument words = IsSteppedLine words ⊎ AsksForWorkers words
+
+-- they take disks for a run
+abbrev pub UsesDisks : List (List ℕ) → Type 0
+UsesDisks words = UsesDisksAlone words ⊎ AsksForWorkers words
+
 -- the workers of the words, where they ask for some
 abbrev pub IsWorkersOf : List (List ℕ) → Option ℕ → Type 0
 IsWorkersOf words (Some workers) = IsFreeLine words workers
@@ -69,6 +99,8 @@ IsNumbersOf words None = ¬ (MakesDocument words)
 abbrev pub IsLineOf : List (List ℕ) → Option Line → Type 0
 IsLineOf words (Some (Document Run)) = IsRunLine words
 IsLineOf words (Some (Document Check)) = IsCheckLine words
+IsLineOf words (Some Heal) = IsHealLine words
 IsLineOf words (Some Audit) = IsAuditLine words
+IsLineOf words (Some Glance) = IsGlanceLine words
 IsLineOf words (Some (Generate numbers)) = IsGenerateLine words numbers.seed numbers.txns
 IsLineOf words None = ¬ (IsLineAlone words)

@@ -1,33 +1,30 @@
 //! The commands that ask for no threads.
-ghost use Rattle.std.specs.Prelude.{◌≡◌, ◌≢◌, ◌≤◌, ℕ, length, IfOk, IfSome};
-ghost use Rattle.acc_ports.specs.Faults.{Rose};
-ghost use Rattle.acc_schedule.specs.Content.{Content};
-ghost use Rattle.acc_schedule.specs.Document.{Means};
-ghost use Rattle.acc_command_alone.specs.declared.words.Command.TheVariants.{Run, Check};
-ghost use Rattle.acc_command_alone.specs.Words.{AsksForWorkers, IsAuditLine, IsCheckLine, IsDocumentLine, IsGenerateLine, IsLineAlone, IsRunLine};
-ghost use Rattle.acc_command_alone.specs.Command.{document_limit, Ends, EndsOnGiven, EndsOnSome, IsAccepted, IsDone, IsDue, IsGenerated, IsMade, IsUsage, Leaves, no_run, OverDisks};
-ghost use Rattle.acc_command_alone.specs.Judging.{IsAnswered, IsAuditDue, IsCase};
+ghost use Rattle.std.specs.Prelude.{◌≡◌, ◌≤◌, length, IfOk};
+ghost use Rattle.acc_command_alone.specs.declared.words.Command.TheVariants.{Check};
+ghost use Rattle.acc_command_alone.specs.Words.{AsksForWorkers, IsDocumentLine, UsesDisksAlone};
+ghost use Rattle.acc_command_alone.specs.Streams.{streams_of};
+ghost use Rattle.acc_command_alone.specs.Ends.{document_limit};
+ghost use Rattle.acc_command_alone.specs.Responds.{Responds};
+ghost use Rattle.acc_command_alone.specs.Command.{DoesOn, IsDue, OverDisks};
+ghost use Rattle.acc_command_alone.specs.CarriesOut.{alone_over, CarriesOut};
 
 use crate::audit::audit;
 use crate::check::check;
 use crate::generate::generate;
+use crate::glance::glance;
+use crate::heal::heal;
 use crate::remains::Remains;
 use crate::reply::{Reply, say};
+use crate::respond::{read_document, tell};
 use crate::run::run;
 use crate::status::Status;
 use crate::words::{Command, Line, line_of};
 use acc_base::{Bytes, OutOfMemory, Text};
-use acc_ports::{DiskMaker, ReadError, Sink, Source, read_all};
+use acc_ports::{DiskMaker, Sink, Source};
 use std::alloc::Global;
 
-/// How many bytes a document may have.
-pub const DOCUMENT_LIMIT: u64 = 16_777_216;
-
 const USAGE: &[u8] =
-    b"usage: accord run | check | free --workers W | gen --seed N --txns M | audit\n";
-
-/// The line of a document that is too long.
-pub const TOO_LONG: &[u8] = b"limit document 16777216\n";
+    b"usage: accord run | check | free --workers W | gen --seed N --txns M | heal | audit | glance\n";
 
 /// Does what a command line says that asks for no threads, as `accord` does, and waits for nobody. What it needs no longer goes to `remains`.
 pub fn accord_alone<S: Source, K: Sink, M: DiskMaker>(
@@ -41,30 +38,9 @@ pub fn accord_alone<S: Source, K: Sink, M: DiskMaker>(
 where
     M::D: Drop,
     requires alone { ¬ (AsksForWorkers words.now) }
-
-    ensures usage { ¬ (IsLineAlone words.now) → Ends IsUsage result (K.written sink.old) (K.written sink.new) }
-    ensures run { IsRunLine words.now → EndsOnGiven (OverDisks M.D.Disk (M.strict disks.old) (M.given disks.old) (M.given disks.new)) Run (S.left source.old) result (K.written sink.old) (K.written sink.new) }
-    ensures audit { IsAuditLine words.now → EndsOnSome IsAuditDue (S.left source.old) result (K.written sink.old) (K.written sink.new) }
-    ensures check { IsCheckLine words.now → EndsOnGiven no_run Check (S.left source.old) result (K.written sink.old) (K.written sink.new) }
-    ensures generate { (seed txns : ℕ) → IsGenerateLine words.now seed txns → Ends (IsGenerated seed txns) result (K.written sink.old) (K.written sink.new) }
-
-    // When each of the answers comes that tell of a port, and which comes where no port fails.
-    ensures usage_only { result ≡ Status.Usage → ¬ (IsLineAlone words.now) }
-    ensures unread { ¬ (IsDocumentLine words.now) → (source.new ≡ source.old) × (result ≢ Status.ReadFault) }
-    ensures leaves { IsDocumentLine words.now → Leaves result (S.left source.old) (S.left source.new) }
-    ensures read_fault { result ≡ Status.ReadFault → Rose (S.faults source.old) (S.faults source.new) }
-    ensures read_first { result ≢ Status.ReadFault → S.faults source.new ≡ S.faults source.old }
-    ensures unwritten { result ≡ Status.ReadFault → K.written sink.new ≡ K.written sink.old }
-    ensures write_fault { result ≡ Status.WriteFault → Rose (K.faults sink.old) (K.faults sink.new) }
-    ensures no_write_fault { result ≢ Status.WriteFault → K.faults sink.new ≡ K.faults sink.old }
-    ensures no_disks { ¬ (IsRunLine words.now) → disks.new ≡ disks.old }
-    ensures complete_run { IsRunLine words.now → ¬ (Rose (S.faults source.old) (S.faults source.new)) → ¬ (Rose (K.faults sink.old) (K.faults sink.new))
-        → IfSome (S.left source.old) (λ bytes. (plan : Content) → Means bytes plan → length bytes ≤ document_limit → IsDone Run result) }
-    ensures complete_check { IsCheckLine words.now → ¬ (Rose (S.faults source.old) (S.faults source.new)) → ¬ (Rose (K.faults sink.old) (K.faults sink.new))
-        → IfSome (S.left source.old) (λ bytes. (plan : Content) → Means bytes plan → length bytes ≤ document_limit → IsDone Check result) }
-    ensures complete_audit { IsAuditLine words.now → ¬ (Rose (S.faults source.old) (S.faults source.new)) → ¬ (Rose (K.faults sink.old) (K.faults sink.new))
-        → IfSome (S.left source.old) (λ bytes. IsCase bytes → length bytes ≤ document_limit → IsAnswered result) }
-    ensures complete_generate { (seed txns : ℕ) → IsGenerateLine words.now seed txns → ¬ (Rose (K.faults sink.old) (K.faults sink.new)) → IsMade result }
+    ensures does { CarriesOut words.now (alone_over M.D.Disk (M.strict disks.old) (M.given disks.old) (M.given disks.new)) (streams_of S.Source K.Sink source.old sink.old) (streams_of S.Source K.Sink source.new sink.new) result }
+    ensures unread { ¬ (IsDocumentLine words.now) → source.new ≡ source.old }
+    ensures no_disks { ¬ (UsesDisksAlone words.now) → disks.new ≡ disks.old }
 {
     match line_of(alloc, words) {
         Ok(Some(Line::Document(Command::Run))) => {
@@ -73,7 +49,9 @@ where
         Ok(Some(Line::Document(Command::Check))) => {
             answer(alloc, Command::Check, source, sink, disks, remains)
         }
-        Ok(Some(Line::Audit)) => audit(alloc, source, sink),
+        Ok(Some(Line::Heal)) => heal(alloc, source, sink, disks, remains),
+        Ok(Some(Line::Audit)) => audit(alloc, source, sink, remains),
+        Ok(Some(Line::Glance)) => glance(alloc, source, sink, disks, remains),
         Ok(Some(Line::Generate(numbers))) => generate(alloc, numbers, sink),
         Ok(None) => say(sink, USAGE, Status::Usage),
         Err(OutOfMemory) => Status::OutOfMemory,
@@ -91,47 +69,12 @@ fn answer<S: Source, K: Sink, M: DiskMaker>(
 ) -> Status
 where
     M::D: Drop,
-    ensures ends { EndsOnGiven (OverDisks M.D.Disk (M.strict disks.old) (M.given disks.old) (M.given disks.new)) command (S.left source.old) result (K.written sink.old) (K.written sink.new) }
+    ensures responds { Responds (IsDue (OverDisks M.D.Disk (M.strict disks.old) (M.given disks.old) (M.given disks.new)) command) (DoesOn command) (streams_of S.Source K.Sink source.old sink.old) (streams_of S.Source K.Sink source.new sink.new) result }
     ensures check { command ≡ Check → disks.new ≡ disks.old }
-    ensures words { result ≢ Status.Usage }
-    ensures leaves { Leaves result (S.left source.old) (S.left source.new) }
-    ensures read_fault { result ≡ Status.ReadFault → Rose (S.faults source.old) (S.faults source.new) }
-    ensures unwritten { result ≡ Status.ReadFault → K.written sink.new ≡ K.written sink.old }
-    ensures read_first { result ≢ Status.ReadFault → S.faults source.new ≡ S.faults source.old }
-    ensures write_fault { result ≡ Status.WriteFault → Rose (K.faults sink.old) (K.faults sink.new) }
-    ensures no_write_fault { result ≢ Status.WriteFault → K.faults sink.new ≡ K.faults sink.old }
-    ensures complete { ¬ (Rose (S.faults source.old) (S.faults source.new)) → ¬ (Rose (K.faults sink.old) (K.faults sink.new))
-        → IfSome (S.left source.old) (λ bytes. IsAccepted bytes → length bytes ≤ document_limit → IsDone command result) }
 {
-    match read_all(alloc, source, DOCUMENT_LIMIT) {
-        Ok(bytes) => respond(alloc, command, bytes, sink, disks, remains),
-        Err(ReadError::TooLong) => say(sink, TOO_LONG, Status::Limit),
-        Err(ReadError::Failed) => Status::ReadFault,
-        Err(ReadError::OutOfMemory) => Status::OutOfMemory,
-    }
-}
-
-// Writes what the command answers to a document.
-fn respond<K: Sink, M: DiskMaker>(
-    alloc: Global,
-    command: Command,
-    bytes: Bytes,
-    sink: &mut K,
-    disks: &mut M,
-    remains: &mut Remains,
-) -> Status
-where
-    M::D: Drop,
-    requires { length bytes ≤ document_limit }
-    ensures check { command ≡ Check → disks.new ≡ disks.old }
-    ensures ends { Ends (IsDue (OverDisks M.D.Disk (M.strict disks.old) (M.given disks.old) (M.given disks.new)) command bytes) result (K.written sink.old) (K.written sink.new) }
-    ensures cause { result ≡ Status.WriteFault → Rose (K.faults sink.old) (K.faults sink.new) }
-    ensures still { result ≢ Status.WriteFault → K.faults sink.new ≡ K.faults sink.old }
-    ensures reads { result ≢ Status.ReadFault }
-{
-    match reply(alloc, command, bytes, disks, remains) {
-        Ok(reply) => say(sink, reply.text.as_slice(), reply.status),
-        Err(OutOfMemory) => Status::OutOfMemory,
+    match read_document(alloc, source, sink) {
+        Ok(bytes) => tell(sink, reply(alloc, command, bytes, disks, remains)),
+        Err(status) => status,
     }
 }
 

@@ -1,63 +1,44 @@
 //! The command `audit`.
-ghost use Rattle.std.specs.Prelude.{◌≡◌, ◌≢◌, ◌≤◌, ◌++◌, length, IfOk, IfErr, IfSome, OnOk};
-ghost use Rattle.acc_ports.specs.Faults.{Rose};
+ghost use Rattle.std.specs.Prelude.{◌≡◌, ◌≤◌, ◌++◌, length, IfOk, IfErr, OnOk};
 ghost use Rattle.acc_audit.specs.Cases.{IsCaseCause, IsDueOn};
-ghost use Rattle.acc_command_alone.specs.Command.{document_limit, Ends, EndsOnSome, Leaves};
-ghost use Rattle.acc_command_alone.specs.Judging.{judgement_text, status_of, IsAnswered, IsAuditDue, IsCase};
+ghost use Rattle.acc_command_alone.specs.Streams.{streams_of};
+ghost use Rattle.acc_command_alone.specs.Ends.{document_limit};
+ghost use Rattle.acc_command_alone.specs.Responds.{Responds};
+ghost use Rattle.acc_command_alone.specs.Judging.{judgement_text, status_of, IsAuditDue, JudgesOn};
 ghost use Rattle.acc_command_alone.specs.Lines.{line};
 
-use crate::alone::{DOCUMENT_LIMIT, TOO_LONG};
 use crate::lines::refusal_line;
-use crate::reply::{Reply, say};
+use crate::remains::Remains;
+use crate::reply::Reply;
+use crate::respond::{read_document, tell};
 use crate::status::Status;
 use acc_audit::{Judgement, judge_case};
 use acc_base::{Bytes, OutOfMemory, push_number};
-use acc_ports::{ReadError, Sink, Source, read_all};
+use acc_ports::{Sink, Source};
 use acc_schedule::PlanError;
 use std::alloc::Global;
 
 /// Reads a case, and writes whether its report keeps the rules.
-pub(crate) fn audit<S: Source, K: Sink>(alloc: Global, source: &mut S, sink: &mut K) -> Status
-    ensures ends { EndsOnSome IsAuditDue (S.left source.old) result (K.written sink.old) (K.written sink.new) }
-    ensures words { result ≢ Status.Usage }
-    ensures leaves { Leaves result (S.left source.old) (S.left source.new) }
-    ensures read_fault { result ≡ Status.ReadFault → Rose (S.faults source.old) (S.faults source.new) }
-    ensures unwritten { result ≡ Status.ReadFault → K.written sink.new ≡ K.written sink.old }
-    ensures read_first { result ≢ Status.ReadFault → S.faults source.new ≡ S.faults source.old }
-    ensures write_fault { result ≡ Status.WriteFault → Rose (K.faults sink.old) (K.faults sink.new) }
-    ensures no_write_fault { result ≢ Status.WriteFault → K.faults sink.new ≡ K.faults sink.old }
-    ensures complete { ¬ (Rose (S.faults source.old) (S.faults source.new)) → ¬ (Rose (K.faults sink.old) (K.faults sink.new))
-        → IfSome (S.left source.old) (λ bytes. IsCase bytes → length bytes ≤ document_limit → IsAnswered result) }
+pub(crate) fn audit<S: Source, K: Sink>(
+    alloc: Global,
+    source: &mut S,
+    sink: &mut K,
+    remains: &mut Remains,
+) -> Status
+    ensures { Responds IsAuditDue JudgesOn (streams_of S.Source K.Sink source.old sink.old) (streams_of S.Source K.Sink source.new sink.new) result }
 {
-    match read_all(alloc, source, DOCUMENT_LIMIT) {
-        Ok(bytes) => tell(alloc, bytes, sink),
-        Err(ReadError::TooLong) => say(sink, TOO_LONG, Status::Limit),
-        Err(ReadError::Failed) => Status::ReadFault,
-        Err(ReadError::OutOfMemory) => Status::OutOfMemory,
-    }
-}
-
-// Writes what is said of a case.
-#[tactic(auto, using(crate::proofs::JudgeFacts::ends_audit))]
-fn tell<K: Sink>(alloc: Global, bytes: Bytes, sink: &mut K) -> Status
-    requires { length bytes ≤ document_limit }
-    ensures ends { Ends (IsAuditDue bytes) result (K.written sink.old) (K.written sink.new) }
-    ensures cause { result ≡ Status.WriteFault → Rose (K.faults sink.old) (K.faults sink.new) }
-    ensures still { result ≢ Status.WriteFault → K.faults sink.new ≡ K.faults sink.old }
-    ensures reads { result ≢ Status.ReadFault }
-{
-    match reply(alloc, bytes) {
-        Ok(reply) => say(sink, reply.text.as_slice(), reply.status),
-        Err(OutOfMemory) => Status::OutOfMemory,
+    match read_document(alloc, source, sink) {
+        Ok(bytes) => tell(sink, reply(alloc, bytes, remains)),
+        Err(status) => status,
     }
 }
 
 // What is said of a case, or why it is refused.
-fn reply(alloc: Global, bytes: Bytes) -> Result<Reply, OutOfMemory>
+fn reply(alloc: Global, bytes: Bytes, remains: &mut Remains) -> Result<Reply, OutOfMemory>
     requires { length bytes ≤ document_limit }
     ensures { IfOk result (λ reply. IsAuditDue bytes reply.status reply.text) }
 {
-    match judge(alloc, bytes) {
+    match judge(alloc, bytes, remains) {
         Ok(judgement) => Ok(Reply {
             status: status(judgement),
             text: judgement_line(alloc, judgement)?,
@@ -70,11 +51,11 @@ fn reply(alloc: Global, bytes: Bytes) -> Result<Reply, OutOfMemory>
 }
 
 // What is said of a case, whose bytes are let go before a text is made.
-fn judge(alloc: Global, bytes: Bytes) -> Result<Judgement, PlanError>
+fn judge(alloc: Global, bytes: Bytes, remains: &mut Remains) -> Result<Judgement, PlanError>
     ensures judged { IfOk result (IsDueOn bytes) }
     ensures refused { IfErr result (IsCaseCause bytes) }
 {
-    judge_case(alloc, bytes.as_slice())
+    judge_case(alloc, bytes.as_slice(), &mut remains.case)
 }
 
 fn status(judgement: Judgement) -> Status

@@ -1,7 +1,8 @@
 //! The command `check`.
 ghost use Rattle.std.specs.Prelude.{◌≡◌, ◌≤◌, length, IfOk};
 ghost use Rattle.acc_command_alone.specs.declared.words.Command.TheVariants.{Check};
-ghost use Rattle.acc_command_alone.specs.Command.{document_limit, no_run, IsDue};
+ghost use Rattle.acc_command_alone.specs.Ends.{document_limit};
+ghost use Rattle.acc_command_alone.specs.Command.{no_run, IsDue};
 
 use crate::lines::{ok_line, refusal_line};
 use crate::reading::read_plan;

@@ -1,7 +1,8 @@
 //! The command `gen`.
 ghost use Rattle.std.specs.Prelude.{◌≡◌, ◌≢◌, ◌≤◌};
 ghost use Rattle.acc_ports.specs.Faults.{Rose};
-ghost use Rattle.acc_command_alone.specs.Command.{Ends, IsGenerated};
+ghost use Rattle.acc_command_alone.specs.Ends.{Ends};
+ghost use Rattle.acc_command_alone.specs.Command.{IsGenerated};
 
 use crate::reply::say;
 use crate::status::Status;

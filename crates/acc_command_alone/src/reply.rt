@@ -1,7 +1,7 @@
 //! What a command answers to a document, and how a text is written.
 ghost use Rattle.std.specs.Prelude.{◌≡◌, ◌≢◌, ◌⊎◌};
 ghost use Rattle.acc_ports.specs.Faults.{Rose};
-ghost use Rattle.acc_command_alone.specs.Command.{Says};
+ghost use Rattle.acc_command_alone.specs.Ends.{Says};
 
 use crate::status::Status;
 use acc_base::Bytes;

@@ -2,7 +2,8 @@
 ghost use Rattle.std.specs.Prelude.{◌≡◌, ◌≤◌, length, IfOk};
 ghost use Rattle.acc_schedule.specs.Plan.{IsPlan};
 ghost use Rattle.acc_command_alone.specs.declared.words.Command.TheVariants.{Run};
-ghost use Rattle.acc_command_alone.specs.Command.{document_limit, IsDue, OverDisks, PlanEnds};
+ghost use Rattle.acc_command_alone.specs.Ends.{document_limit};
+ghost use Rattle.acc_command_alone.specs.Command.{IsDue, OverDisks, PlanEnds};
 
 use crate::lines::{limit_line, refusal_line};
 use crate::reading::read_plan;

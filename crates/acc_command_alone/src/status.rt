@@ -1,6 +1,6 @@
 //! How a command ended.
 ghost use Rattle.std.specs.Prelude.{◌≡◌};
-ghost use Rattle.acc_command_alone.specs.Command.{code_of};
+ghost use Rattle.acc_command_alone.specs.Ends.{code_of};
 
 /// The status of a command, which the program gives as its exit code.
 #[derive(Clone, Copy, Debug, PartialEq, Eq)]

@@ -1,6 +1,6 @@
 //! The words of a command line.
 ghost use Rattle.std.specs.Prelude.{◌≡◌, ◌↔◌, ◌≤◌, [], ◌∷◌, IsTrue, IfOk};
-ghost use Rattle.acc_command_alone.specs.Words.{IsAuditLine, IsLineOf, IsDocumentLineOf, IsNumbersOf, IsWorkersOf};
+ghost use Rattle.acc_command_alone.specs.Words.{IsAuditLine, IsGlanceLine, IsLineOf, IsDocumentLineOf, IsHealLine, IsNumbersOf, IsWorkersOf};
 
 use crate::{seed, txns, workers};
 use acc_base::{OutOfMemory, Text};
@@ -29,8 +29,12 @@ pub struct Numbers {
 pub enum Line {
     /// A command that reads a document.
     Document(Command),
+    /// The command that runs a document and heals what its run left open.
+    Heal,
     /// The command that judges a report.
     Audit,
+    /// The command that runs a document with looks.
+    Glance,
     /// The command that makes a document.
     Generate(Numbers),
 }
@@ -56,8 +60,14 @@ pub(crate) fn line_of(alloc: Global, words: &[Text]) -> Result<Option<Line>, Out
     if let Some(command) = document_line(words) {
         return Ok(Some(Line::Document(command)));
     }
+    if is_heal_line(words) {
+        return Ok(Some(Line::Heal));
+    }
     if is_audit_line(words) {
         return Ok(Some(Line::Audit));
+    }
+    if is_glance_line(words) {
+        return Ok(Some(Line::Glance));
     }
     match generate_line(alloc, words)? {
         Some(numbers) => Ok(Some(Line::Generate(numbers))),
@@ -81,6 +91,16 @@ fn document_line(words: &[Text]) -> Option<Command>
     }
 }
 
+// Whether these words are the line that heals.
+fn is_heal_line(words: &[Text]) -> bool
+    ensures { IsTrue result ↔ IsHealLine words.now }
+{
+    let [word] = words else {
+        return false;
+    };
+    is(word, b"heal")
+}
+
 // Whether these words judge a report.
 fn is_audit_line(words: &[Text]) -> bool
     ensures { IsTrue result ↔ IsAuditLine words.now }
@@ -89,6 +109,16 @@ fn is_audit_line(words: &[Text]) -> bool
         return false;
     };
     is(word, b"audit")
+}
+
+// Whether these words run a document with looks.
+fn is_glance_line(words: &[Text]) -> bool
+    ensures { IsTrue result ↔ IsGlanceLine words.now }
+{
+    let [word] = words else {
+        return false;
+    };
+    is(word, b"glance")
 }
 
 // The numbers of these words, if they are the line that makes a document.

@@ -3,7 +3,7 @@
 
 ghost use Rattle.std.specs.Prelude.{◌≡◌, IfOk, drop, map, string_bytes};
 ghost use Rattle.std.specs.Process.{exit_status};
-ghost use Rattle.acc_command_alone.specs.Command.{code_of};
+ghost use Rattle.acc_command_alone.specs.Ends.{code_of};
 
 use acc_base::{OutOfMemory, Sequence, Text};
 use acc_command::accord;

@@ -24,6 +24,6 @@ returns-in_ok-text-in-Ok g c =
 pub returns-in_ok-limit_line-in-Err-Limit : goal.returns-in_ok-limit_line-in-Err-Limit
 returns-in_ok-limit_line-in-Err-Limit g c =
     let front = c.in-Err-Limit.ensures.limit c.in-Err-Limit.which c.in-Err-Limit.number c.in-Err-Limit.field-0-is in
-    told (OverThreads g.M.D.Disk (g.M.DiskMaker.strict c.args.disks.now) _ _) c.args.plan.now front.items c.in-Err-Limit.which
-    c.in-Err-Limit.number c.in_ok-limit_line-in-Err-Limit.field-0 front.ends
+    told (OverThreads g.M.D.Disk (g.M.DiskMaker.strict c.args.disks.now) _ _) c.args.plan.now front.0 c.in-Err-Limit.which
+    c.in-Err-Limit.number c.in_ok-limit_line-in-Err-Limit.field-0 (front.1, front.2)
     (same_limit _ _ _ _ _ c.in_ok-limit_line-in-Err-Limit.ensures c.in-Err-Limit.which-is c.in-Err-Limit.number-is)

@@ -1,36 +1,16 @@
--- Each way to end is one of a text that was due.
-use Rattle.std.proofs.Common.{◌≤◌, List, ℕ, length, Err, refl, ap}
-use Rattle.acc_ports.specs.declared.error.ReadError.{ReadError}
-use Rattle.acc_command_alone.specs.Command.{document_limit, IsAccepted, IsDone}
-use Rattle.acc_command_alone.proofs.CommandFacts.{completes, known_bytes, too_long, unanswered, unread}
-use Rattle.acc_command_alone.proofs.LeavesFacts.{leaves_none}
+-- A document was read and answered, or none was read.
+use Rattle.std.proofs.Common.{refl, inl}
+use Rattle.acc_command_alone.specs.Streams.{streams_of}
+use Rattle.acc_command_alone.specs.Command.{DoesOn, IsDue, OverDisks}
+use Rattle.acc_command_alone.proofs.CommandFacts.{due_told}
+use Rattle.acc_command_alone.proofs.RespondFacts.{answered, long_so}
 use Rattle.acc_command_alone.proofs.alone.answer.Goals as goal
 
-pub returns-in-Ok-clause-ends : goal.returns-in-Ok-clause-ends
-returns-in-Ok-clause-ends g c =
-    record { bytes = c.in-Ok.bytes; given = c.in-Ok.ensures.all; ends = c.respond.ensures.ends }
+pub returns-in-Ok-clause-responds : goal.returns-in-Ok-clause-responds
+returns-in-Ok-clause-responds g c =
+    answered (IsDue (OverDisks g.M.D.Disk (g.M.DiskMaker.strict c.args.disks.now) (g.M.DiskMaker.given c.args.disks.now) (g.M.DiskMaker.given c.reply.new.disks)) c.args.command) (DoesOn c.args.command) (due_told _ c.args.command) (streams_of g.S.Source g.K.Sink c.args.source.now c.args.sink.now)
+    (streams_of g.S.Source g.K.Sink c.read_document.new.source c.read_document.new.sink) (streams_of g.S.Source g.K.Sink c.read_document.new.source c.tell.new.sink)
+    c.in-Ok.bytes c.reply.result c.tell.result c.in-Ok.ensures.read c.reply.ensures.due c.tell.ensures.said c.tell.ensures.cause c.tell.ensures.still refl refl refl
 
-pub returns-in-Ok-clause-leaves : goal.returns-in-Ok-clause-leaves
-returns-in-Ok-clause-leaves g c =
-    leaves_none c.in-Ok.bytes (g.S.Source.left c.args.source.now) (g.S.Source.left c.read_all.new.source)
-    (g.K.Sink.written c.args.sink.now) (g.K.Sink.written c.respond.new.sink) c.in-Ok.ensures.within c.in-Ok.ensures.all c.in-Ok.ensures.end _ c.args.command c.respond.result
-    c.respond.ensures.ends
-
-pub returns-in-Ok-clause-complete : goal.returns-in-Ok-clause-complete
-returns-in-Ok-clause-complete g c = λ no_read no_write.
-    known_bytes (g.S.Source.left c.args.source.now) c.in-Ok.bytes
-    (λ (bytes : List ℕ). IsAccepted bytes → length bytes ≤ document_limit → IsDone c.args.command c.respond.result)
-    c.in-Ok.ensures.all
-    (λ accepted short. completes _ c.args.command c.in-Ok.bytes c.respond.result (g.K.Sink.written c.args.sink.now) (g.K.Sink.written c.respond.new.sink)
-    accepted short c.respond.ensures.reads (λ e. no_write (c.respond.ensures.cause e))
-    c.respond.ensures.ends)
-
-pub returns-in-Err-TooLong-clause-ends : goal.returns-in-Err-TooLong-clause-ends
-returns-in-Err-TooLong-clause-ends g c =
-    too_long _ c.args.command _ _ _ _ _ (c.in-Err-TooLong.ensures.too_long (ap (λ (e : ReadError). Err e) c.in-Err-TooLong.field-0-is)) (λ l long. (long, refl)) c.say.ensures.said
-
-pub returns-in-Err-Failed-clause-ends : goal.returns-in-Err-Failed-clause-ends
-returns-in-Err-Failed-clause-ends g c = unread _ c.args.command (g.S.Source.left c.args.source.now) (g.K.Sink.written c.args.sink.now)
-
-pub returns-in-Err-OutOfMemory-clause-ends : goal.returns-in-Err-OutOfMemory-clause-ends
-returns-in-Err-OutOfMemory-clause-ends g c = unanswered _ c.args.command (g.S.Source.left c.args.source.now) (g.K.Sink.written c.args.sink.now)
+pub returns-in-Err-clause-responds : goal.returns-in-Err-clause-responds
+returns-in-Err-clause-responds g c = long_so (IsDue (OverDisks g.M.D.Disk (g.M.DiskMaker.strict c.args.disks.now) (g.M.DiskMaker.given c.args.disks.now) (g.M.DiskMaker.given c.args.disks.now)) c.args.command) (DoesOn c.args.command) _ _ c.in-Err.status (λ bytes text long. inl long) (λ bytes given. tt) c.in-Err.ensures.unread

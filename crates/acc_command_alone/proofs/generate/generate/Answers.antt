@@ -1,6 +1,6 @@
 -- The text that was said is the document.
 use Rattle.std.proofs.Common.{◌∙◌}
-use Rattle.acc_command_alone.proofs.EndsFacts.{ends_generated}
+use Rattle.acc_command_alone.proofs.SaidFacts.{ends_generated}
 use Rattle.acc_command_alone.proofs.generate.generate.Goals as goal
 
 pub returns-in-Ok-clause-ends : goal.returns-in-Ok-clause-ends

@@ -1,0 +1,11 @@
+-- The line of the refusal is due, or how the run of the plan and its healing end.
+use Rattle.acc_command_alone.proofs.CommandFacts.{refusal}
+use Rattle.acc_command_alone.proofs.DueFacts.{run_due}
+use Rattle.acc_command_alone.proofs.heal.reply.Goals as goal
+
+pub returns-in-Ok : goal.returns-in-Ok
+returns-in-Ok g c = run_due _ c.args.bytes c.in-Ok.plan c.report-reply.result c.requires c.in-Ok.ensures.accepted c.report-reply.ensures
+
+pub returns-in_ok-refusal_line-in-Err : goal.returns-in_ok-refusal_line-in-Err
+returns-in_ok-refusal_line-in-Err g c =
+    (c.requires, refusal c.args.bytes c.in-Err.error c.in_ok-refusal_line-in-Err.field-0 c.in-Err.ensures.refused c.in_ok-refusal_line-in-Err.ensures)
