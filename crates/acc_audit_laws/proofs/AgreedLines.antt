@@ -1,6 +1,6 @@
 -- The decisions that a report of a run tells agree.
-use Rattle.std.proofs.Common.{◌≡◌, ◌≢◌, ℕ, List, [], ◌∷◌, map, reverse, Contains, Bool, true, false, not, ◌&&◌, ◌||◌, Option, Some, None, refl, sym, ap, ap₂, subst, ◌∙◌}
-use Rattle.std.specs.List.{list_any, flat_map}
+use Rattle.std.proofs.Common.{◌≡◌, ℕ, List, [], map, reverse, Contains, Bool, true, false, not, Option, None, refl, sym, ap, ◌∙◌}
+use Rattle.std.specs.List.{list_any}
 use Rattle.std.specs.Str.{bytes_eq}
 use Rattle.std.proofs.lemmas.Bool.{and_parts, false_from_ne_true, or_from, true≢false}
 use Rattle.std.proofs.lemmas.Slice.Eq.{bytes_eq-Decides}
@@ -20,12 +20,11 @@ use Rattle.acc_safety.specs.Places.{IsIn, First}
 use Rattle.acc_safety.proofs.PlaceOrder.{flat_map-IsIn, IsIn-Contains, passing}
 use Rattle.acc_schedule.specs.Content.{Content}
 use Rattle.acc_report.specs.Report.{name_at, note_line}
-use Rattle.acc_report_line.specs.declared.line.Line.{Line}
 use Rattle.acc_audit.specs.Said.{decides_another, decides_otherwise, decision_in, is_of_another, is_otherwise}
 use Rattle.acc_audit.specs.Rules.{disagrees}
 use Rattle.acc_audit_laws.proofs.Fronts.{told_before}
 use Rattle.acc_audit_laws.proofs.Given.{before_noted, Given, here_noted, line_of, name, note_known, notes_in, one_name, Stands}
-use Rattle.acc_audit_laws.proofs.Pieces.{IsSilent, Noted, Piece, Silent}
+use Rattle.acc_audit_laws.proofs.Pieces.{IsSilent, Noted, Piece}
 
 pub decision_noted : (notes : List Note) (x : TxnId) (t : Stamp) (path : Path) (deps : List ShardDeps) → IsIn (Decide x t path deps) notes
     → Contains (decisions_of notes) (record { id = x; t = t; deps = deps })

@@ -1,8 +1,7 @@
 -- A report of a run begins no transaction twice.
-use Rattle.std.proofs.Common.{◌≡◌, ℕ, suc, ◌+◌, ◌≤◌, List, [], ◌∷◌, ◌++◌, map, reverse, count_by, Bool, true, false, ◌||◌, refl, sym, ap, subst, ◌∙◌, ⊎_elim, arith}
+use Rattle.std.proofs.Common.{◌≡◌, ◌+◌, ◌≤◌, List, [], ◌∷◌, ◌++◌, map, reverse, count_by, Bool, true, false, ◌||◌, refl, sym, ap, subst, ◌∙◌, arith}
 use Rattle.std.specs.List.{list_any, flat_map}
-use Rattle.std.specs.Str.{bytes_eq}
-use Rattle.std.proofs.lemmas.Bool.{cases_Bool, false_from_ne_true, or_cases, true≢false}
+use Rattle.std.proofs.lemmas.Bool.{false_from_ne_true, true≢false}
 use Rattle.std.proofs.lemmas.List.Sums.{sum_by-append}
 use Rattle.std.proofs.lemmas.Slice.Eq.{bytes_eq-Decides}
 use Rattle.acc_stamp.specs.declared.stamps.Stamp.{Stamp}
@@ -23,12 +22,11 @@ use Rattle.acc_safety.proofs.PlaceOrder.{passing}
 use Rattle.acc_schedule.specs.Content.{Content}
 use Rattle.acc_schedule_runs.specs.Schedules.{cluster_of}
 use Rattle.acc_report.specs.Report.{name_at, note_line}
-use Rattle.acc_report_line.specs.declared.line.Line.{Line}
 use Rattle.acc_audit.specs.Said.{begins as line_begins}
 use Rattle.acc_audit.specs.Rules.{begins_again}
 use Rattle.acc_audit_laws.proofs.Fronts.{told_before}
 use Rattle.acc_audit_laws.proofs.Given.{before_noted, Given, here_noted, line_of, name, note_known, notes_in, one_name, Stands, whole_notes}
-use Rattle.acc_audit_laws.proofs.Pieces.{IsSilent, Noted, Piece, Silent}
+use Rattle.acc_audit_laws.proofs.Pieces.{IsSilent, Noted, Piece}
 
 -- ---- a begin draws a stamp, and each stamp is drawn once
 

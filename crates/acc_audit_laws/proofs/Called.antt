@@ -1,9 +1,9 @@
 -- Transactions of a run are called by names that differ.
-use Rattle.std.proofs.Common.{◌≡◌, ℕ, ◌<◌, List, [], ◌∷◌, length, take, get_or, Bool, true, false, not, Option, Some, None, ⊎_elim, is_some, unwrap_or, slice_get, IsTrue, refl, sym, ap, subst, ◌∙◌, arith}
-use Rattle.std.specs.Prelude.{position, option_and_then}
-use Rattle.std.specs.List.{list_any, AllByRecursion}
+use Rattle.std.proofs.Common.{◌≡◌, ℕ, ◌<◌, List, [], length, take, get_or, true, not, Option, Some, None, ⊎_elim, is_some, unwrap_or, slice_get, IsTrue, refl, sym, ap, ◌∙◌, arith}
+use Rattle.std.specs.Prelude.{option_and_then}
+use Rattle.std.specs.List.{list_any}
 use Rattle.std.specs.Str.{bytes_eq}
-use Rattle.std.proofs.lemmas.Bool.{cases_lt, true≢false, false_from_ne_true}
+use Rattle.std.proofs.lemmas.Bool.{cases_lt, true≢false}
 use Rattle.std.proofs.lemmas.List.{length-take, get_or-take}
 use Rattle.std.proofs.lemmas.List.Folds.{list_any_at}
 use Rattle.std.proofs.lemmas.List.Quantifiers.{position-Some}
@@ -14,7 +14,7 @@ use Rattle.acc_stamp.specs.declared.stamps.TxnId.{TxnId}
 use Rattle.acc_txn.specs.declared.parts.BodyParts.{BodyParts}
 use Rattle.acc_message.specs.declared.item.Item.{Item}
 use Rattle.acc_message.specs.Items.{id_of_txn, txn_of}
-use Rattle.acc_message.specs.Run.{Cluster, EachStands}
+use Rattle.acc_message.specs.Run.{EachStands}
 use Rattle.acc_actor_laws.proofs.OpeningFacts.{some_is}
 use Rattle.acc_heal_laws.proofs.Numbers.{numbered}
 use Rattle.acc_safety.specs.Decisions.{body_at, body_of}
@@ -24,7 +24,7 @@ use Rattle.acc_schedule.specs.Plan.{IsPlan}
 use Rattle.acc_schedule.specs.Transactions.{is_new}
 use Rattle.acc_schedule_runs.specs.Schedules.{cluster_of}
 use Rattle.acc_report.specs.Report.{name_at, name_numbered, name_of, number_of}
-use Rattle.acc_report_laws.specs.Fits.{IsKnown, IsNamed, IsNumbered}
+use Rattle.acc_report_laws.specs.Fits.{IsKnown, IsNumbered}
 use Rattle.acc_audit.specs.Fronts.{is_known, no_body, body_of as body_named, number_of as number_named}
 use Rattle.acc_audit.specs.Rules.{Differ}
 

@@ -1,5 +1,5 @@
 -- Each decision that a report of a run tells names every conflicting transaction that some line decides below it.
-use Rattle.std.proofs.Common.{◌≡◌, ℕ, ◌==◌, List, [], ◌∷◌, ◌++◌, map, cond, Bool, true, false, not, ◌&&◌, ◌||◌, Option, Some, None, IsTrue, refl, sym, ap, ap₂, subst, ◌∙◌}
+use Rattle.std.proofs.Common.{◌≡◌, ℕ, ◌==◌, List, [], ◌∷◌, ◌++◌, map, cond, Bool, true, false, not, ◌&&◌, ◌||◌, Option, None, refl, sym, ap, ap₂, subst, ◌∙◌}
 use Rattle.std.specs.List.{list_any, flat_map}
 use Rattle.std.specs.Str.{bytes_eq}
 use Rattle.std.proofs.lemmas.Bool.{and_parts, false_from_ne_true, or_from, or_left, or_right, true≢false}
@@ -28,7 +28,7 @@ use Rattle.acc_schedule.specs.Content.{Content}
 use Rattle.acc_schedule_runs.specs.Schedules.{cluster_of}
 use Rattle.acc_report.specs.Report.{name_at, note_line}
 use Rattle.acc_report_line.specs.declared.line.Line.{Line}
-use Rattle.acc_audit.specs.Fronts.{body_of, conflict}
+use Rattle.acc_audit.specs.Fronts.{conflict}
 use Rattle.acc_audit.specs.Said.{decision_in}
 use Rattle.acc_audit.specs.Rules.{is_missed, is_unnamed, misses}
 use Rattle.acc_audit_laws.proofs.AgreedLines.{decision_noted, not_true}
@@ -36,7 +36,7 @@ use Rattle.acc_audit_laws.proofs.Called.{has_body}
 use Rattle.acc_audit_laws.proofs.Conflicts.{some_clash}
 use Rattle.acc_audit_laws.proofs.Fronts.{told_any}
 use Rattle.acc_audit_laws.proofs.Given.{Given, here_noted, line_of, name, note_known, pieces_of, Stands}
-use Rattle.acc_audit_laws.proofs.Pieces.{IsSilent, Noted, notes_are, notes_at, Piece, Silent}
+use Rattle.acc_audit_laws.proofs.Pieces.{IsSilent, Noted, notes_are, notes_at, Piece}
 
 -- what is among those of a shard is among those of all
 in_some_shard : (deps : List ShardDeps) (shard : ℕ) (x : TxnId) → id_among x (of_shard deps shard) ≡ true → list_any (λ (d : ShardDeps). id_among x d.ids) deps ≡ true

@@ -1,5 +1,5 @@
 -- The report of a run has its counts in its last line, and nowhere else.
-use Rattle.std.proofs.Common.{◌≡◌, ℕ, ◌+◌, ◌-◌, ◌==◌, ◌≤◌, List, [], ◌∷◌, ◌++◌, map, count_by, Bool, true, false, not, ◌&&◌, refl, sym, ap, ap₂, ◌∙◌, arith}
+use Rattle.std.proofs.Common.{◌≡◌, ℕ, ◌+◌, ◌-◌, ◌==◌, ◌≤◌, List, [], ◌∷◌, ◌++◌, map, count_by, Bool, true, false, not, ◌&&◌, refl, sym, ap, ◌∙◌, arith}
 use Rattle.std.specs.List.{flat_map}
 use Rattle.std.proofs.lemmas.Bool.{and_from, eq-eqb}
 use Rattle.acc_stamp.specs.declared.stamps.TxnId.{TxnId}
@@ -12,7 +12,7 @@ use Rattle.acc_schedule.specs.Content.{Content}
 use Rattle.acc_report.specs.Report.{is_begin, is_reply, last_line, name_at, note_line}
 use Rattle.acc_report_line.specs.declared.line.Line.{Line}
 use Rattle.acc_audit.specs.Said.{is_begin as line_is_begin, is_reply as line_is_reply}
-use Rattle.acc_audit.specs.Rules.{ends_wrongly, has_counts}
+use Rattle.acc_audit.specs.Rules.{ends_wrongly}
 use Rattle.acc_audit_laws.proofs.BeginsOnce.{count_append}
 use Rattle.acc_audit_laws.proofs.Given.{line_of, name, pieces_of}
 use Rattle.acc_audit_laws.proofs.Pieces.{IsSilent, Noted, notes_are, notes_at, Piece, Silent}

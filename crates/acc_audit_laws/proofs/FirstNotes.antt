@@ -1,6 +1,5 @@
 -- The first outcomes among notes.
-use Rattle.std.proofs.Common.{◌≡◌, ◌⊎◌, inl, inr, List, [], ◌∷◌, ◌++◌, cond, reverse, Bool, true, false, ◌||◌, refl, sym, ap, ap₂, subst, ◌∙◌, ⊎_elim}
-use Rattle.std.specs.List.{list_any, flat_map}
+use Rattle.std.proofs.Common.{◌≡◌, ◌⊎◌, inl, inr, List, [], ◌∷◌, ◌++◌, cond, reverse, Bool, true, false, ◌||◌, refl, sym, ap, subst, ◌∙◌, ⊎_elim}
 use Rattle.std.proofs.lemmas.Bool.{or_from, or_parts, true≢false}
 use Rattle.std.proofs.lemmas.Grind.{flat_map-append}
 use Rattle.std.proofs.lemmas.List.{append_assoc, append-nil, reverse-append}

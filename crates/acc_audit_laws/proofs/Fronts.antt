@@ -1,5 +1,5 @@
 -- What the lines of pieces say together is what their notes say.
-use Rattle.std.proofs.Common.{◌≡◌, ℕ, List, [], ◌∷◌, ◌++◌, map, reverse, Bool, true, false, ◌||◌, Option, refl, sym, ap, ap₂, subst, ◌∙◌}
+use Rattle.std.proofs.Common.{◌≡◌, ℕ, List, [], ◌∷◌, ◌++◌, map, reverse, Bool, false, ◌||◌, Option, refl, sym, ap, ap₂, ◌∙◌}
 use Rattle.std.specs.List.{list_any, flat_map, AllByRecursion}
 use Rattle.std.proofs.lemmas.Grind.{flat_map-append}
 use Rattle.std.proofs.lemmas.List.Sorted.{list_any-IsPermutation, IsPermutation-reverse}
@@ -9,8 +9,6 @@ use Rattle.acc_message.specs.declared.note.Note.{Note}
 use Rattle.acc_message.specs.declared.item.Item.{Item}
 use Rattle.acc_message.specs.declared.item.Item.TheVariants.{Step, Skipped, Down}
 use Rattle.acc_message.specs.Items.{notes_of}
-use Rattle.acc_safety.specs.Places.{IsIn, First}
-use Rattle.acc_safety.proofs.PlaceOrder.{passing, IsIn-append_left, IsIn-append_right}
 use Rattle.acc_report.specs.Report.{note_line}
 use Rattle.acc_report_line.specs.declared.line.Line.{Line}
 use Rattle.acc_report_laws.specs.Fits.{NoteFits, ItemFits}

@@ -1,5 +1,5 @@
 -- Each name that a report of a run tells is that of a transaction.
-use Rattle.std.proofs.Common.{◌≡◌, ℕ, List, [], ◌∷◌, ◌++◌, map, Bool, true, false, not, ◌&&◌, refl, sym, ap, ap₂, subst, ◌∙◌}
+use Rattle.std.proofs.Common.{◌≡◌, ℕ, List, [], ◌∷◌, map, true, false, not, refl, ap, subst}
 use Rattle.std.specs.List.{list_all, AllByRecursion}
 use Rattle.std.proofs.lemmas.Bool.{and_from}
 use Rattle.acc_stamp.specs.declared.stamps.TxnId.{TxnId}
@@ -20,7 +20,7 @@ use Rattle.acc_report_laws.specs.Fits.{ItemFits, NoteFits, SkipFits}
 use Rattle.acc_audit.specs.Fronts.{is_known}
 use Rattle.acc_audit.specs.Rules.{names_another}
 use Rattle.acc_audit_laws.proofs.Called.{called_known, name_known}
-use Rattle.acc_audit_laws.proofs.Given.{Given, Known, line_of, name, pieces_of, Stands}
+use Rattle.acc_audit_laws.proofs.Given.{Given, Known, line_of, name, Stands}
 use Rattle.acc_audit_laws.proofs.Pieces as told
 use Rattle.acc_audit_laws.proofs.Pieces.{event_pieces, Noted, Piece, Silent}
 

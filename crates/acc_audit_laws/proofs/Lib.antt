@@ -9,9 +9,12 @@ mod EndsWell
 mod FirstNotes
 mod Fronts
 mod Given
+mod HealingSteps
 mod Kept
 mod KnownNames
+mod MadeCases
 mod Names
+mod OurReports
 mod OutcomesRight
 mod OutcomesStand
 mod Passed

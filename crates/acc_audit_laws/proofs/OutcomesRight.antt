@@ -1,8 +1,8 @@
 -- In a report of a run the first outcomes are what the bodies answer in their turn, and no outcome and no reply differs from the first.
-use Rattle.std.proofs.Common.{◌≡◌, ℕ, List, [], ◌∷◌, ◌++◌, map, reverse, cond, Bool, true, false, not, ◌&&◌, ◌||◌, Option, Some, None, is_some, unwrap_or, refl, sym, ap, ap₂, subst, ◌∙◌}
-use Rattle.std.specs.List.{list_any, fold, AllByRecursion}
+use Rattle.std.proofs.Common.{◌≡◌, ℕ, List, [], ◌∷◌, ◌++◌, map, reverse, cond, Bool, true, false, not, ◌||◌, Option, Some, None, is_some, unwrap_or, refl, sym, ap, ap₂, subst, ◌∙◌}
+use Rattle.std.specs.List.{list_any, fold}
 use Rattle.std.specs.Str.{bytes_eq}
-use Rattle.std.proofs.lemmas.Bool.{and_parts, false_from_ne_true, or_left, or_right, true≢false}
+use Rattle.std.proofs.lemmas.Bool.{false_from_ne_true, or_left, or_right, true≢false}
 use Rattle.std.proofs.lemmas.List.{append_assoc, append-nil, reverse-append, reverse-reverse}
 use Rattle.std.proofs.lemmas.Slice.Eq.{bytes_eq-Decides}
 use Rattle.acc_base.specs.Faults.{or_else}
@@ -20,7 +20,6 @@ use Rattle.acc_message.specs.declared.note.Note.TheVariants.{Begin, Recover, Blo
 use Rattle.acc_message.specs.declared.item.Item.{Item}
 use Rattle.acc_message.specs.Items.{id_of_note, notes_of}
 use Rattle.acc_actor_laws.proofs.Standing.{not_none}
-use Rattle.acc_actor_laws.proofs.OpeningFacts.{some_is}
 use Rattle.acc_safety.specs.Decisions.{Answered, body_of, firsts_after, first_outcomes, is_answered, outcomes_in, outcomes_of, replies_of}
 use Rattle.acc_safety.specs.Places.{IsIn, First, Later}
 use Rattle.acc_safety.proofs.PlaceOrder.{Contains-IsIn, flat_map-IsIn, IsIn-Contains, IsIn-flat_map, none_is_in, only, passing}

@@ -1,7 +1,6 @@
 -- In a report of a run each outcome stands after a begin, and each reply after an outcome.
-use Rattle.std.proofs.Common.{◌≡◌, ℕ, List, [], ◌∷◌, ◌++◌, map, reverse, cond, Bool, true, false, not, ◌||◌, Option, Some, None, is_some, refl, sym, ap, ap₂, subst, ◌∙◌}
+use Rattle.std.proofs.Common.{◌≡◌, ℕ, List, [], ◌∷◌, ◌++◌, map, reverse, cond, Bool, true, false, not, ◌||◌, Option, Some, None, is_some, refl, sym, ap, subst, ◌∙◌}
 use Rattle.std.specs.List.{list_any}
-use Rattle.std.specs.Str.{bytes_eq}
 use Rattle.std.proofs.lemmas.Bool.{or_from, or_left, true≢false}
 use Rattle.std.proofs.lemmas.List.{append_assoc}
 use Rattle.std.proofs.lemmas.List.Folds.{list_any-append}
@@ -28,7 +27,7 @@ use Rattle.acc_audit.specs.Rules.{comes_early}
 use Rattle.acc_audit_laws.proofs.FirstNotes.{answered_append, first_at, firsts_there}
 use Rattle.acc_audit_laws.proofs.Fronts.{told_before}
 use Rattle.acc_audit_laws.proofs.Given.{Given, here_noted, line_of, name, notes_in, Stands, whole_notes}
-use Rattle.acc_audit_laws.proofs.Pieces.{IsSilent, Noted, Piece, Silent}
+use Rattle.acc_audit_laws.proofs.Pieces.{IsSilent, Noted, Piece}
 
 -- ---- lines that tell an outcome
 

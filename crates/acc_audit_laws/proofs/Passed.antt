@@ -2,8 +2,6 @@
 use Rattle.std.proofs.Common.{◌≡◌, ◌⊎◌, inl, inr, ℕ, zero, suc, ◌+◌, ◌-◌, ◌==◌, ◌≤◌, List, [], ◌∷◌, ◌++◌, length, take, map, reverse, get_or, count_by, Bool, true, false, Option, Some, None, slice_get, refl, sym, ap, ap₂, subst, ◌∙◌, arith}
 use Rattle.std.proofs.lemmas.Bool.{eq-eqb, eqb-true, false_from_ne_true, true≢false}
 use Rattle.std.proofs.lemmas.List.{length-append, length-map}
-use Rattle.acc_txn.specs.declared.parts.BodyParts.{BodyParts}
-use Rattle.acc_message.specs.declared.note.Note.{Note}
 use Rattle.acc_message.specs.declared.item.Item.{Item}
 use Rattle.acc_message.specs.Items.{notes_of}
 use Rattle.acc_message.specs.Run.{IsRun}
@@ -15,10 +13,10 @@ use Rattle.acc_schedule.specs.Content.{Content}
 use Rattle.acc_schedule.specs.Plan.{IsPlan}
 use Rattle.acc_schedule.specs.declared.plan.Print.TheVariants.{Lines}
 use Rattle.acc_schedule_runs.specs.Schedules.{cluster_of}
-use Rattle.acc_report.specs.Report.{is_begin, is_reply, last_line, name_at, note_line, report_lines}
+use Rattle.acc_report.specs.Report.{is_begin, is_reply, last_line, name_at, report_lines}
 use Rattle.acc_report_line.specs.declared.line.Line.{Line}
 use Rattle.acc_report_laws.specs.Fits.{ItemsFit}
-use Rattle.acc_audit.specs.Rules.{broken_at, broken_by, Breaks, is_last, KeepsRules, no_line}
+use Rattle.acc_audit.specs.Rules.{broken_at, broken_by, is_last, KeepsRules, no_line}
 use Rattle.acc_audit_laws.proofs.AgreedLines.{decisions_agree}
 use Rattle.acc_audit_laws.proofs.BeginsOnce.{begins_none_again}
 use Rattle.acc_audit_laws.proofs.CoveredLines.{decisions_cover}
