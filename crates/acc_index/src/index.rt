@@ -1,6 +1,6 @@
 //! The index of a store.
 ghost use Rattle.std.specs.Prelude.{◌≡◌, [], ◌∷◌, ◌++◌, map, IfOk, OnOk, OnErr};
-ghost use Rattle.acc_stamp.specs.Rising.{IsRising};
+ghost use Rattle.acc_stamp.specs.Rising.{IsRising, ids_union};
 ghost use Rattle.acc_index.specs.Noted.{Noted, IsGreatestStamp, rival_stamps, rival_ids, rival_ids_below, writer_ids};
 
 use crate::columns::{Columns, put};
@@ -108,15 +108,12 @@ impl Index {
         Ok((greatest, ids))
     }
 
-    /// The other transactions that conflict with this one, rising.
-    pub fn conflicting(&self, id: TxnId, share: &Share) -> Result<Ids, OutOfMemory>
-        ensures ids { IfOk result (λ ids. ids ≡ rival_ids self.now id share.now) }
-        ensures rises { IfOk result IsRising }
+    /// The other transactions that conflict with this one, in no order: one that uses several of the keys may stand there as often.
+    pub fn conflicting(&self, id: TxnId, share: &Share) -> Result<Vec<TxnId>, OutOfMemory>
+        ensures { IfOk result (λ found. ids_union [] found.items ≡ rival_ids self.now id share.now) }
     {
         let alloc = *self.shares.allocator();
-        let found = all_of(alloc, &self.columns, &self.users, share.pairs(), id)?;
-        let ids = rising(found)?;
-        Ok(ids)
+        all_of(alloc, &self.columns, &self.users, share.pairs(), id)
     }
 
     /// The transactions that write a key, rising.

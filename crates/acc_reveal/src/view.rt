@@ -1,14 +1,15 @@
 //! The view that a store gives.
-ghost use Rattle.std.specs.Prelude.{◌≡◌, ◌<◌, ◌^◌, IfOk};
+ghost use Rattle.std.specs.Prelude.{◌≡◌, ◌<◌, ◌^◌, [], IfOk};
+ghost use Rattle.acc_stamp.specs.Rising.{ids_union};
 ghost use Rattle.acc_record.specs.Shelf.{record_at};
 ghost use Rattle.acc_reveal.specs.Revealed.{accepted_in, committed_in, stable_in, view_at, view_with};
 
-use crate::evidence::{awaited, superseded};
+use crate::evidence::{Told, told_by};
 use acc_base::{Duplicate, OutOfMemory};
 use acc_deps::{Accepted, Settled, View};
 use acc_index::Share;
 use acc_record::{SharedAccepted, Shelf, Vote};
-use acc_stamp::{Ids, TxnId};
+use acc_stamp::TxnId;
 
 /// What the store reveals of a transaction that uses these keys here. `top` is the greatest `h` of the message that asks.
 pub(crate) fn view(shelf: &Shelf, id: TxnId, share: &Share, top: u64) -> Result<View, OutOfMemory>
@@ -21,12 +22,14 @@ pub(crate) fn view(shelf: &Shelf, id: TxnId, share: &Share, top: u64) -> Result<
     view_of(shelf, id, rivals, vote)
 }
 
-fn view_of(shelf: &Shelf, id: TxnId, rivals: Ids, vote: Vote) -> Result<View, OutOfMemory>
-    ensures { IfOk result (λ view. view ≡ view_with shelf.now id rivals vote) }
+// The rivals are in no order.
+fn view_of(shelf: &Shelf, id: TxnId, rivals: Vec<TxnId>, vote: Vote) -> Result<View, OutOfMemory>
+    ensures { IfOk result (λ view. view ≡ view_with shelf.now id (ids_union [] rivals.items) vote) }
 {
     let accepted = accepted(shelf, id)?;
     let committed = committed(shelf, id)?;
     let stable = stable(shelf, id)?;
+    let Told { superseded, waits } = told_by(shelf, id, &rivals)?;
     let Vote { stamp, deps } = vote;
     Ok(View {
         store: shelf.actor,
@@ -35,8 +38,8 @@ fn view_of(shelf: &Shelf, id: TxnId, rivals: Ids, vote: Vote) -> Result<View, Ou
         accepted,
         committed,
         stable,
-        superseded: superseded(shelf, id, rivals.as_slice()),
-        waits: awaited(shelf, id, rivals),
+        superseded,
+        waits,
     })
 }
 

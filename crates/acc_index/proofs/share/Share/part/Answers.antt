@@ -1,4 +1,4 @@
-use Rattle.std.proofs.Common.{◌≡◌, ◌-◌, ◌≤◌, length, take, drop, List, Bool, sym, subst}
+use Rattle.std.proofs.Common.{◌-◌, ◌≤◌, length, take, drop, List, Bool, sym, subst}
 use Rattle.acc_value.specs.declared.key.Key.{Key}
 use Rattle.acc_value.specs.Pairs.{IsRising}
 use Rattle.acc_index.proofs.ShareFacts.{part_rises}
