@@ -11,3 +11,5 @@ pub mod MessageFormat
 mod Stability
 mod BodyStability
 mod MessageStability
+mod AtHand
+mod Shared

@@ -103,7 +103,7 @@ message_takes bytes m are_bytes e =
     let nothing : b.0.1.bytes ≡ [] = nil_from_length b.0.1.bytes (eqb-true _ _ g.0) in
     (t.0.bytes ∙ ap (λ (r : List ℕ). message_bytes b.0.0 ++ r) nothing ∙ append-nil (message_bytes b.0.0) ∙ ap message_bytes g.1, subst FitsMessage g.1 t.1)
 
-message_again : (m : Message) → FitsMessage m → message_of (message_bytes m) ≡ Ok m
+pub message_again : (m : Message) → FitsMessage m → message_of (message_bytes m) ≡ Ok m
 unfolding message_of
 message_again m fits =
     let rest = unread [] (length (message_bytes m)) in

@@ -5,3 +5,4 @@ pub mod Fitting
 pub mod MessageSpelling
 pub mod MessageReading
 pub mod Weight
+pub mod SharedParts

@@ -18,7 +18,7 @@ use std::alloc::Global;
 use std::mem;
 
 /// The greatest number of a shard.
-const LAST_SHARD: u8 = 15;
+pub(crate) const LAST_SHARD: u8 = 15;
 
 #[tactic(auto, unfolding(crate::specs::Spelling::shard_bytes))]
 fn append_shard(out: &mut Vec<u8>, shard: &ShardDeps) -> Result<(), OutOfMemory>

@@ -2,6 +2,7 @@
 #![tactic(auto)]
 
 mod answer;
+mod at_hand;
 mod deps;
 mod envelope;
 mod ids;
@@ -12,6 +13,7 @@ mod message_lengths;
 mod records;
 mod replies;
 mod requests;
+mod shared_parts;
 mod stamps;
 mod view;
 mod weight;
@@ -20,4 +22,5 @@ pub use acc_code::CodeError;
 pub use lengths::deps_length;
 pub use message::{decode, encode, put_message};
 pub use message_lengths::message_length;
+pub use shared_parts::{KnownParts, decode_known};
 pub use weight::messages_length;

@@ -1,11 +1,10 @@
--- What the items of a run, newest first, put into the journal of an actor, and when a disk keeps an actor in them.
-use Rattle.std.specs.Prelude.{◌≡◌, ℕ, ◌+◌, ◌≤◌, Bool, true, false, not, cond, List, [], ◌∷◌, ◌++◌, Option, None, Some}
+-- What the items of a run, newest first, put into the journal of an actor, and which payloads of a journal aren't marks.
+use Rattle.std.specs.Prelude.{◌≡◌, ℕ, ◌+◌, Bool, true, false, not, cond, List, [], ◌∷◌, ◌++◌, Option, None, Some}
 use Rattle.std.specs.List.{filter, list_any}
 use Rattle.std.specs.Str.{bytes_eq}
 use Rattle.acc_base.specs.Faults.{or_else}
 use Rattle.acc_stamp.specs.declared.stamps.Stamp.{Stamp}
 use Rattle.acc_stamp.specs.declared.actors.Actor.{Actor}
-use Rattle.acc_journal.specs.Layout.{Reads}
 use Rattle.acc_message.specs.declared.message.Message.{Message}
 use Rattle.acc_message.specs.declared.note.Note.{Note}
 use Rattle.acc_message.specs.declared.note.Note.TheVariants.{Begin as BeginNote, Recover as RecoverNote, Blocked, Ended, Decide, Outcome as OutcomeNote, Reply as ReplyNote}
@@ -112,16 +111,3 @@ without_marks payloads = filter (λ payload. not (bytes_eq payload mark_bytes)) 
 abbrev pub AreKept : Bool → List (List ℕ) → List (List ℕ) → Type 0
 AreKept false payloads kept = kept ≡ payloads
 AreKept true payloads kept = (further : List (List ℕ)) × (kept ≡ payloads ++ further)
-
--- an image reads as the actor's payloads, marks aside, and breaks no rule on marks
-pub record KeepsImage (version : ℕ) (a : Actor) (items : List Item) (image : List ℕ) : Type 0 where
-  pub payloads : List (List ℕ)
-  pub reads : Reads image payloads
-  pub marks : AreMarked version payloads
-  pub kept : AreKept (ends_down a items) (payloads_in a items) (without_marks payloads)
-
--- A disk with these images, which has counted so many faults, keeps the actor in these items: it has counted as many faults as the
--- actor went down, or more, and each image reads as the actor's payloads.
-pub record Keeps (version : ℕ) (a : Actor) (items : List Item) (faults : ℕ) (images : List ℕ → Type 0) : Type 0 where
-  pub counted : downs_in a items ≤ faults
-  pub each : (image : List ℕ) → images image → KeepsImage version a items image

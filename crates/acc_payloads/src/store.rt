@@ -9,7 +9,7 @@ use crate::text::has_text;
 use acc_base::OutOfMemory;
 use acc_code::CodeError;
 use acc_message::{Message, top};
-use acc_message_code::decode;
+use acc_message_code::{KnownParts, decode_known};
 use acc_stamp::Actor;
 use std::alloc::Global;
 
@@ -25,8 +25,13 @@ pub enum StorePayload {
     Takes(Message),
 }
 
-/// The payload of some bytes, all of them; `None` exactly where they are the payload of nothing.
-pub fn read_store_payload(alloc: Global, bytes: &[u8]) -> Result<Option<StorePayload>, OutOfMemory>
+/// The payload of some bytes, all of them; `None` exactly where they are the payload of nothing. The message of a transaction that
+/// is known shares what is at hand of it.
+pub fn read_store_payload<K: KnownParts>(
+    alloc: Global,
+    bytes: &[u8],
+    known: &K,
+) -> Result<Option<StorePayload>, OutOfMemory>
     ensures found { IfOk result (λ read. IfSome read (λ p. bytes.now ≡ store_bytes p)) }
     ensures fits { IfOk result (λ read. IfSome read FitsStore) }
     ensures none { IfOk result (λ read. IsNone read → (p : Payload) → FitsStore p → bytes.now ≡ store_bytes p → ⊥) }
@@ -34,7 +39,7 @@ pub fn read_store_payload(alloc: Global, bytes: &[u8]) -> Result<Option<StorePay
     if is_mark(bytes) {
         return Ok(Some(StorePayload::Mark));
     }
-    match decode(alloc, bytes) {
+    match decode_known(alloc, bytes, known) {
         Ok(message) => Ok(Some(StorePayload::Takes(message))),
         Err(CodeError::Wire(_)) => Ok(None),
         Err(CodeError::OutOfMemory) => Err(OutOfMemory),

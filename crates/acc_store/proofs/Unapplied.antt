@@ -1,5 +1,5 @@
--- What the records tell of bodies and of transactions that aren't applied is what the rules tell.
-use Rattle.std.proofs.Common.{◌≡◌, ℕ, Bool, true, false, not, List, [], ◌∷◌, ◌++◌, cond, map, Option, None, Some, Result, Ok, Err, IfOk, refl, sym, ap, ◌∙◌}
+-- What the records tell of bodies, of what is stable and of transactions that aren't applied is what the rules tell.
+use Rattle.std.proofs.Common.{◌≡◌, ℕ, Bool, true, false, not, List, [], ◌∷◌, ◌++◌, cond, map, Option, None, Some, is_some, Result, Ok, Err, IfOk, refl, sym, ap, ◌∙◌}
 use Rattle.std.specs.Cmp.{IsEquivalence}
 use Rattle.std.specs.List.{Contains, filter}
 use Rattle.std.specs.Option.{option_map}
@@ -18,17 +18,21 @@ use Rattle.acc_stamp.proofs.Rising.{is_among-union, same_from_among}
 use Rattle.acc_lanes.proofs.Members.{Contains-filter, Contains-from_filter, Contains-map, Contains-from_map}
 use Rattle.acc_topology.specs.Layout.{Layout}
 use Rattle.acc_txn.specs.declared.parts.BodyParts.{BodyParts}
+use Rattle.acc_deps.specs.declared.records.Settled.{Settled}
 use Rattle.acc_index.proofs.Ids.{IsRising-names}
 use Rattle.acc_message.specs.declared.message.Message.{Message}
 use Rattle.acc_message.specs.Taken.{Taken, Heard, known, body_known}
+use Rattle.acc_message.specs.BallotRules.{stable_of}
 use Rattle.acc_message.specs.Opening.{is_applied}
 use Rattle.acc_message.specs.StoreRules.{replay}
 use Rattle.acc_record.specs.declared.record.Record.{Record}
 use Rattle.acc_record.specs.declared.shelf.Shelf.{Shelf}
 use Rattle.acc_record.specs.Shelf.{record_at}
 use Rattle.acc_record.specs.Stands.{StandsFor, record_with, record_for}
+use Rattle.acc_actor_laws.proofs.Standing.{stable_of-known}
+use Rattle.acc_record.proofs.Apart.{heard_is_known}
 use Rattle.acc_record.proofs.KnownOnes.{heard_there, known_told}
-use Rattle.acc_store.specs.Queries.{body_in, is_unapplied_in, unapplied, unapplied_among}
+use Rattle.acc_store.specs.Queries.{body_in, stable_in, is_unapplied_in, unapplied, unapplied_among}
 
 -- ---- the entries of a table
 
@@ -91,6 +95,18 @@ module _ (layout : Layout) (shelf : Shelf) (messages : List Message) (stands : S
 
   pub told_body : (y : TxnId) → body_in (record_at shelf.records y) ≡ body_known history y
   told_body y = ap body_in (stands.records y) ∙ body_by y (body_known history y)
+
+  not_settled : (y : TxnId) (o : Option Settled) → body_known history y ≡ None → stable_of history y ≡ o → o ≡ None
+  not_settled y None unknown is = refl
+  not_settled y (Some s) unknown is =
+      absurd (true≢false (sym (stable_of-known history y s is) ∙ heard_is_known y (known history) ∙ ap is_some unknown))
+
+  stable_by : (y : TxnId) (o : Option BodyParts) → body_known history y ≡ o → stable_in (option_map (record_with shard history y) o) ≡ stable_of history y
+  stable_by y None is = sym (not_settled y (stable_of history y) is refl)
+  stable_by y (Some body) is = refl
+
+  pub told_stable : (y : TxnId) → stable_in (record_at shelf.records y) ≡ stable_of history y
+  told_stable y = ap stable_in (stands.records y) ∙ stable_by y (body_known history y) refl
 
   abbrev is_left : Heard → Bool
   is_left k = not (is_applied shard history k.id)

@@ -8,6 +8,7 @@ use Rattle.acc_topology.specs.Keys.{share_of}
 use Rattle.acc_value.specs.declared.key.Key.{Key}
 use Rattle.acc_value.specs.declared.value.Value.{Value}
 use Rattle.acc_value.specs.Footprint.{is_written}
+use Rattle.acc_deps.specs.declared.records.Settled.{Settled}
 use Rattle.acc_txn.specs.declared.parts.BodyParts.{BodyParts}
 use Rattle.acc_txn.specs.Uses.{footprint_of}
 use Rattle.acc_message.specs.Taken.{Taken, Heard, known}
@@ -37,6 +38,10 @@ unapplied shard history = ids_union [] (map (λ (k : Heard). k.id) (filter (λ (
 abbrev pub body_in : Option Record → Option BodyParts
 body_in None = None
 body_in (Some r) = Some r.body
+
+abbrev pub stable_in : Option Record → Option Settled
+stable_in None = None
+stable_in (Some r) = r.stable
 
 abbrev pub applied_in : Option Record → Bool
 applied_in None = false

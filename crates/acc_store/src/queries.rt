@@ -4,9 +4,10 @@ ghost use Rattle.std.specs.Option.{option_copied};
 ghost use Rattle.acc_stamp.specs.declared.stamps.TxnId.{TxnId as AnId};
 ghost use Rattle.acc_stamp.specs.Rising.{IsRising, id_among};
 ghost use Rattle.acc_record.specs.Shelf.{record_at};
-ghost use Rattle.acc_store.specs.Queries.{applied_in, all_applied_at, body_in, is_unapplied_in};
+ghost use Rattle.acc_store.specs.Queries.{applied_in, all_applied_at, body_in, is_unapplied_in, stable_in};
 
 use acc_base::OutOfMemory;
+use acc_deps::Settled;
 use acc_index::rising;
 use acc_record::{Record, Records, Shelf};
 use acc_stamp::{Ids, TxnId};
@@ -19,6 +20,19 @@ pub(crate) fn body_in(there: Option<&Record>) -> Option<&Body>
 {
     match there {
         Some(there) => Some(&there.body),
+        None => None,
+    }
+}
+
+/// What a record has that is stable.
+pub(crate) fn stable_in(there: Option<&Record>) -> Option<&Settled>
+    ensures { option_copied result ≡ stable_in (option_copied there.entry) }
+{
+    match there {
+        Some(there) => match &there.stable {
+            Some(settled) => Some(settled),
+            None => None,
+        },
         None => None,
     }
 }

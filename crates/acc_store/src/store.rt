@@ -6,15 +6,17 @@ ghost use Rattle.acc_stamp.specs.Rising.{IsRising};
 ghost use Rattle.acc_topology.specs.Layout.{Layout};
 ghost use Rattle.acc_message.specs.declared.message.Message.{Message};
 ghost use Rattle.acc_message.specs.Fields.{top_of};
+ghost use Rattle.acc_message.specs.BallotRules.{stable_of};
 ghost use Rattle.acc_message.specs.StoreRules.{store_answer, replay};
 ghost use Rattle.acc_message.specs.Taken.{body_known};
 ghost use Rattle.acc_message_code.specs.Short.{IsShortMessage};
 ghost use Rattle.acc_message_code.specs.Weight.{weight_of_all};
 ghost use Rattle.acc_record.specs.Stands.{IsFor};
 
-use crate::queries::{are_applied, body_in, unapplied};
+use crate::queries::{are_applied, body_in, stable_in, unapplied};
 use crate::steps::{Prepared, prepare, take};
 use acc_base::OutOfMemory;
+use acc_deps::Settled;
 use acc_message::{Message, Messages};
 use acc_message_code::messages_length;
 use acc_record::Shelf;
@@ -139,6 +141,13 @@ impl Store {
         ensures { (layout : Layout) (messages : List Message) → StandsFor layout self.now (replay layout (actor_of self.now) messages) → option_copied result ≡ body_known (replay layout (actor_of self.now) messages) id }
     {
         body_in(self.shelf.find(id))
+    }
+
+    /// The timestamp and dependencies by which a transaction is stable here. `None` exactly where it isn't stable. Takes no memory.
+    pub fn stable_of(&self, id: TxnId) -> Option<&Settled>
+        ensures { (layout : Layout) (messages : List Message) → StandsFor layout self.now (replay layout (actor_of self.now) messages) → option_copied result ≡ stable_of (replay layout (actor_of self.now) messages) id }
+    {
+        stable_in(self.shelf.find(id))
     }
 
     /// The transactions that the store knows and hasn't applied, rising. It looks at each known transaction.
