@@ -35,7 +35,7 @@ use Rattle.acc_record.proofs.Planned.{planned}
 use Rattle.acc_record.specs.Refusal.{refusal_or}
 use Rattle.acc_record.proofs.Rivals.{share_in}
 use Rattle.acc_record.proofs.VoteLaw.{counts, refused, dependencies}
-use Rattle.acc_accept.specs.Accepting.{refusal_at, accept_ok, unless_refused, IsGrantingBy}
+use Rattle.acc_accept.specs.Accepting.{refusal_at, accept_ok, unless_refused, record_then}
 use Rattle.acc_accept.proofs.Granting.{IsGrant, quiet}
 
 abbrev pub accept_answer : Shelf → TxnId → Ballot → List (Key × Bool) → Stamp → Message
@@ -70,7 +70,7 @@ module _ (layout : Layout) (shelf : Shelf) (from to : Actor) (x : TxnId) (b : Ba
 
   -- the step, which keeps the proposal
   pub steps : (new : Shelf) (share : List (Key × Bool)) (top : ℕ) → share ≡ here → top ≡ top_of m
-      → IsGrantingBy (refusal_at shelf x b) (Accepts proposed) shelf new x body share t top
+      → IsLearntAs shelf new x share (Some t) top (record_then (refusal_at shelf x b) (Accepts proposed) shelf x body)
       → QuietStep layout shelf new m (accept_answer shelf x b share t ∷ [])
   steps new share top shared raises granting =
       let r : Record = known_or_fresh (record_at shelf.records x) x body in
@@ -85,7 +85,7 @@ module _ (layout : Layout) (shelf : Shelf) (from to : Actor) (x : TxnId) (b : Ba
         vote = refl;
       } in
       quiet layout shelf new m b body t (accept_ok shelf x b share t) (Accepts proposed) share grant
-      (subst (λ n. IsGrantingBy (refusal_at shelf x b) (Accepts proposed) shelf new x body share t n) raises granting)
+      (subst (λ n. IsLearntAs shelf new x share (Some t) n (record_then (refusal_at shelf x b) (Accepts proposed) shelf x body)) raises granting)
 
 module _ (layout : Layout) (shelf : Shelf) (m : Message) (from to : Actor) (x : TxnId) (b : Ballot) (body : BodyParts) (t : Stamp) (deps : List ShardDeps)
     (share : List (Key × Bool)) (top : ℕ) (is : m ≡ Accept from to x b body t deps) (shared : share ≡ here layout shelf from to x b body t deps) (raises : top ≡ top_of m) where

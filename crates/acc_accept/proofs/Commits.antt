@@ -32,7 +32,7 @@ use Rattle.acc_record.proofs.Planned.{planned}
 use Rattle.acc_record.specs.Refusal.{refusal_or}
 use Rattle.acc_record.proofs.Rivals.{share_in}
 use Rattle.acc_record.proofs.VoteLaw.{refused}
-use Rattle.acc_accept.specs.Accepting.{refusal_at, commit_ok, unless_refused, IsGrantingBy}
+use Rattle.acc_accept.specs.Accepting.{refusal_at, commit_ok, unless_refused, record_then}
 use Rattle.acc_accept.proofs.Granting.{IsGrant, quiet}
 
 abbrev pub commit_answer : Shelf → TxnId → Ballot → Message
@@ -51,7 +51,7 @@ module _ (shelf : Shelf) (from to : Actor) (x : TxnId) (b : Ballot) (body : Body
 
   -- the step, which keeps what is fixed
   pub steps : (layout : Layout) (new : Shelf) (share : List (Key × Bool)) (top : ℕ) → share ≡ share_in layout (shard_of shelf.actor) (body_of (record_at shelf.records x) body)
-      → top ≡ top_of m → IsGrantingBy (refusal_at shelf x b) (Commits fixed) shelf new x body share t top
+      → top ≡ top_of m → IsLearntAs shelf new x share (Some t) top (record_then (refusal_at shelf x b) (Commits fixed) shelf x body)
       → QuietStep layout shelf new m (commit_answer shelf x b ∷ [])
   steps layout new share top shared raises granting =
       let r : Record = known_or_fresh (record_at shelf.records x) x body in
@@ -65,7 +65,7 @@ module _ (shelf : Shelf) (from to : Actor) (x : TxnId) (b : Ballot) (body : Body
         vote = refl;
       } in
       quiet layout shelf new m b body t (commit_ok shelf x b) (Commits fixed) share grant
-      (subst (λ n. IsGrantingBy (refusal_at shelf x b) (Commits fixed) shelf new x body share t n) raises granting)
+      (subst (λ n. IsLearntAs shelf new x share (Some t) n (record_then (refusal_at shelf x b) (Commits fixed) shelf x body)) raises granting)
 
 module _ (layout : Layout) (shelf : Shelf) (m : Message) (from to : Actor) (x : TxnId) (b : Ballot) (body : BodyParts) (t : Stamp) (deps : List ShardDeps)
     (share : List (Key × Bool)) (top : ℕ) (is : m ≡ Commit from to x b body t deps)

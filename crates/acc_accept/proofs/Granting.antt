@@ -26,7 +26,7 @@ use Rattle.acc_record.proofs.Learnt.{Tells, quiet_from_learnt}
 use Rattle.acc_record.specs.Refusal.{refusal_or}
 use Rattle.acc_record.proofs.Rivals.{share_in}
 use Rattle.acc_record.proofs.Telling.{refusal_cases, tells_time}
-use Rattle.acc_accept.specs.Accepting.{refusal_at, IsGrantingBy}
+use Rattle.acc_accept.specs.Accepting.{refusal_at, record_then}
 
 raised : (g t : ℕ) → max g t ≡ max (max t 0) g
 raised g t = omega arith
@@ -52,7 +52,7 @@ module _ (layout : Layout) (shelf new : Shelf) (m : Message) (b : Ballot) (body 
 
   module _ (g : IsGrant) where
     abbrev QuietBy : Option Message → Type 0
-    QuietBy refusal = IsGrantingBy refusal change shelf new x body share t (top_of m) → QuietStep layout shelf new m (refusal_or refusal granted ∷ [])
+    QuietBy refusal = IsLearntAs shelf new x share (Some t) (top_of m) (record_then refusal change shelf x body) → QuietStep layout shelf new m (refusal_or refusal granted ∷ [])
 
     -- the timestamp is told
     tells : (a : Record) → a.vote ≡ r.vote → Tells x before (stamps_told a m) (Some t)

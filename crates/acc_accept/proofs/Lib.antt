@@ -1,3 +1,4 @@
 pub mod Granting
 pub mod Accepts
 pub mod Commits
+pub mod Same

@@ -1,5 +1,5 @@
 -- What a shelf answers to an Accept and to a Commit, and what the step makes of its transaction.
-use Rattle.std.specs.Prelude.{ℕ, Bool, true, false, List, Option, None, Some}
+use Rattle.std.specs.Prelude.{Bool, true, false, List, Option, None, Some}
 use Rattle.acc_stamp.specs.declared.stamps.Stamp.{Stamp}
 use Rattle.acc_stamp.specs.declared.stamps.TxnId.{TxnId}
 use Rattle.acc_stamp.specs.declared.stamps.Ballot.{Ballot}
@@ -10,11 +10,11 @@ use Rattle.acc_message.specs.declared.message.Message.{Message}
 use Rattle.acc_message.specs.declared.message.Message.TheVariants.{Accept, AcceptOk, Commit, CommitOk}
 use Rattle.acc_record.specs.declared.change.Change.{Change}
 use Rattle.acc_record.specs.declared.change.Change.TheVariants.{Stays}
+use Rattle.acc_record.specs.declared.record.Record.{Record}
 use Rattle.acc_record.specs.declared.shelf.Shelf.{Shelf}
 use Rattle.acc_record.specs.Changes.{changed}
 use Rattle.acc_record.specs.Shelf.{record_at}
 use Rattle.acc_record.specs.Learning.{deps_below, known_or_fresh}
-use Rattle.acc_record.specs.LearntAs.{IsLearntAs}
 use Rattle.acc_record.specs.Refusal.{refusal_of}
 
 abbrev pub is_accept : Message → Bool
@@ -41,6 +41,6 @@ abbrev pub unless_refused : Option Message → Change → Change
 unless_refused None change = change
 unless_refused (Some refusal) change = Stays
 
-abbrev pub IsGrantingBy : Option Message → Change → Shelf → Shelf → TxnId → BodyParts → List (Key × Bool) → Stamp → ℕ → Type 0
-IsGrantingBy refusal change old new x body share t top =
-    IsLearntAs old new x share (Some t) top (changed (unless_refused refusal change) (known_or_fresh (record_at old.records x) x body))
+-- the record of the transaction after the step
+abbrev pub record_then : Option Message → Change → Shelf → TxnId → BodyParts → Record
+record_then refusal change shelf x body = changed (unless_refused refusal change) (known_or_fresh (record_at shelf.records x) x body)

@@ -93,6 +93,13 @@ steps_up (Ok None) before now counts = rose_up before now (counts.cause refl)
 steps_up (Ok (Some given)) before now counts = same_up before now (counts.unfailed (λ none. cc none))
 steps_up (Err e) before now counts = same_up before now (counts.unfailed (λ none. cc none))
 
+-- a call that gave something, or had no memory, left the count
+pub given_counts : {T E : Type 0} (given : T) (before now : ℕ) → now ≡ before → CountsFaults (◌≡◌ {A = Result (Option T) E} (Ok (Some given)) (Ok None)) before now
+given_counts given before now same = record { cause = λ none. absurd (cc none); unfailed = λ some. same }
+
+pub refused_counts : {T E : Type 0} (e : E) (before now : ℕ) → now ≡ before → CountsFaults (◌≡◌ {A = Result (Option T) E} (Err e) (Ok None)) before now
+refused_counts e before now same = record { cause = λ none. absurd (cc none); unfailed = λ some. same }
+
 -- and a restart
 pub restarts_up : {E : Type 0} (result : Result Restarted E) (before now : ℕ) → CountsFaults (result ≡ Ok RestartedDown) before now → before ≤ now
 restarts_up (Ok RestartedDown) before now counts = rose_up before now (counts.cause refl)

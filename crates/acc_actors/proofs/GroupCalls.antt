@@ -1,11 +1,11 @@
 -- From what the calls of a store that takes a group ensure to what its slot is.
-use Rattle.std.proofs.Common.{◌≡◌, ◌≢◌, ℕ, ◌≤◌, Bool, false, List, [], ◌∷◌, ◌++◌, Option, None, Result, Ok, Err, IfOk, OnOk, OnErr, is_none, refl, sym, ◌∙◌, ap, subst}
+use Rattle.std.proofs.Common.{◌≡◌, ◌≢◌, ℕ, ◌≤◌, false, List, [], ◌∷◌, ◌++◌, Option, None, Result, Ok, Err, IfOk, OnOk, OnErr, is_none, refl, sym, ◌∙◌, ap, subst}
 use Rattle.std.proofs.lemmas.Result.{on_ok_weaker}
 use Rattle.acc_base.specs.declared.memory.OutOfMemory.{OutOfMemory}
 use Rattle.acc_stamp.specs.declared.actors.Actor.{Actor}
 use Rattle.acc_topology.specs.Layout.{Layout}
 use Rattle.acc_ports.specs.declared.disk.Disk.{Ghosts}
-use Rattle.acc_ports.specs.Faults.{Rose}
+use Rattle.acc_ports.specs.Faults.{Rose, CountsFaults}
 use Rattle.acc_message.specs.declared.message.Message.{Message}
 use Rattle.acc_message.specs.declared.entry.Event.{Event}
 use Rattle.acc_message.specs.declared.entry.Event.TheVariants.{Message as TakesMessage}
@@ -16,6 +16,7 @@ use Rattle.acc_payloads.specs.declared.stops.Unsent.{Unsent}
 use Rattle.acc_durable_node.specs.declared.actor.NodeActor.{NodeActor}
 use Rattle.acc_durable_store.specs.declared.actor.StoreActor.{StoreActor}
 use Rattle.acc_payloads.specs.Stops.{Stop, Past, kept_with, after_group}
+use Rattle.acc_durable_store.specs.declared.name.StoreName.{StoreName}
 use Rattle.acc_durable_store.specs.Actor as store
 use Rattle.acc_durable_store.specs.Weighing.{StoreMayWeigh}
 use Rattle.acc_schedule.specs.Content.{Content}
@@ -28,33 +29,34 @@ use Rattle.acc_schedule_runs.specs.Disks.{Disks}
 use Rattle.acc_actors.specs.declared.slot.Slot.{Slot}
 use Rattle.acc_actors.specs.declared.slot.Slot.TheVariants.{Node, Store}
 use Rattle.acc_actors.specs.Pasts.{stops_in, store_stops, store_past}
-use Rattle.acc_actors.specs.Slots.{StoreStages, SlotStages, IsStrictSlot, faults_in}
-use Rattle.acc_actors.specs.Asked.{IsStaged, IsAsked, MayAsk, IsAskedBehind, MayAskBehind, HasSettled, HasSettledStrictly}
+use Rattle.acc_actors.specs.Slots.{StoreStages, SlotStages, IsStrictSlot, faults_in, store_name}
+use Rattle.acc_actors.specs.Asked.{step_by, over_disks, IsStaged, IsAsked, MayAsk, IsAskedBehind, MayAskBehind, HasSettled, HasSettledStrictly, HasAnsweredAll}
+use Rattle.acc_actors.proofs.Few.{steps_up}
 use Rattle.acc_actors.proofs.Takes.{NumbersAlone}
 use Rattle.acc_actors.proofs.Groups.{stages_more, takes_more, weighs_more, weight_is, stops_some, settles, settles_strictly}
 
 -- behind nothing
 pub asked_alone : {D : Type 0} (port : Ghosts D) (plan : Content) (s : Situation) (a : Actor) (number : ℕ) (m : Message) (slot : Slot D)
-    → IsAskedBehind port plan s a [] (TakesMessage number) (Takes m) slot → IsAsked port plan s a (TakesMessage number) (Takes m) slot
+    → IsAskedBehind port plan s [] (step_by a (TakesMessage number) (Takes m)) slot → IsAsked port plan s (step_by a (TakesMessage number) (Takes m)) slot
 asked_alone port plan s a number m slot asked =
     record { sound = asked.behind.sound; few = asked.behind.few.0; stands = asked.behind.stands; up = asked.behind.up; may = asked.may }
 
 module _ {D : Type 0} (port : Ghosts D) (plan : Content) (a : Actor) (slot : Slot D) (number : ℕ) (m : Message) where
   abbrev AskedAt : Situation → List Event → Slot D → Type 0
-  AskedAt s staged x = IsAskedBehind port plan s a staged (TakesMessage number) (Takes m) x
+  AskedAt s staged x = IsAskedBehind port plan s staged (step_by a (TakesMessage number) (Takes m)) x
 
   -- ---- a node has nothing staged
 
   pub node_asked : (n : NodeActor D) → slot ≡ Node n → (s : Situation) (staged : List Event) → AskedAt s staged slot
-      → (staged ≡ []) × IsAsked port plan s a (TakesMessage number) (Takes m) slot
+      → (staged ≡ []) × IsAsked port plan s (step_by a (TakesMessage number) (Takes m)) slot
   node_asked n is s [] asked = (refl, asked_alone port plan s a number m slot asked)
   node_asked n is s (event ∷ events) asked = absurd (subst (λ (x : Slot D). SlotStages port plan s a (event ∷ events) x) is asked.behind.stands)
 
-  pub node_may_ask : (n : NodeActor D) → slot ≡ Node n → MayAskBehind port plan a (TakesMessage number) (Takes m) slot → MayAsk port plan a (TakesMessage number) (Takes m) slot
+  pub node_may_ask : (n : NodeActor D) → slot ≡ Node n → MayAskBehind port plan (step_by a (TakesMessage number) (Takes m)) slot → MayAsk port plan (step_by a (TakesMessage number) (Takes m)) slot
   node_may_ask n is may = (may.0, (node_asked n is may.0 may.1 may.2).1)
 
   pub node_weighs_behind : (n : NodeActor D) → slot ≡ Node n → {E : Type 0} (r : Result ℕ E)
-      → IfOk r (λ weight. (s : Situation) → IsAsked port plan s a (TakesMessage number) (Takes m) slot → weight ≡ weight_of (entry_of (cluster_of plan) s a (TakesMessage number) false))
+      → IfOk r (λ weight. (s : Situation) → IsAsked port plan s (step_by a (TakesMessage number) (Takes m)) slot → weight ≡ weight_of (entry_of (cluster_of plan) s a (TakesMessage number) false))
       → IfOk r (λ weight. (s : Situation) (staged : List Event) → AskedAt s staged slot
       → weight ≡ weight_of (entry_of (cluster_of plan) (entered_all (cluster_of plan) s a staged false) a (TakesMessage number) false))
   node_weighs_behind n is (Err e) h = tt
@@ -68,10 +70,10 @@ module _ {D : Type 0} (port : Ghosts D) (plan : Content) (a : Actor) (slot : Slo
     there : (s : Situation) (staged : List Event) → AskedAt s staged slot → AskedAt s staged (Store t)
     there s staged asked = subst (λ (x : Slot D). AskedAt s staged x) is asked
 
-    pub store_up : MayAskBehind port plan a (TakesMessage number) (Takes m) slot → store.is_down t ≡ false
+    pub store_up : MayAskBehind port plan (step_by a (TakesMessage number) (Takes m)) slot → store.is_down t ≡ false
     store_up may = let asked = there may.0 may.1 may.2 in asked.behind.stands.down ∙ asked.behind.up
 
-    pub may_stage : NumbersAlone port plan a number m → IsPlan plan → MayAskBehind port plan a (TakesMessage number) (Takes m) slot → store.MayStage port layout t m
+    pub may_stage : NumbersAlone port plan a number m → IsPlan plan → MayAskBehind port plan (step_by a (TakesMessage number) (Takes m)) slot → store.MayStage port layout t m
     may_stage numbers_alone valid may =
         let s : Situation = may.0 in
         let asked = there s may.1 may.2 in (
@@ -80,45 +82,45 @@ module _ {D : Type 0} (port : Ghosts D) (plan : Content) (a : Actor) (slot : Slo
               (takes_more port plan s a may.1 t asked.behind number m asked.may numbers_alone valid),
         )
 
-    pub may_weigh : NumbersAlone port plan a number m → IsPlan plan → MayAskBehind port plan a (TakesMessage number) (Takes m) slot → StoreMayWeigh port layout t m
+    pub may_weigh : NumbersAlone port plan a number m → IsPlan plan → MayAskBehind port plan (step_by a (TakesMessage number) (Takes m)) slot → StoreMayWeigh port layout t m
     may_weigh numbers_alone valid may =
         let asked = there may.0 may.1 may.2 in
         subst (λ (l : Layout). StoreMayWeigh port l t m) (sym layout_is) (weighs_more port plan may.0 a may.1 t asked.behind number m asked.may numbers_alone valid)
 
     pub store_weighs : {E : Type 0} (r : Result ℕ E)
-        → IfOk r (λ weight. (own : Actor) (version : ℕ) (past : Past Message) (staged : List (Stop Message)) → store.IsStaging port layout own version past staged t
-        → weight ≡ weight_of_all (store.emits_next layout own (kept_with staged past) m).out)
+        → IfOk r (λ weight. (name : StoreName) (past : Past Message) (staged : List (Stop Message)) → store.IsStaging port layout name past staged t
+        → weight ≡ weight_of_all (store.emits_next layout name.actor (kept_with staged past) m).out)
         → IfOk r (λ weight. (s : Situation) (staged : List Event) → AskedAt s staged slot
         → weight ≡ weight_of (entry_of (cluster_of plan) (entered_all (cluster_of plan) s a staged false) a (TakesMessage number) false))
     store_weighs (Err e) is_weight = tt
     store_weighs (Ok weight) is_weight = λ s staged asked.
         let here = there s staged asked in
-        subst (λ (l : Layout). (own : Actor) (version : ℕ) (past : Past Message) (staged : List (Stop Message)) → store.IsStaging port l own version past staged t
-        → weight ≡ weight_of_all (store.emits_next l own (kept_with staged past) m).out) layout_is is_weight
-        a plan.version (store_past (cluster_of plan) s a) (store_stops (stops_in (cluster_of plan) s a staged false)) here.behind.stands.stands
+        subst (λ (l : Layout). (name : StoreName) (past : Past Message) (staged : List (Stop Message)) → store.IsStaging port l name past staged t
+        → weight ≡ weight_of_all (store.emits_next l name.actor (kept_with staged past) m).out) layout_is is_weight
+        (store_name plan a) (store_past (cluster_of plan) s a) (store_stops (stops_in (cluster_of plan) s a staged false)) here.behind.stands.stands
         ∙ weight_is port plan s a staged t here.behind number m here.may
 
     -- staged
     pub stage_called : {T : Type 0} (r : Result T OutOfMemory) (new : StoreActor D)
-        → OnOk r ((own : Actor) (version : ℕ) (past : Past Message) (staged : List (Stop Message)) → store.IsStaging port layout own version past staged t
-        → store.IsStaging port layout own version past (staged ++ store.message_stop number m ∷ []) new)
+        → OnOk r ((name : StoreName) (past : Past Message) (staged : List (Stop Message)) → store.IsStaging port layout name past staged t
+        → store.IsStaging port layout name past (staged ++ store.message_stop number m ∷ []) new)
         → store.is_down new ≡ false → store.disk_of new ≡ store.disk_of t
         → OnOk r ((s : Situation) (staged : List Event) → AskedAt s staged slot → SlotStages port plan s a (staged ++ TakesMessage number ∷ []) (Store new))
     stage_called r new ok up disk =
         on_ok_weaker r
-        (λ (told : (own : Actor) (version : ℕ) (past : Past Message) (staged : List (Stop Message)) → store.IsStaging port layout own version past staged t
-        → store.IsStaging port layout own version past (staged ++ store.message_stop number m ∷ []) new) s staged asked.
+        (λ (told : (name : StoreName) (past : Past Message) (staged : List (Stop Message)) → store.IsStaging port layout name past staged t
+        → store.IsStaging port layout name past (staged ++ store.message_stop number m ∷ []) new) s staged asked.
         let here = there s staged asked in
         stages_more port plan s a staged t here.behind number m here.may new
-        (subst (λ (l : Layout). (own : Actor) (version : ℕ) (past : Past Message) (staged : List (Stop Message)) → store.IsStaging port l own version past staged t
-        → store.IsStaging port l own version past (staged ++ store.message_stop number m ∷ []) new) layout_is told
-        a plan.version (store_past (cluster_of plan) s a) (store_stops (stops_in (cluster_of plan) s a staged false)) here.behind.stands.stands)
+        (subst (λ (l : Layout). (name : StoreName) (past : Past Message) (staged : List (Stop Message)) → store.IsStaging port l name past staged t
+        → store.IsStaging port l name past (staged ++ store.message_stop number m ∷ []) new) layout_is told
+        (store_name plan a) (store_past (cluster_of plan) s a) (store_stops (stops_in (cluster_of plan) s a staged false)) here.behind.stands.stands)
         up disk) ok
 
     -- refused
-    pub stage_refused : {T : Type 0} (r : Result T OutOfMemory) (new : StoreActor D) → MayAskBehind port plan a (TakesMessage number) (Takes m) slot
-        → OnErr r ((own : Actor) (version : ℕ) (past : Past Message) (staged : List (Stop Message)) → store.IsStaging port layout own version past staged t
-        → store.IsStaging port layout own version past staged new)
+    pub stage_refused : {T : Type 0} (r : Result T OutOfMemory) (new : StoreActor D) → MayAskBehind port plan (step_by a (TakesMessage number) (Takes m)) slot
+        → OnErr r ((name : StoreName) (past : Past Message) (staged : List (Stop Message)) → store.IsStaging port layout name past staged t
+        → store.IsStaging port layout name past staged new)
         → store.is_down new ≡ false → store.disk_of new ≡ store.disk_of t
         → OnErr r ((s : Situation) (staged : List Event) → SlotStages port plan s a staged slot → SlotStages port plan s a staged (Store new))
     stage_refused (Ok x) new may err up disk = tt
@@ -127,21 +129,21 @@ module _ {D : Type 0} (port : Ghosts D) (plan : Content) (a : Actor) (slot : Slo
         record {
           kind = here.kind;
           stands =
-              subst (λ (l : Layout). (own : Actor) (version : ℕ) (past : Past Message) (staged : List (Stop Message)) → store.IsStaging port l own version past staged t
-              → store.IsStaging port l own version past staged new) layout_is err
-              a plan.version (store_past (cluster_of plan) s a) (store_stops (stops_in (cluster_of plan) s a staged false)) here.stands;
+              subst (λ (l : Layout). (name : StoreName) (past : Past Message) (staged : List (Stop Message)) → store.IsStaging port l name past staged t
+              → store.IsStaging port l name past staged new) layout_is err
+              (store_name plan a) (store_past (cluster_of plan) s a) (store_stops (stops_in (cluster_of plan) s a staged false)) here.stands;
           down = up ∙ sym (store_up may) ∙ here.down;
           counted = subst (λ d. downs_in a s.own ≤ (port.state d).faults) (sym disk) here.counted;
         }
 
     pub stage_strictly : (new : StoreActor D)
-        → ((own : Actor) (version : ℕ) (armed passed : Option ℕ) (past other : Past Message) → store.IsStrictAt port layout own version armed passed past t
-        → store.IsStrictAt port layout own version armed passed other new)
+        → ((name : StoreName) (armed passed : Option ℕ) (past other : Past Message) → store.IsStrictAt port layout name armed passed past t
+        → store.IsStrictAt port layout name armed passed other new)
         → (s : Situation) (disks : Disks) → IsStrictSlot port plan s disks a slot → IsStrictSlot port plan s disks a (Store new)
     stage_strictly new told s disks are =
-        subst (λ (l : Layout). (own : Actor) (version : ℕ) (armed passed : Option ℕ) (past other : Past Message) → store.IsStrictAt port l own version armed passed past t
-        → store.IsStrictAt port l own version armed passed other new) layout_is told
-        a plan.version (disks.armed a) (disks.passed a) (store_past (cluster_of plan) s a) (store_past (cluster_of plan) s a)
+        subst (λ (l : Layout). (name : StoreName) (armed passed : Option ℕ) (past other : Past Message) → store.IsStrictAt port l name armed passed past t
+        → store.IsStrictAt port l name armed passed other new) layout_is told
+        (store_name plan a) (disks.armed a) (disks.passed a) (store_past (cluster_of plan) s a) (store_past (cluster_of plan) s a)
         (subst (λ (x : Slot D). IsStrictSlot port plan s disks a x) is are)
 
     pub stage_faults : (new : StoreActor D) → store.disk_of new ≡ store.disk_of t → faults_in port (Store new) ≡ faults_in port slot
@@ -160,16 +162,15 @@ module _ {D : Type 0} (port : Ghosts D) (plan : Content) (a : Actor) (slot : Slo
   may_settle may =
       record {
         layout = plan.topology;
-        own = a;
-        version = plan.version;
+        name = store_name plan a;
         past = store_past (cluster_of plan) may.0 a;
         staged = store_stops (stops_in (cluster_of plan) may.0 a may.1 false);
         stands = (there_staged may.0 may.1 may.2).stands.stands;
       }
 
   pub settle_called : (r : Result (Option (List Unsent)) OutOfMemory) (new : StoreActor D)
-      → IfOk r (λ given. (layout : Layout) (own : Actor) (version : ℕ) (past : Past Message) (staged : List (Stop Message)) → store.IsStaging port layout own version past staged t
-      → store.Settles port layout own version past staged new given)
+      → IfOk r (λ given. (layout : Layout) (name : StoreName) (past : Past Message) (staged : List (Stop Message)) → store.IsStaging port layout name past staged t
+      → store.Settles port layout name past staged new given)
       → IfOk r (λ given. store.is_down new ≡ is_none given) → (port.state (store.disk_of t)).faults ≤ (port.state (store.disk_of new)).faults
       → (r ≡ Ok None → Rose (port.state (store.disk_of t)).faults (port.state (store.disk_of new)).faults)
       → IfOk r (λ given. (s : Situation) (staged : List Event) → IsStaged port plan s a staged slot → HasSettled port plan s a staged (Store new) given)
@@ -177,20 +178,38 @@ module _ {D : Type 0} (port : Ghosts D) (plan : Content) (a : Actor) (slot : Slo
   settle_called (Ok given) new ok down counted cause = λ s staged h.
       let here = there_staged s staged h in
       settles port plan s a staged t here new given
-      (ok plan.topology a plan.version (store_past (cluster_of plan) s a) (store_stops (stops_in (cluster_of plan) s a staged false)) here.stands.stands)
+      (ok plan.topology (store_name plan a) (store_past (cluster_of plan) s a) (store_stops (stops_in (cluster_of plan) s a staged false)) here.stands.stands)
       down counted (λ none. cause (ap Ok none))
 
   pub settle_called_strictly : (r : Result (Option (List Unsent)) OutOfMemory) (new : StoreActor D)
-      → ((layout : Layout) (own : Actor) (version : ℕ) (armed passed : Option ℕ) (past : Past Message) (staged : List (Stop Message)) → store.IsStaging port layout own version past staged t
-      → store.IsStrictAt port layout own version armed passed past t → staged ≢ []
+      → ((layout : Layout) (name : StoreName) (armed passed : Option ℕ) (past : Past Message) (staged : List (Stop Message)) → store.IsStaging port layout name past staged t
+      → store.IsStrictAt port layout name armed passed past t → staged ≢ []
       → IfOk r (λ given. (is_none given ≡ fails_append armed)
-      × store.IsStrictAt port layout own version (after_append armed) (passed_in armed) (after_group given past staged) new))
+      × store.IsStrictAt port layout name (after_append armed) (passed_in armed) (after_group given past staged) new))
       → IfOk r (λ given. (s : Situation) (staged : List Event) (disks : Disks) → IsStaged port plan s a staged slot → staged ≢ []
-      → IsStrictSlot port plan s disks a slot → HasSettledStrictly port plan s disks a staged (Store new) given)
+      → IsStrictSlot port plan s disks a slot → HasSettledStrictly port plan (over_disks s disks) a staged (Store new) given)
   settle_called_strictly (Err e) new ok = tt
   settle_called_strictly (Ok given) new ok = λ s staged disks h some are.
       let here = there_staged s staged h in
       settles_strictly port plan s a staged t here disks new given
-      (ok plan.topology a plan.version (disks.armed a) (disks.passed a) (store_past (cluster_of plan) s a) (store_stops (stops_in (cluster_of plan) s a staged false)) here.stands.stands
+      (ok plan.topology (store_name plan a) (disks.armed a) (disks.passed a) (store_past (cluster_of plan) s a) (store_stops (stops_in (cluster_of plan) s a staged false)) here.stands.stands
       (subst (λ (x : Slot D). IsStrictSlot port plan s disks a x) is are)
       (stops_some port plan s a staged t here some))
+
+  -- what its slot answers
+  pub settle_answers : (r : Result (Option (List Unsent)) OutOfMemory) (new : StoreActor D)
+      → IfOk r (λ given. (layout : Layout) (name : StoreName) (past : Past Message) (staged : List (Stop Message)) → store.IsStaging port layout name past staged t
+      → store.Settles port layout name past staged new given)
+      → IfOk r (λ given. store.is_down new ≡ is_none given)
+      → CountsFaults (r ≡ Ok None) (port.state (store.disk_of t)).faults (port.state (store.disk_of new)).faults
+      → ((layout : Layout) (name : StoreName) (armed passed : Option ℕ) (past : Past Message) (staged : List (Stop Message)) → store.IsStaging port layout name past staged t
+      → store.IsStrictAt port layout name armed passed past t → staged ≢ []
+      → IfOk r (λ given. (is_none given ≡ fails_append armed)
+      × store.IsStrictAt port layout name (after_append armed) (passed_in armed) (after_group given past staged) new))
+      → HasAnsweredAll port plan a slot (Store new) r
+  settle_answers r new ok down counts strict =
+      record {
+        ok = settle_called r new ok down (steps_up r _ _ counts) counts.cause;
+        strict = settle_called_strictly r new strict;
+        faults = subst (λ (x : Slot D). CountsFaults (r ≡ Ok None) (faults_in port x) (port.state (store.disk_of new)).faults) (sym is) counts;
+      }

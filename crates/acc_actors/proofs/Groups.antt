@@ -1,5 +1,5 @@
 -- Messages that a store takes as a group: what is staged behind its past, and what settling it comes to.
-use Rattle.std.proofs.Common.{◌≡◌, ◌≢◌, ℕ, ◌+◌, ◌<◌, ◌≤◌, ◌^◌, Bool, true, false, not, List, [], ◌∷◌, ◌++◌, length, Option, None, Some, IfSome, is_none, refl, sym, ◌∙◌, ap, subst, arith}
+use Rattle.std.proofs.Common.{◌≡◌, ◌≢◌, ℕ, ◌+◌, ◌<◌, ◌≤◌, ◌^◌, true, false, not, List, [], ◌∷◌, ◌++◌, length, Option, None, Some, IfSome, is_none, refl, sym, ◌∙◌, ap, subst, arith}
 use Rattle.std.proofs.lemmas.List.{append_assoc, append-nil}
 use Rattle.std.proofs.lemmas.Bool.{true≢false}
 use Rattle.acc_stamp.specs.declared.actors.Actor.{Actor}
@@ -46,8 +46,8 @@ use Rattle.acc_payloads.specs.Appends.{fails_append, after_append, passed_in}
 use Rattle.acc_schedule_runs.specs.Disks.{Disks, after_step}
 use Rattle.acc_actors.specs.declared.slot.Slot.TheVariants.{Store}
 use Rattle.acc_actors.specs.Pasts.{first_of, stop_by, stops_in, stops_at, taking, store_stops, store_past}
-use Rattle.acc_actors.specs.Slots.{StoreStages}
-use Rattle.acc_actors.specs.Asked.{MayTakeEach, IsFewBehind, IsStaged, AreGiven, settled_if, HasSettled, HasSettledStrictly}
+use Rattle.acc_actors.specs.Slots.{StoreStages, store_name}
+use Rattle.acc_actors.specs.Asked.{over_disks, MayTakeEach, IsFewBehind, IsStaged, AreGiven, settled_if, HasSettled, HasSettledStrictly}
 use Rattle.acc_actors.proofs.Few.{length_whole, less_than, le_on, rose_counted, armed_after, passed_after}
 use Rattle.acc_actors.proofs.Pasts.{past_of, same_past, stop_of, stops_now, none_stopped, payload_is}
 use Rattle.acc_actors.proofs.RestartPasts.{no_store, AllMay, standing_on, messages_in, held_in, message_of, store_known, store_all, store_told}
@@ -187,13 +187,13 @@ module _ {D : Type 0} (port : Ghosts D) (plan : Content) (s : Situation) (a : Ac
         (all_may_take cluster a kind staged s (TakesMessage number) (Takes m) (ap not kind) next)
 
     pub stages_more : (new : StoreActor D)
-        → store.IsStaging port plan.topology a plan.version past (stops ++ store.message_stop number m ∷ []) new → store.is_down new ≡ false → store.disk_of new ≡ store.disk_of t
+        → store.IsStaging port plan.topology (store_name plan a) past (stops ++ store.message_stop number m ∷ []) new → store.is_down new ≡ false → store.disk_of new ≡ store.disk_of t
         → StoreStages port plan s a (staged ++ TakesMessage number ∷ []) new
     stages_more new stood up disk =
         record {
           kind = kind;
           stands =
-              subst (λ (all : List (Stop Message)). store.IsStaging port plan.topology a plan.version past all new)
+              subst (λ (all : List (Stop Message)). store.IsStaging port plan.topology (store_name plan a) past all new)
               (sym (staged_more cluster a kind number m staged s next (message_found m (message_at (whole s) (length (sent_of s.earlier) + number)) next.act_is))) stood;
           down = up ∙ sym is.up;
           counted = subst (λ d. downs_in a s.own ≤ (port.state d).faults) (sym disk) is.stands.counted;
@@ -205,8 +205,7 @@ module _ {D : Type 0} (port : Ghosts D) (plan : Content) (s : Situation) (a : Ac
         let meets : StoreMeets cluster (whole behind) a = store_meets cluster (whole behind) a standing few kind in
         let here = same _ a next.place in
         record {
-          own = a;
-          version = plan.version;
+          name = store_name plan a;
           past = past;
           stands = is.stands.stands;
           short = told.short is.sound.few_bodies;
@@ -229,8 +228,7 @@ module _ {D : Type 0} (port : Ghosts D) (plan : Content) (s : Situation) (a : Ac
     weighs_more numbers_alone valid =
         record {
           may = (stops, takes_more numbers_alone valid);
-          own = a;
-          version = plan.version;
+          name = store_name plan a;
           past = past;
           staged = stops;
           stands = is.stands.stands;
@@ -268,7 +266,7 @@ module _ {D : Type 0} (port : Ghosts D) (plan : Content) (s : Situation) (a : Ac
   settled_down None = sym (went_down cluster (whole s) a).down
   settled_down (Some given) = sym (all_up cluster a kind staged s may is.up)
 
-  pub settles : (new : StoreActor D) (given : Option (List Unsent)) → store.Settles port plan.topology a plan.version past stops new given → store.is_down new ≡ is_none given
+  pub settles : (new : StoreActor D) (given : Option (List Unsent)) → store.Settles port plan.topology (store_name plan a) past stops new given → store.is_down new ≡ is_none given
       → (port.state (store.disk_of t)).faults ≤ (port.state (store.disk_of new)).faults → (given ≡ None → Rose (port.state (store.disk_of t)).faults (port.state (store.disk_of new)).faults)
       → HasSettled port plan s a staged (Store new) given
   settles new given told down counted cause =
@@ -276,7 +274,7 @@ module _ {D : Type 0} (port : Ghosts D) (plan : Content) (s : Situation) (a : Ac
         given_are = by given told.emits;
         stands = record {
           kind = kind;
-          stands = subst (λ (p : Past Message). store.StandsFor port plan.topology a plan.version p new) (sym (settled_past given)) told.stands;
+          stands = subst (λ (p : Past Message). store.StandsFor port plan.topology (store_name plan a) p new) (sym (settled_past given)) told.stands;
           down = down ∙ settled_down given;
           counted = count given cause;
         };
@@ -293,16 +291,16 @@ module _ {D : Type 0} (port : Ghosts D) (plan : Content) (s : Situation) (a : Ac
 
   pub settles_strictly : (disks : Disks) (new : StoreActor D) (given : Option (List Unsent))
       → (is_none given ≡ fails_append (disks.armed a))
-      × store.IsStrictAt port plan.topology a plan.version (after_append (disks.armed a)) (passed_in (disks.armed a)) (after_group given past stops) new
-      → HasSettledStrictly port plan s disks a staged (Store new) given
+      × store.IsStrictAt port plan.topology (store_name plan a) (after_append (disks.armed a)) (passed_in (disks.armed a)) (after_group given past stops) new
+      → HasSettledStrictly port plan (over_disks s disks) a staged (Store new) given
   settles_strictly disks new given h =
       record {
         fails = h.0;
         strictly =
-            subst (λ (p : Past Message). store.IsStrictAt port plan.topology a plan.version (later.armed a) (later.passed a) p new) (sym (settled_past given))
-            (subst (λ calls. store.IsStrictAt port plan.topology a plan.version calls (later.passed a) (after_group given past stops) new)
+            subst (λ (p : Past Message). store.IsStrictAt port plan.topology (store_name plan a) (later.armed a) (later.passed a) p new) (sym (settled_past given))
+            (subst (λ calls. store.IsStrictAt port plan.topology (store_name plan a) calls (later.passed a) (after_group given past stops) new)
             (sym (armed_after true a disks refl))
-            (subst (λ calls. store.IsStrictAt port plan.topology a plan.version (after_append (disks.armed a)) calls (after_group given past stops) new)
+            (subst (λ calls. store.IsStrictAt port plan.topology (store_name plan a) (after_append (disks.armed a)) calls (after_group given past stops) new)
             (sym (passed_after true a disks refl)) h.1));
       }
     where

@@ -7,9 +7,11 @@ use Rattle.acc_topology.specs.Sets.{is_among}
 use Rattle.acc_topology.proofs.Counts.{among_part}
 use Rattle.acc_topology.specs.declared.given.NodeSpec.{NodeSpec}
 use Rattle.acc_message.specs.Run.{clock_start}
+use Rattle.acc_durable_node.specs.Names.{IsNodeName}
 use Rattle.acc_schedule.specs.Content.{Content}
 use Rattle.acc_schedule.specs.Plan.{IsPlan}
 use Rattle.acc_run_laws.proofs.Addresses.{node_low}
+use Rattle.acc_actors.specs.Slots.{node_name}
 
 range_above : (n first count : ℕ) → is_among (range_with_len first count) n ≡ true → first ≤ n
 range_above n first zero h = absurd (true≢false (sym h))
@@ -43,5 +45,9 @@ module _ (plan other : Content) (same : plan ≡ other) (valid : IsPlan other) (
     pub started : start ≡ clock_start plan.starts node
     started = is ∙ ap (λ (xs : List NodeSpec). clock_start xs node) (from ∙ ap (λ (p : Content). p.starts) (sym same))
 
-    pub start_range : start ≤ 1000000000000
-    start_range = subst (λ (n : ℕ). n ≤ 1000000000000) (sym started) (clock_low plan.starts node (subst IsPlan (sym same) valid).clocks)
+  pub name_range : is_among plan.topology.nodes node ≡ true → IsNodeName (node_name plan node)
+  name_range known = record {
+    number_from = (node_range known).0;
+    number_to = (node_range known).1;
+    start_in_range = clock_low plan.starts node (subst IsPlan (sym same) valid).clocks;
+  }

@@ -20,6 +20,7 @@ use Rattle.acc_payloads.specs.Items.{payload_by, downs_in}
 use Rattle.acc_run_laws.specs.Calls.{NodeMeets}
 use Rattle.acc_run_laws.proofs.Sendable.{node_meets}
 use Rattle.acc_payloads.specs.Stops.{Stop, Past, with_step, with_stops, with_act, after_step}
+use Rattle.acc_durable_node.specs.Names.{deeds_by, id_begun}
 use Rattle.acc_durable_node.specs.Actor as node
 use Rattle.acc_durable_node.specs.declared.actor.NodeActor.{NodeActor}
 use Rattle.acc_schedule.specs.Content.{Content}
@@ -38,8 +39,8 @@ use Rattle.acc_payloads.specs.Appends.{fails_append, after_append, passed_in}
 use Rattle.acc_schedule_runs.specs.Disks.{Disks}
 use Rattle.acc_schedule_runs.specs.Disks as strict_disks
 use Rattle.acc_actors.specs.Pasts.{first_of, stops_in, node_past}
-use Rattle.acc_actors.specs.Slots.{SlotStands, IsStrictSlot}
-use Rattle.acc_actors.specs.Asked.{IsAsked, IsEmitted, HasTried, HasTriedStrictly}
+use Rattle.acc_actors.specs.Slots.{SlotStands, IsStrictSlot, node_name}
+use Rattle.acc_actors.specs.Asked.{step_by, over_disks, IsAsked, IsEmitted, HasTried, HasTriedStrictly}
 use Rattle.acc_actors.specs.declared.slot.Slot.TheVariants.{Node}
 use Rattle.acc_actors.proofs.Pasts.{past_of, none_stopped, node_entered, node_stopped, one_payload, payload_is}
 use Rattle.acc_actors.proofs.Few.{few_whole, rose_counted, le_on, armed_after, passed_after}
@@ -58,12 +59,12 @@ module _ {D : Type 0} (port : Ghosts D) (plan : Content) (s : Situation) (a : Ac
   abbrev pub stop_for : Event → Act → Stop Act
   stop_for event act = record { event = event; act = act; payload = first_of (payload_for cluster (whole s) a (event_in s event)) }
 
-  done_is : IsSound cluster s → is_node a ≡ true → deeds_of cluster a (whole s) ≡ node.done plan.topology (node_of a) start past
+  done_is : IsSound cluster s → is_node a ≡ true → deeds_of cluster a (whole s) ≡ deeds_by plan.topology (node_name plan (node_of a)) past.acts
   done_is sound kind = node_replayed cluster (whole s) a (sound_standing cluster s sound) kind
 
   -- ---- what calls ask
 
-  pub may_draw : (event : Event) (act : Act) (n : NodeActor D) → IsAsked port plan s a event act (Node n) → MayDraw (node_of a) start (node.done plan.topology (node_of a) start past)
+  pub may_draw : (event : Event) (act : Act) (n : NodeActor D) → IsAsked port plan s (step_by a event act) (Node n) → MayDraw (node_of a) start (deeds_by plan.topology (node_name plan (node_of a)) past.acts)
   may_draw event act n asked =
       let meets : NodeMeets cluster (whole s) a = node_meets cluster (whole s) a (sound_standing cluster s asked.sound) (few_whole s asked.few) asked.stands.kind in
       record { drawn = meets.drawn; seen = meets.seen }
@@ -72,8 +73,8 @@ module _ {D : Type 0} (port : Ghosts D) (plan : Content) (s : Situation) (a : Ac
   not_true true h = sym h
   not_true false h = refl
 
-  pub is_fresh : (txn : ℕ) (body : BodyParts) (n : NodeActor D) → IsAsked port plan s a (BeginEvent txn) (Begins txn body) (Node n)
-      → begun_id (node_of a) start txn (node.done plan.topology (node_of a) start past) ≡ None
+  pub is_fresh : (txn : ℕ) (body : BodyParts) (n : NodeActor D) → IsAsked port plan s (step_by a (BeginEvent txn) (Begins txn body)) (Node n)
+      → id_begun plan.topology (node_name plan (node_of a)) txn past.acts ≡ None
   is_fresh txn body n asked =
       subst (λ (deeds : List Deed). begun_id (node_of a) start txn deeds ≡ None) (done_is asked.sound asked.stands.kind)
       (not_begun cluster (whole s) a (node_of a) start txn (not_true _ asked.may.place.1))
@@ -82,7 +83,7 @@ module _ {D : Type 0} (port : Ghosts D) (plan : Content) (s : Situation) (a : Ac
 
   -- what the actor gives is what its entry emits
   emitted_is : (event : Event) (act : Act) (emitted : Emitted) → IsSound cluster s → is_node a ≡ true → MayTake cluster (whole s) a (event_in s event) act
-      → emitted ≡ node.emits_next plan.topology (node_of a) start past act → emitted ≡ emits_if cluster (whole s) a (act_of cluster (whole s) (event_in s event))
+      → emitted ≡ node.emits_next plan.topology (node_name plan (node_of a)) past act → emitted ≡ emits_if cluster (whole s) a (act_of cluster (whole s) (event_in s event))
   emitted_is event act emitted sound kind may is =
       is ∙ sym (node_emits_next cluster (whole s) a act (sound_standing cluster s sound) kind) ∙ ap (emits_if cluster (whole s) a) (sym may.act_is)
 
@@ -102,8 +103,8 @@ module _ {D : Type 0} (port : Ghosts D) (plan : Content) (s : Situation) (a : Ac
     down_tried None = sym (went_down cluster (whole s) a).down
     down_tried (Some emitted) = sym (did_more cluster (whole s) a (event_in s event) act false may).down
 
-    pub tried : (n new : NodeActor D) (given : Option Emitted) → IsAsked port plan s a event act (Node n)
-        → node.Steps port plan.topology (node_of a) start plan.version past stop new given → node.is_down new ≡ is_none given
+    pub tried : (n new : NodeActor D) (given : Option Emitted) → IsAsked port plan s (step_by a event act) (Node n)
+        → node.Steps port plan.topology (node_name plan (node_of a)) past stop new given → node.is_down new ≡ is_none given
         → (port.state (node.disk_of n)).faults ≤ (port.state (node.disk_of new)).faults → (given ≡ None → Rose (port.state (node.disk_of n)).faults (port.state (node.disk_of new)).faults)
         → HasTried port plan s a event (Node new) given
     tried n new given asked steps down counted cause =
@@ -111,17 +112,17 @@ module _ {D : Type 0} (port : Ghosts D) (plan : Content) (s : Situation) (a : Ac
           emitted = by given steps.emits;
           stands = record {
             kind = asked.stands.kind;
-            stands = subst (λ (p : Past Act). node.StandsFor port plan.topology (node_of a) start plan.version p new) (sym (past_tried given)) steps.stands;
+            stands = subst (λ (p : Past Act). node.StandsFor port plan.topology (node_name plan (node_of a)) p new) (sym (past_tried given)) steps.stands;
             down = down ∙ down_tried given;
             counted = count given cause;
           };
         }
       where
-        by : (given : Option Emitted) → IfSome given (λ emitted. emitted ≡ node.emits_next plan.topology (node_of a) start past stop.act)
+        by : (given : Option Emitted) → IfSome given (λ emitted. emitted ≡ node.emits_next plan.topology (node_name plan (node_of a)) past stop.act)
             → IsEmitted cluster s a event given
         by None is = journalled
         by (Some emitted) is =
-            emitted_is event act emitted sound asked.stands.kind may (is ∙ ap (node.emits_next plan.topology (node_of a) start past) (ap (λ (x : Stop Act). x.act) stop_is))
+            emitted_is event act emitted sound asked.stands.kind may (is ∙ ap (node.emits_next plan.topology (node_name plan (node_of a)) past) (ap (λ (x : Stop Act). x.act) stop_is))
 
         count : (given : Option Emitted) → (given ≡ None → Rose (port.state (node.disk_of n)).faults (port.state (node.disk_of new)).faults)
             → downs_in a (tried_if (is_none given) cluster s a event).own ≤ (port.state (node.disk_of new)).faults
@@ -130,16 +131,16 @@ module _ {D : Type 0} (port : Ghosts D) (plan : Content) (s : Situation) (a : Ac
 
     pub tried_strictly : (disks : Disks) (new : NodeActor D) (given : Option Emitted)
         → (is_none given ≡ fails_append (disks.armed a))
-        × node.IsStrictAt port plan.topology (node_of a) start plan.version (after_append (disks.armed a)) (passed_in (disks.armed a)) (after_step given past stop) new
-        → HasTriedStrictly port plan s disks a event (Node new) given
+        × node.IsStrictAt port plan.topology (node_name plan (node_of a)) (after_append (disks.armed a)) (passed_in (disks.armed a)) (after_step given past stop) new
+        → HasTriedStrictly port plan (over_disks s disks) a event (Node new) given
     tried_strictly disks new given h =
         record {
           fails = h.0 ∙ ap (λ b. b && fails_append (disks.armed a)) (sym journalled);
           strictly =
-              subst (λ (p : Past Act). node.IsStrictAt port plan.topology (node_of a) start plan.version (later.armed a) (later.passed a) p new) (sym (past_tried given))
-              (subst (λ calls. node.IsStrictAt port plan.topology (node_of a) start plan.version calls (later.passed a) (after_step given past stop) new)
+              subst (λ (p : Past Act). node.IsStrictAt port plan.topology (node_name plan (node_of a)) (later.armed a) (later.passed a) p new) (sym (past_tried given))
+              (subst (λ calls. node.IsStrictAt port plan.topology (node_name plan (node_of a)) calls (later.passed a) (after_step given past stop) new)
               (sym (armed_after (is_journalled a event) a disks journalled))
-              (subst (λ calls. node.IsStrictAt port plan.topology (node_of a) start plan.version (after_append (disks.armed a)) calls (after_step given past stop) new)
+              (subst (λ calls. node.IsStrictAt port plan.topology (node_name plan (node_of a)) (after_append (disks.armed a)) calls (after_step given past stop) new)
               (sym (passed_after (is_journalled a event) a disks journalled)) h.1));
         }
       where
@@ -149,14 +150,14 @@ module _ {D : Type 0} (port : Ghosts D) (plan : Content) (s : Situation) (a : Ac
   -- ---- begins and recovers
 
   pub begin_stop_is : (txn : ℕ) (body : BodyParts) → IsSound cluster s → is_node a ≡ true → act_of cluster (whole s) (BeginEvent txn) ≡ Some (Begins txn body)
-      → node.begin_stop plan.topology (node_of a) start past txn body ≡ stop_for (BeginEvent txn) (Begins txn body)
+      → node.begin_stop plan.topology txn body (node_name plan (node_of a)) past ≡ stop_for (BeginEvent txn) (Begins txn body)
   begin_stop_is txn body sound kind is =
       ap (λ p. record { event = BeginEvent txn; act = Begins txn body; payload = p })
       (ap (λ (deeds : List Deed). draw_bytes (next_draw_of (clock_of (node_of a) start deeds) Begin txn)) (sym (done_is sound kind))
       ∙ sym (ap first_of (payload_is cluster (whole s) a (BeginEvent txn) (Begins txn body) is ∙ begin_payload cluster (whole s) a txn txn body kind)))
 
   pub recover_stop_is : (txn : ℕ) (id : TxnId) (body : BodyParts) → IsSound cluster s → is_node a ≡ true → act_of cluster (whole s) (RecoverEvent txn) ≡ Some (Recovers id body)
-      → node.recover_stop plan.topology (node_of a) start past txn id body ≡ stop_for (RecoverEvent txn) (Recovers id body)
+      → node.recover_stop plan.topology txn id body (node_name plan (node_of a)) past ≡ stop_for (RecoverEvent txn) (Recovers id body)
   recover_stop_is txn id body sound kind is =
       ap (λ p. record { event = RecoverEvent txn; act = Recovers id body; payload = p })
       (ap (λ (deeds : List Deed). draw_bytes (next_draw_of (clock_of (node_of a) start deeds) Recover txn)) (sym (done_is sound kind))
@@ -174,22 +175,22 @@ module _ {D : Type 0} (port : Ghosts D) (plan : Content) (s : Situation) (a : Ac
         ∙ ap (past_of (act ∷ past.acts) past.held) (sym (ap (λ events. stops_in cluster s a events true) (none_stopped cluster s a sound up)))
 
     pub took : (n new : NodeActor D) (emitted : Emitted) → is_node a ≡ true → SlotStands port plan s a (Node n)
-        → node.Takes port plan.topology (node_of a) start plan.version past act new emitted → node.is_down new ≡ false → node.disk_of new ≡ node.disk_of n
+        → node.Takes port plan.topology (node_name plan (node_of a)) past act new emitted → node.is_down new ≡ false → node.disk_of new ≡ node.disk_of n
         → HasTried port plan s a event (Node new) (Some emitted)
     took n new emitted kind stands takes down disk =
         record {
           emitted = emitted_is event act emitted sound kind may takes.emits;
           stands = record {
             kind = kind;
-            stands = subst (λ (p : Past Act). node.StandsFor port plan.topology (node_of a) start plan.version p new) (sym past_took) takes.stands;
+            stands = subst (λ (p : Past Act). node.StandsFor port plan.topology (node_name plan (node_of a)) p new) (sym past_took) takes.stands;
             down = down ∙ sym (did_more cluster (whole s) a (event_in s event) act false may).down;
             counted = subst (λ d. downs_in a s.own ≤ (port.state d).faults) (sym disk) stands.counted;
           };
         }
 
     pub took_strictly : (disks : Disks) (new : NodeActor D) (emitted : Emitted)
-        → ((other : Past Act) → node.IsStrictAt port plan.topology (node_of a) start plan.version (disks.armed a) (disks.passed a) other new)
-        → HasTriedStrictly port plan s disks a event (Node new) (Some emitted)
+        → ((other : Past Act) → node.IsStrictAt port plan.topology (node_name plan (node_of a)) (disks.armed a) (disks.passed a) other new)
+        → HasTriedStrictly port plan (over_disks s disks) a event (Node new) (Some emitted)
     took_strictly disks new emitted h =
         record {
           fails = ap (λ b. b && fails_append (disks.armed a)) (sym free);

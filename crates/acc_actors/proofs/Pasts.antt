@@ -197,7 +197,7 @@ module _ (cluster : Cluster) (s : Situation) (a : Actor) (event : Event) (act : 
   abbrev payload : List (List ℕ)
   payload = payload_by (whole s) a (event_in s event) (emits cluster (whole s) a act).notes
 
-  did : (lost : Bool) → DidMore cluster (whole s) (whole (entered cluster s a event lost)) a act (emits cluster (whole s) a act) payload lost
+  did : (lost : Bool) → DidMore cluster (whole s) (whole (entered cluster s a event lost)) a (record { act = act; emitted = emits cluster (whole s) a act }) payload lost
   did lost = did_more cluster (whole s) a (event_in s event) act lost may
 
   none_now : is_down a (whole s) ≡ false → stops_at cluster (entered cluster s a event false) a ≡ []

@@ -12,7 +12,7 @@ use Rattle.acc_message.specs.declared.entry.Event.TheVariants.{Begin, Recover, S
 use Rattle.acc_message.specs.declared.item.Item.{Item}
 use Rattle.acc_message.specs.Coordinator.{silence}
 use Rattle.acc_message.specs.Items.{message_at}
-use Rattle.acc_message.specs.NodeRules.{Act, Takes, Restarts}
+use Rattle.acc_message.specs.NodeRules.{Act, Takes, Restarts, node_emits, node_replay}
 use Rattle.acc_message.specs.Run.{Cluster, act_of, clock_start, deeds_of, taken_of, emits, is_node, is_down}
 use Rattle.acc_actor_laws.specs.TakenAlone.{messages_taken}
 use Rattle.acc_actor_laws.proofs.Standing.{not_none}
@@ -25,7 +25,6 @@ use Rattle.acc_payloads.specs.Items.{payload_by, payloads_in, downs_in}
 use Rattle.acc_payloads.specs.declared.stops.Unsent.{Unsent}
 use Rattle.acc_payloads.specs.Stops as actors
 use Rattle.acc_payloads.specs.Stops.{Stop, Past, with_step, with_act, kept_with, some, IsUnsent}
-use Rattle.acc_durable_node.specs.Actor as node
 use Rattle.acc_durable_store.specs.Actor as store
 use Rattle.acc_pasts.specs.Entries.{payload_for, MayTake}
 use Rattle.acc_pasts.specs.Pasts.{DidMore}
@@ -86,7 +85,7 @@ module _ (cluster : Cluster) (a : Actor) where
 
   -- with one entry more
   module _ (s : Situation) (event : Event) (act : Act) (lost : Bool) (may : MayTake cluster (whole s) a (event_in s event) act) where
-    did_one : DidMore cluster (whole s) (whole (entered cluster s a event lost)) a act (emits cluster (whole s) a act) (payload_by (whole s) a (event_in s event) (emits cluster (whole s) a act).notes) lost
+    did_one : DidMore cluster (whole s) (whole (entered cluster s a event lost)) a (record { act = act; emitted = emits cluster (whole s) a act }) (payload_by (whole s) a (event_in s event) (emits cluster (whole s) a act).notes) lost
     did_one = did_more cluster (whole s) a (event_in s event) act lost may
 
     held_one : is_journalled a (event_in s event) ≡ true → held_in (entered cluster s a event lost) ≡ held_in s ++ first_of (payload_for cluster (whole s) a (event_in s event)) ∷ []
@@ -121,7 +120,9 @@ module _ (cluster : Cluster) (a : Actor) where
 
   -- what didn't go out is what the rules say
   abbrev pub node_rules : Past Act → Act → Emitted
-  node_rules = node.emits_next cluster.layout (node_of a) (clock_start cluster.starts (node_of a))
+  node_rules past act =
+      let start : ℕ = clock_start cluster.starts (node_of a) in
+      node_emits cluster.layout (node_of a) start (node_replay cluster.layout (node_of a) start past.acts) act
 
   pub node_told : (events : List Event) (s : Situation) (stopped : List (Stop Act)) (lost : Bool) (kept : List Unsent) → is_node a ≡ true → IsStanding cluster (whole s) → AllMay cluster s a events lost
       → IsUnsent node_rules (past_of (acts_in s) (held_in s) stopped) (stops_in cluster s a events lost) kept

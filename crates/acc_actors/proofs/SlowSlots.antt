@@ -1,5 +1,5 @@
 -- From what a node ensures of a slow to what its slot has tried.
-use Rattle.std.proofs.Common.{◌≡◌, ◌≢◌, ℕ, ◌≤◌, Bool, true, false, List, Option, None, Some, unwrap_or, Result, Ok, Err, IfOk, IfErr, OnErr, refl, sym, ◌∙◌, ap, subst}
+use Rattle.std.proofs.Common.{◌≡◌, ℕ, ◌≤◌, Bool, true, false, List, Option, None, Some, unwrap_or, Result, Ok, Err, IfOk, IfErr, OnErr, refl, sym, ◌∙◌, ap, subst}
 use Rattle.std.specs.List.{slice_get}
 use Rattle.acc_stamp.specs.declared.actors.Actor.{Actor}
 use Rattle.acc_stamp.specs.Actor.{node_of, actor_of}
@@ -18,6 +18,8 @@ use Rattle.acc_node.specs.declared.error.NodeError.{NodeError}
 use Rattle.acc_node.specs.declared.error.NodeError.TheVariants.{Begun, Unknown, NoQuorum, OutOfMemory}
 use Rattle.acc_node.specs.Stands.{is_first_voting, has_majority, if_begun, may_slow, is_answered}
 use Rattle.acc_payloads.specs.Stops.{Past}
+use Rattle.acc_durable_node.specs.declared.name.NodeName.{NodeName}
+use Rattle.acc_durable_node.specs.Names.{deeds_by, IsSlowAnswer}
 use Rattle.acc_durable_node.specs.Actor as node
 use Rattle.acc_durable_node.specs.declared.actor.NodeActor.{NodeActor}
 use Rattle.acc_schedule.specs.Content.{Content}
@@ -34,8 +36,8 @@ use Rattle.acc_schedule_runs.specs.Disks.{Disks}
 use Rattle.acc_actors.specs.declared.slot.Slot.{Slot}
 use Rattle.acc_actors.specs.declared.slot.Slot.TheVariants.{Node}
 use Rattle.acc_actors.specs.Pasts.{node_past}
-use Rattle.acc_actors.specs.Slots.{SlotStands, IsStrictSlot}
-use Rattle.acc_actors.specs.Asked.{HasTried, HasTriedStrictly, IsHomeUp, skips_slow, IsSlowRefused}
+use Rattle.acc_actors.specs.Slots.{SlotStands, IsStrictSlot, node_name}
+use Rattle.acc_actors.specs.Asked.{over_disks, HasTried, HasTriedStrictly, IsHomeUp, skips_slow, IsSlowRefused}
 use Rattle.acc_actors.proofs.NodeSlots.{took, took_strictly}
 
 -- ---- the home and its slot
@@ -52,7 +54,7 @@ module _ {D : Type 0} (port : Ghosts D) (plan : Content) (a : Actor) (txn : ℕ)
   past = node_past cluster s a
 
   abbrev done : List Deed
-  done = node.done plan.topology (node_of a) start past
+  done = deeds_by plan.topology (node_name plan (node_of a)) past.acts
 
   each : EachStands cluster (whole s)
   each = (sound_standing cluster s home.sound).stands
@@ -76,7 +78,7 @@ module _ {D : Type 0} (port : Ghosts D) (plan : Content) (a : Actor) (txn : ℕ)
 
   -- ---- it gives the fast path up
 
-  module _ (new : NodeActor D) (emitted : Emitted) (slowed : node.HasSlowed port plan.topology (node_of a) start plan.version past txn new emitted) where
+  module _ (new : NodeActor D) (emitted : Emitted) (slowed : node.HasSlowed port plan.topology (node_name plan (node_of a)) past txn new emitted) where
     may_be_slowed : may_slow plan.topology (node_of a) start txn done ≡ true
     may_be_slowed = ap (if_begun plan.topology (node_of a) start done (λ x attempt. is_first_voting attempt)) slowed.begun ∙ slowed.waits
 
@@ -107,8 +109,8 @@ module _ {D : Type 0} (port : Ghosts D) (plan : Content) (a : Actor) (txn : ℕ)
     )
 
     pub has_slowed_strictly : (disks : Disks)
-        → ((other : Past Act) → node.IsStrictAt port plan.topology (node_of a) start plan.version (disks.armed a) (disks.passed a) other new)
-        → HasTriedStrictly port plan s disks a (SlowEvent txn) (Node new) (Some emitted)
+        → ((other : Past Act) → node.IsStrictAt port plan.topology (node_name plan (node_of a)) (disks.armed a) (disks.passed a) other new)
+        → HasTriedStrictly port plan (over_disks s disks) a (SlowEvent txn) (Node new) (Some emitted)
     has_slowed_strictly disks later =
         took_strictly port plan s a (SlowEvent txn) (Slows slowed.id) refl refl home.sound home.up may disks new emitted later
 
@@ -126,22 +128,22 @@ module _ {D : Type 0} (port : Ghosts D) (plan : Content) (a : Actor) (txn : ℕ)
 
   module _ (new : NodeActor D) (down : node.is_down new ≡ false) (disk : node.disk_of new ≡ node.disk_of n) where
     slowed_at : (s : Situation) → IsHomeUp port plan s a txn slot → (emitted : Emitted)
-        → ((number start version : ℕ) (past : Past Act) → node.StandsFor port layout number start version past n → node.HasSlowed port layout number start version past txn new emitted)
-        → node.HasSlowed port plan.topology (node_of a) (clock_start plan.starts (node_of a)) plan.version (node_past (cluster_of plan) s a) txn new emitted
+        → ((name : NodeName) (past : Past Act) → node.StandsFor port layout name past n → node.HasSlowed port layout name past txn new emitted)
+        → node.HasSlowed port plan.topology (node_name plan (node_of a)) (node_past (cluster_of plan) s a) txn new emitted
     slowed_at s home emitted ok =
         let here : IsHomeUp port plan s a txn (Node n) = there s home in
-        subst (λ (l : Layout). (number start version : ℕ) (past : Past Act) → node.StandsFor port l number start version past n → node.HasSlowed port l number start version past txn new emitted)
-        layout_is ok (node_of a) (clock_start plan.starts (node_of a)) plan.version (node_past (cluster_of plan) s a) here.stands.stands
+        subst (λ (l : Layout). (name : NodeName) (past : Past Act) → node.StandsFor port l name past n → node.HasSlowed port l name past txn new emitted)
+        layout_is ok (node_name plan (node_of a)) (node_past (cluster_of plan) s a) here.stands.stands
 
     pub slow_ok : (r : Result Emitted NodeError)
-        → IfOk r (λ emitted. (number start version : ℕ) (past : Past Act) → node.StandsFor port layout number start version past n → node.HasSlowed port layout number start version past txn new emitted)
+        → IfOk r (λ emitted. (name : NodeName) (past : Past Act) → node.StandsFor port layout name past n → node.HasSlowed port layout name past txn new emitted)
         → IfOk r (λ emitted. (s : Situation) → IsHomeUp port plan s a txn slot
         → (skips_slow plan s txn ≡ None) × HasTried port plan s a (SlowEvent txn) (Node new) (Some emitted))
     slow_ok (Err e) ok = tt
     slow_ok (Ok emitted) ok = λ s home. has_slowed port plan a txn n s (there s home) new emitted (slowed_at s home emitted ok) down disk
 
     pub slow_as_before : (r : Result Emitted NodeError)
-        → OnErr r ((number start version : ℕ) (past : Past Act) → node.StandsFor port layout number start version past n → node.StandsFor port layout number start version past new)
+        → OnErr r ((name : NodeName) (past : Past Act) → node.StandsFor port layout name past n → node.StandsFor port layout name past new)
         → OnErr r ((s : Situation) → IsHomeUp port plan s a txn slot → SlotStands port plan s a (Node new))
     slow_as_before (Ok emitted) err = tt
     slow_as_before (Err e) err = λ s home.
@@ -149,29 +151,29 @@ module _ {D : Type 0} (port : Ghosts D) (plan : Content) (a : Actor) (txn : ℕ)
         record {
           kind = here.stands.kind;
           stands =
-              subst (λ (l : Layout). (number start version : ℕ) (past : Past Act) → node.StandsFor port l number start version past n → node.StandsFor port l number start version past new)
-              layout_is err (node_of a) (clock_start plan.starts (node_of a)) plan.version (node_past (cluster_of plan) s a) here.stands.stands;
+              subst (λ (l : Layout). (name : NodeName) (past : Past Act) → node.StandsFor port l name past n → node.StandsFor port l name past new)
+              layout_is err (node_name plan (node_of a)) (node_past (cluster_of plan) s a) here.stands.stands;
           down = down ∙ sym here.up;
           counted = subst (λ d. downs_in a s.own ≤ (port.state d).faults) (sym disk) here.stands.counted;
         }
 
     module _
-        (strictly : (number start version : ℕ) (armed passed : Option ℕ) (past other : Past Act)
-        → node.IsStrictAt port layout number start version armed passed past n
-        → node.IsStrictAt port layout number start version armed passed other new) where
+        (strictly : (name : NodeName) (armed passed : Option ℕ) (past other : Past Act)
+        → node.IsStrictAt port layout name armed passed past n
+        → node.IsStrictAt port layout name armed passed other new) where
       later : (s : Situation) (disks : Disks) → IsStrictSlot port plan s disks a slot → (other : Past Act)
-          → node.IsStrictAt port plan.topology (node_of a) (clock_start plan.starts (node_of a)) plan.version (disks.armed a) (disks.passed a) other new
+          → node.IsStrictAt port plan.topology (node_name plan (node_of a)) (disks.armed a) (disks.passed a) other new
       later s disks are other =
-          subst (λ (l : Layout). (number start version : ℕ) (armed passed : Option ℕ) (past other : Past Act)
-          → node.IsStrictAt port l number start version armed passed past n
-          → node.IsStrictAt port l number start version armed passed other new)
-          layout_is strictly (node_of a) (clock_start plan.starts (node_of a)) plan.version (disks.armed a) (disks.passed a) (node_past (cluster_of plan) s a) other
+          subst (λ (l : Layout). (name : NodeName) (armed passed : Option ℕ) (past other : Past Act)
+          → node.IsStrictAt port l name armed passed past n
+          → node.IsStrictAt port l name armed passed other new)
+          layout_is strictly (node_name plan (node_of a)) (disks.armed a) (disks.passed a) (node_past (cluster_of plan) s a) other
           (subst (λ (x : Slot D). IsStrictSlot port plan s disks a x) is are)
 
       pub slow_strictly : (r : Result Emitted NodeError)
-          → IfOk r (λ emitted. (number start version : ℕ) (past : Past Act) → node.StandsFor port layout number start version past n → node.HasSlowed port layout number start version past txn new emitted)
+          → IfOk r (λ emitted. (name : NodeName) (past : Past Act) → node.StandsFor port layout name past n → node.HasSlowed port layout name past txn new emitted)
           → IfOk r (λ emitted. (s : Situation) (disks : Disks) → IsHomeUp port plan s a txn slot
-          → IsStrictSlot port plan s disks a slot → HasTriedStrictly port plan s disks a (SlowEvent txn) (Node new) (Some emitted))
+          → IsStrictSlot port plan s disks a slot → HasTriedStrictly port plan (over_disks s disks) a (SlowEvent txn) (Node new) (Some emitted))
       slow_strictly (Err e) ok = tt
       slow_strictly (Ok emitted) ok = λ s disks home are.
           has_slowed_strictly port plan a txn n s (there s home) new emitted (slowed_at s home emitted ok) disks (later s disks are)
@@ -182,39 +184,24 @@ module _ {D : Type 0} (port : Ghosts D) (plan : Content) (a : Actor) (txn : ℕ)
       slow_strict_as_before (Ok emitted) = tt
       slow_strict_as_before (Err e) = λ s disks home are. later s disks are (node_past (cluster_of plan) s a)
 
-  pub slow_refused : (r : Result Emitted NodeError)
-      → ((number start version : ℕ) (past : Past Act) → node.StandsFor port layout number start version past n
-      → r ≡ Err Unknown → may_slow layout number start txn (node.done layout number start past) ≡ false)
-      → IfErr r (λ error. error ≡ NoQuorum → (number start version : ℕ) (past : Past Act) → node.StandsFor port layout number start version past n
-      → (may_slow layout number start txn (node.done layout number start past) ≡ true) × (is_answered layout number start txn (node.done layout number start past) ≡ false))
-      → IfErr r (λ error. (number start version : ℕ) (past : Past Act) → node.StandsFor port layout number start version past n → error ≢ Begun)
+  pub slow_refused : (r : Result Emitted NodeError) → node.OfEachPast port layout n (λ name past. IsSlowAnswer layout name past.acts txn r)
       → IfErr r (λ error. (s : Situation) → IsHomeUp port plan s a txn slot → IsSlowRefused plan s txn error)
-  slow_refused (Ok emitted) unknown no_quorum not_begun = tt
-  slow_refused (Err OutOfMemory) unknown no_quorum not_begun = λ s home. tt
-  slow_refused (Err Begun) unknown no_quorum not_begun = λ s home.
-      let here : IsHomeUp port plan s a txn (Node n) = there s home in
-      not_begun (node_of a) (clock_start plan.starts (node_of a)) plan.version (node_past (cluster_of plan) s a)
-      (subst (λ (l : Layout). node.StandsFor port l (node_of a) (clock_start plan.starts (node_of a)) plan.version (node_past (cluster_of plan) s a) n) (sym layout_is) here.stands.stands) refl
-  slow_refused (Err Unknown) unknown no_quorum not_begun = λ s home.
-      let here : IsHomeUp port plan s a txn (Node n) = there s home in
-      let number : ℕ = node_of a in
-      let begin : ℕ = clock_start plan.starts number in
-      let past : Past Act = node_past (cluster_of plan) s a in
-      let found =
-      subst (λ (l : Layout). (number start version : ℕ) (past : Past Act) → node.StandsFor port l number start version past n
-      → may_slow l number start txn (node.done l number start past) ≡ false) layout_is (λ number start version past stands. unknown number start version past stands refl)
-      number begin plan.version past here.stands.stands in
-      told port plan a txn n s here
-      ∙ ap (λ b. slow_cause txn b (is_answered plan.topology number begin txn (node.done plan.topology number begin past))) found
-  slow_refused (Err NoQuorum) unknown no_quorum not_begun = λ s home.
-      let here : IsHomeUp port plan s a txn (Node n) = there s home in
-      let number : ℕ = node_of a in
-      let begin : ℕ = clock_start plan.starts number in
-      let past : Past Act = node_past (cluster_of plan) s a in
-      let found =
-      subst (λ (l : Layout). (number start version : ℕ) (past : Past Act) → node.StandsFor port l number start version past n
-      → (may_slow l number start txn (node.done l number start past) ≡ true) × (is_answered l number start txn (node.done l number start past) ≡ false))
-      layout_is (no_quorum refl) number begin plan.version past here.stands.stands in
-      told port plan a txn n s here
-      ∙ ap (λ b. slow_cause txn b (is_answered plan.topology number begin txn (node.done plan.topology number begin past))) found.0
-      ∙ ap (λ b. slow_cause txn true b) found.1
+  slow_refused r refused = of r here
+    where
+      here : (s : Situation) → IsHomeUp port plan s a txn slot → IsSlowAnswer plan.topology (node_name plan (node_of a)) (node_past (cluster_of plan) s a).acts txn r
+      here s home =
+          subst (λ (l : Layout). node.OfEachPast port l n (λ name past. IsSlowAnswer l name past.acts txn r)) layout_is refused
+          (node_name plan (node_of a)) (node_past (cluster_of plan) s a) (there s home).stands.stands
+
+      at : Situation → Bool
+      at s = is_answered plan.topology (node_of a) (clock_start plan.starts (node_of a)) txn (deeds_by plan.topology (node_name plan (node_of a)) (node_past (cluster_of plan) s a).acts)
+
+      of : (q : Result Emitted NodeError) → ((s : Situation) → IsHomeUp port plan s a txn slot → IsSlowAnswer plan.topology (node_name plan (node_of a)) (node_past (cluster_of plan) s a).acts txn q)
+          → IfErr q (λ error. (s : Situation) → IsHomeUp port plan s a txn slot → IsSlowRefused plan s txn error)
+      of (Ok emitted) tells = tt
+      of (Err OutOfMemory) tells = λ s home. tt
+      of (Err Begun) tells = λ s home. (tells s home).not_begun refl
+      of (Err Unknown) tells = λ s home. told port plan a txn n s (there s home) ∙ ap (λ b. slow_cause txn b (at s)) ((tells s home).unknown.0 refl)
+      of (Err NoQuorum) tells = λ s home.
+          let found = (tells s home).no_quorum.0 refl in
+          told port plan a txn n s (there s home) ∙ ap (λ b. slow_cause txn b (at s)) found.0 ∙ ap (λ b. slow_cause txn true b) found.1

@@ -1,5 +1,5 @@
 -- What a store in its slot is after it took a message.
-use Rattle.std.proofs.Common.{◌≡◌, ℕ, ◌+◌, ◌≤◌, Bool, true, false, not, ◌&&◌, List, [], ◌∷◌, ◌++◌, Option, None, Some, IfSome, is_none, length, refl, sym, ◌∙◌, ap, subst}
+use Rattle.std.proofs.Common.{◌≡◌, ℕ, ◌+◌, ◌≤◌, true, false, not, ◌&&◌, [], ◌∷◌, ◌++◌, Option, None, Some, IfSome, is_none, length, refl, sym, ◌∙◌, ap, subst}
 use Rattle.acc_stamp.specs.declared.actors.Actor.{Actor}
 use Rattle.acc_ports.specs.declared.disk.Disk.{Ghosts}
 use Rattle.acc_ports.specs.Faults.{Rose}
@@ -30,7 +30,8 @@ use Rattle.acc_payloads.specs.Appends.{fails_append, after_append, passed_in}
 use Rattle.acc_schedule_runs.specs.Disks.{Disks}
 use Rattle.acc_schedule_runs.specs.Disks as strict_disks
 use Rattle.acc_actors.specs.Pasts.{first_of, store_past}
-use Rattle.acc_actors.specs.Asked.{IsAsked, IsEmitted, HasTried, HasTriedStrictly}
+use Rattle.acc_actors.specs.Slots.{store_name}
+use Rattle.acc_actors.specs.Asked.{step_by, over_disks, IsAsked, IsEmitted, HasTried, HasTriedStrictly}
 use Rattle.acc_actors.specs.declared.slot.Slot.TheVariants.{Store}
 use Rattle.acc_actors.proofs.Pasts.{past_of, store_entered, store_stopped, one_payload, payload_is}
 use Rattle.acc_actors.proofs.Few.{rose_counted, le_on, armed_after, passed_after}
@@ -70,8 +71,8 @@ module _ {D : Type 0} (port : Ghosts D) (plan : Content) (s : Situation) (a : Ac
   down_tried None = sym (went_down cluster (whole s) a).down
   down_tried (Some emitted) = sym (did_more cluster (whole s) a (event_in s event) (Takes m) false may).down
 
-  pub store_tried : (t new : StoreActor D) (given : Option Emitted) → IsAsked port plan s a event (Takes m) (Store t)
-      → store.Steps port plan.topology a plan.version past (store.message_stop number m) new given → store.is_down new ≡ is_none given
+  pub store_tried : (t new : StoreActor D) (given : Option Emitted) → IsAsked port plan s (step_by a event (Takes m)) (Store t)
+      → store.Steps port plan.topology (store_name plan a) past (store.message_stop number m) new given → store.is_down new ≡ is_none given
       → (port.state (store.disk_of t)).faults ≤ (port.state (store.disk_of new)).faults → (given ≡ None → Rose (port.state (store.disk_of t)).faults (port.state (store.disk_of new)).faults)
       → HasTried port plan s a event (Store new) given
   store_tried t new given asked steps down counted cause =
@@ -79,7 +80,7 @@ module _ {D : Type 0} (port : Ghosts D) (plan : Content) (s : Situation) (a : Ac
         emitted = by given steps.emits;
         stands = record {
           kind = kind;
-          stands = subst (λ (p : Past Message). store.StandsFor port plan.topology a plan.version p new) (sym (past_tried given)) steps.stands;
+          stands = subst (λ (p : Past Message). store.StandsFor port plan.topology (store_name plan a) p new) (sym (past_tried given)) steps.stands;
           down = down ∙ down_tried given;
           counted = count given cause;
         };
@@ -97,16 +98,16 @@ module _ {D : Type 0} (port : Ghosts D) (plan : Content) (s : Situation) (a : Ac
 
   pub store_tried_strictly : (disks : Disks) (new : StoreActor D) (given : Option Emitted)
       → (is_none given ≡ fails_append (disks.armed a))
-      × store.IsStrictAt port plan.topology a plan.version (after_append (disks.armed a)) (passed_in (disks.armed a)) (after_step given past (store.message_stop number m)) new
-      → HasTriedStrictly port plan s disks a event (Store new) given
+      × store.IsStrictAt port plan.topology (store_name plan a) (after_append (disks.armed a)) (passed_in (disks.armed a)) (after_step given past (store.message_stop number m)) new
+      → HasTriedStrictly port plan (over_disks s disks) a event (Store new) given
   store_tried_strictly disks new given h =
       record {
         fails = h.0 ∙ ap (λ b. b && fails_append (disks.armed a)) (sym journalled);
         strictly =
-            subst (λ (p : Past Message). store.IsStrictAt port plan.topology a plan.version (later.armed a) (later.passed a) p new) (sym (past_tried given))
-            (subst (λ calls. store.IsStrictAt port plan.topology a plan.version calls (later.passed a) (after_step given past (store.message_stop number m)) new)
+            subst (λ (p : Past Message). store.IsStrictAt port plan.topology (store_name plan a) (later.armed a) (later.passed a) p new) (sym (past_tried given))
+            (subst (λ calls. store.IsStrictAt port plan.topology (store_name plan a) calls (later.passed a) (after_step given past (store.message_stop number m)) new)
             (sym (armed_after (is_journalled a event) a disks journalled))
-            (subst (λ calls. store.IsStrictAt port plan.topology a plan.version (after_append (disks.armed a)) calls (after_step given past (store.message_stop number m)) new)
+            (subst (λ calls. store.IsStrictAt port plan.topology (store_name plan a) (after_append (disks.armed a)) calls (after_step given past (store.message_stop number m)) new)
             (sym (passed_after (is_journalled a event) a disks journalled)) h.1));
       }
     where

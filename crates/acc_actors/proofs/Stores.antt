@@ -1,5 +1,5 @@
 -- The store that stands at the number of an actor.
-use Rattle.std.proofs.Common.{◌≡◌, ℕ, ◌⊎◌, inl, inr, false, List, [], Option, None, Some, IfSome, is_none, sym, ◌∙◌, ap, subst}
+use Rattle.std.proofs.Common.{◌≡◌, ◌⊎◌, inl, inr, false, List, [], Option, None, Some, IfSome, is_none, sym, ◌∙◌, ap, subst}
 use Rattle.std.proofs.lemmas.Bool.{true≢false}
 use Rattle.acc_stamp.specs.declared.actors.Actor.{Actor}
 use Rattle.acc_topology.specs.Layout.{Layout}
@@ -11,6 +11,7 @@ use Rattle.acc_message.specs.StoreRules.{replay}
 use Rattle.acc_store.specs.declared.store.Store.{Store as OpenStore}
 use Rattle.acc_store.specs.Stands as open_store
 use Rattle.acc_payloads.specs.Stops.{Stop, Past, kept_with}
+use Rattle.acc_durable_store.specs.declared.name.StoreName.{StoreName}
 use Rattle.acc_durable_store.specs.Actor as store
 use Rattle.acc_durable_store.specs.declared.actor.StoreActor.{StoreActor}
 use Rattle.acc_durable_node.specs.declared.actor.NodeActor.{NodeActor}
@@ -23,7 +24,7 @@ use Rattle.acc_schedule_runs.specs.Schedules.{cluster_of}
 use Rattle.acc_actors.specs.declared.slot.Slot.{Slot}
 use Rattle.acc_actors.specs.declared.slot.Slot.TheVariants.{Empty, Node, Store}
 use Rattle.acc_actors.specs.Pasts.{store_past}
-use Rattle.acc_actors.specs.Slots.{NodeStands, StoreStands, SlotStands, IsTaken}
+use Rattle.acc_actors.specs.Slots.{NodeStands, StoreStands, SlotStands, IsTaken, store_name}
 use Rattle.acc_actors.specs.Stores.{IsStoreOf}
 
 -- what a slot shows
@@ -64,19 +65,19 @@ module _ {D : Type 0} (port : Ghosts D) (slot : Slot D) where
         let x : StoreStands port plan s a t = here plan s a h in
         absurd (true≢false (sym (ap is_none none) ∙ told ∙ x.down ∙ up))
 
-    pub shown_at_store : IfSome o (λ r. (layout : Layout) (own : Actor) (version : ℕ) (past : Past Message) (staged : List (Stop Message)) → store.IsStaging port layout own version past staged t
-        → (open_store.actor_of (view r) ≡ own) × open_store.StandsFor layout (view r) (replay layout own (kept_with staged past).acts))
+    pub shown_at_store : IfSome o (λ r. (layout : Layout) (name : StoreName) (past : Past Message) (staged : List (Stop Message)) → store.IsStaging port layout name past staged t
+        → (open_store.actor_of (view r) ≡ name.actor) × open_store.StandsFor layout (view r) (replay layout name.actor (kept_with staged past).acts))
         → IfSome o (λ r. Shows port slot (view r))
     shown_at_store stands = by o told stands
       where
         by : (o : Option R) → is_none o ≡ store.is_down t
-            → IfSome o (λ r. (layout : Layout) (own : Actor) (version : ℕ) (past : Past Message) (staged : List (Stop Message)) → store.IsStaging port layout own version past staged t
-            → (open_store.actor_of (view r) ≡ own) × open_store.StandsFor layout (view r) (replay layout own (kept_with staged past).acts))
+            → IfSome o (λ r. (layout : Layout) (name : StoreName) (past : Past Message) (staged : List (Stop Message)) → store.IsStaging port layout name past staged t
+            → (open_store.actor_of (view r) ≡ name.actor) × open_store.StandsFor layout (view r) (replay layout name.actor (kept_with staged past).acts))
             → IfSome o (λ r. Shows port slot (view r))
         by None told stands = tt
         by (Some r) told stands = λ plan s a sound h.
             let x : StoreStands port plan s a t = here plan s a h in
-            let found = stands plan.topology a plan.version (store_past (cluster_of plan) s a) [] x.stands in (
+            let found = stands plan.topology (store_name plan a) (store_past (cluster_of plan) s a) [] x.stands in (
               x.kind,
               sym x.down ∙ sym told,
               record {

@@ -1,5 +1,5 @@
 -- From what the calls of actors that take a message ensure to what their slots have tried.
-use Rattle.std.proofs.Common.{◌≡◌, ◌⊎◌, ℕ, ◌+◌, ◌<◌, ◌≤◌, ◌^◌, Bool, true, false, not, List, [], Option, None, Some, Result, Ok, Err, IfOk, is_none, length, sym, ◌∙◌, ap, subst, arith, inl, inr, ⊎_elim}
+use Rattle.std.proofs.Common.{◌≡◌, ◌⊎◌, ℕ, ◌+◌, ◌<◌, ◌≤◌, ◌^◌, true, false, not, List, [], Option, None, Some, Result, Ok, Err, IfOk, is_none, length, sym, ◌∙◌, ap, subst, arith, inl, inr, ⊎_elim}
 use Rattle.std.specs.Option.{option_map}
 use Rattle.std.specs.List.{AllByRecursion}
 use Rattle.std.proofs.lemmas.Bool.{true≢false}
@@ -10,7 +10,7 @@ use Rattle.acc_stamp.specs.declared.actors.Actor.{Actor}
 use Rattle.acc_stamp.specs.Actor.{node_of}
 use Rattle.acc_topology.specs.Layout.{Layout}
 use Rattle.acc_ports.specs.declared.disk.Disk.{Ghosts}
-use Rattle.acc_ports.specs.Faults.{Rose}
+use Rattle.acc_ports.specs.Faults.{Rose, CountsFaults}
 use Rattle.acc_lang.specs.Texts.{has_text_value}
 use Rattle.acc_message.specs.declared.message.Message.{Message}
 use Rattle.acc_message.specs.declared.entry.Emitted.{Emitted}
@@ -19,7 +19,7 @@ use Rattle.acc_message.specs.Fields.{top_of}
 use Rattle.acc_message.specs.Items.{sent_of, message_at}
 use Rattle.acc_message.specs.NodeRules.{Act, Begins, Recovers, Slows, Takes, Restarts}
 use Rattle.acc_message.specs.declared.item.Item.{Item}
-use Rattle.acc_message.specs.Run.{Cluster, clock_start, emits, is_node}
+use Rattle.acc_message.specs.Run.{Cluster, emits, is_node}
 use Rattle.acc_safety.specs.Valid.{IsStanding}
 use Rattle.acc_actor_laws.proofs.Standing.{not_none}
 use Rattle.acc_actor_laws.proofs.OpeningFacts.{some_is}
@@ -28,7 +28,9 @@ use Rattle.acc_payloads.specs.Texts.{has_text}
 use Rattle.acc_run_laws.specs.Calls.{IsDeliverable, StoreMeets}
 use Rattle.acc_run_laws.proofs.Sendable.{store_meets, is_deliverable}
 use Rattle.acc_payloads.specs.Stops.{Past, after_step}
+use Rattle.acc_durable_node.specs.declared.name.NodeName.{NodeName}
 use Rattle.acc_durable_node.specs.Actor as node
+use Rattle.acc_durable_store.specs.declared.name.StoreName.{StoreName}
 use Rattle.acc_durable_store.specs.Actor as store
 use Rattle.acc_durable_node.specs.declared.actor.NodeActor.{NodeActor}
 use Rattle.acc_durable_store.specs.declared.actor.StoreActor.{StoreActor}
@@ -46,9 +48,9 @@ use Rattle.acc_schedule_runs.specs.Disks.{Disks}
 use Rattle.acc_actors.specs.declared.slot.Slot.{Slot}
 use Rattle.acc_actors.specs.declared.slot.Slot.TheVariants.{Node, Store}
 use Rattle.acc_actors.specs.Pasts.{node_past, store_past}
-use Rattle.acc_actors.specs.Slots.{IsStrictSlot}
-use Rattle.acc_actors.specs.Asked.{IsFew, IsAsked, MayAsk, HasTried, HasTriedStrictly}
-use Rattle.acc_actors.proofs.Few.{few_whole}
+use Rattle.acc_actors.specs.Slots.{IsStrictSlot, node_name, store_name, faults_in}
+use Rattle.acc_actors.specs.Asked.{step_by, over_disks, IsFew, IsAsked, MayAsk, HasTried, HasTriedStrictly, HasAnswered}
+use Rattle.acc_actors.proofs.Few.{few_whole, steps_up, given_counts, refused_counts}
 use Rattle.acc_actors.proofs.NodeSlots.{took, took_strictly}
 use Rattle.acc_actors.proofs.StoreSlots.{store_tried, store_tried_strictly}
 
@@ -67,7 +69,7 @@ message_found m None is = absurd (not_none (Takes m) is)
 message_found m (Some x) is = ap Some (ap (taken_or m) (some_is (Takes x) (Takes m) is))
 
 module _ {D : Type 0} (port : Ghosts D) (plan : Content) (a : Actor) (number : ℕ) (m : Message) where
-  found : (s : Situation) (slot : Slot D) → IsAsked port plan s a (MessageEvent number) (Takes m) slot → message_at (whole s) (length (sent_of s.earlier) + number) ≡ Some m
+  found : (s : Situation) (slot : Slot D) → IsAsked port plan s (step_by a (MessageEvent number) (Takes m)) slot → message_at (whole s) (length (sent_of s.earlier) + number) ≡ Some m
   found s slot asked = message_found m (message_at (whole s) (length (sent_of s.earlier) + number)) asked.may.act_is
 
   pub deliverable_at : (s : Situation) → IsSound (cluster_of plan) s → IsFew s → MayTake (cluster_of plan) (whole s) a (event_in s (MessageEvent number)) (Takes m) → IsDeliverable (cluster_of plan) (whole s) m
@@ -75,10 +77,10 @@ module _ {D : Type 0} (port : Ghosts D) (plan : Content) (a : Actor) (number : �
       is_deliverable (cluster_of plan) (whole s) (length (sent_of s.earlier) + number) m (sound_standing (cluster_of plan) s sound) (few_whole s few)
       (message_found m (message_at (whole s) (length (sent_of s.earlier) + number)) may.act_is)
 
-  deliverable : (s : Situation) (slot : Slot D) → IsAsked port plan s a (MessageEvent number) (Takes m) slot → IsDeliverable (cluster_of plan) (whole s) m
+  deliverable : (s : Situation) (slot : Slot D) → IsAsked port plan s (step_by a (MessageEvent number) (Takes m)) slot → IsDeliverable (cluster_of plan) (whole s) m
   deliverable s slot asked = deliverable_at s asked.sound asked.few asked.may
 
-  pub top_low : (slot : Slot D) → MayAsk port plan a (MessageEvent number) (Takes m) slot → top_of m < 2 ^ 62
+  pub top_low : (slot : Slot D) → MayAsk port plan (step_by a (MessageEvent number) (Takes m)) slot → top_of m < 2 ^ 62
   top_low slot may = (deliverable may.0 slot may.1).top
 
   one_or_two : (v : ℕ) → (1 ≤ v) × (v ≤ 2) → (v ≡ 1) ⊎ (v ≡ 2)
@@ -102,47 +104,67 @@ module _ {D : Type 0} (port : Ghosts D) (plan : Content) (a : Actor) (number : �
     -- ---- a node
 
     pub node_took : (n new : NodeActor D) (emitted : Emitted) → slot ≡ Node n
-        → ((number start version : ℕ) (past : Past Act) → node.StandsFor port layout number start version past n → node.Takes port layout number start version past (Takes m) new emitted)
+        → ((name : NodeName) (past : Past Act) → node.StandsFor port layout name past n → node.Takes port layout name past (Takes m) new emitted)
         → node.is_down new ≡ false → node.disk_of new ≡ node.disk_of n
-        → (s : Situation) → IsAsked port plan s a (MessageEvent number) (Takes m) slot → HasTried port plan s a (MessageEvent number) (Node new) (Some emitted)
+        → (s : Situation) → IsAsked port plan s (step_by a (MessageEvent number) (Takes m)) slot → HasTried port plan s a (MessageEvent number) (Node new) (Some emitted)
     node_took n new emitted is ok down disk s asked =
-        let here : IsAsked port plan s a (MessageEvent number) (Takes m) (Node n) = subst (λ (x : Slot D). IsAsked port plan s a (MessageEvent number) (Takes m) x) is asked in
+        let here : IsAsked port plan s (step_by a (MessageEvent number) (Takes m)) (Node n) = subst (λ (x : Slot D). IsAsked port plan s (step_by a (MessageEvent number) (Takes m)) x) is asked in
         took port plan s a (MessageEvent number) (Takes m) (ap not here.stands.kind)
         (node_payload (whole s) a (length (sent_of s.earlier) + number) (emits (cluster_of plan) (whole s) a (Takes m)).notes here.stands.kind) here.sound here.up here.may n new emitted here.stands.kind here.stands
-        (subst (λ (l : Layout). (number start version : ℕ) (past : Past Act) → node.StandsFor port l number start version past n → node.Takes port l number start version past (Takes m) new emitted) layout_is ok
-        (node_of a) (clock_start plan.starts (node_of a)) plan.version (node_past (cluster_of plan) s a) here.stands.stands)
+        (subst (λ (l : Layout). (name : NodeName) (past : Past Act) → node.StandsFor port l name past n → node.Takes port l name past (Takes m) new emitted) layout_is ok
+        (node_name plan (node_of a)) (node_past (cluster_of plan) s a) here.stands.stands)
         down disk
 
     pub node_took_strictly : (n new : NodeActor D) (emitted : Emitted) → slot ≡ Node n
-        → ((number start version : ℕ) (armed passed : Option ℕ) (past other : Past Act) → node.IsStrictAt port layout number start version armed passed past n
-        → node.IsStrictAt port layout number start version armed passed other new)
-        → (s : Situation) (disks : Disks) → IsAsked port plan s a (MessageEvent number) (Takes m) slot → IsStrictSlot port plan s disks a slot
-        → HasTriedStrictly port plan s disks a (MessageEvent number) (Node new) (Some emitted)
+        → ((name : NodeName) (armed passed : Option ℕ) (past other : Past Act) → node.IsStrictAt port layout name armed passed past n
+        → node.IsStrictAt port layout name armed passed other new)
+        → (s : Situation) (disks : Disks) → IsAsked port plan s (step_by a (MessageEvent number) (Takes m)) slot → IsStrictSlot port plan s disks a slot
+        → HasTriedStrictly port plan (over_disks s disks) a (MessageEvent number) (Node new) (Some emitted)
     node_took_strictly n new emitted is ok s disks asked are =
-        let here : IsAsked port plan s a (MessageEvent number) (Takes m) (Node n) = subst (λ (x : Slot D). IsAsked port plan s a (MessageEvent number) (Takes m) x) is asked in
+        let here : IsAsked port plan s (step_by a (MessageEvent number) (Takes m)) (Node n) = subst (λ (x : Slot D). IsAsked port plan s (step_by a (MessageEvent number) (Takes m)) x) is asked in
         took_strictly port plan s a (MessageEvent number) (Takes m) (ap not here.stands.kind)
         (node_payload (whole s) a (length (sent_of s.earlier) + number) (emits (cluster_of plan) (whole s) a (Takes m)).notes here.stands.kind) here.sound here.up here.may disks new emitted
-        (λ other. subst (λ (l : Layout). (number start version : ℕ) (armed passed : Option ℕ) (past other : Past Act) → node.IsStrictAt port l number start version armed passed past n
-        → node.IsStrictAt port l number start version armed passed other new) layout_is ok
-        (node_of a) (clock_start plan.starts (node_of a)) plan.version (disks.armed a) (disks.passed a) (node_past (cluster_of plan) s a) other
+        (λ other. subst (λ (l : Layout). (name : NodeName) (armed passed : Option ℕ) (past other : Past Act) → node.IsStrictAt port l name armed passed past n
+        → node.IsStrictAt port l name armed passed other new) layout_is ok
+        (node_name plan (node_of a)) (disks.armed a) (disks.passed a) (node_past (cluster_of plan) s a) other
         (subst (λ (x : Slot D). IsStrictSlot port plan s disks a x) is are))
+
+    -- what its slot answers
+    module _ (n new : NodeActor D) (is : slot ≡ Node n) (disk : node.disk_of new ≡ node.disk_of n) where
+      same_faults : (port.state (node.disk_of new)).faults ≡ faults_in port slot
+      same_faults = ap (λ d. (port.state d).faults) disk ∙ sym (ap (faults_in port) is)
+
+      pub node_answers : (emitted : Emitted)
+          → ((name : NodeName) (past : Past Act) → node.StandsFor port layout name past n → node.Takes port layout name past (Takes m) new emitted)
+          → node.is_down new ≡ false
+          → ((name : NodeName) (armed passed : Option ℕ) (past other : Past Act) → node.IsStrictAt port layout name armed passed past n
+          → node.IsStrictAt port layout name armed passed other new)
+          → HasAnswered port plan (step_by a (MessageEvent number) (Takes m)) slot (Node new) (Ok (Some emitted))
+      node_answers emitted ok down strict =
+          record {
+            ok = node_took n new emitted is ok down disk;
+            strict = node_took_strictly n new emitted is strict;
+            faults = given_counts emitted (faults_in port slot) (port.state (node.disk_of new)).faults same_faults;
+          }
+
+      pub node_refuses : (e : OutOfMemory) → HasAnswered port plan (step_by a (MessageEvent number) (Takes m)) slot (Node new) (Err e)
+      node_refuses e = record { ok = tt; strict = tt; faults = refused_counts e (faults_in port slot) (port.state (node.disk_of new)).faults same_faults }
 
     -- ---- a store
 
     module _ (t : StoreActor D) (is : slot ≡ Store t) where
-      there : (s : Situation) → IsAsked port plan s a (MessageEvent number) (Takes m) slot → IsAsked port plan s a (MessageEvent number) (Takes m) (Store t)
-      there s asked = subst (λ (x : Slot D). IsAsked port plan s a (MessageEvent number) (Takes m) x) is asked
+      there : (s : Situation) → IsAsked port plan s (step_by a (MessageEvent number) (Takes m)) slot → IsAsked port plan s (step_by a (MessageEvent number) (Takes m)) (Store t)
+      there s asked = subst (λ (x : Slot D). IsAsked port plan s (step_by a (MessageEvent number) (Takes m)) x) is asked
 
-      pub may_take : NumbersAlone → IsPlan plan → MayAsk port plan a (MessageEvent number) (Takes m) slot → store.MayTake port layout t [] m
+      pub may_take : NumbersAlone → IsPlan plan → MayAsk port plan (step_by a (MessageEvent number) (Takes m)) slot → store.MayTake port layout t [] m
       may_take numbers_alone valid may =
           let s : Situation = may.0 in
-          let asked : IsAsked port plan s a (MessageEvent number) (Takes m) (Store t) = there s may.1 in
+          let asked : IsAsked port plan s (step_by a (MessageEvent number) (Takes m)) (Store t) = there s may.1 in
           let told : IsDeliverable (cluster_of plan) (whole s) m = deliverable s (Store t) asked in
           let meets : StoreMeets (cluster_of plan) (whole s) a = store_meets (cluster_of plan) (whole s) a (sound_standing (cluster_of plan) s asked.sound) (few_whole s asked.few) asked.stands.kind in
           let here = same _ a asked.may.place in
           subst (λ (l : Layout). store.MayTake port l t [] m) (sym layout_is) (record {
-            own = a;
-            version = plan.version;
+            name = store_name plan a;
             past = store_past (cluster_of plan) s a;
             stands = asked.stands.stands;
             short = told.short asked.sound.few_bodies;
@@ -153,32 +175,49 @@ module _ {D : Type 0} (port : Ghosts D) (plan : Content) (a : Actor) (number : �
           })
 
       pub store_called : (new : StoreActor D) (r : Result (Option Emitted) OutOfMemory)
-          → IfOk r (λ given. (own : Actor) (version : ℕ) (past : Past Message) → store.StandsFor port layout own version past t → store.Steps port layout own version past (store.message_stop number m) new given)
+          → IfOk r (λ given. (name : StoreName) (past : Past Message) → store.StandsFor port layout name past t → store.Steps port layout name past (store.message_stop number m) new given)
           → IfOk r (λ given. store.is_down new ≡ is_none given) → (port.state (store.disk_of t)).faults ≤ (port.state (store.disk_of new)).faults
           → (r ≡ Ok None → Rose (port.state (store.disk_of t)).faults (port.state (store.disk_of new)).faults)
-          → IfOk r (λ given. (s : Situation) → IsAsked port plan s a (MessageEvent number) (Takes m) slot → HasTried port plan s a (MessageEvent number) (Store new) given)
+          → IfOk r (λ given. (s : Situation) → IsAsked port plan s (step_by a (MessageEvent number) (Takes m)) slot → HasTried port plan s a (MessageEvent number) (Store new) given)
       store_called new (Err e) ok down counted cause = tt
       store_called new (Ok given) ok down counted cause = λ s asked.
-          let here : IsAsked port plan s a (MessageEvent number) (Takes m) (Store t) = there s asked in
+          let here : IsAsked port plan s (step_by a (MessageEvent number) (Takes m)) (Store t) = there s asked in
           store_tried port plan s a number m here.stands.kind here.sound here.up here.may (found s (Store t) here) t new given here
-          (subst (λ (l : Layout). (own : Actor) (version : ℕ) (past : Past Message) → store.StandsFor port l own version past t → store.Steps port l own version past (store.message_stop number m) new given) layout_is ok
-          a plan.version (store_past (cluster_of plan) s a) here.stands.stands)
+          (subst (λ (l : Layout). (name : StoreName) (past : Past Message) → store.StandsFor port l name past t → store.Steps port l name past (store.message_stop number m) new given) layout_is ok
+          (store_name plan a) (store_past (cluster_of plan) s a) here.stands.stands)
           down counted (λ none. cause (ap Ok none))
 
       pub store_called_strictly : (new : StoreActor D) (r : Result (Option Emitted) OutOfMemory)
-          → ((own : Actor) (version : ℕ) (armed passed : Option ℕ) (past : Past Message) → store.StandsFor port layout own version past t
-          → store.IsStrictAt port layout own version armed passed past t
+          → ((name : StoreName) (armed passed : Option ℕ) (past : Past Message) → store.StandsFor port layout name past t
+          → store.IsStrictAt port layout name armed passed past t
           → IfOk r (λ given. (is_none given ≡ fails_append armed)
-          × store.IsStrictAt port layout own version (after_append armed) (passed_in armed) (after_step given past (store.message_stop number m)) new))
-          → IfOk r (λ given. (s : Situation) (disks : Disks) → IsAsked port plan s a (MessageEvent number) (Takes m) slot
-          → IsStrictSlot port plan s disks a slot → HasTriedStrictly port plan s disks a (MessageEvent number) (Store new) given)
+          × store.IsStrictAt port layout name (after_append armed) (passed_in armed) (after_step given past (store.message_stop number m)) new))
+          → IfOk r (λ given. (s : Situation) (disks : Disks) → IsAsked port plan s (step_by a (MessageEvent number) (Takes m)) slot
+          → IsStrictSlot port plan s disks a slot → HasTriedStrictly port plan (over_disks s disks) a (MessageEvent number) (Store new) given)
       store_called_strictly new (Err e) ok = tt
       store_called_strictly new (Ok given) ok = λ s disks asked are.
-          let here : IsAsked port plan s a (MessageEvent number) (Takes m) (Store t) = there s asked in
+          let here : IsAsked port plan s (step_by a (MessageEvent number) (Takes m)) (Store t) = there s asked in
           store_tried_strictly port plan s a number m here.stands.kind here.sound here.up here.may (found s (Store t) here) disks new given
-          (subst (λ (l : Layout). (own : Actor) (version : ℕ) (armed passed : Option ℕ) (past : Past Message) → store.StandsFor port l own version past t
-          → store.IsStrictAt port l own version armed passed past t
+          (subst (λ (l : Layout). (name : StoreName) (armed passed : Option ℕ) (past : Past Message) → store.StandsFor port l name past t
+          → store.IsStrictAt port l name armed passed past t
           → (is_none given ≡ fails_append armed)
-          × store.IsStrictAt port l own version (after_append armed) (passed_in armed) (after_step given past (store.message_stop number m)) new) layout_is ok
-          a plan.version (disks.armed a) (disks.passed a) (store_past (cluster_of plan) s a) here.stands.stands
+          × store.IsStrictAt port l name (after_append armed) (passed_in armed) (after_step given past (store.message_stop number m)) new) layout_is ok
+          (store_name plan a) (disks.armed a) (disks.passed a) (store_past (cluster_of plan) s a) here.stands.stands
           (subst (λ (x : Slot D). IsStrictSlot port plan s disks a x) is are))
+
+      -- what its slot answers
+      pub store_answers : (new : StoreActor D) (r : Result (Option Emitted) OutOfMemory)
+          → IfOk r (λ given. (name : StoreName) (past : Past Message) → store.StandsFor port layout name past t → store.Steps port layout name past (store.message_stop number m) new given)
+          → IfOk r (λ given. store.is_down new ≡ is_none given)
+          → CountsFaults (r ≡ Ok None) (port.state (store.disk_of t)).faults (port.state (store.disk_of new)).faults
+          → ((name : StoreName) (armed passed : Option ℕ) (past : Past Message) → store.StandsFor port layout name past t
+          → store.IsStrictAt port layout name armed passed past t
+          → IfOk r (λ given. (is_none given ≡ fails_append armed)
+          × store.IsStrictAt port layout name (after_append armed) (passed_in armed) (after_step given past (store.message_stop number m)) new))
+          → HasAnswered port plan (step_by a (MessageEvent number) (Takes m)) slot (Store new) r
+      store_answers new r ok down counts strict =
+          record {
+            ok = store_called new r ok down (steps_up r _ _ counts) counts.cause;
+            strict = store_called_strictly new r strict;
+            faults = subst (λ (x : Slot D). CountsFaults (r ≡ Ok None) (faults_in port x) (port.state (store.disk_of new)).faults) (sym is) counts;
+          }

@@ -1,5 +1,5 @@
 -- What an actor is that was opened, behind an earlier run.
-use Rattle.std.specs.Prelude.{◌≡◌, ℕ, Bool, List, Option, None, IsTrue}
+use Rattle.std.specs.Prelude.{◌≡◌, List, None, IsTrue}
 use Rattle.acc_stamp.specs.Actor.{actor_of}
 use Rattle.acc_ports.specs.declared.disk.Disk.{Ghosts}
 use Rattle.acc_message.specs.declared.item.Item.{Item}
@@ -16,8 +16,8 @@ use Rattle.acc_schedule_runs.specs.Schedules.{cluster_of}
 
 -- it stands for its part in the earlier run
 pub record HasDone {D : Type 0} (plan : Content) (earlier : List Item) (n : DurableNode D) : Type 0 where
-  pub stands : node.StandsFor plan.topology n (acts_done (deeds_of (cluster_of plan) (actor_of n.number 0) earlier))
-  pub held : without_marks n.journal.payloads ≡ payloads_in (actor_of n.number 0) earlier
+  pub stands : node.StandsFor plan.topology n (acts_done (deeds_of (cluster_of plan) (actor_of n.name.number 0) earlier))
+  pub held : without_marks n.journal.payloads ≡ payloads_in (actor_of n.name.number 0) earlier
 
 pub record HasTaken {D : Type 0} (plan : Content) (earlier : List Item) (t : DurableStore D) : Type 0 where
   pub stands : store.StandsFor plan.topology t (messages_taken (taken_of (cluster_of plan) (store.actor_in t) earlier))

@@ -2,7 +2,7 @@
 --     SlotStages      for its past, with these steps staged behind it, and its disk has counted its downs
 --     SlotStands      the same with nothing staged
 --     IsStrictSlot      its disk is strict, and what is armed there is known
-use Rattle.std.specs.Prelude.{◌≡◌, ℕ, ◌≤◌, Bool, true, false, List, [], ◌∷◌, Option}
+use Rattle.std.specs.Prelude.{◌≡◌, ℕ, ◌≤◌, true, false, List, [], ◌∷◌}
 use Rattle.acc_stamp.specs.declared.actors.Actor.{Actor}
 use Rattle.acc_stamp.specs.Actor.{node_of}
 use Rattle.acc_ports.specs.declared.disk.Disk.{Ghosts}
@@ -10,7 +10,9 @@ use Rattle.acc_message.specs.declared.entry.Event.{Event}
 use Rattle.acc_message.specs.declared.message.Message.{Message}
 use Rattle.acc_message.specs.Run.{clock_start, is_node, is_down}
 use Rattle.acc_payloads.specs.Items.{downs_in}
+use Rattle.acc_durable_node.specs.declared.name.NodeName.{NodeName}
 use Rattle.acc_durable_node.specs.declared.actor.NodeActor.{NodeActor}
+use Rattle.acc_durable_store.specs.declared.name.StoreName.{StoreName}
 use Rattle.acc_durable_store.specs.declared.actor.StoreActor.{StoreActor}
 use Rattle.acc_durable_node.specs.Actor as node
 use Rattle.acc_durable_store.specs.Actor as store
@@ -24,16 +26,24 @@ use Rattle.acc_actors.specs.Pasts.{stops_in, store_stops, node_past, store_past}
 use Rattle.acc_actors.specs.declared.slot.Slot.{Slot}
 use Rattle.acc_actors.specs.declared.slot.Slot.TheVariants.{Empty, Node, Store}
 
+-- what the plan opens a node as
+abbrev pub node_name : Content → ℕ → NodeName
+node_name plan number = record { number = number; start = clock_start plan.starts number; version = plan.version }
+
 pub record NodeStands {D : Type 0} (port : Ghosts D) (plan : Content) (s : Situation) (a : Actor) (n : NodeActor D) : Type 0 where
   pub kind : is_node a ≡ true
-  pub stands : node.StandsFor port plan.topology (node_of a) (clock_start plan.starts (node_of a)) plan.version (node_past (cluster_of plan) s a) n
+  pub stands : node.StandsFor port plan.topology (node_name plan (node_of a)) (node_past (cluster_of plan) s a) n
   pub down : node.is_down n ≡ is_down a (whole s)
   pub counted : downs_in a s.own ≤ (port.state (node.disk_of n)).faults
+
+-- what the plan opens a store as
+abbrev pub store_name : Content → Actor → StoreName
+store_name plan a = record { actor = a; version = plan.version }
 
 -- it has taken the messages of the events behind its past, in memory alone
 pub record StoreStages {D : Type 0} (port : Ghosts D) (plan : Content) (s : Situation) (a : Actor) (staged : List Event) (t : StoreActor D) : Type 0 where
   pub kind : is_node a ≡ false
-  pub stands : store.IsStaging port plan.topology a plan.version (store_past (cluster_of plan) s a) (store_stops (stops_in (cluster_of plan) s a staged false)) t
+  pub stands : store.IsStaging port plan.topology (store_name plan a) (store_past (cluster_of plan) s a) (store_stops (stops_in (cluster_of plan) s a staged false)) t
   pub down : store.is_down t ≡ is_down a (whole s)
   pub counted : downs_in a s.own ≤ (port.state (store.disk_of t)).faults
 
@@ -64,9 +74,9 @@ faults_in port (Store t) = (port.state (store.disk_of t)).faults
 abbrev pub IsStrictSlot : {D : Type 0} → Ghosts D → Content → Situation → Disks → Actor → Slot D → Type 0
 IsStrictSlot port plan s disks a Empty = ⊥
 IsStrictSlot port plan s disks a (Node n) =
-    node.IsStrictAt port plan.topology (node_of a) (clock_start plan.starts (node_of a)) plan.version (disks.armed a) (disks.passed a) (node_past (cluster_of plan) s a) n
+    node.IsStrictAt port plan.topology (node_name plan (node_of a)) (disks.armed a) (disks.passed a) (node_past (cluster_of plan) s a) n
 IsStrictSlot port plan s disks a (Store t) =
-    store.IsStrictAt port plan.topology a plan.version (disks.armed a) (disks.passed a) (store_past (cluster_of plan) s a) t
+    store.IsStrictAt port plan.topology (store_name plan a) (disks.armed a) (disks.passed a) (store_past (cluster_of plan) s a) t
 
 -- ---- by their numbers
 

@@ -5,11 +5,13 @@ ghost use Rattle.acc_topology.specs.Sets.{is_among};
 ghost use Rattle.acc_message.specs.Run.{clock_start, is_node};
 ghost use Rattle.acc_schedule_runs.specs.Situations.{opened};
 ghost use Rattle.acc_schedule_runs.specs.Disks.{fresh_disks};
+ghost use Rattle.acc_durable_node.specs.Names.{IsNodeName};
+ghost use Rattle.acc_actors.specs.Slots.{node_name};
 ghost use Rattle.acc_actors.specs.Opened.{IsUnarmed};
 
 use crate::slot::Slot;
-use acc_durable_node::{DurableNode, NodeActor};
-use acc_durable_store::{DurableStore, StoreActor};
+use acc_durable_node::{DurableNode, NodeActor, NodeName};
+use acc_durable_store::{DurableStore, StoreActor, StoreName};
 use acc_ports::Rig;
 use acc_schedule::Plan;
 use acc_stamp::Actor;
@@ -29,9 +31,9 @@ impl<D: Rig + Drop> Slot<D> {
         ensures strict { IsUnarmed D.Disk disk
             → IsStrictSlot D.Disk plan.now (opened []) fresh_disks (actor_of number 0) result }
     {
-        let start = start_of(plan.starts.as_slice(), number);
-        let node = DurableNode::fresh(alloc, number, start, plan.version, disk);
-        Slot::Node(NodeActor::opened(alloc, number, start, plan.version, node))
+        let name = name_of(plan, number);
+        let node = DurableNode::fresh(alloc, name, disk);
+        Slot::Node(NodeActor::opened(alloc, node))
     }
 
     /// A store over a disk of its own, which holds the bytes 1 and 0, synced.
@@ -44,12 +46,27 @@ impl<D: Rig + Drop> Slot<D> {
             → IsStrictSlot D.Disk plan.now (opened []) fresh_disks actor result }
     {
         let store = DurableStore::fresh(alloc, actor, plan.version, disk);
-        Slot::Store(StoreActor::opened(alloc, actor, plan.version, store))
+        let version = plan.version;
+        Slot::Store(StoreActor::opened(alloc, StoreName { actor, version }, store))
+    }
+}
+
+/// What a plan opens a node as.
+pub fn name_of(plan: &Plan, number: u32) -> NodeName
+    requires { IsTrue (is_among plan.now.topology.nodes number) }
+    ensures name { result ≡ node_name plan.now number }
+    ensures range { IsNodeName result }
+{
+    let start = start_of(plan.starts.as_slice(), number);
+    NodeName {
+        number,
+        start,
+        version: plan.version,
     }
 }
 
 /// Where the clock of a node starts.
-pub fn start_of(starts: &[NodeSpec], node: u32) -> u64
+fn start_of(starts: &[NodeSpec], node: u32) -> u64
     ensures { result ≡ clock_start starts.now node }
 {
     for spec in starts {

@@ -9,5 +9,5 @@ mod slot;
 mod staging;
 mod weighing;
 
-pub use fresh::start_of;
+pub use fresh::name_of;
 pub use slot::Slot;

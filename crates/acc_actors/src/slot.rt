@@ -1,28 +1,21 @@
 //! Where actors are kept, and what they are asked for there.
-ghost use Rattle.std.specs.Prelude.{◌≡◌, ◌≢◌, ℕ, ◌≤◌, ◌^◌, ◌<◌, Bool, true, false, not, Contains, IfOk, IfErr, OnErr, IfSome, is_none, Option as Maybe, Ok, Err, None, Some};
+ghost use Rattle.std.specs.Prelude.{◌≡◌, false, Contains, IfOk, IfSome, Ok, None};
 ghost use Rattle.acc_stamp.specs.declared.actors.Actor.{Actor as AnActor};
 ghost use Rattle.acc_ports.specs.Faults.{CountsFaults};
-ghost use Rattle.acc_message.specs.declared.message.Message.{Message as AMessage};
 ghost use Rattle.acc_message.specs.declared.entry.Event.{Event as AnEvent};
-ghost use Rattle.acc_message.specs.declared.item.Skip.{Skip as ASkip};
-ghost use Rattle.acc_message.specs.Items.{message_at, id_of_txn};
-ghost use Rattle.acc_message.specs.NodeRules.{Act, Begins, Recovers, Slows, Takes};
+ghost use Rattle.acc_message.specs.NodeRules.{Begins, Recovers, Takes};
 ghost use Rattle.acc_message.specs.Run.{is_node, is_down};
-ghost use Rattle.acc_node.specs.declared.error.NodeError.{NodeError as Refused};
-ghost use Rattle.acc_run_laws.specs.Asks.{slow_skip, home_of_txn};
 ghost use Rattle.acc_schedule.specs.Actors.{actors};
 ghost use Rattle.acc_schedule.specs.Content.{Content};
 ghost use Rattle.acc_pasts.specs.Stopped.{IsSound};
 ghost use Rattle.acc_schedule_runs.specs.Situations.{Situation, whole};
-ghost use Rattle.acc_schedule_runs.specs.Moves.{entered};
 ghost use Rattle.acc_schedule_runs.specs.Schedules.{cluster_of};
-ghost use Rattle.acc_schedule_runs.specs.Disks.{Disks, after_fail};
+ghost use Rattle.acc_schedule_runs.specs.Disks.{Disks};
 
 use acc_base::OutOfMemory;
 use acc_durable_node::NodeActor;
 use acc_durable_store::StoreActor;
-use acc_message::{Emitted, Event, Message};
-use acc_node::NodeError;
+use acc_message::{Emitted, Message};
 use acc_payloads::Restarted;
 use acc_ports::Rig;
 use acc_run_laws::numbers_alone::messages_have_numbers_alone;
@@ -45,7 +38,7 @@ pub enum Slot<D: Rig> {
 impl<D: Rig> Slot<D> {
     ghost use Rattle.acc_actors.specs.Slots.{SlotStands, IsStrictSlot, IsTaken, faults_in};
     ghost use Rattle.acc_actors.specs.Stores.{IsStoreOf};
-    ghost use Rattle.acc_actors.specs.Asked.{IsFew, IsAsked, MayAsk, IsHomeUp, IsSlowRefused, skips_slow, HasTried, HasTriedStrictly, HasRestartedAt, HasRestartedStrictlyAt};
+    ghost use Rattle.acc_actors.specs.Asked.{step_by, over_disks, IsFew, MayAsk, HasAnswered, HasRestartedAt, HasRestartedStrictlyAt};
 
     /// The node begins a transaction. `None` where its disk failed, which takes it down.
     pub fn begin(
@@ -55,13 +48,8 @@ impl<D: Rig> Slot<D> {
         txn: u32,
         body: &Body,
     ) -> Result<Option<Emitted>, OutOfMemory>
-        requires { MayAsk D.Disk plan.now actor (AnEvent.Begin txn) (Begins txn body.now) self.old }
-        ensures ok { IfOk result (λ given. (s : Situation) → IsAsked D.Disk plan.now s actor (AnEvent.Begin txn) (Begins txn body.now) self.old
-            → HasTried D.Disk plan.now s actor (AnEvent.Begin txn) self.new given) }
-        ensures strict { IfOk result (λ given. (s : Situation) (disks : Disks) → IsAsked D.Disk plan.now s actor (AnEvent.Begin txn) (Begins txn body.now) self.old
-            → IsStrictSlot D.Disk plan.now s disks actor self.old
-            → HasTriedStrictly D.Disk plan.now s disks actor (AnEvent.Begin txn) self.new given) }
-        ensures faults { CountsFaults (result ≡ Ok None) (faults_in D.Disk self.old) (faults_in D.Disk self.new) }
+        requires { MayAsk D.Disk plan.now (step_by actor (AnEvent.Begin txn) (Begins txn body.now)) self.old }
+        ensures { HasAnswered D.Disk plan.now (step_by actor (AnEvent.Begin txn) (Begins txn body.now)) self.old self.new result }
     {
         match self {
             Slot::Node(node) => node.begin(&plan.topology, txn, body),
@@ -78,38 +66,12 @@ impl<D: Rig> Slot<D> {
         id: TxnId,
         body: &Body,
     ) -> Result<Option<Emitted>, OutOfMemory>
-        requires { MayAsk D.Disk plan.now actor (AnEvent.Recover txn) (Recovers id body.now) self.old }
-        ensures ok { IfOk result (λ given. (s : Situation) → IsAsked D.Disk plan.now s actor (AnEvent.Recover txn) (Recovers id body.now) self.old
-            → HasTried D.Disk plan.now s actor (AnEvent.Recover txn) self.new given) }
-        ensures strict { IfOk result (λ given. (s : Situation) (disks : Disks) → IsAsked D.Disk plan.now s actor (AnEvent.Recover txn) (Recovers id body.now) self.old
-            → IsStrictSlot D.Disk plan.now s disks actor self.old
-            → HasTriedStrictly D.Disk plan.now s disks actor (AnEvent.Recover txn) self.new given) }
-        ensures faults { CountsFaults (result ≡ Ok None) (faults_in D.Disk self.old) (faults_in D.Disk self.new) }
+        requires { MayAsk D.Disk plan.now (step_by actor (AnEvent.Recover txn) (Recovers id body.now)) self.old }
+        ensures { HasAnswered D.Disk plan.now (step_by actor (AnEvent.Recover txn) (Recovers id body.now)) self.old self.new result }
     {
         match self {
             Slot::Node(node) => node.recover(&plan.topology, txn, id, body),
             Slot::Empty | Slot::Store(_) => Err(OutOfMemory),
-        }
-    }
-
-    /// The home gives the fast path of a transaction up. An error but that of memory is the cause for which a step is passed over.
-    pub fn slow(&mut self, plan: &Plan, actor: Actor, txn: u32) -> Result<Emitted, NodeError>
-        requires { (s : Situation) × IsHomeUp D.Disk plan.now s actor txn self.old }
-        ensures ok { IfOk result (λ emitted. (s : Situation) → IsHomeUp D.Disk plan.now s actor txn self.old
-            → (skips_slow plan.now s txn ≡ None) × HasTried D.Disk plan.now s actor (AnEvent.Slow txn) self.new (Some emitted)) }
-        ensures refused { IfErr result (λ error. (s : Situation) → IsHomeUp D.Disk plan.now s actor txn self.old → IsSlowRefused plan.now s txn error) }
-        ensures as_before { OnErr result ((s : Situation) → IsHomeUp D.Disk plan.now s actor txn self.old → SlotStands D.Disk plan.now s actor self.new) }
-        ensures strict { IfOk result (λ emitted. (s : Situation) (disks : Disks) → IsHomeUp D.Disk plan.now s actor txn self.old
-            → IsStrictSlot D.Disk plan.now s disks actor self.old
-            → HasTriedStrictly D.Disk plan.now s disks actor (AnEvent.Slow txn) self.new (Some emitted)) }
-        ensures strict_as_before { OnErr result ((s : Situation) (disks : Disks) → IsHomeUp D.Disk plan.now s actor txn self.old
-            → IsStrictSlot D.Disk plan.now s disks actor self.old
-            → IsStrictSlot D.Disk plan.now s disks actor self.new) }
-        ensures faults { faults_in D.Disk self.new ≡ faults_in D.Disk self.old }
-    {
-        match self {
-            Slot::Node(node) => node.slow(&plan.topology, txn),
-            Slot::Empty | Slot::Store(_) => Err(NodeError::OutOfMemory),
         }
     }
 
@@ -122,13 +84,8 @@ impl<D: Rig> Slot<D> {
         number: u64,
         m: &Message,
     ) -> Result<Option<Emitted>, OutOfMemory>
-        requires { MayAsk D.Disk plan.now actor (AnEvent.Message number) (Takes m.now) self.old }
-        ensures ok { IfOk result (λ given. (s : Situation) → IsAsked D.Disk plan.now s actor (AnEvent.Message number) (Takes m.now) self.old
-            → HasTried D.Disk plan.now s actor (AnEvent.Message number) self.new given) }
-        ensures strict { IfOk result (λ given. (s : Situation) (disks : Disks) → IsAsked D.Disk plan.now s actor (AnEvent.Message number) (Takes m.now) self.old
-            → IsStrictSlot D.Disk plan.now s disks actor self.old
-            → HasTriedStrictly D.Disk plan.now s disks actor (AnEvent.Message number) self.new given) }
-        ensures faults { CountsFaults (result ≡ Ok None) (faults_in D.Disk self.old) (faults_in D.Disk self.new) }
+        requires { MayAsk D.Disk plan.now (step_by actor (AnEvent.Message number) (Takes m.now)) self.old }
+        ensures { HasAnswered D.Disk plan.now (step_by actor (AnEvent.Message number) (Takes m.now)) self.old self.new result }
     {
         messages_have_numbers_alone();
         match self {
@@ -163,21 +120,6 @@ impl<D: Rig> Slot<D> {
         }
     }
 
-    /// Arms a call of the actor's disk.
-    pub fn arm(&mut self, plan: &Plan, actor: Actor, calls: u64)
-        ensures stands { (s : Situation) → SlotStands D.Disk plan.now s actor self.old → SlotStands D.Disk plan.now s actor self.new }
-        ensures strict { (s : Situation) (disks : Disks) → IsStrictSlot D.Disk plan.now s disks actor self.old
-            → IsStrictSlot D.Disk plan.now s (after_fail actor calls disks) actor self.new }
-        ensures faults { faults_in D.Disk self.new ≡ faults_in D.Disk self.old }
-    {
-        let _plan = plan;
-        match self {
-            Slot::Empty => {}
-            Slot::Node(node) => node.arm(calls),
-            Slot::Store(store) => store.arm(calls),
-        }
-    }
-
     /// Crashes the actor's disk, in the way of the choice, and opens the actor again.
     pub fn restart(
         self,
@@ -190,7 +132,7 @@ impl<D: Rig> Slot<D> {
             → HasRestartedAt D.Disk plan.now s actor found result.0) }
         ensures strict { IfOk result.1 (λ found. (s : Situation) (disks : Disks) → IsSound (cluster_of plan.now) s → SlotStands D.Disk plan.now s actor self
             → IsStrictSlot D.Disk plan.now s disks actor self
-            → HasRestartedStrictlyAt D.Disk plan.now s disks actor choice found result.0) }
+            → HasRestartedStrictlyAt D.Disk plan.now (over_disks s disks) actor choice found result.0) }
         ensures faults { CountsFaults (result.1 ≡ Ok Restarted.Down) (faults_in D.Disk self) (faults_in D.Disk result.0) }
     {
         match self {

@@ -1,12 +1,8 @@
 //! Groups of messages that a store takes with one append.
-ghost use Rattle.std.specs.Prelude.{◌≡◌, ◌≢◌, ◌≤◌, false, List, [], ◌∷◌, ◌++◌, IfOk, OnOk, OnErr, Ok, None};
-ghost use Rattle.acc_ports.specs.Faults.{CountsFaults};
+ghost use Rattle.std.specs.Prelude.{◌≡◌, List, [], ◌∷◌, ◌++◌, IfOk, OnOk, OnErr};
 ghost use Rattle.acc_message.specs.declared.entry.Event.{Event as AnEvent};
 ghost use Rattle.acc_message.specs.NodeRules.{Takes};
-ghost use Rattle.acc_message_code.specs.Weight.{weight_of};
 ghost use Rattle.acc_schedule_runs.specs.Situations.{Situation};
-ghost use Rattle.acc_schedule_runs.specs.Moves.{entry_of, entered_all};
-ghost use Rattle.acc_schedule_runs.specs.Schedules.{cluster_of};
 ghost use Rattle.acc_schedule_runs.specs.Disks.{Disks};
 
 use crate::slot::Slot;
@@ -21,7 +17,7 @@ use acc_store::Prepared;
 
 impl<D: Rig> Slot<D> {
     ghost use Rattle.acc_actors.specs.Slots.{SlotStages, IsStrictSlot, IsPreparedIn, faults_in};
-    ghost use Rattle.acc_actors.specs.Asked.{IsAskedBehind, MayAskBehind, IsStaged, HasSettled, HasSettledStrictly};
+    ghost use Rattle.acc_actors.specs.Asked.{step_by, IsAskedBehind, MayAskBehind, WeighsBehind, IsStaged, HasAnsweredAll};
 
     /// Plans the step of the store that takes the message with this number, behind those that are staged, and tells how many bytes of
     /// encoded messages it sends. It can be staged as long as the store takes no other. It makes no call of a disk.
@@ -32,9 +28,8 @@ impl<D: Rig> Slot<D> {
         number: u64,
         m: &Message,
     ) -> Result<(u64, Prepared), OutOfMemory>
-        requires { MayAskBehind D.Disk plan.now actor (AnEvent.Message number) (Takes m.now) self.now }
-        ensures weight { IfOk result (λ found. (s : Situation) (staged : List AnEvent) → IsAskedBehind D.Disk plan.now s actor staged (AnEvent.Message number) (Takes m.now) self.now
-            → found.0 ≡ weight_of (entry_of (cluster_of plan.now) (entered_all (cluster_of plan.now) s actor staged false) actor (AnEvent.Message number) false)) }
+        requires { MayAskBehind D.Disk plan.now (step_by actor (AnEvent.Message number) (Takes m.now)) self.now }
+        ensures weight { IfOk result (λ found. WeighsBehind D.Disk plan.now (step_by actor (AnEvent.Message number) (Takes m.now)) self.now found.0) }
         ensures prepared { IfOk result (λ found. IsPreparedIn plan.now self.now m.now found.1) }
     {
         messages_have_numbers_alone();
@@ -60,9 +55,9 @@ impl<D: Rig> Slot<D> {
         m: &Message,
         prepared: Prepared,
     ) -> Result<(), OutOfMemory>
-        requires may { MayAskBehind D.Disk plan.now actor (AnEvent.Message number) (Takes m.now) self.old }
+        requires may { MayAskBehind D.Disk plan.now (step_by actor (AnEvent.Message number) (Takes m.now)) self.old }
         requires prepared { IsPreparedIn plan.now self.old m.now prepared }
-        ensures ok { OnOk result ((s : Situation) (staged : List AnEvent) → IsAskedBehind D.Disk plan.now s actor staged (AnEvent.Message number) (Takes m.now) self.old
+        ensures ok { OnOk result ((s : Situation) (staged : List AnEvent) → IsAskedBehind D.Disk plan.now s staged (step_by actor (AnEvent.Message number) (Takes m.now)) self.old
             → SlotStages D.Disk plan.now s actor (staged ++ AnEvent.Message number ∷ []) self.new) }
         ensures err { OnErr result ((s : Situation) (staged : List AnEvent) → SlotStages D.Disk plan.now s actor staged self.old
             → SlotStages D.Disk plan.now s actor staged self.new) }
@@ -82,12 +77,7 @@ impl<D: Rig> Slot<D> {
     /// down; a restart then finds all of it or nothing.
     pub fn settle(&mut self, plan: &Plan, actor: Actor) -> Result<Option<Unsents>, OutOfMemory>
         requires { (s : Situation) × (staged : List AnEvent) × IsStaged D.Disk plan.now s actor staged self.old }
-        ensures ok { IfOk result (λ given. (s : Situation) (staged : List AnEvent) → IsStaged D.Disk plan.now s actor staged self.old
-            → HasSettled D.Disk plan.now s actor staged self.new given) }
-        ensures strict { IfOk result (λ given. (s : Situation) (staged : List AnEvent) (disks : Disks) → IsStaged D.Disk plan.now s actor staged self.old → staged ≢ []
-            → IsStrictSlot D.Disk plan.now s disks actor self.old
-            → HasSettledStrictly D.Disk plan.now s disks actor staged self.new given) }
-        ensures faults { CountsFaults (result ≡ Ok None) (faults_in D.Disk self.old) (faults_in D.Disk self.new) }
+        ensures { HasAnsweredAll D.Disk plan.now actor self.old self.new result }
     {
         let _plan = plan;
         let _actor = actor;

@@ -1,11 +1,7 @@
 //! How much an actor in its slot would send. Nothing here makes a call of a disk.
-ghost use Rattle.std.specs.Prelude.{◌≡◌, false, List, IfOk};
+ghost use Rattle.std.specs.Prelude.{IfOk};
 ghost use Rattle.acc_message.specs.declared.entry.Event.{Event as AnEvent};
 ghost use Rattle.acc_message.specs.NodeRules.{Begins, Recovers, Takes};
-ghost use Rattle.acc_message_code.specs.Weight.{weight_of};
-ghost use Rattle.acc_schedule_runs.specs.Situations.{Situation};
-ghost use Rattle.acc_schedule_runs.specs.Moves.{entry_of, entered_all};
-ghost use Rattle.acc_schedule_runs.specs.Schedules.{cluster_of};
 
 use crate::slot::Slot;
 use acc_base::OutOfMemory;
@@ -17,7 +13,7 @@ use acc_stamp::{Actor, TxnId};
 use acc_txn::Body;
 
 impl<D: Rig> Slot<D> {
-    ghost use Rattle.acc_actors.specs.Asked.{IsAsked, MayAsk, IsAskedBehind, MayAskBehind};
+    ghost use Rattle.acc_actors.specs.Asked.{step_by, MayAsk, Weighs, MayAskBehind, WeighsBehind};
 
     /// How many bytes of encoded messages the node would send now if it began a transaction.
     pub fn weigh_begin(
@@ -27,9 +23,8 @@ impl<D: Rig> Slot<D> {
         txn: u32,
         body: &Body,
     ) -> Result<u64, OutOfMemory>
-        requires { MayAsk D.Disk plan.now actor (AnEvent.Begin txn) (Begins txn body.now) self.now }
-        ensures { IfOk result (λ weight. (s : Situation) → IsAsked D.Disk plan.now s actor (AnEvent.Begin txn) (Begins txn body.now) self.now
-            → weight ≡ weight_of (entry_of (cluster_of plan.now) s actor (AnEvent.Begin txn) false)) }
+        requires { MayAsk D.Disk plan.now (step_by actor (AnEvent.Begin txn) (Begins txn body.now)) self.now }
+        ensures { IfOk result (Weighs D.Disk plan.now (step_by actor (AnEvent.Begin txn) (Begins txn body.now)) self.now) }
     {
         let _actor = actor;
         match self {
@@ -47,9 +42,8 @@ impl<D: Rig> Slot<D> {
         id: TxnId,
         body: &Body,
     ) -> Result<u64, OutOfMemory>
-        requires { MayAsk D.Disk plan.now actor (AnEvent.Recover txn) (Recovers id body.now) self.now }
-        ensures { IfOk result (λ weight. (s : Situation) → IsAsked D.Disk plan.now s actor (AnEvent.Recover txn) (Recovers id body.now) self.now
-            → weight ≡ weight_of (entry_of (cluster_of plan.now) s actor (AnEvent.Recover txn) false)) }
+        requires { MayAsk D.Disk plan.now (step_by actor (AnEvent.Recover txn) (Recovers id body.now)) self.now }
+        ensures { IfOk result (Weighs D.Disk plan.now (step_by actor (AnEvent.Recover txn) (Recovers id body.now)) self.now) }
     {
         let _actor = actor;
         let _txn = txn;
@@ -67,9 +61,8 @@ impl<D: Rig> Slot<D> {
         number: u64,
         m: &Message,
     ) -> Result<u64, OutOfMemory>
-        requires { MayAskBehind D.Disk plan.now actor (AnEvent.Message number) (Takes m.now) self.now }
-        ensures { IfOk result (λ weight. (s : Situation) (staged : List AnEvent) → IsAskedBehind D.Disk plan.now s actor staged (AnEvent.Message number) (Takes m.now) self.now
-            → weight ≡ weight_of (entry_of (cluster_of plan.now) (entered_all (cluster_of plan.now) s actor staged false) actor (AnEvent.Message number) false)) }
+        requires { MayAskBehind D.Disk plan.now (step_by actor (AnEvent.Message number) (Takes m.now)) self.now }
+        ensures { IfOk result (WeighsBehind D.Disk plan.now (step_by actor (AnEvent.Message number) (Takes m.now)) self.now) }
     {
         messages_have_numbers_alone();
         let _actor = actor;

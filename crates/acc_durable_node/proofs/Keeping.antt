@@ -4,22 +4,23 @@ use Rattle.std.specs.Prelude.{IfOk}
 use Rattle.acc_topology.specs.Layout.{Layout}
 use Rattle.acc_message.specs.declared.message.Message.{Message}
 use Rattle.acc_message.specs.declared.entry.Emitted.{Emitted}
-use Rattle.acc_message.specs.NodeRules.{Act, Slows, Takes as TakesMessage, node_replay}
+use Rattle.acc_message.specs.NodeRules.{Act, Slows, Takes as TakesMessage}
 use Rattle.acc_node.specs.declared.node.Node.{Node}
 use Rattle.acc_node.specs.Stands as node
 use Rattle.acc_journal.specs.Journal.{JournalState}
 use Rattle.acc_payloads.specs.Acts.{AreDrawsOf}
 use Rattle.acc_payloads.specs.Node.{IsNodeJournal}
 use Rattle.acc_durable_node.specs.declared.node.DurableNode.{DurableNode}
-use Rattle.acc_durable_node.specs.Node.{with_parts, StandsFor, Takes, HasSlowed}
+use Rattle.acc_durable_node.specs.Names.{deeds_by}
+use Rattle.acc_durable_node.specs.Node.{with_parts, StandsFor, OfActs, TakesOn, HasSlowed}
 
 module _ {D : Type 0} (layout : Layout) (old : DurableNode D) (node_now : Node) where
   abbrev now : DurableNode D
   now = with_parts old node_now old.journal old.marked old.kept
 
   -- a node that draws nothing keeps its journal
-  undrawn : (act : Act) (acts : List Act) (stands : StandsFor layout old acts) → AreDrawsOf old.number old.start (node_replay layout old.number old.start (act ∷ acts)) stands.draws
-      → node.StandsFor layout old.number old.start node_now (act ∷ acts) → StandsFor layout now (act ∷ acts)
+  undrawn : (act : Act) (acts : List Act) (stands : StandsFor layout old acts) → AreDrawsOf old.name.number old.name.start (deeds_by layout old.name (act ∷ acts)) stands.draws
+      → node.StandsFor layout old.name.number old.name.start node_now (act ∷ acts) → StandsFor layout now (act ∷ acts)
   undrawn act acts stands drawn node_stands = record {
     sound = stands.sound;
     stands = node_stands;
@@ -30,17 +31,17 @@ module _ {D : Type 0} (layout : Layout) (old : DurableNode D) (node_now : Node) 
 
   pub message_ok : {E : Type 0} (m : Message) (r : Result Emitted E)
       → IfOk r (λ emitted. (number start : ℕ) (acts : List Act) → node.StandsFor layout number start old.node acts → node.Takes layout number start node_now acts (TakesMessage m) emitted)
-      → IfOk r (λ emitted. (acts : List Act) → StandsFor layout old acts → Takes layout old now acts (TakesMessage m) emitted)
+      → IfOk r (TakesOn layout old now (TakesMessage m))
   message_ok m (Ok emitted) ran = λ acts stands.
-      let takes = ran old.number old.start acts stands.stands in
+      let takes = ran old.name.number old.name.start acts stands.stands in
       record { emits = takes.emits; stands = undrawn (TakesMessage m) acts stands stands.drawn takes.stands }
   message_ok m (Err e) ran = tt
 
   pub slow_ok : {E : Type 0} (txn : ℕ) (r : Result Emitted E)
       → IfOk r (λ emitted. (number start : ℕ) (acts : List Act) → node.StandsFor layout number start old.node acts → node.SlowsBegun layout number start node_now acts txn emitted)
-      → IfOk r (λ emitted. (acts : List Act) → StandsFor layout old acts → HasSlowed layout old now acts txn emitted)
+      → IfOk r (λ emitted. OfActs layout old (λ acts. HasSlowed layout old now acts txn emitted))
   slow_ok txn (Ok emitted) ran = λ acts stands.
-      let slowed = ran old.number old.start acts stands.stands in
+      let slowed = ran old.name.number old.name.start acts stands.stands in
       record {
         id = slowed.id;
         begun = slowed.begun;
@@ -60,7 +61,7 @@ armed_stands layout old journal_now acts payloads broken stands = record {
   drawn = stands.drawn;
   held = record {
     items = stands.held.items;
-    journal = subst (λ (l : List (List ℕ)). IsNodeJournal old.version old.start l stands.held.items) (sym payloads) stands.held.journal;
+    journal = subst (λ (l : List (List ℕ)). IsNodeJournal old.name.version old.name.start l stands.held.items) (sym payloads) stands.held.journal;
     draws_are = stands.held.draws_are;
     marked = stands.held.marked;
     kept = stands.held.kept;

@@ -13,7 +13,7 @@ use Rattle.acc_stamp.specs.History.{ClockEvent, Draw as DrawEvent, See, Restart,
 use Rattle.acc_topology.specs.Layout.{Layout}
 use Rattle.acc_txn.specs.declared.parts.BodyParts.{BodyParts}
 use Rattle.acc_message.specs.declared.entry.Emitted.{Emitted}
-use Rattle.acc_message.specs.NodeRules.{Act, Begins, Recovers, Restarts, Deed, clock_of, clock_events, begun_id, node_emits, node_replay}
+use Rattle.acc_message.specs.NodeRules.{Act, Begins, Recovers, Restarts, Deed, clock_of, clock_events, begun_id, node_replay}
 use Rattle.acc_node.specs.declared.node.Node.{Node}
 use Rattle.acc_node.specs.declared.running.Running.{Running}
 use Rattle.acc_node.specs.Stands as node
@@ -35,9 +35,10 @@ use Rattle.acc_payloads.specs.Acts.{next_draw_of, AreDrawsOf, DrawsTell}
 use Rattle.acc_payloads.proofs.Acts.{draws_tell, next_may}
 use Rattle.acc_payloads.proofs.NodeJournals.{grows, never_bad}
 use Rattle.acc_durable_node.specs.declared.node.DurableNode.{DurableNode}
+use Rattle.acc_durable_node.specs.Names.{deeds_by, emits_by, id_begun}
 use Rattle.acc_durable_node.specs.declared.error.DurableError.{DurableError}
 use Rattle.acc_durable_node.specs.declared.error.DurableError.TheVariants.{Begun, DiskFault, OutOfMemory}
-use Rattle.acc_durable_node.specs.Node.{IsLow, with_parts, with_spare, Drew, Holds, StandsFor, Takes, IsJournalAfter, IsReopened, Refuses, FailsToAppend, draw_group}
+use Rattle.acc_durable_node.specs.Node.{IsLow, with_parts, with_spare, Drew, Holds, StandsFor, TakesOn, IsJournalAfter, IsReopened, Refuses, FailsToAppend, draw_group}
 use Rattle.std.specs.Prelude.{IfOk, IfErr, OnOk}
 
 -- ---- a draw more
@@ -47,12 +48,12 @@ counted_on a n m e f = omega (arith, e, f)
 
 module _ {D : Type 0} (layout : Layout) (old : DurableNode D) (acts : List Act) (purpose : Purpose) (txn : ℕ)
     (small : txn < 2 ^ 32) (is_low : IsLow old.node.clock) (stands : StandsFor layout old acts)
-    (fresh : purpose ≡ Begin → begun_id old.number old.start txn (node_replay layout old.number old.start acts) ≡ None) where
+    (fresh : purpose ≡ Begin → id_begun layout old.name txn acts ≡ None) where
   abbrev past : List Deed
-  past = node_replay layout old.number old.start acts
+  past = deeds_by layout old.name acts
 
   abbrev clock : ClockState
-  clock = clock_of old.number old.start past
+  clock = clock_of old.name.number old.name.start past
 
   clock_is : old.node.clock ≡ clock
   clock_is = stands.stands.clock_is
@@ -63,32 +64,32 @@ module _ {D : Type 0} (layout : Layout) (old : DurableNode D) (acts : List Act) 
   abbrev drawn : Draw
   drawn = next_draw_of clock purpose txn
 
-  may : may_draw old.start stands.draws drawn ≡ true
-  may = next_may old.number old.start past stands.draws purpose txn stands.drawn (record { drawn = low_now.drawn; seen = low_now.seen }) fresh
+  may : may_draw old.name.start stands.draws drawn ≡ true
+  may = next_may old.name.number old.name.start past stands.draws purpose txn stands.drawn (record { drawn = low_now.drawn; seen = low_now.seen }) fresh
 
   fits : FitsDraw drawn
   fits = record { txn = small; h = omega (arith, low_now.drawn, low_now.seen) }
 
-  grown : GrowsBy old.version old.start old.journal.payloads stands.held.items drawn
-  grown = grows old.version old.start old.journal.payloads stands.held.items drawn stands.held.journal fits (ap (λ (l : List Draw). may_draw old.start l drawn) stands.held.draws_are ∙ may)
+  grown : GrowsBy old.name.version old.name.start old.journal.payloads stands.held.items drawn
+  grown = grows old.name.version old.name.start old.journal.payloads stands.held.items drawn stands.held.journal fits (ap (λ (l : List Draw). may_draw old.name.start l drawn) stands.held.draws_are ∙ may)
 
-  group_is : draw_group old purpose txn ≡ appended old.version (has_mark stands.held.items) (draw_bytes drawn)
+  group_is : draw_group old purpose txn ≡ appended old.name.version (has_mark stands.held.items) (draw_bytes drawn)
   group_is =
-      ap (λ (c : ClockState). appended old.version old.marked (draw_bytes (next_draw_of c purpose txn))) clock_is
-      ∙ ap (λ (m : Bool). appended old.version m (draw_bytes drawn)) stands.held.marked
+      ap (λ (c : ClockState). appended old.name.version old.marked (draw_bytes (next_draw_of c purpose txn))) clock_is
+      ∙ ap (λ (m : Bool). appended old.name.version m (draw_bytes drawn)) stands.held.marked
 
-  grown_journal : IsNodeJournal old.version old.start (old.journal.payloads ++ draw_group old purpose txn) grown.later
-  grown_journal = subst (λ (group : List (List ℕ)). IsNodeJournal old.version old.start (old.journal.payloads ++ group) grown.later) (sym group_is) grown.journal
+  grown_journal : IsNodeJournal old.name.version old.name.start (old.journal.payloads ++ draw_group old purpose txn) grown.later
+  grown_journal = subst (λ (group : List (List ℕ)). IsNodeJournal old.name.version old.name.start (old.journal.payloads ++ group) grown.later) (sym group_is) grown.journal
 
   grown_draws : draws_in grown.later ≡ stands.draws ++ drawn ∷ []
   grown_draws = grown.draws ∙ ap (λ (l : List Draw). l ++ drawn ∷ []) stands.held.draws_are
 
-  pub doubt_with : (act : Act) → AreDrawsOf old.number old.start (node_replay layout old.number old.start (act ∷ acts)) (stands.draws ++ drawn ∷ [])
-      → IsJournalAfter layout old.number old.start old.version (old.journal.payloads ++ draw_group old purpose txn) (act ∷ acts)
+  pub doubt_with : (act : Act) → AreDrawsOf old.name.number old.name.start (deeds_by layout old.name (act ∷ acts)) (stands.draws ++ drawn ∷ [])
+      → IsJournalAfter layout old.name (old.journal.payloads ++ draw_group old purpose txn) (act ∷ acts)
   doubt_with act are = record {
     items = grown.later;
     journal = grown_journal;
-    drawn = subst (AreDrawsOf old.number old.start (node_replay layout old.number old.start (act ∷ acts))) (sym grown_draws) are;
+    drawn = subst (AreDrawsOf old.name.number old.name.start (deeds_by layout old.name (act ∷ acts))) (sym grown_draws) are;
   }
 
   module _ (node_now : Node) (journal_now : JournalState D) (marked_now : Bool) (kept_now : ℕ) (drew : Drew old journal_now marked_now kept_now (draw_group old purpose txn)) where
@@ -98,35 +99,35 @@ module _ {D : Type 0} (layout : Layout) (old : DurableNode D) (acts : List Act) 
     held : Holds now (stands.draws ++ drawn ∷ [])
     held = record {
       items = grown.later;
-      journal = subst (λ (l : List (List ℕ)). IsNodeJournal old.version old.start l grown.later) (sym drew.payloads) grown_journal;
+      journal = subst (λ (l : List (List ℕ)). IsNodeJournal old.name.version old.name.start l grown.later) (sym drew.payloads) grown_journal;
       draws_are = grown_draws;
-      marked = drew.marked ∙ ap (marked_after old.version) stands.held.marked ∙ sym grown.marked;
+      marked = drew.marked ∙ ap (marked_after old.name.version) stands.held.marked ∙ sym grown.marked;
       kept = drew.kept ∙ counted_on old.kept (length stands.draws) (length (stands.draws ++ drawn ∷ [])) stands.held.kept (omega (arith, length-append stands.draws (drawn ∷ [])));
     }
 
-    pub stands_with : (act : Act) → AreDrawsOf old.number old.start (node_replay layout old.number old.start (act ∷ acts)) (stands.draws ++ drawn ∷ [])
-        → node.StandsFor layout old.number old.start node_now (act ∷ acts) → StandsFor layout now (act ∷ acts)
+    pub stands_with : (act : Act) → AreDrawsOf old.name.number old.name.start (deeds_by layout old.name (act ∷ acts)) (stands.draws ++ drawn ∷ [])
+        → node.StandsFor layout old.name.number old.name.start node_now (act ∷ acts) → StandsFor layout now (act ∷ acts)
     stands_with act are node_stands = record { sound = drew.sound; stands = node_stands; draws = stands.draws ++ drawn ∷ []; drawn = are; held = held }
 
 begin_is : Recover ≡ Begin → ⊥
 begin_is e = cc
 
 module _ {D : Type 0} (layout : Layout) (old : DurableNode D) (acts : List Act) (txn : ℕ) (small : txn < 2 ^ 32) (is_low : IsLow old.node.clock) (stands : StandsFor layout old acts) where
-  module _ (body : BodyParts) (fresh : begun_id old.number old.start txn (node_replay layout old.number old.start acts) ≡ None) where
-    pub begin_in_doubt : IsJournalAfter layout old.number old.start old.version (old.journal.payloads ++ draw_group old Begin txn) (Begins txn body ∷ acts)
+  module _ (body : BodyParts) (fresh : id_begun layout old.name txn acts ≡ None) where
+    pub begin_in_doubt : IsJournalAfter layout old.name (old.journal.payloads ++ draw_group old Begin txn) (Begins txn body ∷ acts)
     begin_in_doubt = doubt_with layout old acts Begin txn small is_low stands (λ _. fresh) (Begins txn body) (stands.draws, stands.drawn, refl)
 
     pub after_begin : (node_now : Node) (journal_now : JournalState D) (marked_now : Bool) (kept_now : ℕ) → Drew old journal_now marked_now kept_now (draw_group old Begin txn)
-        → node.StandsFor layout old.number old.start node_now (Begins txn body ∷ acts) → StandsFor layout (with_parts old node_now journal_now marked_now kept_now) (Begins txn body ∷ acts)
+        → node.StandsFor layout old.name.number old.name.start node_now (Begins txn body ∷ acts) → StandsFor layout (with_parts old node_now journal_now marked_now kept_now) (Begins txn body ∷ acts)
     after_begin node_now journal_now marked_now kept_now drew node_stands =
         stands_with layout old acts Begin txn small is_low stands (λ _. fresh) node_now journal_now marked_now kept_now drew (Begins txn body) (stands.draws, stands.drawn, refl) node_stands
 
   module _ (x : TxnId) (body : BodyParts) where
-    pub recover_in_doubt : IsJournalAfter layout old.number old.start old.version (old.journal.payloads ++ draw_group old Recover txn) (Recovers x body ∷ acts)
+    pub recover_in_doubt : IsJournalAfter layout old.name (old.journal.payloads ++ draw_group old Recover txn) (Recovers x body ∷ acts)
     recover_in_doubt = doubt_with layout old acts Recover txn small is_low stands (λ e. absurd (begin_is e)) (Recovers x body) (stands.draws, txn, stands.drawn, refl)
 
     pub after_recover : (node_now : Node) (journal_now : JournalState D) (marked_now : Bool) (kept_now : ℕ) → Drew old journal_now marked_now kept_now (draw_group old Recover txn)
-        → node.StandsFor layout old.number old.start node_now (Recovers x body ∷ acts) → StandsFor layout (with_parts old node_now journal_now marked_now kept_now) (Recovers x body ∷ acts)
+        → node.StandsFor layout old.name.number old.name.start node_now (Recovers x body ∷ acts) → StandsFor layout (with_parts old node_now journal_now marked_now kept_now) (Recovers x body ∷ acts)
     after_recover node_now journal_now marked_now kept_now drew node_stands =
         stands_with layout old acts Recover txn small is_low stands (λ e. absurd (begin_is e)) node_now journal_now marked_now kept_now drew (Recovers x body) (stands.draws, txn, stands.drawn, refl) node_stands
 
@@ -179,7 +180,7 @@ restarted layout n number start draws acts told are =
 -- ---- fresh
 
 pub fresh_stands : {D : Type 0} (layout : Layout) (n : DurableNode D) → n.journal.broken ≡ false → n.journal.payloads ≡ [] → n.marked ≡ false → n.kept ≡ 0
-    → node.StandsFor layout n.number n.start n.node [] → StandsFor layout n []
+    → node.StandsFor layout n.name.number n.name.start n.node [] → StandsFor layout n []
 fresh_stands layout n sound payloads marked kept node_stands = record {
   sound = sound;
   stands = node_stands;
@@ -263,14 +264,14 @@ map_long : (items : List NodePayload) → length (map node_bytes items) ≡ leng
 map_long [] = refl
 map_long (p ∷ items) = ap suc (map_long items)
 
-pub reopened_is : {D : Type 0} (n : DurableNode D) (told : NodeTold) (payloads : List (List ℕ)) → IsReadAs n.number n.version n.start payloads told
-    → n.journal.payloads ≡ payloads → n.journal.broken ≡ false → n.node.clock ≡ record { node = n.number; start = n.start; drawn = told.drawn; seen = told.drawn }
+pub reopened_is : {D : Type 0} (n : DurableNode D) (told : NodeTold) (payloads : List (List ℕ)) → IsReadAs n.name.number n.name.version n.name.start payloads told
+    → n.journal.payloads ≡ payloads → n.journal.broken ≡ false → n.node.clock ≡ record { node = n.name.number; start = n.name.start; drawn = told.drawn; seen = told.drawn }
     → ((txn : ℕ) → get nat_cmp n.node.begun txn ≡ get nat_cmp told.begun txn) → ((x : TxnId) → get id_cmp n.node.attempts x ≡ None) → ((x : TxnId) → get id_cmp n.node.clients x ≡ None)
     → n.marked ≡ told.marked → n.kept ≡ length payloads - cond told.marked 1 0 → length payloads < 2 ^ 64 → IsReopened n
 reopened_is n told payloads r same sound clock_so begun attempts clients marked kept lt =
     let draws = draws_in r.items in
-    let is_told : IsTold n.node n.number n.start draws = record {
-      clock = clock_so ∙ ap (λ (d : ℕ). record { node = n.number; start = n.start; drawn = d; seen = d }) r.tells.drawn;
+    let is_told : IsTold n.node n.name.number n.name.start draws = record {
+      clock = clock_so ∙ ap (λ (d : ℕ). record { node = n.name.number; start = n.name.start; drawn = d; seen = d }) r.tells.drawn;
       begun = λ txn. begun txn ∙ r.tells.begun txn;
       attempts = attempts;
       clients = clients;
@@ -282,12 +283,12 @@ reopened_is n told payloads r same sound clock_so begun attempts clients marked 
       draws = draws;
       held = record {
         items = r.items;
-        journal = subst (λ (l : List (List ℕ)). IsNodeJournal n.version n.start l r.items) (sym same) r.journal;
+        journal = subst (λ (l : List (List ℕ)). IsNodeJournal n.name.version n.name.start l r.items) (sym same) r.journal;
         draws_are = refl;
         marked = marked ∙ r.tells.marked;
-        kept = kept_is (length payloads) (length r.items) (length draws) (cond (has_mark r.items) 1 0) n.kept longs (counted n.version n.start [] r.items r.journal.each) kept_so lt;
+        kept = kept_is (length payloads) (length r.items) (length draws) (cond (has_mark r.items) 1 0) n.kept longs (counted n.name.version n.name.start [] r.items r.journal.each) kept_so lt;
       };
-      restarted = λ layout acts are. restarted layout n.node n.number n.start draws acts is_told are;
+      restarted = λ layout acts are. restarted layout n.node n.name.number n.name.start draws acts is_told are;
     }
 
 -- ---- refusals
@@ -315,18 +316,18 @@ module _ {D : Type 0} (layout : Layout) (old mid new : DurableNode D) (node_now 
   drew_of_old d = record {
     sound = d.sound;
     payloads = d.payloads ∙ ap (λ (m : DurableNode D). m.journal.payloads ++ group) room ∙ ap (λ (g : List (List ℕ)). old.journal.payloads ++ g) given;
-    marked = d.marked ∙ ap (λ (m : DurableNode D). marked_after m.version m.marked) room;
+    marked = d.marked ∙ ap (λ (m : DurableNode D). marked_after m.name.version m.marked) room;
     kept = d.kept ∙ ap (λ (m : DurableNode D). min (m.kept + 1) (2 ^ 64 - 1)) room;
   }
 
   -- what the node emits by its rules, and for what it stands then
   pub record Steps (acts : List Act) : Type 0 where
-    pub emits : emitted ≡ node_emits layout old.number old.start (node_replay layout old.number old.start acts) act
+    pub emits : emitted ≡ emits_by layout old.name acts act
     pub goes_on : Drew old new.journal new.marked new.kept (draw_group old purpose txn) → StandsFor layout after (act ∷ acts)
 
   pub drawn_ok : ((acts : List Act) → StandsFor layout old acts → Steps acts) → (r : Result Emitted DurableError) → IfOk r (λ sent. sent ≡ emitted)
       → OnOk r (Drew (record mid { node = node_now }) new.journal new.marked new.kept group)
-      → IfOk r (λ sent. (acts : List Act) → StandsFor layout old acts → Takes layout old new acts act sent)
+      → IfOk r (TakesOn layout old new act)
   drawn_ok steps (Ok sent) same drew = λ acts stands. record {
     emits = same ∙ (steps acts stands).emits;
     stands = subst (λ (n : DurableNode D). StandsFor layout n (act ∷ acts)) (sym new_is) ((steps acts stands).goes_on (drew_of_old drew));
@@ -348,18 +349,18 @@ not_begun o given b e f g = sym e ∙ none_there o (sym f ∙ g)
 
 module _ {D : Type 0} (layout : Layout) (old mid new : DurableNode D) (node_now : Node) (group : List (List ℕ)) (txn : ℕ) (body : BodyParts) (emitted : Emitted) (small : txn < 2 ^ 32) (is_low : IsLow old.node.clock)
     (room : mid ≡ with_spare old mid.journal.spare) (given : group ≡ draw_group old Begin txn) (put : new ≡ with_parts (record mid { node = node_now }) node_now new.journal new.marked new.kept)
-    (ran : (acts : List Act) → node.StandsFor layout old.number old.start mid.node acts → node.Takes layout old.number old.start node_now acts (Begins txn body) emitted)
-    (fresh : (acts : List Act) → StandsFor layout old acts → begun_id old.number old.start txn (node_replay layout old.number old.start acts) ≡ None) where
+    (ran : (acts : List Act) → node.StandsFor layout old.name.number old.name.start mid.node acts → node.Takes layout old.name.number old.name.start node_now acts (Begins txn body) emitted)
+    (fresh : (acts : List Act) → StandsFor layout old acts → id_begun layout old.name txn acts ≡ None) where
   begin_steps : (acts : List Act) → StandsFor layout old acts → Steps layout old mid new node_now group txn (Begins txn body) emitted Begin room given put acts
   begin_steps acts stands =
-      let takes = ran acts (subst (λ (m : DurableNode D). node.StandsFor layout old.number old.start m.node acts) (sym room) stands.stands) in
+      let takes = ran acts (subst (λ (m : DurableNode D). node.StandsFor layout old.name.number old.name.start m.node acts) (sym room) stands.stands) in
       record {
         emits = takes.emits;
         goes_on = λ drew. after_begin layout old acts txn small is_low stands body (fresh acts stands) node_now new.journal new.marked new.kept drew takes.stands;
       }
 
   pub begin_ok : (r : Result Emitted DurableError) → IfOk r (λ sent. sent ≡ emitted) → OnOk r (Drew (record mid { node = node_now }) new.journal new.marked new.kept group)
-      → IfOk r (λ sent. (acts : List Act) → StandsFor layout old acts → Takes layout old new acts (Begins txn body) sent)
+      → IfOk r (TakesOn layout old new (Begins txn body))
   begin_ok = drawn_ok layout old mid new node_now group txn (Begins txn body) emitted Begin room given put begin_steps
 
   pub begin_err : (r : Result Emitted DurableError) → IfErr r (FailsToAppend emitted new.journal.broken) → IfErr r (Refuses layout old new (Begins txn body))
@@ -367,17 +368,17 @@ module _ {D : Type 0} (layout : Layout) (old mid new : DurableNode D) (node_now 
 
 module _ {D : Type 0} (layout : Layout) (old mid new : DurableNode D) (node_now : Node) (group : List (List ℕ)) (txn : ℕ) (x : TxnId) (body : BodyParts) (emitted : Emitted) (small : txn < 2 ^ 32) (is_low : IsLow old.node.clock)
     (room : mid ≡ with_spare old mid.journal.spare) (given : group ≡ draw_group old Recover txn) (put : new ≡ with_parts (record mid { node = node_now }) node_now new.journal new.marked new.kept)
-    (ran : (acts : List Act) → node.StandsFor layout old.number old.start mid.node acts → node.Takes layout old.number old.start node_now acts (Recovers x body) emitted) where
+    (ran : (acts : List Act) → node.StandsFor layout old.name.number old.name.start mid.node acts → node.Takes layout old.name.number old.name.start node_now acts (Recovers x body) emitted) where
   recover_steps : (acts : List Act) → StandsFor layout old acts → Steps layout old mid new node_now group txn (Recovers x body) emitted Recover room given put acts
   recover_steps acts stands =
-      let takes = ran acts (subst (λ (m : DurableNode D). node.StandsFor layout old.number old.start m.node acts) (sym room) stands.stands) in
+      let takes = ran acts (subst (λ (m : DurableNode D). node.StandsFor layout old.name.number old.name.start m.node acts) (sym room) stands.stands) in
       record {
         emits = takes.emits;
         goes_on = λ drew. after_recover layout old acts txn small is_low stands x body node_now new.journal new.marked new.kept drew takes.stands;
       }
 
   pub recover_ok : (r : Result Emitted DurableError) → IfOk r (λ sent. sent ≡ emitted) → OnOk r (Drew (record mid { node = node_now }) new.journal new.marked new.kept group)
-      → IfOk r (λ sent. (acts : List Act) → StandsFor layout old acts → Takes layout old new acts (Recovers x body) sent)
+      → IfOk r (TakesOn layout old new (Recovers x body))
   recover_ok = drawn_ok layout old mid new node_now group txn (Recovers x body) emitted Recover room given put recover_steps
 
   pub recover_err : (r : Result Emitted DurableError) → IfErr r (FailsToAppend emitted new.journal.broken) → IfErr r (Refuses layout old new (Recovers x body))

@@ -1,3 +1,4 @@
+pub mod Names
 pub mod Actor
 pub mod Node
 pub mod Weighing

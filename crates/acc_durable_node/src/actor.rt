@@ -1,20 +1,16 @@
 //! A node with its disk.
-ghost use Rattle.std.specs.Prelude.{◌≡◌, ◌≢◌, ◌^◌, ◌<◌, ◌≤◌, ◌↔◌, IsTrue, vec_len, vec_capacity, Bool, true, false, not, List, [], ℕ, Option as Maybe, None, Some, Ok, Err, IfOk, IfErr, OnOk, OnErr, is_none};
+ghost use Rattle.std.specs.Prelude.{◌≡◌, ◌^◌, ◌<◌, IsTrue, vec_len, vec_capacity, false, not, List, [], ℕ, Option as Maybe, None, Some, Ok, IfOk, OnErr};
 ghost use Rattle.acc_topology.specs.Layout.{Layout};
-ghost use Rattle.acc_ports.specs.Disk.{CrashLeaves};
 ghost use Rattle.acc_ports.specs.Faults.{CountsFaults};
 ghost use Rattle.acc_message.specs.Fields.{top_of};
-ghost use Rattle.acc_message.specs.NodeRules.{Act, Takes as TakesMessage, begun_id};
-ghost use Rattle.acc_node.specs.declared.error.NodeError.{NodeError as Refused};
-ghost use Rattle.acc_node.specs.Stands.{may_slow, is_answered};
-ghost use Rattle.acc_payloads.specs.Appends.{fails_append, after_append, passed_in};
-ghost use Rattle.acc_payloads.specs.Stops.{Past, count_of, IsLeft, ReadsIf, TellsByChoice};
-ghost use Rattle.acc_durable_node.specs.Actor.{IsJournal, IsFound, disk_in, node_in, is_shut};
+ghost use Rattle.acc_message.specs.NodeRules.{Act, Takes as TakesMessage};
+ghost use Rattle.acc_payloads.specs.Stops.{Past, count_of};
+ghost use Rattle.acc_durable_node.specs.declared.name.NodeName.{NodeName};
 
-use crate::name::NodeName;
+use crate::name::Named;
+use crate::state::{NodeState, reopened};
 use crate::{DurableError, DurableNode};
 use acc_base::OutOfMemory;
-use acc_journal::JournalError;
 use acc_message::{Emitted, Event, Message};
 use acc_node::{Node, NodeError};
 use acc_payloads::stops::{put, told};
@@ -29,7 +25,7 @@ use std::alloc::Global;
 #[derive(Debug, Drop)]
 pub struct NodeActor<D: Rig> {
     alloc: Global,
-    name: NodeName,
+    named: Named,
     pub(crate) state: NodeState<D>,
     /// The step that was stopped, where the node is down by one. There is never a second one.
     stopped: Vec<Unsent>,
@@ -37,48 +33,28 @@ pub struct NodeActor<D: Rig> {
     kept: u64,
 }
 
-/// The node is down where it is broken or shut.
-#[derive(Debug, Drop)]
-pub(crate) enum NodeState<D: Rig> {
-    Open(DurableNode<D>),
-    Shut(D),
-}
-
 impl<D: Rig> NodeActor<D> {
-    ghost use Rattle.acc_journal.specs.Layout.{Reads};
     ghost use Rattle.acc_payloads.specs.Items.{without_marks};
+    ghost use Rattle.acc_payloads.specs.Stops.{is_up, KeepsByChoice, HoldsPayloads};
+    ghost use Rattle.acc_durable_node.specs.Names.{IsNodeName, IsSlowAnswer, id_begun};
     ghost use Rattle.acc_durable_node.specs.Node.{StandsFor as Durable};
-    ghost use Rattle.acc_payloads.specs.Stops.{after_step, is_up, KeepsByChoice, HoldsPayloads};
-    ghost use Rattle.acc_durable_node.specs.Actor.{StandsFor, OfEachPast, IsAsBefore, IsStrictAt, IsAsStrict, MayBegin, MayRecover, Steps, Takes, HasSlowed, KeptIn, begin_stop, recover_stop, past_after, done, disk_of, is_down};
+    ghost use Rattle.acc_durable_node.specs.Actor.{StandsFor, OfEachPast, IsAsBefore, IsStrictAt, IsAsStrict, MayBegin, MayRecover, HasStepped, Takes, HasSlowed, KeptIn, begin_stop, recover_stop, past_after, node_in, disk_of, is_down};
 
-    /// A durable node, which has this number, start and version.
-    pub fn opened(
-        alloc: Global,
-        number: u32,
-        start: u64,
-        version: u8,
-        node: DurableNode<D>,
-    ) -> NodeActor<D>
-        requires number_from { 1 ≤ number }
-        requires number_to { number ≤ 15 }
-        requires start_in_range { start ≤ 10 ^ 12 }
+    /// The actor of a durable node.
+    pub fn opened(alloc: Global, node: DurableNode<D>) -> NodeActor<D>
+        requires named { IsNodeName node.name }
         requires sound { node.journal.broken ≡ false }
-        requires given { (node.number ≡ number) × (node.start ≡ start) × (node.version ≡ version) }
         ensures stands { (layout : Layout) (acts : List Act) → Durable layout node acts
-            → StandsFor D.Disk layout number start version (record { acts = acts; held = without_marks node.journal.payloads; stopped = [] }) result }
+            → StandsFor D.Disk layout node.name (record { acts = acts; held = without_marks node.journal.payloads; stopped = [] }) result }
         ensures up { is_down result ≡ false }
         ensures disk { disk_of result ≡ node.journal.disk }
         ensures strict { IsTrue (D.state node.journal.disk).strict → (layout : Layout) (passed : Maybe ℕ) (past : Past Act)
-            → IsStrictAt D.Disk layout number start version (D.state node.journal.disk).armed passed past result }
+            → IsStrictAt D.Disk layout node.name (D.state node.journal.disk).armed passed past result }
     {
         let _sound = node.is_broken();
         NodeActor {
             alloc,
-            name: NodeName {
-                number,
-                start,
-                version,
-            },
+            named: Named { name: node.name },
             state: NodeState::Open(node),
             stopped: Vec::new(alloc),
             kept: 0,
@@ -94,17 +70,7 @@ impl<D: Rig> NodeActor<D> {
     ) -> Result<Option<Emitted>, OutOfMemory>
         requires up { is_down self.old ≡ false }
         requires may { MayBegin D.Disk topology.now self.old txn }
-
-        ensures ok { IfOk result (λ given. (number start version : ℕ) (past : Past Act) → StandsFor D.Disk topology.now number start version past self.old
-            → Steps D.Disk topology.now number start version past (begin_stop topology.now number start past txn body.now) self.new given) }
-        ensures down { IfOk result (λ given. is_down self.new ≡ is_none given) }
-        ensures faults { CountsFaults (result ≡ Ok None) (D.state (disk_of self.old)).faults (D.state (disk_of self.new)).faults }
-
-        ensures strict { (number start version : ℕ) (armed passed : Maybe ℕ) (past : Past Act) → StandsFor D.Disk topology.now number start version past self.old
-            → IsStrictAt D.Disk topology.now number start version armed passed past self.old
-            → IfOk result (λ given. (is_none given ≡ fails_append armed)
-            × IsStrictAt D.Disk topology.now number start version (after_append armed) (passed_in armed)
-            (after_step given past (begin_stop topology.now number start past txn body.now)) self.new) }
+        ensures { HasStepped D.Disk topology.now self.old self.new (begin_stop topology.now txn body.now) result }
     {
         self.stopped.reserve(1)?;
         let NodeState::Open(node) = &mut self.state else {
@@ -125,17 +91,7 @@ impl<D: Rig> NodeActor<D> {
     ) -> Result<Option<Emitted>, OutOfMemory>
         requires up { is_down self.old ≡ false }
         requires may { MayRecover D.Disk topology.now self.old }
-
-        ensures ok { IfOk result (λ given. (number start version : ℕ) (past : Past Act) → StandsFor D.Disk topology.now number start version past self.old
-            → Steps D.Disk topology.now number start version past (recover_stop topology.now number start past txn id body.now) self.new given) }
-        ensures down { IfOk result (λ given. is_down self.new ≡ is_none given) }
-        ensures faults { CountsFaults (result ≡ Ok None) (D.state (disk_of self.old)).faults (D.state (disk_of self.new)).faults }
-
-        ensures strict { (number start version : ℕ) (armed passed : Maybe ℕ) (past : Past Act) → StandsFor D.Disk topology.now number start version past self.old
-            → IsStrictAt D.Disk topology.now number start version armed passed past self.old
-            → IfOk result (λ given. (is_none given ≡ fails_append armed)
-            × IsStrictAt D.Disk topology.now number start version (after_append armed) (passed_in armed)
-            (after_step given past (recover_stop topology.now number start past txn id body.now)) self.new) }
+        ensures { HasStepped D.Disk topology.now self.old self.new (recover_stop topology.now txn id body.now) result }
     {
         self.stopped.reserve(1)?;
         let NodeState::Open(node) = &mut self.state else {
@@ -150,11 +106,8 @@ impl<D: Rig> NodeActor<D> {
     pub fn slow(&mut self, topology: &Topology, txn: u32) -> Result<Emitted, NodeError>
         requires up { is_down self.old ≡ false }
 
-        ensures ok { IfOk result (λ emitted. OfEachPast D.Disk topology.now self.old (λ number start version past. HasSlowed D.Disk topology.now number start version past txn self.new emitted)) }
-        ensures unknown { OfEachPast D.Disk topology.now self.old (λ number start version past. (result ≡ Err Refused.Unknown) ↔ (may_slow topology.now number start txn (done topology.now number start past) ≡ false)) }
-        ensures no_quorum { IfErr result (λ error. error ≡ Refused.NoQuorum → OfEachPast D.Disk topology.now self.old (λ number start version past.
-            (may_slow topology.now number start txn (done topology.now number start past) ≡ true) × (is_answered topology.now number start txn (done topology.now number start past) ≡ false))) }
-        ensures not_begun { IfErr result (λ error. OfEachPast D.Disk topology.now self.old (λ number start version past. error ≢ Refused.Begun)) }
+        ensures ok { IfOk result (λ emitted. OfEachPast D.Disk topology.now self.old (λ name past. HasSlowed D.Disk topology.now name past txn self.new emitted)) }
+        ensures refused { OfEachPast D.Disk topology.now self.old (λ name past. IsSlowAnswer topology.now name past.acts txn result) }
         ensures err { OnErr result (IsAsBefore D.Disk topology.now self.old self.new) }
 
         ensures up { is_down self.new ≡ false }
@@ -172,7 +125,7 @@ impl<D: Rig> NodeActor<D> {
         requires up { is_down self.old ≡ false }
         requires top_in_range { top_of m.now < 2 ^ 62 }
 
-        ensures ok { IfOk result (λ emitted. OfEachPast D.Disk topology.now self.old (λ number start version past. Takes D.Disk topology.now number start version past (TakesMessage m.now) self.new emitted)) }
+        ensures ok { IfOk result (λ emitted. OfEachPast D.Disk topology.now self.old (λ name past. Takes D.Disk topology.now name past (TakesMessage m.now) self.new emitted)) }
         ensures err { OnErr result (IsAsBefore D.Disk topology.now self.old self.new) }
 
         ensures up { is_down self.new ≡ false }
@@ -187,29 +140,29 @@ impl<D: Rig> NodeActor<D> {
 
     /// Crashes the disk, so that one of its images is left, and reopens the node from it. An honest journal is refused only by the disk.
     pub fn restart(self, choice: u8) -> (NodeActor<D>, Result<Restarted, OutOfMemory>)
-        ensures ok { IfOk result.1 (λ found. (layout : Layout) (number start version : ℕ) (past : Past Act) → StandsFor D.Disk layout number start version past self
-            → KeptIn layout number start past found × StandsFor D.Disk layout number start version (past_after found past) result.0) }
+        ensures ok { IfOk result.1 (λ found. (layout : Layout) → OfEachPast D.Disk layout self (λ name past.
+            KeptIn layout name past found × StandsFor D.Disk layout name (past_after found past) result.0)) }
         ensures up { IfOk result.1 (λ found. is_down result.0 ≡ not (is_up found)) }
         ensures faults { CountsFaults (result.1 ≡ Ok Restarted.Down) (D.state (disk_of self)).faults (D.state (disk_of result.0)).faults }
 
-        ensures strict { (layout : Layout) (number start version : ℕ) (armed passed : Maybe ℕ) (past : Past Act) → StandsFor D.Disk layout number start version past self
-            → IsStrictAt D.Disk layout number start version armed passed past self
+        ensures strict { (layout : Layout) (name : NodeName) (armed passed : Maybe ℕ) (past : Past Act) → StandsFor D.Disk layout name past self
+            → IsStrictAt D.Disk layout name armed passed past self
             → IfOk result.1 (λ found. KeepsByChoice passed choice past.stopped found
-            × IsStrictAt D.Disk layout number start version None None (past_after found past) result.0) }
+            × IsStrictAt D.Disk layout name None None (past_after found past) result.0) }
     {
         let kept = self.held();
         let NodeActor {
             alloc,
-            name,
+            named,
             state,
             stopped,
             kept: _,
         } = self;
-        let (state, found) = reopened(alloc, name, kept, choice, state.into_disk());
+        let (state, found) = reopened(alloc, named, kept, choice, state.into_disk());
         let (found, stopped) = told(alloc, found, stopped);
         let actor = NodeActor {
             alloc,
-            name,
+            named,
             state,
             stopped,
             kept,
@@ -222,9 +175,9 @@ impl<D: Rig> NodeActor<D> {
         ensures stands { (layout : Layout) → IsAsBefore D.Disk layout self.old self.new }
         ensures down { is_down self.new ≡ is_down self.old }
         ensures faults { (D.state (disk_of self.new)).faults ≡ (D.state (disk_of self.old)).faults }
-        ensures strict { (layout : Layout) (number start version : ℕ) (armed passed : Maybe ℕ) (past : Past Act)
-            → IsStrictAt D.Disk layout number start version armed passed past self.old
-            → IsStrictAt D.Disk layout number start version (Some calls) passed past self.new }
+        ensures strict { (layout : Layout) (name : NodeName) (armed passed : Maybe ℕ) (past : Past Act)
+            → IsStrictAt D.Disk layout name armed passed past self.old
+            → IsStrictAt D.Disk layout name (Some calls) passed past self.new }
     {
         match &mut self.state {
             NodeState::Open(node) => node.arm(calls),
@@ -235,8 +188,7 @@ impl<D: Rig> NodeActor<D> {
     /// The id of the transaction with this number, where the node has begun it. It takes no memory and makes no call of the disk.
     pub fn id_of(&self, txn: u32) -> Option<TxnId>
         requires up { is_down self.now ≡ false }
-        ensures { (layout : Layout) (number start version : ℕ) (past : Past Act) → StandsFor D.Disk layout number start version past self.now
-            → result ≡ begun_id number start txn (done layout number start past) }
+        ensures { (layout : Layout) → OfEachPast D.Disk layout self.now (λ name past. result ≡ id_begun layout name txn past.acts) }
     {
         let NodeState::Open(node) = &self.state else {
             unreachable!()
@@ -259,12 +211,11 @@ impl<D: Rig> NodeActor<D> {
     pub fn into_parts(self) -> (D, Option<Node>)
         ensures disk { result.0 ≡ disk_of self }
         ensures node { result.1 ≡ node_in self.state }
-        ensures holds { (layout : Layout) (number start version : ℕ) (past : Past Act) → StandsFor D.Disk layout number start version past self
-            → (image : List ℕ) → D.is_image result.0 image → HoldsPayloads version past image }
+        ensures holds { (layout : Layout) → OfEachPast D.Disk layout self (λ name past. (image : List ℕ) → D.is_image result.0 image → HoldsPayloads name.version past image) }
     {
         let NodeActor {
             alloc: _,
-            name: _,
+            named: _,
             state,
             stopped: _,
             kept: _,
@@ -274,7 +225,7 @@ impl<D: Rig> NodeActor<D> {
 }
 
 impl<D: Rig> NodeActor<D> {
-    ghost use Rattle.acc_durable_node.specs.Actor.{StandsFor, IsSettled};
+    ghost use Rattle.acc_durable_node.specs.Actor.{OfEachPast, IsSettled};
 
     // What the durable node answered, as a step of the actor. The journal had so many draws before it. There is room for a step that was
     // stopped.
@@ -301,69 +252,11 @@ impl<D: Rig> NodeActor<D> {
 
     // How many draws the journal has, without the one of a step that was stopped.
     fn held(&self) -> u64
-        ensures { (layout : Layout) (number start version : ℕ) (past : Past Act) → StandsFor D.Disk layout number start version past self.now
-            → result ≡ count_of past }
+        ensures { (layout : Layout) → OfEachPast D.Disk layout self.now (λ name past. result ≡ count_of past) }
     {
         match &self.state {
             NodeState::Open(node) if !node.is_broken() => node.kept(),
             _ => self.kept,
         }
-    }
-}
-
-impl<D: Rig> NodeState<D> {
-    fn into_disk(self) -> D
-        ensures { result ≡ disk_in self }
-    {
-        match self {
-            NodeState::Open(node) => node.into_disk(),
-            NodeState::Shut(disk) => disk,
-        }
-    }
-
-    fn into_parts(self) -> (D, Option<Node>)
-        ensures disk { result.0 ≡ disk_in self }
-        ensures node { result.1 ≡ node_in self }
-    {
-        match self {
-            NodeState::Open(node) => {
-                let (disk, node) = node.into_parts();
-                (disk, Some(node))
-            }
-            NodeState::Shut(disk) => (disk, None),
-        }
-    }
-}
-
-// Crashes the disk and reopens the node. Tells whether the journal has more draws than so many, or that the disk failed.
-fn reopened<D: Rig>(
-    alloc: Global,
-    name: NodeName,
-    kept: u64,
-    choice: u8,
-    disk: D,
-) -> (NodeState<D>, Result<Option<bool>, OutOfMemory>)
-    ensures ok { IfOk result.1 (λ found. (layout : Layout) (past : Past Act) → ((image : List ℕ) → D.is_image disk image → IsLeft (IsJournal layout name.number name.start name.version) past image) → kept ≡ count_of past
-        → IsFound D.Disk layout name.number name.start name.version past found result.0) }
-    ensures shut { IfOk result.1 (λ found. is_shut result.0 ≡ is_none found) }
-    ensures faults { CountsFaults (result.1 ≡ Ok None) (D.state disk).faults (D.state (disk_in result.0)).faults }
-
-    ensures kind { (D.state (disk_in result.0)).strict ≡ (D.state disk).strict }
-    ensures strict { IsTrue (D.state disk).strict → (layout : Layout) (past : Past Act) (keeps : Bool)
-        → ((bytes : List ℕ) → D.is_image disk bytes → CrashLeaves choice (D.state disk) bytes → ReadsIf (IsJournal layout name.number name.start name.version) past keeps bytes) → kept ≡ count_of past
-        → IfOk result.1 (TellsByChoice keeps past.stopped) }
-    ensures unarmed { IsTrue (D.state disk).strict → OnOk result.1 ((D.state (disk_in result.0)).armed ≡ None) }
-{
-    let mut disk = disk;
-    if kept == u64::MAX || disk.crash(choice).is_err() {
-        return (NodeState::Shut(disk), Err(OutOfMemory));
-    }
-    match DurableNode::reopen(alloc, name.number, name.start, name.version, disk) {
-        Ok(node) => {
-            let more = node.kept() > kept;
-            (NodeState::Open(node), Ok(Some(more)))
-        }
-        Err((JournalError::DiskFault, disk)) => (NodeState::Shut(disk), Ok(None)),
-        Err((_, disk)) => (NodeState::Shut(disk), Err(OutOfMemory)),
     }
 }

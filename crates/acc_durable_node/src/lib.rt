@@ -10,9 +10,11 @@ mod error;
 pub mod laws;
 mod name;
 mod node;
+mod state;
 mod weigh;
 mod weighing;
 
 pub use actor::NodeActor;
 pub use error::DurableError;
+pub use name::NodeName;
 pub use node::DurableNode;

@@ -4,14 +4,12 @@ ghost use Rattle.acc_topology.specs.Layout.{Layout};
 ghost use Rattle.acc_ports.specs.Disk.{IsAtRest};
 ghost use Rattle.acc_ports.specs.Moments.{Arms};
 ghost use Rattle.acc_message.specs.Fields.{top_of};
-ghost use Rattle.acc_message.specs.NodeRules.{Act, Begins, Recovers, Takes as TakesMessage, Restarts, begun_id, node_replay};
-ghost use Rattle.acc_node.specs.declared.error.NodeError.{NodeError as Refused};
-ghost use Rattle.acc_node.specs.Stands.{may_slow, is_answered};
+ghost use Rattle.acc_message.specs.NodeRules.{Act, Begins, Recovers, Takes as TakesMessage, Restarts};
 ghost use Rattle.acc_payloads.specs.declared.draw.Purpose.{Purpose as For};
 ghost use Rattle.acc_payloads.specs.declared.node.NodePayload.{NodePayload as Payload};
 ghost use Rattle.acc_payloads.specs.Node.{IsNodeJournal};
 
-use crate::DurableError;
+use crate::{DurableError, NodeName};
 use acc_base::OutOfMemory;
 use acc_journal::{Journal, JournalError, Payloads};
 use acc_message::{Emitted, Message};
@@ -32,9 +30,7 @@ const ROOM: u64 = 20;
 pub struct DurableNode<D: Disk> {
     alloc: Global,
     pub(crate) node: Node,
-    number: u32,
-    start: u64,
-    version: u8,
+    pub(crate) name: NodeName,
     journal: Journal<D>,
     marked: bool,
     kept: u64,
@@ -44,27 +40,23 @@ impl<D: Disk> DurableNode<D> {
     ghost use Rattle.acc_journal.specs.Layout.{Reads};
     ghost use Rattle.acc_journal.specs.Errors.{port_error};
     ghost use Rattle.acc_journal.specs.Journal.{IsOfTheDisk};
-    ghost use Rattle.acc_journal.specs.Calls.{Appends, ReadsDisk};
-    ghost use Rattle.acc_durable_node.specs.Node.{draw_answer, StandsFor, Takes, HasSlowed, IsSameActor, IsJournalAfter, IsReopened, IsRefusedBy, Refuses, draw_group};
+    ghost use Rattle.acc_journal.specs.Calls.{ReadsDisk};
+    ghost use Rattle.acc_durable_node.specs.Names.{IsNodeName, IsSlowAnswer, id_begun};
+    ghost use Rattle.acc_durable_node.specs.Node.{draw_answer, StandsFor, OfActs, TakesOn, HasSlowed, IsAsBefore, IsLow, IsJournalAfter, IsReopened, IsRefusedBy, Refuses, AppendsDraw, draw_group};
 
-    /// A node that has done nothing, on a disk that holds the bytes 1 and 0, synced. It draws above `start`, and journals as this
-    /// version, 1 or 2. It makes no call of the disk and takes no memory.
-    pub fn fresh(alloc: Global, number: u32, start: u64, version: u8, disk: D) -> DurableNode<D>
-        requires number_from { 1 ≤ number }
-        requires number_to { number ≤ 15 }
-        requires start_in_range { start ≤ 10 ^ 12 }
+    /// A node that has done nothing, on a disk that holds the bytes 1 and 0, synced. It makes no call of the disk and takes no memory.
+    pub fn fresh(alloc: Global, name: NodeName, disk: D) -> DurableNode<D>
+        requires named { IsNodeName name }
         requires content { (D.state disk).content ≡ 1 ∷ 0 ∷ [] }
         requires rest { IsAtRest (D.state disk) (D.is_image disk) }
         ensures stands { (layout : Layout) → StandsFor layout result [] }
-        ensures given { (result.number ≡ number) × (result.start ≡ start) × (result.version ≡ version) }
+        ensures named { result.name ≡ name }
         ensures journal { (result.journal.disk ≡ disk) × (result.journal.payloads ≡ []) }
     {
         DurableNode {
             alloc,
-            node: Node::new(alloc, number, start),
-            number,
-            start,
-            version,
+            node: Node::new(alloc, name.number, name.start),
+            name,
             journal: Journal::fresh(alloc, disk),
             marked: false,
             kept: 0,
@@ -77,37 +69,37 @@ impl<D: Disk> DurableNode<D> {
     /// 2^62, or begins a transaction for the second time, with the place of its gate.
     pub fn reopen(
         alloc: Global,
-        number: u32,
-        start: u64,
-        version: u8,
+        name: NodeName,
         disk: D,
     ) -> Result<DurableNode<D>, (JournalError, D)>
-        requires number_from { 1 ≤ number }
-        requires number_to { number ≤ 15 }
-        requires start_in_range { start ≤ 10 ^ 12 }
+        requires named { IsNodeName name }
         requires rest { IsAtRest (D.state disk) (D.is_image disk) }
 
         ensures ok { IfOk result IsReopened }
         ensures reads { IfOk result (λ n. Reads (D.state disk).content n.journal.payloads) }
-        ensures restarts { (layout : Layout) (acts : List Act) (payloads : List (List ℕ)) → Reads (D.state disk).content payloads → IsJournalAfter layout number start version payloads acts → IfOk result (λ n. StandsFor layout n (Restarts ∷ acts)) }
-        ensures given { IfOk result (λ n. (n.number ≡ number) × (n.start ≡ start) × (n.version ≡ version)) }
+        ensures restarts { (layout : Layout) (acts : List Act) (payloads : List (List ℕ)) → Reads (D.state disk).content payloads → IsJournalAfter layout name payloads acts → IfOk result (λ n. StandsFor layout n (Restarts ∷ acts)) }
+        ensures named { IfOk result (λ n. n.name ≡ name) }
         ensures disk { IfOk result (λ n. ReadsDisk D.Disk disk n.journal.disk (Ok tt)) }
         ensures err_disk { IfErr result (λ e. ReadsDisk D.Disk disk e.1 (Err (port_error e.0))) }
         ensures err_rest { IfErr result (λ e. e.0 ≢ JournalError.OutOfMemory → IsAtRest (D.state e.1) (D.is_image e.1)) }
-        ensures refused { IfErr result (λ e. IsRefusedBy (D.state disk).content version start e.0) }
-        ensures never { (payloads : List (List ℕ)) (items : List Payload) → Reads (D.state disk).content payloads → IsNodeJournal version start payloads items → IfErr result (λ e. IsOfTheDisk e.0) }
+        ensures refused { IfErr result (λ e. IsRefusedBy (D.state disk).content name e.0) }
+        ensures never { (payloads : List (List ℕ)) (items : List Payload) → Reads (D.state disk).content payloads → IsNodeJournal name.version name.start payloads items → IfErr result (λ e. IsOfTheDisk e.0) }
     {
         let (journal, payloads) = match Journal::reopen(alloc, disk) {
             Ok(opened) => opened,
             Err(refused) => return Err(refused),
         };
-        match read_node_journal(alloc, number, version, start, payloads.as_slice()) {
+        match read_node_journal(
+            alloc,
+            name.number,
+            name.version,
+            name.start,
+            payloads.as_slice(),
+        ) {
             Ok(told) => Ok(DurableNode {
                 alloc,
-                node: Node::reopened(alloc, number, start, told.drawn, told.begun),
-                number,
-                start,
-                version,
+                node: Node::reopened(alloc, name.number, name.start, told.drawn, told.begun),
+                name,
                 journal,
                 marked: told.marked,
                 kept: payloads.len() as u64 - marks(told.marked),
@@ -125,17 +117,15 @@ impl<D: Disk> DurableNode<D> {
         body: &Body,
     ) -> Result<Emitted, DurableError>
         requires sound { self.old.journal.broken ≡ false }
-        requires drawn_in_range { self.old.node.clock.drawn < 2 ^ 62 }
-        requires seen_in_range { self.old.node.clock.seen < 2 ^ 62 }
+        requires low { IsLow self.old.node.clock }
 
-        ensures ok { IfOk result (λ emitted. (acts : List Act) → StandsFor topology.now self.old acts → Takes topology.now self.old self.new acts (Begins txn body.now) emitted) }
-        ensures begun { (acts : List Act) → StandsFor topology.now self.old acts →
-            (result ≡ Err DurableError.Begun) ↔ IsSome (begun_id self.old.number self.old.start txn (node_replay topology.now self.old.number self.old.start acts)) }
+        ensures ok { IfOk result (TakesOn topology.now self.old self.new (Begins txn body.now)) }
+        ensures begun { OfActs topology.now self.old (λ acts. (result ≡ Err DurableError.Begun) ↔ IsSome (id_begun topology.now self.old.name txn acts)) }
         ensures err { IfErr result (Refuses topology.now self.old self.new (Begins txn body.now)) }
 
         ensures appended { OnOk result (self.new.journal.payloads ≡ self.old.journal.payloads ++ draw_group self.old For.Begin txn) }
-        ensures appends { Appends D.Disk self.old.journal.disk self.new.journal.disk self.old.journal.payloads (draw_group self.old For.Begin txn) (draw_answer result) }
-        ensures same { IsSameActor self.old self.new }
+        ensures appends { AppendsDraw D.Disk self.old self.new For.Begin txn (draw_answer result) }
+        ensures named { self.new.name ≡ self.old.name }
     {
         let _sound = self.journal.is_broken();
         if self.node.id_of(txn).is_some() {
@@ -160,16 +150,15 @@ impl<D: Disk> DurableNode<D> {
         body: &Body,
     ) -> Result<Emitted, DurableError>
         requires sound { self.old.journal.broken ≡ false }
-        requires drawn_in_range { self.old.node.clock.drawn < 2 ^ 62 }
-        requires seen_in_range { self.old.node.clock.seen < 2 ^ 62 }
+        requires low { IsLow self.old.node.clock }
 
-        ensures ok { IfOk result (λ emitted. (acts : List Act) → StandsFor topology.now self.old acts → Takes topology.now self.old self.new acts (Recovers id body.now) emitted) }
+        ensures ok { IfOk result (TakesOn topology.now self.old self.new (Recovers id body.now)) }
         ensures not_begun { IfErr result (λ e. e ≢ DurableError.Begun) }
         ensures err { IfErr result (Refuses topology.now self.old self.new (Recovers id body.now)) }
 
         ensures appended { OnOk result (self.new.journal.payloads ≡ self.old.journal.payloads ++ draw_group self.old For.Recover txn) }
-        ensures appends { Appends D.Disk self.old.journal.disk self.new.journal.disk self.old.journal.payloads (draw_group self.old For.Recover txn) (draw_answer result) }
-        ensures same { IsSameActor self.old self.new }
+        ensures appends { AppendsDraw D.Disk self.old self.new For.Recover txn (draw_answer result) }
+        ensures named { self.new.name ≡ self.old.name }
     {
         let _sound = self.journal.is_broken();
         let group = self.group(Purpose::Recover, txn)?;
@@ -179,16 +168,10 @@ impl<D: Disk> DurableNode<D> {
 
     /// Gives the fast path of a transaction's first attempt up, as `Node::slow`. It makes no call of the disk.
     pub fn slow(&mut self, topology: &Topology, txn: u32) -> Result<Emitted, NodeError>
-        ensures ok { IfOk result (λ emitted. (acts : List Act) → StandsFor topology.now self.old acts → HasSlowed topology.now self.old self.new acts txn emitted) }
-        ensures unknown { (acts : List Act) → StandsFor topology.now self.old acts →
-            (result ≡ Err Refused.Unknown) ↔ (may_slow topology.now self.old.number self.old.start txn (node_replay topology.now self.old.number self.old.start acts) ≡ false) }
-        ensures no_quorum { IfErr result (λ error. error ≡ Refused.NoQuorum → (acts : List Act) → StandsFor topology.now self.old acts →
-            (may_slow topology.now self.old.number self.old.start txn (node_replay topology.now self.old.number self.old.start acts) ≡ true)
-            × (is_answered topology.now self.old.number self.old.start txn (node_replay topology.now self.old.number self.old.start acts) ≡ false)) }
-        ensures not_begun { IfErr result (λ error. (acts : List Act) → StandsFor topology.now self.old acts → error ≢ Refused.Begun) }
-        ensures err { OnErr result ((acts : List Act) → StandsFor topology.now self.old acts → StandsFor topology.now self.new acts) }
-        ensures same { IsSameActor self.old self.new }
-        ensures journal { (self.new.journal ≡ self.old.journal) × (self.new.marked ≡ self.old.marked) × (self.new.kept ≡ self.old.kept) }
+        ensures ok { IfOk result (λ emitted. OfActs topology.now self.old (λ acts. HasSlowed topology.now self.old self.new acts txn emitted)) }
+        ensures refused { OfActs topology.now self.old (λ acts. IsSlowAnswer topology.now self.old.name acts txn result) }
+        ensures err { OnErr result (IsAsBefore topology.now self.old self.new) }
+        ensures same { self.new ≡ record self.old { node = self.new.node } }
     {
         self.node.slow(topology, txn)
     }
@@ -196,18 +179,16 @@ impl<D: Disk> DurableNode<D> {
     /// Takes a message, as `Node::step`. It makes no call of the disk.
     pub fn step(&mut self, topology: &Topology, m: &Message) -> Result<Emitted, OutOfMemory>
         requires top_in_range { top_of m.now < 2 ^ 62 }
-        ensures ok { IfOk result (λ emitted. (acts : List Act) → StandsFor topology.now self.old acts → Takes topology.now self.old self.new acts (TakesMessage m.now) emitted) }
-        ensures err { OnErr result ((acts : List Act) → StandsFor topology.now self.old acts → StandsFor topology.now self.new acts) }
-        ensures same { IsSameActor self.old self.new }
-        ensures journal { (self.new.journal ≡ self.old.journal) × (self.new.marked ≡ self.old.marked) × (self.new.kept ≡ self.old.kept) }
+        ensures ok { IfOk result (TakesOn topology.now self.old self.new (TakesMessage m.now)) }
+        ensures err { OnErr result (IsAsBefore topology.now self.old self.new) }
+        ensures same { self.new ≡ record self.old { node = self.new.node } }
     {
         self.node.step(topology, m)
     }
 
     /// The id of the transaction with this number, where the journal or this node has begun it. Takes no memory.
     pub fn id_of(&self, txn: u32) -> Option<TxnId>
-        ensures { (layout : Layout) (acts : List Act) → StandsFor layout self.now acts →
-            result ≡ begun_id self.now.number self.now.start txn (node_replay layout self.now.number self.now.start acts) }
+        ensures { (layout : Layout) → OfActs layout self.now (λ acts. result ≡ id_begun layout self.now.name txn acts) }
     {
         self.node.id_of(txn)
     }
@@ -243,9 +224,7 @@ impl<D: Disk> DurableNode<D> {
         let DurableNode {
             alloc: _,
             node,
-            number: _,
-            start: _,
-            version: _,
+            name: _,
             journal,
             marked: _,
             kept: _,
@@ -258,13 +237,12 @@ impl<D: Disk> DurableNode<D> {
     ghost use Rattle.acc_journal.specs.Layout.{AreShort};
     ghost use Rattle.acc_journal.specs.Journal.{group_room};
     ghost use Rattle.acc_journal.specs.Calls.{Appends};
-    ghost use Rattle.acc_durable_node.specs.Node.{draw_answer, draw_group, with_spare, with_parts, Drew, FailsToAppend};
+    ghost use Rattle.acc_durable_node.specs.Node.{IsLow, draw_answer, draw_group, with_spare, with_parts, Drew, FailsToAppend};
 
     // What the next draw appends to the journal, which then has room for it.
     #[tactic(auto, using(acc_payloads::proofs::Groups::group_takes, acc_payloads::proofs::Groups::group_is_short, acc_payloads::proofs::Groups::group_has_some))]
     fn group(&mut self, purpose: Purpose, txn: u32) -> Result<Payloads, OutOfMemory>
-        requires drawn_in_range { self.old.node.clock.drawn < 2 ^ 62 }
-        requires seen_in_range { self.old.node.clock.seen < 2 ^ 62 }
+        requires low { IsLow self.old.node.clock }
         ensures group { IfOk result (λ group. group ≡ draw_group self.old purpose txn) }
         ensures some { IfOk result (λ group. 0 < length group) }
         ensures short { IfOk result AreShort }
@@ -279,7 +257,7 @@ impl<D: Disk> DurableNode<D> {
         let mut group = Payloads::new(self.alloc);
         put_payload(
             &mut group,
-            self.version,
+            self.name.version,
             self.marked,
             draw.to_bytes(self.alloc)?,
         )?;
@@ -303,7 +281,7 @@ impl<D: Disk> DurableNode<D> {
         match self.journal.append_group(group) {
             Ok(()) => {
                 self.kept = self.kept.saturating_add(1);
-                self.marked = self.marked || self.version == 2;
+                self.marked = self.marked || self.name.version == 2;
                 Ok(emitted)
             }
             Err(JournalError::DiskFault) => Err(DurableError::DiskFault { unsent: emitted }),
@@ -314,16 +292,14 @@ impl<D: Disk> DurableNode<D> {
 }
 
 impl<D: Rig> DurableNode<D> {
-    ghost use Rattle.acc_durable_node.specs.Node.{StandsFor, IsSameActor};
+    ghost use Rattle.acc_durable_node.specs.Node.{IsAsBefore};
 
     /// Arms a call of the disk: where that is strict, so many more pass and the next one fails. It makes no call of the disk and takes no
     /// memory.
     pub fn arm(&mut self, calls: u64)
         ensures arms { Arms D.Disk calls self.old.journal.disk self.new.journal.disk }
-        ensures stands { (layout : Layout) (acts : List Act) → StandsFor layout self.old acts → StandsFor layout self.new acts }
-        ensures same { IsSameActor self.old self.new }
-        ensures node { (self.new.node ≡ self.old.node) × (self.new.marked ≡ self.old.marked) × (self.new.kept ≡ self.old.kept) }
-        ensures journal { self.new.journal ≡ record self.old.journal { disk = self.new.journal.disk } }
+        ensures stands { (layout : Layout) → IsAsBefore layout self.old self.new }
+        ensures same { self.new ≡ record self.old { journal = record self.old.journal { disk = self.new.journal.disk } } }
     {
         self.journal.arm(calls);
     }

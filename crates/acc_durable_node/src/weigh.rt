@@ -1,10 +1,9 @@
 //! How much a durable node would send.
-ghost use Rattle.std.specs.Prelude.{◌≡◌, ◌≤◌, ◌<◌, ◌^◌, ℕ, List, None, IfOk};
+ghost use Rattle.std.specs.Prelude.{◌≡◌, ◌≤◌, None, IfOk};
 ghost use Rattle.std.specs.Ordering.{nat_cmp};
 ghost use Rattle.std.specs.BTreeMap.{get};
-ghost use Rattle.acc_message.specs.NodeRules.{Act, Begins, Recovers, Takes as TakesMessage, node_emits, node_replay};
-ghost use Rattle.acc_message_code.specs.Weight.{weight_of_all};
-ghost use Rattle.acc_node.specs.Weighing.{SendsShort, node_sends};
+ghost use Rattle.acc_message.specs.NodeRules.{Begins, Recovers, Takes as TakesMessage};
+ghost use Rattle.acc_node.specs.Weighing.{SendsShort};
 
 use crate::DurableNode;
 use acc_base::OutOfMemory;
@@ -15,7 +14,7 @@ use acc_topology::Topology;
 use acc_txn::Body;
 
 impl<D: Disk> DurableNode<D> {
-    ghost use Rattle.acc_durable_node.specs.Node.{StandsFor};
+    ghost use Rattle.acc_durable_node.specs.Node.{IsLow, Weighs};
 
     /// How many bytes of encoded messages a begin would send now, of a transaction that isn't begun. It makes no call of the disk.
     pub fn weigh_begin(
@@ -26,10 +25,8 @@ impl<D: Disk> DurableNode<D> {
     ) -> Result<u64, OutOfMemory>
         requires not_begun { get nat_cmp self.now.node.begun txn ≡ None }
         requires node_in_range { self.now.node.clock.node ≤ 15 }
-        requires drawn_in_range { self.now.node.clock.drawn < 2 ^ 62 }
-        requires seen_in_range { self.now.node.clock.seen < 2 ^ 62 }
-        ensures { IfOk result (λ weight. (acts : List Act) → StandsFor topology.now self.now acts →
-            weight ≡ weight_of_all (node_emits topology.now self.now.number self.now.start (node_replay topology.now self.now.number self.now.start acts) (Begins txn body.now)).out) }
+        requires low { IsLow self.now.node.clock }
+        ensures { IfOk result (Weighs topology.now self.now (Begins txn body.now)) }
     {
         self.node.weigh_begin(topology, txn, body)
     }
@@ -42,10 +39,8 @@ impl<D: Disk> DurableNode<D> {
         body: &Body,
     ) -> Result<u64, OutOfMemory>
         requires node_in_range { self.now.node.clock.node ≤ 15 }
-        requires drawn_in_range { self.now.node.clock.drawn < 2 ^ 62 }
-        requires seen_in_range { self.now.node.clock.seen < 2 ^ 62 }
-        ensures { IfOk result (λ weight. (acts : List Act) → StandsFor topology.now self.now acts →
-            weight ≡ weight_of_all (node_emits topology.now self.now.number self.now.start (node_replay topology.now self.now.number self.now.start acts) (Recovers id body.now)).out) }
+        requires low { IsLow self.now.node.clock }
+        ensures { IfOk result (Weighs topology.now self.now (Recovers id body.now)) }
     {
         self.node.weigh_recover(topology, id, body)
     }
@@ -53,8 +48,7 @@ impl<D: Disk> DurableNode<D> {
     /// The same of a message.
     pub fn weigh_step(&self, topology: &Topology, m: &Message) -> Result<u64, OutOfMemory>
         requires { SendsShort topology.now self.now.node (TakesMessage m.now) }
-        ensures { IfOk result (λ weight. (acts : List Act) → StandsFor topology.now self.now acts →
-            weight ≡ weight_of_all (node_sends topology.now self.now.number self.now.start acts (TakesMessage m.now))) }
+        ensures { IfOk result (Weighs topology.now self.now (TakesMessage m.now)) }
     {
         self.node.weigh_step(topology, m)
     }

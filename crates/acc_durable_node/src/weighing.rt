@@ -1,10 +1,9 @@
 //! How much a node that is up would send. Nothing here makes a call of a disk.
-ghost use Rattle.std.specs.Prelude.{◌≡◌, false, ℕ, IfOk};
-ghost use Rattle.acc_message.specs.NodeRules.{Act, Begins, Recovers, Takes};
-ghost use Rattle.acc_message_code.specs.Weight.{weight_of_all};
-ghost use Rattle.acc_payloads.specs.Stops.{Past};
+ghost use Rattle.std.specs.Prelude.{◌≡◌, false, IfOk};
+ghost use Rattle.acc_message.specs.NodeRules.{Begins, Recovers, Takes};
 
-use crate::actor::{NodeActor, NodeState};
+use crate::actor::NodeActor;
+use crate::state::NodeState;
 use acc_base::OutOfMemory;
 use acc_message::Message;
 use acc_ports::Rig;
@@ -13,8 +12,8 @@ use acc_topology::Topology;
 use acc_txn::Body;
 
 impl<D: Rig> NodeActor<D> {
-    ghost use Rattle.acc_durable_node.specs.Actor.{StandsFor, MayBegin, MayRecover, emits_next, is_down};
-    ghost use Rattle.acc_durable_node.specs.Weighing.{NodeMayWeigh};
+    ghost use Rattle.acc_durable_node.specs.Actor.{MayBegin, MayRecover, is_down};
+    ghost use Rattle.acc_durable_node.specs.Weighing.{NodeMayWeigh, Weighs};
 
     /// How many bytes of encoded messages a begin would send now, of a transaction that the node hasn't begun.
     pub fn weigh_begin(
@@ -25,8 +24,7 @@ impl<D: Rig> NodeActor<D> {
     ) -> Result<u64, OutOfMemory>
         requires up { is_down self.now ≡ false }
         requires may { MayBegin D.Disk topology.now self.now txn }
-        ensures { IfOk result (λ weight. (number start version : ℕ) (past : Past Act) → StandsFor D.Disk topology.now number start version past self.now
-            → weight ≡ weight_of_all (emits_next topology.now number start past (Begins txn body.now)).out) }
+        ensures { IfOk result (Weighs D.Disk topology.now self.now (Begins txn body.now)) }
     {
         let NodeState::Open(node) = &self.state else {
             unreachable!()
@@ -43,8 +41,7 @@ impl<D: Rig> NodeActor<D> {
     ) -> Result<u64, OutOfMemory>
         requires up { is_down self.now ≡ false }
         requires may { MayRecover D.Disk topology.now self.now }
-        ensures { IfOk result (λ weight. (number start version : ℕ) (past : Past Act) → StandsFor D.Disk topology.now number start version past self.now
-            → weight ≡ weight_of_all (emits_next topology.now number start past (Recovers id body.now)).out) }
+        ensures { IfOk result (Weighs D.Disk topology.now self.now (Recovers id body.now)) }
     {
         let NodeState::Open(node) = &self.state else {
             unreachable!()
@@ -56,8 +53,7 @@ impl<D: Rig> NodeActor<D> {
     pub fn weigh_take(&self, topology: &Topology, m: &Message) -> Result<u64, OutOfMemory>
         requires up { is_down self.now ≡ false }
         requires may { NodeMayWeigh D.Disk topology.now self.now m.now }
-        ensures { IfOk result (λ weight. (number start version : ℕ) (past : Past Act) → StandsFor D.Disk topology.now number start version past self.now
-            → weight ≡ weight_of_all (emits_next topology.now number start past (Takes m.now)).out) }
+        ensures { IfOk result (Weighs D.Disk topology.now self.now (Takes m.now)) }
     {
         let NodeState::Open(node) = &self.state else {
             unreachable!()

@@ -1,18 +1,17 @@
 -- A store with its disk: its journal, what is staged beside it, and when it may take a message.
-use Rattle.std.proofs.Common.{◌≡◌, ℕ, ◌-◌, ◌^◌, ◌<◌, min, true, false, List, [], ◌∷◌, ◌++◌, length, append-nil, sym, ap, subst, ◌∙◌}
+use Rattle.std.proofs.Common.{◌≡◌, ℕ, ◌-◌, ◌^◌, ◌<◌, min, false, List, [], ◌∷◌, ◌++◌, length, append-nil, sym, ap, subst, ◌∙◌}
 use Rattle.acc_stamp.specs.declared.actors.Actor.{Actor}
 use Rattle.acc_topology.specs.Layout.{Layout}
 use Rattle.acc_ports.specs.declared.disk.Disk.{Ghosts}
 use Rattle.acc_message.specs.declared.message.Message.{Message}
-use Rattle.acc_message.specs.Fields.{top_of}
 use Rattle.acc_message.specs.VoteRule.{greatest_h}
 use Rattle.acc_message.specs.StoreRules.{replay}
 use Rattle.acc_record.specs.Stands.{IsFor}
 use Rattle.acc_payloads.specs.Store.{store_bytes, StoreMay, IsStoreJournal, taken_in}
-use Rattle.acc_payloads.specs.Texts.{has_text}
 use Rattle.acc_payloads.specs.Items.{AreMarked, without_marks}
 use Rattle.acc_payloads.proofs.StoreJournals.{same_payload}
 use Rattle.acc_store.specs.Stands as store
+use Rattle.acc_durable_store.specs.declared.name.StoreName.{StoreName}
 use Rattle.acc_durable_store.specs.declared.store.DurableStore.{DurableStore}
 use Rattle.acc_durable_store.specs.Store as durable
 use Rattle.acc_payloads.specs.declared.stops.Unsent.{Unsent}
@@ -20,25 +19,21 @@ use Rattle.acc_durable_store.specs.declared.actor.StoreActor.{StoreActor}
 use Rattle.acc_durable_store.specs.declared.actor.StoreState.{StoreState}
 use Rattle.acc_durable_store.specs.declared.actor.StoreState.TheVariants.{Open}
 use Rattle.acc_payloads.specs.Stops.{Stop, Past, count_of, with_step, with_stops, kept_with, IsUnsent}
-use Rattle.acc_durable_store.specs.Actor.{is_down, emits_next, IsJournal, IsUp, IsUpIn, MayStage}
+use Rattle.acc_durable_store.specs.Actor.{is_shut, is_down, emits_next, IsJournal, IsUp, IsUpIn, MayStage}
 use Rattle.acc_payloads.proofs.Left.{held_kept}
 use Rattle.acc_payloads.proofs.Marks.{without_joined, one_items}
 use Rattle.acc_payloads.proofs.Marked.{store_marked}
 
-pub marked_messages : (layout : Layout) (own : Actor) (version : ℕ) (payloads : List (List ℕ)) (messages : List Message) → IsJournal layout own version payloads messages → AreMarked version payloads
-marked_messages layout own version payloads messages j = store_marked layout version own payloads j.items j.journal
+pub marked_messages : (layout : Layout) (name : StoreName) (payloads : List (List ℕ)) (messages : List Message) → IsJournal layout name payloads messages → AreMarked name.version payloads
+marked_messages layout name payloads messages j = store_marked layout name.version name.actor payloads j.items j.journal
 
 -- a journal is of one list of messages
-pub one_past : (layout : Layout) (own : Actor) (version : ℕ) (payloads : List (List ℕ)) (messages others : List Message) → IsJournal layout own version payloads messages → IsJournal layout own version payloads others → messages ≡ others
-one_past layout own version payloads messages others j k =
-    sym j.taken ∙ ap taken_in (one_items store_bytes (StoreMay layout version own) (same_payload layout version own) payloads j.items k.items j.journal k.journal) ∙ k.taken
-
--- a fact of the durable store's own actor and version
-pub by_own : (P : Actor → ℕ → Type 0) (a own : Actor) (b version : ℕ) → a ≡ own → b ≡ version → P a b → P own version
-by_own P a own b version e f p = subst (λ (o : Actor). P o version) e (subst (P a) f p)
+pub one_past : (layout : Layout) (name : StoreName) (payloads : List (List ℕ)) (messages others : List Message) → IsJournal layout name payloads messages → IsJournal layout name payloads others → messages ≡ others
+one_past layout name payloads messages others j k =
+    sym j.taken ∙ ap taken_in (one_items store_bytes (StoreMay layout name.version name.actor) (same_payload layout name.version name.actor) payloads j.items k.items j.journal k.journal) ∙ k.taken
 
 -- the journal of a durable store with nothing staged
-pub journal_of : {D : Type 0} (layout : Layout) (s : DurableStore D) (messages : List Message) → durable.StandsFor layout s messages → s.journal.group ≡ [] → IsJournal layout (durable.actor_in s) s.version s.journal.payloads messages
+pub journal_of : {D : Type 0} (layout : Layout) (s : DurableStore D) (messages : List Message) → durable.StandsFor layout s messages → s.journal.group ≡ [] → IsJournal layout (durable.name_in s) s.journal.payloads messages
 journal_of layout s messages d none = record {
   items = d.held.items;
   journal = subst (λ (l : List (List ℕ)). IsStoreJournal layout s.version (durable.actor_in s) l d.held.items) (ap (λ (l : List (List ℕ)). s.journal.payloads ++ l) none ∙ append-nil s.journal.payloads) d.held.journal;
@@ -84,11 +79,11 @@ module _ (layout : Layout) (own : Actor) where
 
 -- ---- a durable store that is up
 
-module _ {D : Type 0} (layout : Layout) (own : Actor) (version : ℕ) (past : Past Message) (staged : List (Stop Message)) (s : DurableStore D) (up : IsUp layout own version past staged s) where
+module _ {D : Type 0} (layout : Layout) (name : StoreName) (past : Past Message) (staged : List (Stop Message)) (s : DurableStore D) (up : IsUp layout name past staged s) where
   -- the journal as it is once what is staged is appended
-  pub journal_up : IsJournal layout own version (s.journal.payloads ++ s.journal.group) (kept_with staged past).acts
+  pub journal_up : IsJournal layout name (s.journal.payloads ++ s.journal.group) (kept_with staged past).acts
   journal_up =
-      by_own (λ a b. IsJournal layout a b (s.journal.payloads ++ s.journal.group) (kept_with staged past).acts) (durable.actor_in s) own s.version version up.own_is up.version_is
+      subst (λ (n : StoreName). IsJournal layout n (s.journal.payloads ++ s.journal.group) (kept_with staged past).acts) up.name_is
       (record { items = up.stands.held.items; journal = up.stands.held.journal; taken = up.stands.held.taken })
 
   pub held_up : without_marks (s.journal.payloads ++ s.journal.group) ≡ (kept_with staged past).held
@@ -100,31 +95,28 @@ module _ {D : Type 0} (layout : Layout) (own : Actor) (version : ℕ) (past : Pa
   pub kept_up : s.kept ≡ count_of past
   kept_up = up.stands.held.kept ∙ ap (λ (l : List (List ℕ)). min (length l) (2 ^ 64 - 1)) up.held_are
 
-  pub stands_up : store.StandsFor layout s.store (replay layout own (kept_with staged past).acts)
+  pub stands_up : store.StandsFor layout s.store (replay layout name.actor (kept_with staged past).acts)
   stands_up =
-      by_own (λ a b. store.StandsFor layout s.store (replay layout a (kept_with staged past).acts)) (durable.actor_in s) own s.version version up.own_is up.version_is up.stands.stands
+      subst (λ (n : StoreName). store.StandsFor layout s.store (replay layout n.actor (kept_with staged past).acts)) up.name_is up.stands.stands
 
-  pub greatest_up : store.greatest_in s.store ≡ greatest_h own (replay layout own (kept_with staged past).acts)
+  pub greatest_up : store.greatest_in s.store ≡ greatest_h name.actor (replay layout name.actor (kept_with staged past).acts)
   greatest_up =
-      by_own (λ a b. store.greatest_in s.store ≡ greatest_h a (replay layout a (kept_with staged past).acts)) (durable.actor_in s) own s.version version up.own_is up.version_is up.stands.stands.greatest
+      subst (λ (n : StoreName). store.greatest_in s.store ≡ greatest_h n.actor (replay layout n.actor (kept_with staged past).acts)) up.name_is up.stands.stands.greatest
 
-pub up_in : {D : Type 0} (layout : Layout) (own : Actor) (version : ℕ) (past : Past Message) (staged : List (Stop Message)) (state : StoreState D) (s : DurableStore D) → state ≡ Open s → IsUpIn layout own version past staged state → IsUp layout own version past staged s
-up_in layout own version past staged state s e up = subst (IsUpIn layout own version past staged) e up
+pub up_in : {D : Type 0} (layout : Layout) (name : StoreName) (past : Past Message) (staged : List (Stop Message)) (state : StoreState D) (s : DurableStore D) → state ≡ Open s → IsUpIn layout name past staged state → IsUp layout name past staged s
+up_in layout name past staged state s e up = subst (IsUpIn layout name past staged) e up
 
 -- ---- a message that it may take
 
-pub record CanTake {D : Type 0} (s : DurableStore D) (m : Message) : Type 0 where
-  pub goes_here : IsFor (durable.actor_in s) m
-  pub top : top_of m < 2 ^ 62
-  pub greatest : store.greatest_in s.store < 2 ^ 62
-  pub texts : has_text m ≡ true → s.version ≡ 2
-
-pub can_take : {D : Type 0} (port : Ghosts D) (layout : Layout) (old : StoreActor D) (s : DurableStore D) (m : Message) → old.state ≡ Open s → is_down old ≡ false → MayStage port layout old m → CanTake s m
+pub can_take : {D : Type 0} (port : Ghosts D) (layout : Layout) (old : StoreActor D) (s : DurableStore D) (m : Message) → old.state ≡ Open s → is_down old ≡ false → MayStage port layout old m → durable.CanTake layout s m
 can_take port layout old s m is sound may =
-    let up : IsUp layout may.1.own may.1.version may.1.past may.0 s = up_in layout may.1.own may.1.version may.1.past may.0 old.state s is (may.1.stands.up sound) in
+    let up : IsUp layout may.1.name may.1.past may.0 s = up_in layout may.1.name may.1.past may.0 old.state s is (may.1.stands.up sound) in
     record {
-      goes_here = subst (λ (a : Actor). IsFor a m) (sym up.own_is) may.1.goes_here;
+      sound = ap is_shut (sym is) ∙ sound;
+      short = may.1.short;
+      goes_here = subst (λ (n : StoreName). IsFor n.actor m) (sym up.name_is) may.1.goes_here;
       top = may.1.top;
-      greatest = subst (λ (h : ℕ). h < 2 ^ 62) (sym (greatest_up layout may.1.own may.1.version may.1.past may.0 s up)) may.1.greatest;
-      texts = λ text. up.version_is ∙ may.1.texts text;
+      greatest = subst (λ (h : ℕ). h < 2 ^ 62) (sym (greatest_up layout may.1.name may.1.past may.0 s up)) may.1.greatest;
+      stands = ((kept_with may.0 may.1.past).acts, up.stands.stands);
+      texts = λ text. ap (λ (n : StoreName). n.version) up.name_is ∙ may.1.texts text;
     }

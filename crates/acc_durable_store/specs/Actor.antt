@@ -1,9 +1,9 @@
 -- When a store with its disk stands for its past.
---     IsStaging images layout own version past staged actor      the actor is this one, has this version and this past, and these steps
---                                                               are staged
---     StandsFor images layout own version past actor             the same with nothing staged
+--     IsStaging port layout name past staged actor      the actor has this name and this past, and these steps are staged
+--     StandsFor port layout name past actor             the same with nothing staged
 --     IsStrictAt ..      it does over a strict disk, on which this call is armed
-use Rattle.std.specs.Prelude.{◌≡◌, ℕ, ◌^◌, ◌<◌, Bool, true, false, IsTrue, List, [], ◌++◌, Option, None, Some, IfSome}
+use Rattle.std.specs.Prelude.{◌≡◌, ℕ, ◌^◌, ◌<◌, ◌≢◌, Bool, true, false, IsTrue, List, [], ◌++◌, Option, None, Some, IfSome, is_none, Result, IfOk}
+use Rattle.acc_base.specs.declared.memory.OutOfMemory.{OutOfMemory}
 use Rattle.acc_stamp.specs.declared.actors.Actor.{Actor}
 use Rattle.acc_topology.specs.Layout.{Layout}
 use Rattle.acc_ports.specs.Disk.{CrashLeaves}
@@ -22,7 +22,9 @@ use Rattle.acc_payloads.specs.declared.store.StorePayload.{StorePayload}
 use Rattle.acc_payloads.specs.Store.{IsStoreJournal, taken_in}
 use Rattle.acc_payloads.specs.Items.{without_marks}
 use Rattle.acc_payloads.specs.Texts.{has_text}
+use Rattle.acc_payloads.specs.Appends.{fails_append, after_append, passed_in}
 use Rattle.acc_journal.specs.Journal.{keeps_group}
+use Rattle.acc_durable_store.specs.declared.name.StoreName.{StoreName}
 use Rattle.acc_durable_store.specs.declared.store.DurableStore.{DurableStore}
 use Rattle.acc_durable_store.specs.Store as durable
 use Rattle.acc_payloads.specs.declared.stops.Unsent.{Unsent}
@@ -31,7 +33,7 @@ use Rattle.acc_payloads.specs.declared.stops.Restarted.TheVariants.{Up, Down}
 use Rattle.acc_durable_store.specs.declared.actor.StoreState.{StoreState}
 use Rattle.acc_durable_store.specs.declared.actor.StoreState.TheVariants.{Open, Shut}
 use Rattle.acc_durable_store.specs.declared.actor.StoreActor.{StoreActor}
-use Rattle.acc_payloads.specs.Stops.{Stop, Past, count_of, group_of, after_step, kept_with, after_group, kept_if, past_with, IsLeft, ReadsIf, IsUnsent, IsKept}
+use Rattle.acc_payloads.specs.Stops.{Stop, Past, count_of, group_of, after_step, kept_with, after_group, kept_if, past_with, IsLeft, ReadsIf, IsUnsent, IsKept, KeepsByChoice}
 
 -- ---- the state
 
@@ -70,55 +72,60 @@ message_stop number m = record { event = MessageEvent number; act = m; payload =
 -- ---- the past
 
 -- payloads are the journal of a store that took these messages, the newest first
-pub record IsJournal (layout : Layout) (own : Actor) (version : ℕ) (payloads : List (List ℕ)) (messages : List Message) : Type 0 where
+pub record IsJournal (layout : Layout) (name : StoreName) (payloads : List (List ℕ)) (messages : List Message) : Type 0 where
   pub items : List StorePayload
-  pub journal : IsStoreJournal layout version own payloads items
+  pub journal : IsStoreJournal layout name.version name.actor payloads items
   pub taken : taken_in items ≡ messages
 
 -- The durable store of an actor that is up, which has taken what is staged too. Its journal is still that of the past, and the payloads of
 -- what is staged wait beside it.
-pub record IsUp {D : Type 0} (layout : Layout) (own : Actor) (version : ℕ) (past : Past Message) (staged : List (Stop Message)) (s : DurableStore D) : Type 0 where
+pub record IsUp {D : Type 0} (layout : Layout) (name : StoreName) (past : Past Message) (staged : List (Stop Message)) (s : DurableStore D) : Type 0 where
   pub stands : durable.StandsFor layout s (kept_with staged past).acts
-  pub own_is : durable.actor_in s ≡ own
-  pub version_is : s.version ≡ version
-  pub journal : IsJournal layout own version s.journal.payloads past.acts
+  pub name_is : durable.name_in s ≡ name
+  pub journal : IsJournal layout name s.journal.payloads past.acts
   pub held_are : without_marks s.journal.payloads ≡ past.held
   pub staged_are : without_marks s.journal.group ≡ group_of staged
   pub none_staged : staged ≡ [] → s.journal.group ≡ []
   pub none_stopped : past.stopped ≡ []
 
-abbrev pub IsUpIn : {D : Type 0} → Layout → Actor → ℕ → Past Message → List (Stop Message) → StoreState D → Type 0
-IsUpIn layout own version past staged (Open s) = IsUp layout own version past staged s
-IsUpIn layout own version past staged (Shut disk) = ⊥
+abbrev pub IsUpIn : {D : Type 0} → Layout → StoreName → Past Message → List (Stop Message) → StoreState D → Type 0
+IsUpIn layout name past staged (Open s) = IsUp layout name past staged s
+IsUpIn layout name past staged (Shut disk) = ⊥
 
 -- What didn't go out is what is staged, or what was stopped: nothing is staged where the actor is down, and nothing was stopped where it
 -- is up.
-pub record IsStaging {D : Type 0} (port : Ghosts D) (layout : Layout) (own : Actor) (version : ℕ) (past : Past Message) (staged : List (Stop Message)) (actor : StoreActor D) : Type 0 where
-  pub own_is : actor.actor ≡ own
-  pub version_is : actor.version ≡ version
-  pub left : (image : List ℕ) → port.is_image (disk_of actor) image → IsLeft (IsJournal layout own version) past image
-  pub unsent : IsUnsent (emits_next layout own) past (staged ++ past.stopped) actor.unsent.items
-  pub up : is_down actor ≡ false → IsUpIn layout own version past staged actor.state
+pub record IsStaging {D : Type 0} (port : Ghosts D) (layout : Layout) (name : StoreName) (past : Past Message) (staged : List (Stop Message)) (actor : StoreActor D) : Type 0 where
+  pub name_is : actor.name ≡ name
+  pub left : (image : List ℕ) → port.is_image (disk_of actor) image → IsLeft (IsJournal layout name) past image
+  pub unsent : IsUnsent (emits_next layout name.actor) past (staged ++ past.stopped) actor.unsent.items
+  pub up : is_down actor ≡ false → IsUpIn layout name past staged actor.state
   pub down : is_down actor ≡ true → staged ≡ []
   pub kept_is : is_down actor ≡ true → actor.kept ≡ count_of past
 
 -- nothing is staged
-abbrev pub StandsFor : {D : Type 0} → Ghosts D → Layout → Actor → ℕ → Past Message → StoreActor D → Type 0
-StandsFor port layout own version past actor = IsStaging port layout own version past [] actor
+abbrev pub StandsFor : {D : Type 0} → Ghosts D → Layout → StoreName → Past Message → StoreActor D → Type 0
+StandsFor port layout name past actor = IsStaging port layout name past [] actor
+
+-- a fact of each past that it stands for, and of each with what is staged
+abbrev pub OfEachPast : {D : Type 0} → Ghosts D → Layout → StoreActor D → (StoreName → Past Message → Type 0) → Type 0
+OfEachPast port layout actor P = (name : StoreName) (past : Past Message) → StandsFor port layout name past actor → P name past
+
+abbrev pub OfEachStaging : {D : Type 0} → Ghosts D → Layout → StoreActor D → (StoreName → Past Message → List (Stop Message) → Type 0) → Type 0
+OfEachStaging port layout actor P =
+    (name : StoreName) (past : Past Message) (staged : List (Stop Message)) → IsStaging port layout name past staged actor → P name past staged
 
 -- ---- what calls need
 
 -- it may take the message behind what is staged
 pub record MayTake {D : Type 0} (port : Ghosts D) (layout : Layout) (actor : StoreActor D) (staged : List (Stop Message)) (m : Message) : Type 0 where
-  pub own : Actor
-  pub version : ℕ
+  pub name : StoreName
   pub past : Past Message
-  pub stands : IsStaging port layout own version past staged actor
+  pub stands : IsStaging port layout name past staged actor
   pub short : IsShortMessage m
-  pub goes_here : IsFor own m
+  pub goes_here : IsFor name.actor m
   pub top : top_of m < 2 ^ 62
-  pub greatest : greatest_h own (replay layout own (kept_with staged past).acts) < 2 ^ 62
-  pub texts : has_text m ≡ true → version ≡ 2
+  pub greatest : greatest_h name.actor (replay layout name.actor (kept_with staged past).acts) < 2 ^ 62
+  pub texts : has_text m ≡ true → name.version ≡ 2
 
 abbrev pub MayStage : {D : Type 0} → Ghosts D → Layout → StoreActor D → Message → Type 0
 MayStage port layout actor m = (staged : List (Stop Message)) × MayTake port layout actor staged m
@@ -126,33 +133,32 @@ MayStage port layout actor m = (staged : List (Stop Message)) × MayTake port la
 -- it stands for some past, with something staged or not
 pub record MaySettle {D : Type 0} (port : Ghosts D) (actor : StoreActor D) : Type 0 where
   pub layout : Layout
-  pub own : Actor
-  pub version : ℕ
+  pub name : StoreName
   pub past : Past Message
   pub staged : List (Stop Message)
-  pub stands : IsStaging port layout own version past staged actor
+  pub stands : IsStaging port layout name past staged actor
 
 -- ---- what calls leave
 
 -- What is given is what the rules say, and the actor has then taken the message, or a fault has stopped it.
-pub record Steps {D : Type 0} (port : Ghosts D) (layout : Layout) (own : Actor) (version : ℕ) (past : Past Message) (stop : Stop Message) (new : StoreActor D) (given : Option Emitted) : Type 0 where
-  pub emits : IfSome given (λ emitted. emitted ≡ emits_next layout own past stop.act)
-  pub stands : StandsFor port layout own version (after_step given past stop) new
+pub record Steps {D : Type 0} (port : Ghosts D) (layout : Layout) (name : StoreName) (past : Past Message) (stop : Stop Message) (new : StoreActor D) (given : Option Emitted) : Type 0 where
+  pub emits : IfSome given (λ emitted. emitted ≡ emits_next layout name.actor past stop.act)
+  pub stands : StandsFor port layout name (after_step given past stop) new
 
 -- What is given is all that was staged, in its order, each with what the rules say behind those before it; the actor has then taken all
 -- of it, or a fault has stopped all of it.
-pub record Settles {D : Type 0} (port : Ghosts D) (layout : Layout) (own : Actor) (version : ℕ) (past : Past Message) (staged : List (Stop Message)) (new : StoreActor D) (given : Option (List Unsent)) : Type 0 where
-  pub emits : IfSome given (IsUnsent (emits_next layout own) past staged)
-  pub stands : StandsFor port layout own version (after_group given past staged) new
+pub record Settles {D : Type 0} (port : Ghosts D) (layout : Layout) (name : StoreName) (past : Past Message) (staged : List (Stop Message)) (new : StoreActor D) (given : Option (List Unsent)) : Type 0 where
+  pub emits : IfSome given (IsUnsent (emits_next layout name.actor) past staged)
+  pub stands : StandsFor port layout name (after_group given past staged) new
 
 -- Restarted: the journal has more payloads than were held, or not; or the disk failed.
 abbrev pub past_found : Option Bool → Past Message → Past Message
 past_found (Some more) past = kept_if more past
 past_found None past = past
 
-pub record IsFound {D : Type 0} (port : Ghosts D) (layout : Layout) (own : Actor) (version : ℕ) (past : Past Message) (found : Option Bool) (state : StoreState D) : Type 0 where
-  pub left : (image : List ℕ) → port.is_image (disk_in state) image → IsLeft (IsJournal layout own version) (past_found found past) image
-  pub up : is_shut state ≡ false → IsUpIn layout own version (past_found found past) [] state
+pub record IsFound {D : Type 0} (port : Ghosts D) (layout : Layout) (name : StoreName) (past : Past Message) (found : Option Bool) (state : StoreState D) : Type 0 where
+  pub left : (image : List ℕ) → port.is_image (disk_in state) image → IsLeft (IsJournal layout name) (past_found found past) image
+  pub up : is_shut state ≡ false → IsUpIn layout name (past_found found past) [] state
 
 -- with what was kept; or down as before
 abbrev pub past_after : Restarted → Past Message → Past Message
@@ -167,8 +173,39 @@ KeptIn layout own past Down = Unit {0}
 
 -- The disk is strict. Where the actor is up, this call is armed; where it is down, so many calls of the append that failed passed, and
 -- what a crash by choice leaves follows from that.
-pub record IsStrictAt {D : Type 0} (port : Ghosts D) (layout : Layout) (own : Actor) (version : ℕ) (armed passed : Option ℕ) (past : Past Message) (actor : StoreActor D) : Type 0 where
+pub record IsStrictAt {D : Type 0} (port : Ghosts D) (layout : Layout) (name : StoreName) (armed passed : Option ℕ) (past : Past Message) (actor : StoreActor D) : Type 0 where
   pub is_strict : IsTrue (port.state (disk_of actor)).strict
   pub armed_is : is_down actor ≡ false → (port.state (disk_of actor)).armed ≡ armed
   pub left : is_down actor ≡ true → (choice : ℕ) (bytes : List ℕ) → CrashLeaves choice (port.state (disk_of actor)) bytes
-      → ReadsIf (IsJournal layout own version) past (keeps_group passed choice) bytes
+      → ReadsIf (IsJournal layout name) past (keeps_group passed choice) bytes
+
+-- ---- calls over strict disks
+
+-- a step gave nothing just where its append is the one that was armed to fail
+abbrev pub StepsStrictly : {D : Type 0} → Ghosts D → Layout → StoreActor D → StoreActor D → Stop Message → Result (Option Emitted) OutOfMemory → Type 0
+StepsStrictly port layout old new stop result =
+    (name : StoreName) (armed passed : Option ℕ) (past : Past Message) → StandsFor port layout name past old → IsStrictAt port layout name armed passed past old
+    → IfOk result (λ given. (is_none given ≡ fails_append armed) × IsStrictAt port layout name (after_append armed) (passed_in armed) (after_step given past stop) new)
+
+-- and all that was staged, which is one append
+abbrev pub SettlesStrictly : {D : Type 0} → Ghosts D → StoreActor D → StoreActor D → Result (Option (List Unsent)) OutOfMemory → Type 0
+SettlesStrictly port old new result =
+    (layout : Layout) (name : StoreName) (armed passed : Option ℕ) (past : Past Message) (staged : List (Stop Message)) → IsStaging port layout name past staged old
+    → IsStrictAt port layout name armed passed past old → staged ≢ []
+    → IfOk result (λ given. (is_none given ≡ fails_append armed) × IsStrictAt port layout name (after_append armed) (passed_in armed) (after_group given past staged) new)
+
+-- a restart tells what the choice left, and no call of its disk is armed then
+abbrev pub RestartsStrictly : {D : Type 0} → Ghosts D → Layout → ℕ → StoreActor D → StoreActor D → Result Restarted OutOfMemory → Type 0
+RestartsStrictly port layout choice old new result =
+    (name : StoreName) (armed passed : Option ℕ) (past : Past Message) → StandsFor port layout name past old → IsStrictAt port layout name armed passed past old
+    → IfOk result (λ found. KeepsByChoice passed choice past.stopped found × IsStrictAt port layout name None None (past_after found past) new)
+
+-- Its disk is untouched. It is up, so that no past is asked for.
+abbrev pub StaysStrict : {D : Type 0} → Ghosts D → Layout → StoreActor D → StoreActor D → Type 0
+StaysStrict port layout old new =
+    (name : StoreName) (armed passed : Option ℕ) (past other : Past Message) → IsStrictAt port layout name armed passed past old → IsStrictAt port layout name armed passed other new
+
+-- a strict disk stays so, with this call armed
+abbrev pub ArmsStrictly : {D : Type 0} → Ghosts D → ℕ → StoreActor D → StoreActor D → Type 0
+ArmsStrictly port calls old new =
+    (layout : Layout) (name : StoreName) (armed passed : Option ℕ) (past : Past Message) → IsStrictAt port layout name armed passed past old → IsStrictAt port layout name (Some calls) passed past new

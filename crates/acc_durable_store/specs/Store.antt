@@ -1,25 +1,43 @@
 -- When a durable store stands for the messages that it took.
-use Rattle.std.specs.Prelude.{◌≡◌, ◌⊎◌, ℕ, ◌-◌, ◌^◌, min, true, false, List, [], ◌∷◌, ◌++◌, length, Result, Ok, Err}
+use Rattle.std.specs.Prelude.{◌≡◌, ◌⊎◌, ℕ, ◌-◌, ◌^◌, ◌<◌, min, true, false, List, [], ◌∷◌, ◌++◌, length, Result, Ok, Err, IfOk}
 use Rattle.acc_stamp.specs.declared.actors.Actor.{Actor}
 use Rattle.acc_topology.specs.Layout.{Layout}
+use Rattle.acc_ports.specs.declared.disk.Disk.{Ghosts}
 use Rattle.acc_ports.specs.declared.error.PortError.TheVariants as error
 use Rattle.acc_message.specs.declared.message.Message.{Message}
+use Rattle.acc_message.specs.Fields.{top_of}
 use Rattle.acc_message.specs.StoreRules.{store_answer, replay}
+use Rattle.acc_message_code.specs.Short.{IsShortMessage}
+use Rattle.acc_message_code.specs.MessageSpelling.{message_bytes}
 use Rattle.acc_journal.specs.declared.error.JournalError.{JournalError}
 use Rattle.acc_journal.specs.declared.error.JournalError.TheVariants as journal
 use Rattle.acc_journal.specs.Layout.{Reads, IsForeign, IsCut}
-use Rattle.acc_journal.specs.Calls.{Answer}
+use Rattle.acc_journal.specs.Calls.{Answer, Appends}
+use Rattle.acc_record.specs.Stands.{IsFor}
 use Rattle.acc_store.specs.Stands as store
 use Rattle.acc_payloads.specs.declared.store.StorePayload.{StorePayload}
-use Rattle.acc_payloads.specs.Journals.{IsBadRecord}
+use Rattle.acc_payloads.specs.Journals.{IsBadRecord, appended}
 use Rattle.acc_payloads.specs.Store.{store_bytes, StoreMay, IsStoreJournal, has_mark, taken_in}
 use Rattle.acc_payloads.specs.Items.{without_marks}
+use Rattle.acc_payloads.specs.Texts.{has_text}
+use Rattle.acc_durable_store.specs.declared.name.StoreName.{StoreName}
 use Rattle.acc_durable_store.specs.declared.store.DurableStore.{DurableStore}
 use Rattle.acc_durable_store.specs.declared.error.StepError.{StepError}
 use Rattle.acc_durable_store.specs.declared.error.StepError.TheVariants.{DiskFault, OutOfMemory}
 
 abbrev pub actor_in : {D : Type 0} → DurableStore D → Actor
 actor_in s = store.actor_of s.store
+
+-- what it was opened as
+abbrev pub name_in : {D : Type 0} → DurableStore D → StoreName
+name_in s = record { actor = actor_in s; version = s.version }
+
+-- what a message appends to the journal
+abbrev pub message_group : {D : Type 0} → DurableStore D → Message → List (List ℕ)
+message_group s m = appended s.version s.marked (message_bytes m)
+
+abbrev pub AppendsGroup : {D : Type 0} → Ghosts D → DurableStore D → DurableStore D → List (List ℕ) → Answer → Type 0
+AppendsGroup port old new group answer = Appends port old.journal.disk new.journal.disk old.journal.payloads group answer
 
 -- The journal and what is staged hold these messages, the newest first.
 pub record Holds {D : Type 0} (layout : Layout) (s : DurableStore D) (messages : List Message) : Type 0 where
@@ -37,10 +55,28 @@ pub record StandsFor {D : Type 0} (layout : Layout) (s : DurableStore D) (messag
   pub stands : store.StandsFor layout s.store (replay layout (actor_in s) messages)
   pub held : Holds layout s messages
 
+-- ---- a message is taken
+
+-- The store isn't broken, and the message may be given to it.
+pub record CanTake {D : Type 0} (layout : Layout) (s : DurableStore D) (m : Message) : Type 0 where
+  pub sound : s.journal.broken ≡ false
+  pub short : IsShortMessage m
+  pub goes_here : IsFor (actor_in s) m
+  pub top : top_of m < 2 ^ 62
+  pub greatest : store.greatest_in s.store < 2 ^ 62
+  pub stands : store.IsStanding layout s.store
+  pub texts : has_text m ≡ true → s.version ≡ 2
+
 -- it sends what the rules of a store say, and the store has then taken the message
 pub record Takes {D : Type 0} (layout : Layout) (old new : DurableStore D) (messages : List Message) (m : Message) (sent : List Message) : Type 0 where
   pub answers : sent ≡ store_answer layout (actor_in old) (replay layout (actor_in old) messages) m
   pub stands : StandsFor layout new (m ∷ messages)
+
+-- an Ok is that, for whatever messages the store stood for
+abbrev pub HasTaken : {D E : Type 0} → Layout → DurableStore D → DurableStore D → Message → Result (List Message) E → Type 0
+HasTaken layout old new m result = IfOk result (λ sent. (messages : List Message) → StandsFor layout old messages → Takes layout old new messages m sent)
+
+-- ---- what calls leave
 
 -- it stands for what it stood for
 abbrev pub IsAsBefore : {D : Type 0} → DurableStore D → DurableStore D → Type 0

@@ -1,15 +1,13 @@
 //! A store with its disk.
-ghost use Rattle.std.specs.Prelude.{◌≡◌, ◌≤◌, IsTrue, Bool, true, false, not, List, [], ◌∷◌, ◌++◌, ◌≢◌, ℕ, Option as Maybe, None, Some, Ok, IfOk, OnOk, OnErr, IfSome, is_none};
+ghost use Rattle.std.specs.Prelude.{◌≡◌, IsTrue, Bool, true, false, not, List, [], ◌∷◌, ◌++◌, ℕ, Option as Maybe, None, Some, Ok, IfOk, OnOk, OnErr, IfSome, is_none};
 ghost use Rattle.acc_topology.specs.Layout.{Layout};
-ghost use Rattle.acc_stamp.specs.declared.actors.Actor.{Actor as Name};
 ghost use Rattle.acc_ports.specs.Disk.{CrashLeaves};
 ghost use Rattle.acc_ports.specs.Faults.{CountsFaults};
 ghost use Rattle.acc_message.specs.declared.message.Message.{Message as Told};
-ghost use Rattle.acc_payloads.specs.Appends.{fails_append, after_append, passed_in};
-ghost use Rattle.acc_payloads.specs.Stops.{Stop, Past, count_of, IsLeft, ReadsIf, TellsByChoice};
+ghost use Rattle.acc_payloads.specs.Stops.{Past, count_of, IsLeft, ReadsIf, TellsByChoice};
 ghost use Rattle.acc_durable_store.specs.Actor.{IsJournal, IsFound, disk_in, store_in, is_shut, sends};
 
-use crate::{DurableStore, StepError};
+use crate::{DurableStore, StepError, StoreName};
 use acc_base::OutOfMemory;
 use acc_journal::JournalError;
 use acc_message::{Emitted, Event, Message, Messages, Notes};
@@ -25,8 +23,7 @@ use std::alloc::Global;
 #[derive(Debug, Drop)]
 pub struct StoreActor<D: Rig> {
     alloc: Global,
-    actor: Actor,
-    version: u8,
+    name: StoreName,
     pub(crate) state: StoreState<D>,
     /// What is staged, or what was stopped where the store is down by it: the oldest first.
     unsent: Vec<Unsent>,
@@ -42,32 +39,30 @@ pub(crate) enum StoreState<D: Rig> {
 }
 
 impl<D: Rig> StoreActor<D> {
-    ghost use Rattle.std.specs.Option.{option_copied};
-    ghost use Rattle.acc_journal.specs.Layout.{Reads};
     ghost use Rattle.acc_payloads.specs.Items.{without_marks};
     ghost use Rattle.acc_message.specs.StoreRules.{replay};
     ghost use Rattle.acc_store.specs.Stands.{StandsFor as Stands, actor_of};
-    ghost use Rattle.acc_durable_store.specs.Store.{StandsFor as Durable, actor_in};
-    ghost use Rattle.acc_payloads.specs.Stops.{after_step, kept_with, after_group, is_up, KeepsByChoice, HoldsPayloads};
-    ghost use Rattle.acc_durable_store.specs.Actor.{IsStaging, StandsFor, IsStrictAt, MayTake, MayStage, MaySettle, Steps, Settles, KeptIn, message_stop, past_after, disk_of, is_down};
+    ghost use Rattle.acc_durable_store.specs.Store.{StandsFor as Durable, name_in};
+    ghost use Rattle.acc_payloads.specs.Stops.{kept_with, is_up, HoldsPayloads};
+    ghost use Rattle.acc_durable_store.specs.Actor.{IsStaging, StandsFor, OfEachPast, OfEachStaging, IsStrictAt, MayTake, MayStage, MaySettle, Steps, Settles, StepsStrictly, SettlesStrictly, RestartsStrictly, ArmsStrictly, StaysStrict, KeptIn, message_stop, past_after, disk_of, is_down};
     ghost use Rattle.acc_durable_store.specs.Weighing.{IsPreparedBy};
 
-    /// A durable store of this actor, which has this version and nothing staged.
-    pub fn opened(alloc: Global, actor: Actor, version: u8, store: DurableStore<D>) -> StoreActor<D>
+    /// The actor of a durable store of this name, which has nothing staged.
+    pub fn opened(alloc: Global, name: StoreName, store: DurableStore<D>) -> StoreActor<D>
         requires sound { store.journal.broken ≡ false }
-        requires given { (actor_in store ≡ actor) × (store.version ≡ version) × (store.journal.group ≡ []) }
+        requires named { name_in store ≡ name }
+        requires none_staged { store.journal.group ≡ [] }
         ensures stands { (layout : Layout) (messages : List Told) → Durable layout store messages
-            → StandsFor D.Disk layout actor version (record { acts = messages; held = without_marks store.journal.payloads; stopped = [] }) result }
+            → StandsFor D.Disk layout name (record { acts = messages; held = without_marks store.journal.payloads; stopped = [] }) result }
         ensures up { is_down result ≡ false }
         ensures disk { disk_of result ≡ store.journal.disk }
         ensures strict { IsTrue (D.state store.journal.disk).strict → (layout : Layout) (passed : Maybe ℕ) (past : Past Told)
-            → IsStrictAt D.Disk layout actor version (D.state store.journal.disk).armed passed past result }
+            → IsStrictAt D.Disk layout name (D.state store.journal.disk).armed passed past result }
     {
         let _sound = store.is_broken();
         StoreActor {
             alloc,
-            actor,
-            version,
+            name,
             state: StoreState::Open(store),
             unsent: Vec::new(alloc),
             kept: 0,
@@ -84,16 +79,11 @@ impl<D: Rig> StoreActor<D> {
         requires up { is_down self.old ≡ false }
         requires may { MayTake D.Disk topology.now self.old [] m.now }
 
-        ensures ok { IfOk result (λ given. (own : Name) (version : ℕ) (past : Past Told) → StandsFor D.Disk topology.now own version past self.old
-            → Steps D.Disk topology.now own version past (message_stop number m.now) self.new given) }
+        ensures ok { IfOk result (λ given. OfEachPast D.Disk topology.now self.old (λ name past. Steps D.Disk topology.now name past (message_stop number m.now) self.new given)) }
         ensures down { IfOk result (λ given. is_down self.new ≡ is_none given) }
         ensures faults { CountsFaults (result ≡ Ok None) (D.state (disk_of self.old)).faults (D.state (disk_of self.new)).faults }
 
-        ensures strict { (own : Name) (version : ℕ) (armed passed : Maybe ℕ) (past : Past Told) → StandsFor D.Disk topology.now own version past self.old
-            → IsStrictAt D.Disk topology.now own version armed passed past self.old
-            → IfOk result (λ given. (is_none given ≡ fails_append armed)
-            × IsStrictAt D.Disk topology.now own version (after_append armed) (passed_in armed)
-            (after_step given past (message_stop number m.now)) self.new) }
+        ensures strict { StepsStrictly D.Disk topology.now self.old self.new (message_stop number m.now) result }
     {
         let prepared = self.prepare(topology, m)?;
         self.stage(topology, number, m, prepared)?;
@@ -134,16 +124,12 @@ impl<D: Rig> StoreActor<D> {
         requires may { MayStage D.Disk topology.now self.old m.now }
         requires prepared { IsPreparedBy topology.now self.old m.now prepared }
 
-        ensures ok { OnOk result ((own : Name) (version : ℕ) (past : Past Told) (staged : List (Stop Told)) → IsStaging D.Disk topology.now own version past staged self.old
-            → IsStaging D.Disk topology.now own version past (staged ++ message_stop number m.now ∷ []) self.new) }
-        ensures err { OnErr result ((own : Name) (version : ℕ) (past : Past Told) (staged : List (Stop Told)) → IsStaging D.Disk topology.now own version past staged self.old
-            → IsStaging D.Disk topology.now own version past staged self.new) }
+        ensures ok { OnOk result (OfEachStaging D.Disk topology.now self.old (λ name past staged. IsStaging D.Disk topology.now name past (staged ++ message_stop number m.now ∷ []) self.new)) }
+        ensures err { OnErr result (OfEachStaging D.Disk topology.now self.old (λ name past staged. IsStaging D.Disk topology.now name past staged self.new)) }
 
         ensures up { is_down self.new ≡ false }
         ensures disk { disk_of self.new ≡ disk_of self.old }
-        ensures strict { (own : Name) (version : ℕ) (armed passed : Maybe ℕ) (past other : Past Told)
-            → IsStrictAt D.Disk topology.now own version armed passed past self.old
-            → IsStrictAt D.Disk topology.now own version armed passed other self.new }
+        ensures strict { StaysStrict D.Disk topology.now self.old self.new }
     {
         self.unsent.reserve(1)?;
         let StoreState::Open(store) = &mut self.state else {
@@ -163,17 +149,12 @@ impl<D: Rig> StoreActor<D> {
         requires up { is_down self.old ≡ false }
         requires may { MaySettle D.Disk self.old }
 
-        ensures ok { IfOk result (λ given. (layout : Layout) (own : Name) (version : ℕ) (past : Past Told) (staged : List (Stop Told)) → IsStaging D.Disk layout own version past staged self.old
-            → Settles D.Disk layout own version past staged self.new given) }
+        ensures ok { IfOk result (λ given. (layout : Layout) → OfEachStaging D.Disk layout self.old (λ name past staged. Settles D.Disk layout name past staged self.new given)) }
         ensures down { IfOk result (λ given. is_down self.new ≡ is_none given) }
         ensures faults { CountsFaults (result ≡ Ok None) (D.state (disk_of self.old)).faults (D.state (disk_of self.new)).faults }
 
         // However much is staged, it is one append.
-        ensures strict { (layout : Layout) (own : Name) (version : ℕ) (armed passed : Maybe ℕ) (past : Past Told) (staged : List (Stop Told)) → IsStaging D.Disk layout own version past staged self.old
-            → IsStrictAt D.Disk layout own version armed passed past self.old → staged ≢ []
-            → IfOk result (λ given. (is_none given ≡ fails_append armed)
-            × IsStrictAt D.Disk layout own version (after_append armed) (passed_in armed)
-            (after_group given past staged) self.new) }
+        ensures strict { SettlesStrictly D.Disk self.old self.new result }
     {
         let StoreState::Open(store) = &mut self.state else {
             unreachable!()
@@ -195,39 +176,36 @@ impl<D: Rig> StoreActor<D> {
         topology: &Topology,
         choice: u8,
     ) -> (StoreActor<D>, Result<Restarted, OutOfMemory>)
-        ensures ok { IfOk result.1 (λ found. (own : Name) (version : ℕ) (past : Past Told) → StandsFor D.Disk topology.now own version past self
-            → KeptIn topology.now own past found × StandsFor D.Disk topology.now own version (past_after found past) result.0) }
+        ensures ok { IfOk result.1 (λ found. OfEachPast D.Disk topology.now self (λ name past.
+            KeptIn topology.now name.actor past found × StandsFor D.Disk topology.now name (past_after found past) result.0)) }
         ensures up { IfOk result.1 (λ found. is_down result.0 ≡ not (is_up found)) }
         ensures faults { CountsFaults (result.1 ≡ Ok Restarted.Down) (D.state (disk_of self)).faults (D.state (disk_of result.0)).faults }
 
-        ensures strict { (own : Name) (version : ℕ) (armed passed : Maybe ℕ) (past : Past Told) → StandsFor D.Disk topology.now own version past self
-            → IsStrictAt D.Disk topology.now own version armed passed past self
-            → IfOk result.1 (λ found. KeepsByChoice passed choice past.stopped found
-            × IsStrictAt D.Disk topology.now own version None None (past_after found past) result.0) }
+        ensures strict { RestartsStrictly D.Disk topology.now choice self result.0 result.1 }
     {
         let kept = self.held();
         let StoreActor {
             alloc,
-            actor,
-            version,
+            name,
             state,
             unsent,
             kept: _,
         } = self;
+        let (disk, earlier) = state.into_parts();
         let (state, found) = reopened(
             alloc,
             topology,
-            actor,
-            version,
+            name.actor,
+            name.version,
             kept,
             choice,
-            state.into_disk(),
+            disk,
+            earlier.as_ref(),
         );
         let (found, unsent) = told(alloc, found, unsent);
         let actor = StoreActor {
             alloc,
-            actor,
-            version,
+            name,
             state,
             unsent,
             kept,
@@ -237,13 +215,10 @@ impl<D: Rig> StoreActor<D> {
 
     /// Arms a call of the disk: where that is strict, so many more pass and the next one fails.
     pub fn arm(&mut self, calls: u64)
-        ensures stands { (layout : Layout) (own : Name) (version : ℕ) (past : Past Told) (staged : List (Stop Told)) → IsStaging D.Disk layout own version past staged self.old
-            → IsStaging D.Disk layout own version past staged self.new }
+        ensures stands { (layout : Layout) → OfEachStaging D.Disk layout self.old (λ name past staged. IsStaging D.Disk layout name past staged self.new) }
         ensures down { is_down self.new ≡ is_down self.old }
         ensures faults { (D.state (disk_of self.new)).faults ≡ (D.state (disk_of self.old)).faults }
-        ensures strict { (layout : Layout) (own : Name) (version : ℕ) (armed passed : Maybe ℕ) (past : Past Told)
-            → IsStrictAt D.Disk layout own version armed passed past self.old
-            → IsStrictAt D.Disk layout own version (Some calls) passed past self.new }
+        ensures strict { ArmsStrictly D.Disk calls self.old self.new }
     {
         match &mut self.state {
             StoreState::Open(store) => store.arm(calls),
@@ -264,8 +239,8 @@ impl<D: Rig> StoreActor<D> {
     /// The store, where it is up: it has taken what is staged too.
     pub fn store(&self) -> Option<&Store>
         ensures some { is_none result ≡ is_down self.now }
-        ensures stands { IfSome result (λ store. (layout : Layout) (own : Name) (version : ℕ) (past : Past Told) (staged : List (Stop Told)) → IsStaging D.Disk layout own version past staged self.now
-            → (actor_of store.now ≡ own) × Stands layout store.now (replay layout own (kept_with staged past).acts)) }
+        ensures stands { IfSome result (λ store. (layout : Layout) → OfEachStaging D.Disk layout self.now (λ name past staged.
+            (actor_of store.now ≡ name.actor) × Stands layout store.now (replay layout name.actor (kept_with staged past).acts))) }
     {
         match &self.state {
             StoreState::Open(store) if !store.is_broken() => Some(store.store()),
@@ -278,13 +253,11 @@ impl<D: Rig> StoreActor<D> {
     pub fn into_parts(self) -> (D, Option<Store>)
         ensures disk { result.0 ≡ disk_of self }
         ensures store { result.1 ≡ store_in self.state }
-        ensures holds { (layout : Layout) (own : Name) (version : ℕ) (past : Past Told) (staged : List (Stop Told)) → IsStaging D.Disk layout own version past staged self
-            → (image : List ℕ) → D.is_image result.0 image → HoldsPayloads version past image }
+        ensures holds { (layout : Layout) → OfEachStaging D.Disk layout self (λ name past staged. (image : List ℕ) → D.is_image result.0 image → HoldsPayloads name.version past image) }
     {
         let StoreActor {
             alloc: _,
-            actor: _,
-            version: _,
+            name: _,
             state,
             unsent: _,
             kept: _,
@@ -294,7 +267,7 @@ impl<D: Rig> StoreActor<D> {
 }
 
 impl<D: Rig> StoreActor<D> {
-    ghost use Rattle.acc_durable_store.specs.Actor.{StandsFor};
+    ghost use Rattle.acc_durable_store.specs.Actor.{OfEachPast};
 
     // A store notes nothing.
     fn emitted(&self, out: Messages) -> Emitted
@@ -308,8 +281,7 @@ impl<D: Rig> StoreActor<D> {
 
     // How many messages the journal has, without one that was stopped.
     fn held(&self) -> u64
-        ensures { (layout : Layout) (own : Name) (version : ℕ) (past : Past Told) → StandsFor D.Disk layout own version past self.now
-            → result ≡ count_of past }
+        ensures { (layout : Layout) → OfEachPast D.Disk layout self.now (λ name past. result ≡ count_of past) }
     {
         match &self.state {
             StoreState::Open(store) if !store.is_broken() => store.kept(),
@@ -319,15 +291,6 @@ impl<D: Rig> StoreActor<D> {
 }
 
 impl<D: Rig> StoreState<D> {
-    fn into_disk(self) -> D
-        ensures { result ≡ disk_in self }
-    {
-        match self {
-            StoreState::Open(store) => store.into_disk(),
-            StoreState::Shut(disk) => disk,
-        }
-    }
-
     fn into_parts(self) -> (D, Option<Store>)
         ensures disk { result.0 ≡ disk_in self }
         ensures store { result.1 ≡ store_in self }
@@ -342,7 +305,8 @@ impl<D: Rig> StoreState<D> {
     }
 }
 
-// Crashes the disk and reopens the store. Tells whether the journal has more messages than so many, or that the disk failed.
+// Crashes the disk and reopens the store, which shares what an earlier one knows. Tells whether the journal has more messages than
+// so many, or that the disk failed.
 fn reopened<D: Rig>(
     alloc: Global,
     topology: &Topology,
@@ -351,15 +315,16 @@ fn reopened<D: Rig>(
     kept: u64,
     choice: u8,
     disk: D,
+    earlier: Option<&Store>,
 ) -> (StoreState<D>, Result<Option<bool>, OutOfMemory>)
-    ensures ok { IfOk result.1 (λ found. (past : Past Told) → ((image : List ℕ) → D.is_image disk image → IsLeft (IsJournal topology.now actor version) past image) → kept ≡ count_of past
-        → IsFound D.Disk topology.now actor version past found result.0) }
+    ensures ok { IfOk result.1 (λ found. (past : Past Told) → ((image : List ℕ) → D.is_image disk image → IsLeft (IsJournal topology.now (record { actor = actor; version = version })) past image) → kept ≡ count_of past
+        → IsFound D.Disk topology.now (record { actor = actor; version = version }) past found result.0) }
     ensures shut { IfOk result.1 (λ found. is_shut result.0 ≡ is_none found) }
     ensures faults { CountsFaults (result.1 ≡ Ok None) (D.state disk).faults (D.state (disk_in result.0)).faults }
 
     ensures kind { (D.state (disk_in result.0)).strict ≡ (D.state disk).strict }
     ensures strict { IsTrue (D.state disk).strict → (past : Past Told) (keeps : Bool)
-        → ((bytes : List ℕ) → D.is_image disk bytes → CrashLeaves choice (D.state disk) bytes → ReadsIf (IsJournal topology.now actor version) past keeps bytes) → kept ≡ count_of past
+        → ((bytes : List ℕ) → D.is_image disk bytes → CrashLeaves choice (D.state disk) bytes → ReadsIf (IsJournal topology.now (record { actor = actor; version = version })) past keeps bytes) → kept ≡ count_of past
         → IfOk result.1 (TellsByChoice keeps past.stopped) }
     ensures unarmed { IsTrue (D.state disk).strict → OnOk result.1 ((D.state (disk_in result.0)).armed ≡ None) }
 {
@@ -367,7 +332,7 @@ fn reopened<D: Rig>(
     if kept == u64::MAX || disk.crash(choice).is_err() {
         return (StoreState::Shut(disk), Err(OutOfMemory));
     }
-    match DurableStore::reopen(alloc, topology, actor, version, disk) {
+    match DurableStore::reopen(alloc, topology, actor, version, disk, earlier) {
         Ok(store) => {
             let more = store.kept() > kept;
             (StoreState::Open(store), Ok(Some(more)))

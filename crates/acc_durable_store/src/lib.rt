@@ -7,6 +7,7 @@
 
 mod actor;
 mod error;
+mod name;
 mod replay;
 mod staging;
 mod store;
@@ -15,4 +16,5 @@ mod weighing;
 
 pub use actor::StoreActor;
 pub use error::StepError;
+pub use name::StoreName;
 pub use store::DurableStore;

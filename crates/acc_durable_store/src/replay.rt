@@ -6,11 +6,14 @@ ghost use Rattle.acc_store.specs.Stands.{IsStanding};
 ghost use Rattle.acc_durable_store.specs.Replay.{IsReplayOf, IsReplay, IsBad, MayTake, IsTooHigh, HasTaken};
 
 use acc_base::{Bytes, OutOfMemory};
+use acc_deps::Settled;
 use acc_journal::JournalError;
+use acc_message_code::KnownParts;
 use acc_payloads::{StorePayload, may_follow, read_store_payload};
-use acc_stamp::Actor;
+use acc_stamp::{Actor, TxnId};
 use acc_store::Store;
 use acc_topology::Topology;
+use acc_txn::Body;
 use std::alloc::Global;
 
 /// No store takes a message once it has met an `h` of so much or more.
@@ -26,14 +29,44 @@ pub(crate) struct Replayed {
     pub(crate) kept: u64,
 }
 
+/// What two stores know of transactions: the one that is given back, and an earlier one, if that is at hand.
+#[derive(Drop)]
+struct KnownTo<'a> {
+    store: &'a Store,
+    earlier: Option<&'a Store>,
+}
+
+impl<'a> KnownParts for KnownTo<'a> {
+    fn body_of(&self, id: TxnId) -> Option<&Body> {
+        if let Some(body) = self.store.body_of(id) {
+            return Some(body);
+        }
+        match self.earlier {
+            Some(store) => store.body_of(id),
+            None => None,
+        }
+    }
+
+    fn stable_of(&self, id: TxnId) -> Option<&Settled> {
+        if let Some(settled) = self.store.stable_of(id) {
+            return Some(settled);
+        }
+        match self.earlier {
+            Some(store) => store.stable_of(id),
+            None => None,
+        }
+    }
+}
+
 /// The store that these payloads give back. `BadRecord` comes exactly where one of them may not stand in the journal of this store,
-/// with the place of the gate in front of the first such payload.
+/// with the place of the gate in front of the first such payload. What an earlier store knows is shared where the payloads spell it.
 pub(crate) fn replay(
     alloc: Global,
     topology: &Topology,
     own: Actor,
     version: u8,
     payloads: &[Bytes],
+    earlier: Option<&Store>,
 ) -> Result<Replayed, JournalError>
     ensures ok { IfOk result (IsReplayOf topology.now version own payloads.now) }
     ensures refused { IfErr result (IsRefusedAs store_bytes (StoreMay topology.now version own) payloads.now) }
@@ -45,7 +78,7 @@ pub(crate) fn replay(
     };
     let mut gate: u64 = 1;
     for payload in payloads {
-        let entered = replayed.enter(alloc, topology, own, version, payload.as_slice())?;
+        let entered = replayed.enter(alloc, topology, own, version, payload.as_slice(), earlier)?;
         if !entered {
             return Err(JournalError::BadRecord { place: gate });
         }
@@ -66,6 +99,7 @@ impl Replayed {
         own: Actor,
         version: u8,
         payload: &[u8],
+        earlier: Option<&Store>,
     ) -> Result<bool, OutOfMemory>
         requires replay { IsReplay topology.now version own self.old }
         requires kept { self.old.kept < 2 ^ 64 - 1 }
@@ -74,7 +108,11 @@ impl Replayed {
         ensures bad { IfOk result (λ entered. entered ≡ false → (before : List (List ℕ)) (replayed : IsReplayOf topology.now version own before self.old)
             → IsBad topology.now version own replayed.items payload.now) }
     {
-        let Some(read) = read_store_payload(alloc, payload)? else {
+        let known = KnownTo {
+            store: &self.store,
+            earlier,
+        };
+        let Some(read) = read_store_payload(alloc, payload, &known)? else {
             return Ok(false);
         };
         if !may_follow(own, version, self.marked, &read) {

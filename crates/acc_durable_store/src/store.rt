@@ -1,29 +1,26 @@
 //! A store over a journal.
-ghost use Rattle.std.specs.Prelude.{◌≡◌, ◌≢◌, ◌^◌, ◌<◌, ◌≤◌, true, false, List, [], ◌∷◌, ◌++◌, ℕ, length, Ok, Err, IfOk, IfErr, OnOk, OnErr};
+ghost use Rattle.std.specs.Prelude.{◌≡◌, ◌≢◌, ◌^◌, ◌<◌, false, List, [], ◌∷◌, ◌++◌, ℕ, length, Ok, Err, IfOk, IfErr, OnOk, OnErr};
 ghost use Rattle.acc_topology.specs.Layout.{Layout};
 ghost use Rattle.acc_ports.specs.Disk.{IsAtRest};
 ghost use Rattle.acc_ports.specs.Moments.{Arms};
 ghost use Rattle.acc_message.specs.declared.message.Message.{Message as Told};
 ghost use Rattle.acc_message.specs.Fields.{top_of};
 ghost use Rattle.acc_message.specs.StoreRules.{store_answer, replay as replayed};
-ghost use Rattle.acc_message_code.specs.Short.{IsShortMessage};
 ghost use Rattle.acc_message_code.specs.Fitting.{FitsMessage};
-ghost use Rattle.acc_message_code.specs.MessageSpelling.{message_bytes};
 ghost use Rattle.acc_message_code.specs.Weight.{weight_of_all};
 ghost use Rattle.acc_record.specs.Stands.{IsFor};
-ghost use Rattle.acc_store.specs.Stands.{actor_of, greatest_in, IsStanding};
+ghost use Rattle.acc_store.specs.Stands.{greatest_in, IsStanding};
 ghost use Rattle.acc_store.specs.Weighing.{SendsShort};
 ghost use Rattle.acc_store.specs.Prepared.{IsPrepared};
 ghost use Rattle.acc_payloads.specs.declared.store.StorePayload.{StorePayload as Payload};
-ghost use Rattle.acc_payloads.specs.Journals.{appended, marked_after};
+ghost use Rattle.acc_payloads.specs.Journals.{marked_after};
 ghost use Rattle.acc_payloads.specs.Store.{IsStoreJournal};
-ghost use Rattle.acc_payloads.specs.Texts.{has_text};
 ghost use Rattle.acc_payloads.specs.Items.{without_marks};
 ghost use Rattle.acc_journal.specs.Layout.{Reads};
 ghost use Rattle.acc_journal.specs.Errors.{port_error};
 ghost use Rattle.acc_journal.specs.Journal.{IsOfTheDisk};
-ghost use Rattle.acc_journal.specs.Calls.{Appends, ReadsDisk};
-ghost use Rattle.acc_durable_store.specs.Store.{step_answer, actor_in, StandsFor, Takes, IsAsBefore, IsUntouched, IsTheSame, IsReopened, IsRefusedBy, Refuses, FailsToSettle, IsStillStaged};
+ghost use Rattle.acc_journal.specs.Calls.{ReadsDisk};
+ghost use Rattle.acc_durable_store.specs.Store.{step_answer, actor_in, message_group, AppendsGroup, StandsFor, CanTake, HasTaken, IsAsBefore, IsUntouched, IsTheSame, IsReopened, IsRefusedBy, Refuses, FailsToSettle, IsStillStaged};
 
 use crate::StepError;
 use crate::replay::replay;
@@ -80,13 +77,15 @@ impl<D: Disk> DurableStore<D> {
     /// Opens the store from the disk that a crash left. Its state is the replay of the journal. Every error hands the disk back.
     /// Besides the refusals of `Journal::reopen`, `BadRecord` comes exactly where a payload is no message to this store, is a mark that
     /// may not stand there, names an `h` of 2^62 or more, follows a vote of the replay whose `h` is 2^62 or more, or has a text value
-    /// and no mark before it, with the place of its gate.
+    /// and no mark before it, with the place of its gate. Where the journal spells what an earlier store knows, which stood over this
+    /// disk before the crash, say, the new one shares that; nothing else depends on it.
     pub fn reopen(
         alloc: Global,
         topology: &Topology,
         actor: Actor,
         version: u8,
         disk: D,
+        earlier: Option<&Store>,
     ) -> Result<DurableStore<D>, (JournalError, D)>
         requires { IsAtRest (D.state disk) (D.is_image disk) }
 
@@ -105,7 +104,14 @@ impl<D: Disk> DurableStore<D> {
             Ok(opened) => opened,
             Err(refused) => return Err(refused),
         };
-        match replay(alloc, topology, actor, version, payloads.as_slice()) {
+        match replay(
+            alloc,
+            topology,
+            actor,
+            version,
+            payloads.as_slice(),
+            earlier,
+        ) {
             Ok(replayed) => Ok(DurableStore {
                 alloc,
                 store: replayed.store,
@@ -121,23 +127,17 @@ impl<D: Disk> DurableStore<D> {
 
     /// Takes a message. It is on the disk, synced, before the answers are given. Nothing may be staged.
     pub fn step(&mut self, topology: &Topology, m: &Message) -> Result<Messages, StepError>
-        requires sound { self.old.journal.broken ≡ false }
-        requires short { IsShortMessage m.now }
-        requires store { IsFor (actor_in self.old) m.now }
-        requires top { top_of m.now < 2 ^ 62 }
-        requires greatest { greatest_in self.old.store < 2 ^ 62 }
-        requires stands { IsStanding topology.now self.old.store }
-        requires texts { has_text m.now ≡ true → self.old.version ≡ 2 }
+        requires can { CanTake topology.now self.old m.now }
         requires none_staged { self.old.journal.group ≡ [] }
 
-        ensures ok { IfOk result (λ sent. (messages : List Told) → StandsFor topology.now self.old messages → Takes topology.now self.old self.new messages m.now sent) }
+        ensures ok { HasTaken topology.now self.old self.new m.now result }
         ensures none_staged { OnOk result (self.new.journal.group ≡ []) }
         ensures fits { result ≢ Err StepError.OutOfMemory → FitsMessage m.now }
         ensures err { IfErr result (Refuses topology.now self.old self.new m.now) }
         ensures same { IsTheSame self.old self.new }
 
-        ensures appended { OnOk result (self.new.journal.payloads ≡ self.old.journal.payloads ++ appended self.old.version self.old.marked (message_bytes m.now)) }
-        ensures appends { Appends D.Disk self.old.journal.disk self.new.journal.disk self.old.journal.payloads (appended self.old.version self.old.marked (message_bytes m.now)) (step_answer result) }
+        ensures appended { OnOk result (self.new.journal.payloads ≡ self.old.journal.payloads ++ message_group self.old m.now) }
+        ensures appends { AppendsGroup D.Disk self.old self.new (message_group self.old m.now) (step_answer result) }
     {
         let _sound = self.journal.is_broken();
         let prepared = self.prepare(topology, m)?;
@@ -168,17 +168,11 @@ impl<D: Disk> DurableStore<D> {
         m: &Message,
         prepared: Prepared,
     ) -> Result<Messages, OutOfMemory>
-        requires sound { self.old.journal.broken ≡ false }
-        requires short { IsShortMessage m.now }
-        requires store { IsFor (actor_in self.old) m.now }
-        requires top { top_of m.now < 2 ^ 62 }
-        requires greatest { greatest_in self.old.store < 2 ^ 62 }
-        requires stands { IsStanding topology.now self.old.store }
-        requires texts { has_text m.now ≡ true → self.old.version ≡ 2 }
+        requires can { CanTake topology.now self.old m.now }
         requires prepared { IsPrepared topology.now self.old.store m.now prepared }
-        ensures ok { IfOk result (λ sent. (messages : List Told) → StandsFor topology.now self.old messages → Takes topology.now self.old self.new messages m.now sent) }
+        ensures ok { HasTaken topology.now self.old self.new m.now result }
         ensures fits { OnOk result (FitsMessage m.now) }
-        ensures journal { OnOk result (self.new.journal ≡ record self.old.journal { group = self.old.journal.group ++ appended self.old.version self.old.marked (message_bytes m.now) }) }
+        ensures journal { OnOk result (self.new.journal ≡ record self.old.journal { group = self.old.journal.group ++ message_group self.old m.now }) }
         ensures err { OnErr result (IsUntouched self.old self.new) }
         ensures same { IsTheSame self.old self.new }
     {
@@ -214,7 +208,7 @@ impl<D: Disk> DurableStore<D> {
 
         ensures appended { OnOk result (self.new.journal.payloads ≡ self.old.journal.payloads ++ self.old.journal.group) }
         ensures lasts { OnOk result ((image : List ℕ) → D.is_image self.new.journal.disk image → Reads image self.new.journal.payloads) }
-        ensures appends { self.old.journal.group ≢ [] → Appends D.Disk self.old.journal.disk self.new.journal.disk self.old.journal.payloads self.old.journal.group (step_answer result) }
+        ensures appends { self.old.journal.group ≢ [] → AppendsGroup D.Disk self.old self.new self.old.journal.group (step_answer result) }
     {
         let _sound = self.journal.is_broken();
         if self.journal.count() == 0 {

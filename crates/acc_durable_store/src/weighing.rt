@@ -1,9 +1,7 @@
 //! How much a store that is up would send. Nothing here makes a call of a disk.
-ghost use Rattle.std.specs.Prelude.{◌≡◌, false, ℕ, List, IfOk};
-ghost use Rattle.acc_stamp.specs.declared.actors.Actor.{Actor as Name};
-ghost use Rattle.acc_message.specs.declared.message.Message.{Message as Told};
+ghost use Rattle.std.specs.Prelude.{◌≡◌, false, IfOk};
 ghost use Rattle.acc_message_code.specs.Weight.{weight_of_all};
-ghost use Rattle.acc_payloads.specs.Stops.{Stop, Past, kept_with};
+ghost use Rattle.acc_payloads.specs.Stops.{kept_with};
 
 use crate::actor::{StoreActor, StoreState};
 use acc_base::OutOfMemory;
@@ -13,7 +11,7 @@ use acc_store::Prepared;
 use acc_topology::Topology;
 
 impl<D: Rig> StoreActor<D> {
-    ghost use Rattle.acc_durable_store.specs.Actor.{IsStaging, emits_next, is_down};
+    ghost use Rattle.acc_durable_store.specs.Actor.{OfEachStaging, emits_next, is_down};
     ghost use Rattle.acc_durable_store.specs.Weighing.{StoreMayWeigh, IsPreparedBy};
 
     /// How many bytes of encoded messages the step that was planned would send.
@@ -26,8 +24,7 @@ impl<D: Rig> StoreActor<D> {
         requires up { is_down self.now ≡ false }
         requires may { StoreMayWeigh D.Disk topology.now self.now m.now }
         requires prepared { IsPreparedBy topology.now self.now m.now prepared.now }
-        ensures { IfOk result (λ weight. (own : Name) (version : ℕ) (past : Past Told) (staged : List (Stop Told)) → IsStaging D.Disk topology.now own version past staged self.now
-            → weight ≡ weight_of_all (emits_next topology.now own (kept_with staged past) m.now).out) }
+        ensures { IfOk result (λ weight. OfEachStaging D.Disk topology.now self.now (λ name past staged. weight ≡ weight_of_all (emits_next topology.now name.actor (kept_with staged past) m.now).out)) }
     {
         let StoreState::Open(store) = &self.state else {
             unreachable!()

@@ -73,7 +73,7 @@ pub record Brings (layout : Layout) (old : Shelf) (m : Message) (body : BodyPart
       → first ++ released_by_rules layout old.actor (replay layout old.actor messages) m ≡ store_answer layout old.actor (replay layout old.actor messages) m
 
 module _ (layout : Layout) (old new : Shelf) (m : Message) (body : BodyParts) (share : List (Key × Bool)) (t : Stamp) (top : ℕ) (first sent : List Message)
-    (own : Record) (b : Brings layout old m body share t top first own) (e : IsExecuted layout old new own body (share_at layout old own.id body) t top first sent) where
+    (own : Record) (b : Brings layout old m body share t top first own) (e : IsExecuted layout old new own (record { body = body; t = t; top = top }) first sent) where
   abbrev x : TxnId
   x = id_of m
 

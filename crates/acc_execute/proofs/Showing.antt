@@ -75,7 +75,7 @@ learnt_shown old x body share t top h =
 -- the same in the room that is made
 pub shown_roomy : (old : Shelf) (waits : Waits) → ((y : TxnId) → watchers waits y ≡ watchers old.waits y) → (x : TxnId) (plan : Plan) (body : BodyParts) (share : List (Key × Bool)) (t : Stamp) (top greatest : ℕ)
     → greatest ≡ max old.greatest top → AllFit plan.touched waits → shows (record_at old.records x) t ≡ true
-    → IsLearntWithRoom old (record old { waits = waits; greatest = greatest }) x plan body share t top
+    → IsLearntWithRoom old (record old { waits = waits; greatest = greatest }) x plan share (record { body = body; t = t; top = top })
 shown_roomy old waits same x plan body share t top greatest is fits h =
     record {
       learns = subst (λ g. IsLearnt old (record old { greatest = g }) x body share (Some t) top) (sym is) (learnt_shown old x body share t top h);

@@ -50,7 +50,7 @@ module _ (old : Shelf) (waits : Waits) (same : (y : TxnId) → watchers waits y 
 
   pub learnt_roomy : {T E : Type 0} (new : Shelf) (x : TxnId) (plan : Plan) (body : BodyParts) (share : List (Key × Bool)) (stamp : Stamp) (top : ℕ) (result : Result T E)
       → AllFit plan.touched waits → OnOk result (IsLearnt roomy new x body share (Some stamp) top)
-      → OnOk result (IsLearntWithRoom old new x plan body share stamp top)
+      → OnOk result (IsLearntWithRoom old new x plan share (record { body = body; t = stamp; top = top }))
   learnt_roomy new x plan body share stamp top (Ok t) fits l =
       record {
         learns = record { actor = l.actor; records = l.records; index = l.index; cells = l.cells; waits = refl; greatest = l.greatest };
@@ -61,10 +61,10 @@ module _ (old : Shelf) (waits : Waits) (same : (y : TxnId) → watchers waits y 
 
 -- what is learnt of a record's transaction is learnt of that of an equal record
 pub learnt_of : (layout : Layout) (old mid : Shelf) (own equal : Record) (plan : Plan) (body : BodyParts) (stamp : Stamp) (top : ℕ) → own ≡ equal
-    → IsLearntWithRoom old mid own.id plan body (share_at layout old own.id body) stamp top
-    → IsLearntWithRoom old mid equal.id plan body (share_at layout old equal.id body) stamp top
+    → IsLearntWithRoom old mid own.id plan (share_at layout old own.id body) (record { body = body; t = stamp; top = top })
+    → IsLearntWithRoom old mid equal.id plan (share_at layout old equal.id body) (record { body = body; t = stamp; top = top })
 learnt_of layout old mid own equal plan body stamp top same l =
-    subst (λ (r : Record). IsLearntWithRoom old mid r.id plan body (share_at layout old r.id body) stamp top) same l
+    subst (λ (r : Record). IsLearntWithRoom old mid r.id plan (share_at layout old r.id body) (record { body = body; t = stamp; top = top })) same l
 
 -- ---- the records
 
@@ -124,8 +124,8 @@ module _ (old : Shelf) (cells : Cells) (same : (key : Key) → cell_at cells key
 -- ---- the step
 
 module _ (old : Shelf) (cells : Cells) (same : (key : Key) → cell_at cells key ≡ cell_at old.cells key) (mid : Shelf) (step : StepParts)
-    (body : BodyParts) (share : List (Key × Bool)) (stamp : Stamp) (top : ℕ)
-    (l : IsLearntWithRoom (moved old cells same) mid step.own.id step.plan body share stamp top) where
+    (layout : Layout) (body : BodyParts) (stamp : Stamp) (top : ℕ)
+    (l : IsLearntWithRoom (moved old cells same) mid step.own.id step.plan (share_at layout old step.own.id body) (record { body = body; t = stamp; top = top })) where
   abbrev own : Record
   own = step.own
 
@@ -136,7 +136,7 @@ module _ (old : Shelf) (cells : Cells) (same : (key : Key) → cell_at cells key
   own_known =
       ap is_some (l.learns.records own.id ∙ ap (λ b. cond b (Some known) (record_at old.records own.id)) (eq_itself id_order own.id))
 
-  module _ (new : Shelf) (q : IsCommitted mid new own step.plan step.writes) (layout : Layout) (first : List Message) (p : IsReadyBehind layout old first step) where
+  module _ (new : Shelf) (q : IsCommitted mid new own step.plan step.writes) (first : List Message) (p : IsReadyBehind layout old first step) where
     lists_are : watches_now step.plan.touched old.waits ≡ watchers new.waits
     lists_are = λ i y. sym (q.waits y ∙ ap (watches_with (tree.get id_cmp step.plan.touched y)) (l.waits y)) i
 
@@ -147,7 +147,7 @@ module _ (old : Shelf) (cells : Cells) (same : (key : Key) → cell_at cells key
         ∙ ap (unwrap_or (find step.writes key)) (same key)
         ∙ ap (λ writes. applied (cell_at old.cells) writes key) p.writes
 
-    pub executed_here : IsExecuted layout old new own body share stamp top first step.sent
+    pub executed_here : IsExecuted layout old new own (record { body = body; t = stamp; top = top }) first step.sent
     executed_here =
         record {
           changes = changes_in step.plan.done;

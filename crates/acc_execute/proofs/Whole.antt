@@ -23,7 +23,7 @@ use Rattle.acc_record.specs.declared.record.Record.{Record}
 use Rattle.acc_record.specs.declared.shelf.Shelf.{Shelf}
 use Rattle.acc_record.specs.Shelf.{record_at, cell_at}
 use Rattle.acc_record.specs.Stands.{StandsFor, AnswersByRules}
-use Rattle.acc_record.specs.Learning.{body_of, known_or_fresh, share_at}
+use Rattle.acc_record.specs.Learning.{body_of, known_or_fresh}
 use Rattle.acc_opening.specs.Known.{IsKnown}
 use Rattle.acc_opening.specs.Turns.{changes_in}
 use Rattle.acc_opening.specs.Lookup.{lookup}
@@ -88,11 +88,11 @@ module _ (layout : Layout) (old : Shelf) (m : Message) (body : BodyParts) (share
   ready_here owns time starts (Err e) same noted p = tt
 
   stepped_here : (step : StepParts) → step.own ≡ own → IsReadyBehind layout old first step → {E : Type 0} (new : Shelf) (result : Result (List Message) E)
-      → IfOk result (λ sent. (first : List Message) → IsReadyBehind layout old first step → IsExecuted layout old new step.own body (share_at layout old step.own.id body) t top first sent)
+      → IfOk result (λ sent. (first : List Message) → IsReadyBehind layout old first step → IsExecuted layout old new step.own (record { body = body; t = t; top = top }) first sent)
       → IfOk result (λ sent. AnswersByRules layout old new m sent)
   stepped_here step same p new (Ok sent) e =
       answers_by_rules layout old new m body share t top first sent own b
-      (subst (λ (o : Record). IsExecuted layout old new o body (share_at layout old o.id body) t top first sent) same (e first p))
+      (subst (λ (o : Record). IsExecuted layout old new o (record { body = body; t = t; top = top }) first sent) same (e first p))
   stepped_here step same p new (Err e) h = tt
 
 -- ---- Stable
@@ -139,7 +139,7 @@ module _ (layout : Layout) (old : Shelf) (m : Message) (from to : Actor) (x : Tx
         (first_is ∙ sym (ap (first_of layout old) is))
 
     pub stable_stepped : (step : StepParts) → step.own ≡ own → IsReadyBehind layout old first step → {E : Type 0} (new : Shelf) (result : Result (List Message) E)
-        → IfOk result (λ sent. (first : List Message) → IsReadyBehind layout old first step → IsExecuted layout old new step.own body (share_at layout old step.own.id body) t top first sent)
+        → IfOk result (λ sent. (first : List Message) → IsReadyBehind layout old first step → IsExecuted layout old new step.own (record { body = body; t = t; top = top }) first sent)
         → IfOk result (λ sent. AnswersByRules layout old new m sent)
     stable_stepped = stepped_here layout old m body share t top first own brings_here
 
@@ -147,7 +147,7 @@ module _ (layout : Layout) (old : Shelf) (m : Message) (from to : Actor) (x : Tx
     (is : m ≡ Stable from to x b body t deps) (step : StepParts) (ready : IsReady layout old m step) (share : List (Key × Bool))
     (shared : share ≡ share_of layout (footprint_of (body_of (record_at old.records x) body)) (shard_of old.actor)) (top : ℕ) (raises : top ≡ top_of m) where
   pub stable_taken : {E : Type 0} (new : Shelf) (result : Result (List Message) E)
-      → IfOk result (λ sent. (first : List Message) → IsReadyBehind layout old first step → IsExecuted layout old new step.own body (share_at layout old step.own.id body) t top first sent)
+      → IfOk result (λ sent. (first : List Message) → IsReadyBehind layout old first step → IsExecuted layout old new step.own (record { body = body; t = t; top = top }) first sent)
       → IfOk result (λ sent. AnswersByRules layout old new m sent)
   stable_taken =
       stable_stepped layout old m from to x b body t deps is step.own (subst (λ z. IsOwnOf old z step.own) is ready.owns)
@@ -196,7 +196,7 @@ module _ (layout : Layout) (old : Shelf) (m : Message) (from to : Actor) (x : Tx
         (first_is ∙ sym (ap (first_of layout old) is))
 
     pub apply_stepped : (step : StepParts) → step.own ≡ own → IsReadyBehind layout old first step → {E : Type 0} (new : Shelf) (result : Result (List Message) E)
-        → IfOk result (λ sent. (first : List Message) → IsReadyBehind layout old first step → IsExecuted layout old new step.own body (share_at layout old step.own.id body) t top first sent)
+        → IfOk result (λ sent. (first : List Message) → IsReadyBehind layout old first step → IsExecuted layout old new step.own (record { body = body; t = t; top = top }) first sent)
         → IfOk result (λ sent. AnswersByRules layout old new m sent)
     apply_stepped = stepped_here layout old m body share t top first own brought_here
 
@@ -204,7 +204,7 @@ module _ (layout : Layout) (old : Shelf) (m : Message) (from to : Actor) (x : Tx
     (is : m ≡ Apply from to x b body t deps outcome) (step : StepParts) (ready : IsReady layout old m step) (share : List (Key × Bool))
     (shared : share ≡ share_of layout (footprint_of (body_of (record_at old.records x) body)) (shard_of old.actor)) (top : ℕ) (raises : top ≡ top_of m) where
   pub apply_taken : {E : Type 0} (new : Shelf) (result : Result (List Message) E)
-      → IfOk result (λ sent. (first : List Message) → IsReadyBehind layout old first step → IsExecuted layout old new step.own body (share_at layout old step.own.id body) t top first sent)
+      → IfOk result (λ sent. (first : List Message) → IsReadyBehind layout old first step → IsExecuted layout old new step.own (record { body = body; t = t; top = top }) first sent)
       → IfOk result (λ sent. AnswersByRules layout old new m sent)
   apply_taken =
       apply_stepped layout old m from to x b body t deps outcome is step.own (subst (λ z. IsOwnOf old z step.own) is ready.owns)

@@ -21,7 +21,7 @@ use Rattle.acc_record.specs.declared.record.Record.{Record}
 use Rattle.acc_record.specs.declared.shelf.Shelf.{Shelf}
 use Rattle.acc_record.specs.declared.shelf.Watch.{Watch}
 use Rattle.acc_record.specs.Shelf.{Waits, record_at, cell_at, watchers}
-use Rattle.acc_record.specs.Learning.{known_or_fresh, is_below_settled, IsLearnt}
+use Rattle.acc_record.specs.Learning.{known_or_fresh, is_below_settled, share_at, IsLearnt}
 use Rattle.acc_opening.specs.Plan.{IsPlan}
 use Rattle.acc_opening.specs.declared.touched.Touched.{Touched}
 use Rattle.acc_opening.specs.declared.turns.Turn.{Turn}
@@ -107,9 +107,15 @@ pub record IsReady (layout : Layout) (shelf : Shelf) (m : Message) (step : StepP
   pub noted : (t : Stamp) → time_of m ≡ Some t → step.noted ≡ shows (record_at shelf.records step.own.id) t
   pub ready : IsReadyBehind layout shelf (first_of layout shelf m) step
 
+-- what a message brings of its transaction: the body, the timestamp, and the greatest h that it names
+pub record Brought : Type 0 where
+  pub body : BodyParts
+  pub t : Stamp
+  pub top : ℕ
+
 -- nothing but what is learnt changes, and what the plan adds to the lists of who waits for whom fits
-pub record IsLearntWithRoom (old new : Shelf) (x : TxnId) (plan : Plan) (body : BodyParts) (share : List (Key × Bool)) (stamp : Stamp) (top : ℕ) : Type 0 where
-  pub learns : IsLearnt old (record new { waits = old.waits }) x body share (Some stamp) top
+pub record IsLearntWithRoom (old new : Shelf) (x : TxnId) (plan : Plan) (share : List (Key × Bool)) (brought : Brought) : Type 0 where
+  pub learns : IsLearnt old (record new { waits = old.waits }) x brought.body share (Some brought.t) brought.top
   pub waits : (y : TxnId) → watchers new.waits y ≡ watchers old.waits y
   pub room : AllFit plan.touched new.waits
 
@@ -125,7 +131,7 @@ pub record IsCommitted (old new : Shelf) (own : Record) (plan : Plan) (writes : 
 
 -- The step follows a plan over the records with its own one: it sends and writes what the plan releases, notes what it learns,
 -- and leaves the records and the lists of who waits for whom as the plan does.
-pub record IsExecuted (layout : Layout) (old new : Shelf) (own : Record) (body : BodyParts) (share : List (Key × Bool)) (stamp : Stamp) (top : ℕ) (first sent : List Message) : Type 0 where
+pub record IsExecuted (layout : Layout) (old new : Shelf) (own : Record) (brought : Brought) (first sent : List Message) : Type 0 where
   pub changes : List Change
   pub plan : IsPlan (shard_of old.actor) (lookup old.records own) changes
   pub released : Released
@@ -133,7 +139,7 @@ pub record IsExecuted (layout : Layout) (old new : Shelf) (own : Record) (body :
   pub sends : sent ≡ first ++ released.sent
   pub cells : (key : Key) → cell_at new.cells key ≡ applied (cell_at old.cells) released.writes key
   pub learnt : Shelf
-  pub learns : IsLearnt old learnt own.id body share (Some stamp) top
+  pub learns : IsLearnt old learnt own.id brought.body (share_at layout old own.id brought.body) (Some brought.t) brought.top
   pub actor : new.actor ≡ old.actor
   pub index : new.index ≡ learnt.index
   pub greatest : new.greatest ≡ learnt.greatest

@@ -292,7 +292,7 @@ fn execute(
 ) -> Result<Messages, OutOfMemory>
     requires { IsTrue step.noted → IsTrue (shows (record_at shelf.old.records step.own.id) news.now.t) }
     ensures ok { IfOk result (λ sent. (first : List Message) → IsReadyBehind topology.now shelf.old first step
-        → IsExecuted topology.now shelf.old shelf.new step.own news.now.body.now (share_at topology.now shelf.old step.own.id news.now.body.now) news.now.t news.now.top first sent) }
+        → IsExecuted topology.now shelf.old shelf.new step.own (record { body = news.now.body.now; t = news.now.t; top = news.now.top }) first sent) }
     ensures err { OnErr result (IsSame shelf.old shelf.new) }
 {
     let StepParts {
@@ -318,7 +318,7 @@ fn learn_with_room(
     news: &News<'_>,
 ) -> Result<(), OutOfMemory>
     requires { IsTrue noted → IsTrue (shows (record_at shelf.old.records id) news.now.t) }
-    ensures ok { OnOk result (IsLearntWithRoom shelf.old shelf.new id plan.now news.now.body.now (share_at topology.now shelf.old id news.now.body.now) news.now.t news.now.top) }
+    ensures ok { OnOk result (IsLearntWithRoom shelf.old shelf.new id plan.now (share_at topology.now shelf.old id news.now.body.now) (record { body = news.now.body.now; t = news.now.t; top = news.now.top })) }
     ensures err { OnErr result (IsSame shelf.old shelf.new) }
 {
     make_room(&mut shelf.waits, &plan.touched)?;

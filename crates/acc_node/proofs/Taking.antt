@@ -203,11 +203,11 @@ told_clients now false false x y reply e h = and_true now
 
 module _ (layout : Layout) (number start : ℕ) (acts : List Act) (old new : Node) (s : StandsFor layout number start old acts) where
   pub inform_taken : (from to : Actor) (id : TxnId) (b : Ballot) (outcome : Outcome) (emitted : Emitted) → HasInformed old new id outcome.reply emitted
-      → HasTaken layout number start old new acts (Inform from to id b outcome) emitted
+      → HasTaken layout number start new acts (Inform from to id b outcome) emitted
   inform_taken from to id b outcome emitted h =
       let before : List Deed = node_replay layout number start acts in
       record {
-        clock = h.clock;
+        clock = h.clock ∙ s.clock_is;
         emits = h.emits ∙ ap (λ (t : Bool). record { notes = cond t (ReplyNote id outcome.reply ∷ []) []; out = [] }) (s.clients id);
         begun = λ txn. ap (λ (t : BTreeMap ℕ TxnId). get nat_cmp t txn) h.begun ∙ s.begun txn;
         clients = λ y.
@@ -286,12 +286,12 @@ module _ (layout : Layout) (number start : ℕ) (acts : List Act) (old new : Nod
   attempts_by y false e =
       subst (λ (o : Option Running). Runs layout y o (attempt_of layout number start y (node_replay layout number start acts))) (sym (h.others y e)) (s.attempts y)
 
-  pub heard_taken : HasTaken layout number start old new acts m emitted
+  pub heard_taken : HasTaken layout number start new acts m emitted
   heard_taken =
       let before : List Deed = node_replay layout number start acts in
       let o : Option Attempt = attempt_of layout number start (id_of m) before in
       record {
-        clock = h.clock;
+        clock = h.clock ∙ s.clock_is;
         emits = node_emits_it;
         begun = λ txn. ap (λ (t : BTreeMap ℕ TxnId). get nat_cmp t txn) h.begun ∙ s.begun txn;
         clients = λ y.
@@ -322,16 +322,16 @@ decides_at_once layout number start acts m emitted emits = λ a is q.
 
 -- ---- once its clock has seen the message
 
-pub stepped : (layout : Layout) (number start : ℕ) (acts : List Act) (old taken new : Node) (m : Message) (emitted : Emitted) (top : ℕ)
-    → HasTaken layout number start old taken acts m emitted → StandsFor layout number start old acts
+pub stepped : (layout : Layout) (number start : ℕ) (acts : List Act) (taken new : Node) (m : Message) (emitted : Emitted) (top : ℕ)
+    → HasTaken layout number start taken acts m emitted
     → new.clock ≡ after_seeing taken.clock top → top ≡ top_of m → new.begun ≡ taken.begun → new.clients ≡ taken.clients → new.attempts ≡ taken.attempts
     → Takes layout number start new acts (TakesMessage m) emitted
-stepped layout number start acts old taken new m emitted top t s clock is begun clients attempts =
+stepped layout number start acts taken new m emitted top t clock is begun clients attempts =
     let before : List Deed = node_replay layout number start acts in
     record {
       emits = t.emits;
       stands = record {
-        clock_is = clock ∙ ap (λ (k : ClockState). after_seeing k top) (t.clock ∙ s.clock_is) ∙ ap (after_seeing (clock_of number start before)) is;
+        clock_is = clock ∙ ap (λ (k : ClockState). after_seeing k top) t.clock ∙ ap (after_seeing (clock_of number start before)) is;
         begun = λ txn. ap (λ (b : BTreeMap ℕ TxnId). get nat_cmp b txn) begun ∙ t.begun txn ∙ sym (or_none (begun_id number start txn before));
         clients = λ x. ap (λ (b : BTreeMap TxnId (Unit {0})). is_some (get id_cmp b x)) clients ∙ t.clients x;
         attempts = λ x.

@@ -247,8 +247,8 @@ pub record HasInformed (old new : Node) (x : TxnId) (reply : Answer) (emitted : 
   pub emits : emitted ≡ record { notes = cond (is_some (get id_cmp old.clients x)) (ReplyNote x reply ∷ []) []; out = [] }
 
 -- the node before its clock sees the message: what it emits, and what it stands for once the clock has
-pub record HasTaken (layout : Layout) (number start : ℕ) (old new : Node) (acts : List Act) (m : Message) (emitted : Emitted) : Type 0 where
-  pub clock : new.clock ≡ old.clock
+pub record HasTaken (layout : Layout) (number start : ℕ) (new : Node) (acts : List Act) (m : Message) (emitted : Emitted) : Type 0 where
+  pub clock : new.clock ≡ clock_of number start (node_replay layout number start acts)
   pub emits : emitted ≡ node_emits layout number start (node_replay layout number start acts) (TakesMessage m)
   pub begun : (txn : ℕ) → get nat_cmp new.begun txn ≡ begun_id number start txn (node_replay layout number start acts)
   pub clients : (x : TxnId) → is_some (get id_cmp new.clients x) ≡ is_open x (node_replay layout number start (TakesMessage m ∷ acts))
@@ -256,7 +256,7 @@ pub record HasTaken (layout : Layout) (number start : ℕ) (old new : Node) (act
 
 abbrev pub TakesIt : Layout → Node → Node → Message → Emitted → Type 0
 TakesIt layout old new m emitted =
-    (number start : ℕ) (acts : List Act) → StandsFor layout number start old acts → HasTaken layout number start old new acts m emitted
+    (number start : ℕ) (acts : List Act) → StandsFor layout number start old acts → HasTaken layout number start new acts m emitted
 
 -- ---- a fast quorum
 

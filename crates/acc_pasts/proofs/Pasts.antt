@@ -69,7 +69,7 @@ module _ (cluster : Cluster) where
 
   -- an entry
   pub did_more : (items : List Item) (a : Actor) (event : Event) (act : Act) (lost : Bool) → MayTake cluster items a event act
-      → DidMore cluster items (entering cluster items a event lost ∷ items) a act (emits cluster items a act)
+      → DidMore cluster items (entering cluster items a event lost ∷ items) a (record { act = act; emitted = emits cluster items a act })
       (payload_by items a event (emits cluster items a act).notes) lost
   did_more items a event act lost may =
       record {
@@ -89,17 +89,17 @@ module _ (cluster : Cluster) where
   -- ---- what an actor took
 
   module _ (before now : List Item) (a : Actor) (act : Act) (emitted : Emitted) (payload : List (List ℕ)) (lost : Bool) where
-    pub acts_more : DidMore cluster before now a act emitted payload lost → acts_done (deeds_of cluster a now) ≡ act ∷ acts_done (deeds_of cluster a before)
+    pub acts_more : DidMore cluster before now a (record { act = act; emitted = emitted }) payload lost → acts_done (deeds_of cluster a now) ≡ act ∷ acts_done (deeds_of cluster a before)
     acts_more did = ap acts_done did.deeds
 
   pub taken_more : (before now : List Item) (a : Actor) (m : Message) (emitted : Emitted) (payload : List (List ℕ)) (lost : Bool)
-      → DidMore cluster before now a (Takes m) emitted payload lost → taken_of cluster a now ≡ record { message = m; sent = emitted.out } ∷ taken_of cluster a before
+      → DidMore cluster before now a (record { act = Takes m; emitted = emitted }) payload lost → taken_of cluster a now ≡ record { message = m; sent = emitted.out } ∷ taken_of cluster a before
   taken_more before now a m emitted payload lost did = ap taken_from did.deeds
 
   pub messages_more : (before now : List Item) (a : Actor) (m : Message) (emitted : Emitted) (payload : List (List ℕ)) (lost : Bool)
-      → DidMore cluster before now a (Takes m) emitted payload lost → messages_taken (taken_of cluster a now) ≡ m ∷ messages_taken (taken_of cluster a before)
+      → DidMore cluster before now a (record { act = Takes m; emitted = emitted }) payload lost → messages_taken (taken_of cluster a now) ≡ m ∷ messages_taken (taken_of cluster a before)
   messages_more before now a m emitted payload lost did = ap messages_taken (taken_more before now a m emitted payload lost did)
 
   pub taken_restarted : (before now : List Item) (a : Actor) (emitted : Emitted) (payload : List (List ℕ)) (lost : Bool)
-      → DidMore cluster before now a Restarts emitted payload lost → taken_of cluster a now ≡ taken_of cluster a before
+      → DidMore cluster before now a (record { act = Restarts; emitted = emitted }) payload lost → taken_of cluster a now ≡ taken_of cluster a before
   taken_restarted before now a emitted payload lost did = ap taken_from did.deeds

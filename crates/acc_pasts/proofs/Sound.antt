@@ -237,24 +237,24 @@ module _ (cluster : Cluster) where
 
   -- of its actor
   pub did_restart : (items : List Item) (a : Actor) (kept : ℕ)
-      → DidMore cluster items (entering cluster items a (RestartEvent kept) false ∷ items) a Restarts silence [] false
+      → DidMore cluster items (entering cluster items a (RestartEvent kept) false ∷ items) a (record { act = Restarts; emitted = silence }) [] false
   did_restart items a kept =
-      let did : DidMore cluster items (entering cluster items a (RestartEvent kept) false ∷ items) a Restarts (emits cluster items a Restarts) [] false =
+      let did : DidMore cluster items (entering cluster items a (RestartEvent kept) false ∷ items) a (record { act = Restarts; emitted = emits cluster items a Restarts }) [] false =
       did_more cluster items a (RestartEvent kept) Restarts false (restart_may cluster items a kept) in
-      subst (λ (e : Emitted). DidMore cluster items (entering cluster items a (RestartEvent kept) false ∷ items) a Restarts e [] false)
+      subst (λ (e : Emitted). DidMore cluster items (entering cluster items a (RestartEvent kept) false ∷ items) a (record { act = Restarts; emitted = e }) [] false)
       (restart_emits cluster items a) did
 
-  pub did_reopen : (s : Situation) (a : Actor) → DidMore cluster (whole s) (whole (reopened cluster s a [])) a Restarts silence [] false
+  pub did_reopen : (s : Situation) (a : Actor) → DidMore cluster (whole s) (whole (reopened cluster s a [])) a (record { act = Restarts; emitted = silence }) [] false
   did_reopen s a = did_restart (whole s) a 0
 
   -- first each step that was kept, and then the restart
   pub did_keep : (s : Situation) (a : Actor) (kept : Event) (act : Act) → MayTake cluster (whole s) a (event_in s kept) act
-      → DidMore cluster (whole s) (whole (entered cluster s a kept true)) a act (emits cluster (whole s) a act)
+      → DidMore cluster (whole s) (whole (entered cluster s a kept true)) a (record { act = act; emitted = emits cluster (whole s) a act })
       (payload_by (whole s) a (event_in s kept) (emits cluster (whole s) a act).notes) true
   did_keep s a kept act may = did_more cluster (whole s) a (event_in s kept) act true may
 
   pub did_reopen_kept : (s : Situation) (a : Actor) (kept : List Event)
-      → DidMore cluster (whole (with_kept cluster s a kept)) (whole (reopened cluster s a kept)) a Restarts silence [] false
+      → DidMore cluster (whole (with_kept cluster s a kept)) (whole (reopened cluster s a kept)) a (record { act = Restarts; emitted = silence }) [] false
   did_reopen_kept s a kept = did_restart (whole (with_kept cluster s a kept)) a (length kept)
 
   -- of another

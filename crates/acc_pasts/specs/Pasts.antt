@@ -4,9 +4,8 @@
 --     WentDown      it has one down more
 use Rattle.std.specs.Prelude.{◌≡◌, ℕ, ◌+◌, Bool, true, false, ◌&&◌, List, ◌∷◌, ◌++◌}
 use Rattle.acc_stamp.specs.declared.actors.Actor.{Actor}
-use Rattle.acc_message.specs.declared.entry.Emitted.{Emitted}
 use Rattle.acc_message.specs.declared.item.Item.{Item}
-use Rattle.acc_message.specs.NodeRules.{Act}
+use Rattle.acc_message.specs.NodeRules.{Deed}
 use Rattle.acc_message.specs.Run.{Cluster, deeds_of, is_down}
 use Rattle.acc_payloads.specs.Items.{payloads_in, downs_in, ends_down}
 
@@ -18,8 +17,8 @@ pub record IsUntouched (cluster : Cluster) (before now : List Item) (a : Actor) 
   pub ends : ends_down a now ≡ ends_down a before
 
 -- a lost entry leaves the actor down
-pub record DidMore (cluster : Cluster) (before now : List Item) (a : Actor) (act : Act) (emitted : Emitted) (payload : List (List ℕ)) (lost : Bool) : Type 0 where
-  pub deeds : deeds_of cluster a now ≡ record { act = act; emitted = emitted } ∷ deeds_of cluster a before
+pub record DidMore (cluster : Cluster) (before now : List Item) (a : Actor) (deed : Deed) (payload : List (List ℕ)) (lost : Bool) : Type 0 where
+  pub deeds : deeds_of cluster a now ≡ deed ∷ deeds_of cluster a before
   pub payloads : payloads_in a now ≡ payloads_in a before ++ payload
   pub downs : downs_in a now ≡ downs_in a before
   pub down : is_down a now ≡ (lost && is_down a before)

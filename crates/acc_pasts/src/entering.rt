@@ -32,8 +32,8 @@ pub fn items_change_one_actor()
     ensures others { (cluster : Cluster) (items : List Item) (item : Item) (a : Actor) → is_item_of a item ≡ false →
         IsUntouched cluster items (item ∷ items) a }
     ensures entry { (cluster : Cluster) (items : List Item) (a : Actor) (event : Event) (act : Act) (lost : Bool) →
-        MayTake cluster items a event act → DidMore cluster items (entering cluster items a event lost ∷ items) a act
-        (emits cluster items a act) (payload_by items a event (emits cluster items a act).notes) lost }
+        MayTake cluster items a event act → DidMore cluster items (entering cluster items a event lost ∷ items) a
+        (record { act = act; emitted = emits cluster items a act }) (payload_by items a event (emits cluster items a act).notes) lost }
     ensures down { (cluster : Cluster) (items : List Item) (a : Actor) → WentDown cluster items (Item.Down a ∷ items) a }
     ensures reopened_apart { (cluster : Cluster) (s : Situation) (a b : Actor) (kept : List Event) → same_actor a b ≡ false →
         IsUntouched cluster (whole s) (whole (reopened cluster s a kept)) b }

@@ -71,7 +71,7 @@ module _ (layout : Layout) (shelf : Shelf) (from to : Actor) (x : TxnId) (b : Ba
     v = vote_at shelf x share (top_of m)
 
     abbrev QuietBy : Option Message → Type 0
-    QuietBy refusal = IsPreAcceptingBy refusal shelf new x body share (top_of m) v → QuietStep layout shelf new m (refusal_or refusal (voted_as shelf.actor x b v) ∷ [])
+    QuietBy refusal = IsPreAcceptingBy refusal shelf new x body share (top_of m) → QuietStep layout shelf new m (refusal_or refusal (voted_as shelf.actor x b v) ∷ [])
 
     by_vote : QuietBy None
     by_vote l =

@@ -49,9 +49,10 @@ abbrev pub top_then : Option Message → Actor → Vote → ℕ → ℕ
 top_then None own v top = max top (drawn_as own.0 v.stamp)
 top_then (Some refusal) own v top = top
 
-abbrev pub IsPreAcceptingBy : Option Message → Shelf → Shelf → TxnId → BodyParts → List (Key × Bool) → ℕ → Vote → Type 0
-IsPreAcceptingBy refusal old new x body share top v =
+abbrev pub IsPreAcceptingBy : Option Message → Shelf → Shelf → TxnId → BodyParts → List (Key × Bool) → ℕ → Type 0
+IsPreAcceptingBy refusal old new x body share top =
+    let v : Vote = vote_at old x share top in
     IsLearntAs old new x share (stamp_then refusal v) (top_then refusal old.actor v top) (changed (change_then refusal v) (known_or_fresh (record_at old.records x) x body))
 
 abbrev pub IsPreAccepting : Shelf → Shelf → TxnId → Ballot → BodyParts → List (Key × Bool) → ℕ → Type 0
-IsPreAccepting old new x b body share top = IsPreAcceptingBy (refusal_at old x b) old new x body share top (vote_at old x share top)
+IsPreAccepting old new x b body share top = IsPreAcceptingBy (refusal_at old x b) old new x body share top

@@ -12,17 +12,17 @@ use Rattle.acc_history.specs.declared.history.History.{History}
 use Rattle.acc_node.specs.declared.error.NodeError.{NodeError}
 use Rattle.acc_world.specs.declared.setup.Setup.{Setup}
 use Rattle.acc_world.specs.declared.held.Held.{Held}
-use Rattle.acc_world.specs.Held.{cluster_of, HeldStands, IsAsked, HasTaken, IsRefused, restarted}
+use Rattle.acc_world.specs.Held.{moment, cluster_of, HeldStands, IsAsked, HasTaken, IsRefused, restarted}
 use Rattle.acc_world.proofs.Acting.{restarts}
 
 module _ (setup : Setup) (history : History) (a : Actor) (old : Held) where
   abbrev Took : Held → Event → Emitted → Type 0
   Took new event emitted =
-      (items earlier : List Item) (act : Act) → IsAsked setup history a event old items earlier act → HasTaken (cluster_of setup) earlier a event act emitted new
+      (items earlier : List Item) (act : Act) → IsAsked setup history a event old (moment items earlier) act → HasTaken (cluster_of setup) earlier a event act emitted new
 
   abbrev Refused : Event → NodeError → Type 0
   Refused event error =
-      (items earlier : List Item) (act : Act) → IsAsked setup history a event old items earlier act → IsRefused (cluster_of setup) earlier event error
+      (items earlier : List Item) (act : Act) → IsAsked setup history a event old (moment items earlier) act → IsRefused (cluster_of setup) earlier event error
 
   pub acted : (new : Held) (r : Result Emitted NodeError) (event is : Event) → event ≡ is → IfOk r (Took new is) → IfOk r (Took new event)
   acted new r event is e h = subst (λ x. IfOk r (Took new x)) (sym e) h

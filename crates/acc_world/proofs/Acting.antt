@@ -40,7 +40,7 @@ use Rattle.acc_store.specs.Stands as store
 use Rattle.acc_world.specs.declared.setup.Setup.{Setup}
 use Rattle.acc_world.specs.declared.held.Held.{Held}
 use Rattle.acc_world.specs.declared.held.Held.TheVariants.{Node as HeldNode, Store as HeldStore}
-use Rattle.acc_world.specs.Held.{cluster_of, HeldStands, IsAsked, HasTaken, past_of, restarted}
+use Rattle.acc_world.specs.Held.{moment, cluster_of, HeldStands, IsAsked, HasTaken, past_of, restarted}
 
 -- ---- what was read
 
@@ -97,24 +97,24 @@ module _ (setup : Setup) (history : History) (a : Actor) (event : Event) (items 
 
   pub node_took : (old new : Node) (x : Act) (emitted : Emitted) → x ≡ act → MayTake cluster earlier a event act
       → ((number start : ℕ) (acts : List Act) → node.StandsFor setup.topology number start old acts → node.Takes setup.topology number start new acts x emitted)
-      → IsAsked setup history a event (HeldNode old) items earlier act → HasTaken cluster earlier a event act emitted (HeldNode new)
+      → IsAsked setup history a event (HeldNode old) (moment items earlier) act → HasTaken cluster earlier a event act emitted (HeldNode new)
   node_took old new x emitted is may takes s =
       let took : node.Takes setup.topology (node_of a) start new acts x emitted = takes (node_of a) start acts s.stands.stands in
       as_act x emitted (HeldNode new) is may (took.emits ∙ sym (node_emits_next cluster earlier a x s.standing s.stands.kind))
       (record { kind = s.stands.kind; stands = took.stands })
 
-  pub drawn_low : (n : Node) → IsAsked setup history a event (HeldNode n) items earlier act → n.clock.drawn < 2 ^ 62
+  pub drawn_low : (n : Node) → IsAsked setup history a event (HeldNode n) (moment items earlier) act → n.clock.drawn < 2 ^ 62
   drawn_low n s =
       subst (λ (k : ClockState). k.drawn < 2 ^ 62) (sym s.stands.stands.clock_is) (node_meets cluster earlier a s.standing s.few s.stands.kind).drawn
 
-  pub seen_low : (n : Node) → IsAsked setup history a event (HeldNode n) items earlier act → n.clock.seen < 2 ^ 62
+  pub seen_low : (n : Node) → IsAsked setup history a event (HeldNode n) (moment items earlier) act → n.clock.seen < 2 ^ 62
   seen_low n s =
       subst (λ (k : ClockState). k.seen < 2 ^ 62) (sym s.stands.stands.clock_is) (node_meets cluster earlier a s.standing s.few s.stands.kind).seen
 
 -- an actor that is a node or a store, by what it is
 pub as_held : (setup : Setup) (history : History) (a : Actor) (event : Event) (held is : Held) (items earlier : List Item) (act : Act) → held ≡ is
-    → IsAsked setup history a event held items earlier act → IsAsked setup history a event is items earlier act
-as_held setup history a event held is items earlier act e s = subst (λ h. IsAsked setup history a event h items earlier act) e s
+    → IsAsked setup history a event held (moment items earlier) act → IsAsked setup history a event is (moment items earlier) act
+as_held setup history a event held is items earlier act e s = subst (λ h. IsAsked setup history a event h (moment items earlier) act) e s
 
 -- ---- a message
 
@@ -122,7 +122,7 @@ module _ (setup : Setup) (history : History) (a : Actor) (number : ℕ) (m : Mes
   abbrev of : Cluster
   of = cluster_of setup
 
-  module _ (held : Held) (found : Some m ≡ message_at items number) (s : IsAsked setup history a (MessageEvent number) held items earlier act) where
+  module _ (held : Held) (found : Some m ≡ message_at items number) (s : IsAsked setup history a (MessageEvent number) held (moment items earlier) act) where
     pub taking : Takes m ≡ act
     taking = takes_it m (message_at items number) act (sym found) s.known
 
@@ -138,7 +138,7 @@ module _ (setup : Setup) (history : History) (a : Actor) (number : ℕ) (m : Mes
     pub may_take : MayTake of earlier a (MessageEvent number) act
     may_take = record { act_is = s.may.act_is; place = s.may.place }
 
-  module _ (old : Store) (found : Some m ≡ message_at items number) (s : IsAsked setup history a (MessageEvent number) (HeldStore old) items earlier act) where
+  module _ (old : Store) (found : Some m ≡ message_at items number) (s : IsAsked setup history a (MessageEvent number) (HeldStore old) (moment items earlier) act) where
     abbrev messages : List Message
     messages = replayed_steps of a earlier
 
@@ -179,7 +179,7 @@ module _ (setup : Setup) (history : History) (a : Actor) (number : ℕ) (m : Mes
 -- ---- a restart
 
 pub restarts : (setup : Setup) (history : History) (a : Actor) (kept : ℕ) (old new : Held) (items earlier : List Item) (act : Act)
-    → IsAsked setup history a (RestartEvent kept) old items earlier act
+    → IsAsked setup history a (RestartEvent kept) old (moment items earlier) act
     → ((cluster : Cluster) (a : Actor) (deeds : List Deed) → HeldStands cluster a deeds old → HeldStands cluster a (restarted ∷ deeds) new)
     → (emitted : Emitted) → emitted ≡ silence → HasTaken (cluster_of setup) earlier a (RestartEvent kept) act emitted new
 restarts setup history a kept old new items earlier act s comes emitted none =

@@ -19,7 +19,7 @@ use Rattle.acc_pasts.proofs.Standing.{restart_may}
 use Rattle.acc_history.specs.declared.history.History.{History}
 use Rattle.acc_world.specs.declared.held.Held.{Held}
 use Rattle.acc_world.specs.declared.setup.Setup.{Setup}
-use Rattle.acc_world.specs.Held.{cluster_of, HeldStands, HeldIs, HasTaken, IsAsked, restarted}
+use Rattle.acc_world.specs.Held.{moment, cluster_of, HeldStands, HeldIs, HasTaken, IsAsked, restarted}
 use Rattle.acc_world.specs.Stands.{AreHeld}
 use Rattle.acc_world.specs.Keeping.{IsReady, HasActed, came_back}
 
@@ -87,7 +87,7 @@ held_more cluster items e act held is stands =
 
 pub asked_ready : (setup : Setup) (history : History) (actors : BTreeMap ℕ Held) (a : Actor) (event : Event) (items : List Item) (act : Act) (held : Held)
     → IsReady setup history actors a event items act → HeldStands (cluster_of setup) a (deeds_of (cluster_of setup) a items) held
-    → IsAsked setup history a event held items items act
+    → IsAsked setup history a event held (moment items items) act
 asked_ready setup history actors a event items act held ready stands =
     record { past = ready.past.past; known = ready.may.act_is; standing = ready.past.standing; few = ready.past.few; may = ready.may; stands = stands }
 

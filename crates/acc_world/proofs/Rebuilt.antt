@@ -21,7 +21,7 @@ use Rattle.acc_pasts.proofs.Stops.{act_still}
 use Rattle.acc_history.specs.declared.history.History.{History}
 use Rattle.acc_world.specs.declared.setup.Setup.{Setup}
 use Rattle.acc_world.specs.declared.held.Held.{Held}
-use Rattle.acc_world.specs.Held.{cluster_of, HeldStands, IsPast, IsAsked, MayAsk, MayTryAt, HasTaken, IsRedone}
+use Rattle.acc_world.specs.Held.{moment, cluster_of, HeldStands, IsPast, IsAsked, MayAsk, MayTryAt, HasTaken, IsRedone}
 
 -- ---- the items behind others
 
@@ -63,7 +63,7 @@ module _ (setup : Setup) (history : History) (items earlier : List Item) (e : En
   few_there : AreFew (Step e ∷ earlier)
   few_there = fewer r.front (Step e ∷ earlier) (subst AreFew place r.past.few)
 
-  pub asked_again : IsAsked setup history a e.event old items earlier stands_on.act
+  pub asked_again : IsAsked setup history a e.event old (moment items earlier) stands_on.act
   asked_again =
       record {
         past = r.past.past;

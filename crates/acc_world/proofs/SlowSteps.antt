@@ -30,7 +30,7 @@ use Rattle.acc_node.specs.declared.node.Node.{Node}
 use Rattle.acc_node.specs.Stands as node
 use Rattle.acc_world.specs.declared.setup.Setup.{Setup}
 use Rattle.acc_world.specs.declared.held.Held.TheVariants.{Node as HeldNode}
-use Rattle.acc_world.specs.Held.{cluster_of, IsAsked, HasTaken, IsSlowRefused}
+use Rattle.acc_world.specs.Held.{moment, cluster_of, IsAsked, HasTaken, IsSlowRefused}
 use Rattle.acc_world.proofs.Acting.{as_act}
 
 -- ---- what the home tells
@@ -88,7 +88,7 @@ module _ (cluster : Cluster) (items : List Item) (txn : ℕ) (a : Actor) (home :
 -- ---- one actor
 
 module _ (setup : Setup) (history : History) (a : Actor) (txn : ℕ) (items earlier : List Item) (act : Act) (old : Node)
-    (s : IsAsked setup history a (SlowEvent txn) (HeldNode old) items earlier act) where
+    (s : IsAsked setup history a (SlowEvent txn) (HeldNode old) (moment items earlier) act) where
   abbrev of : Cluster
   of = cluster_of setup
 

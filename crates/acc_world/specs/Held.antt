@@ -97,20 +97,28 @@ pub record MayTry (cluster : Cluster) (items : List Item) (a : Actor) (event : E
   pub act_is : act_of cluster items event ≡ Some act
   pub place : MayTryAt cluster items a act event
 
+-- a past, and the earlier items of it at which an actor stands
+pub record Moment : Type 0 where
+  pub items : List Item
+  pub earlier : List Item
+
+abbrev pub moment : List Item → List Item → Moment
+moment items earlier = record { items = items; earlier = earlier }
+
 -- The actor stands at some earlier items of the past, and may be tried with the event there.
-pub record IsAsked (setup : Setup) (history : History) (a : Actor) (event : Event) (held : Held) (items earlier : List Item) (act : Act) : Type 0 where
-  pub past : IsHistoryOf history (past_of items)
-  pub known : act_of (cluster_of setup) items event ≡ Some act
-  pub standing : IsStanding (cluster_of setup) earlier
-  pub few : AreFew earlier
-  pub may : MayTry (cluster_of setup) earlier a event act
-  pub stands : HeldStands (cluster_of setup) a (deeds_of (cluster_of setup) a earlier) held
+pub record IsAsked (setup : Setup) (history : History) (a : Actor) (event : Event) (held : Held) (at : Moment) (act : Act) : Type 0 where
+  pub past : IsHistoryOf history (past_of at.items)
+  pub known : act_of (cluster_of setup) at.items event ≡ Some act
+  pub standing : IsStanding (cluster_of setup) at.earlier
+  pub few : AreFew at.earlier
+  pub may : MayTry (cluster_of setup) at.earlier a event act
+  pub stands : HeldStands (cluster_of setup) a (deeds_of (cluster_of setup) a at.earlier) held
 
 pub record MayAsk (setup : Setup) (history : History) (a : Actor) (event : Event) (held : Held) : Type 0 where
   pub items : List Item
   pub earlier : List Item
   pub act : Act
-  pub asked : IsAsked setup history a event held items earlier act
+  pub asked : IsAsked setup history a event held (moment items earlier) act
 
 -- it may take the event, gives what the rules say, and stands for it
 pub record HasTaken (cluster : Cluster) (earlier : List Item) (a : Actor) (event : Event) (act : Act) (emitted : Emitted) (held : Held) : Type 0 where

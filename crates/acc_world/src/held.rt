@@ -6,7 +6,7 @@ ghost use Rattle.acc_message.specs.declared.item.Item.{Item};
 ghost use Rattle.acc_message.specs.NodeRules.{Act, Deed};
 ghost use Rattle.acc_message.specs.Coordinator.{silence};
 ghost use Rattle.acc_message.specs.Run.{Cluster};
-ghost use Rattle.acc_world.specs.Held.{cluster_of, HeldStands, MayAsk, IsAsked, HasTaken, IsRefused, restarted};
+ghost use Rattle.acc_world.specs.Held.{moment, cluster_of, HeldStands, MayAsk, IsAsked, HasTaken, IsRefused, restarted};
 
 use crate::setup::Setup;
 use acc_history::History;
@@ -46,9 +46,9 @@ impl Held {
         event: Event,
     ) -> Result<Emitted, NodeError>
         requires { MayAsk setup.now history.now actor event self.old }
-        ensures ok { IfOk result (λ emitted. (items earlier : List Item) (act : Act) → IsAsked setup.now history.now actor event self.old items earlier act
+        ensures ok { IfOk result (λ emitted. (items earlier : List Item) (act : Act) → IsAsked setup.now history.now actor event self.old (moment items earlier) act
             → HasTaken (cluster_of setup.now) earlier actor event act emitted self.new) }
-        ensures refused { IfErr result (λ error. (items earlier : List Item) (act : Act) → IsAsked setup.now history.now actor event self.old items earlier act
+        ensures refused { IfErr result (λ error. (items earlier : List Item) (act : Act) → IsAsked setup.now history.now actor event self.old (moment items earlier) act
             → IsRefused (cluster_of setup.now) earlier event error) }
         ensures err { OnErr result ((a : AnActor) (deeds : List Deed) → HeldStands (cluster_of setup.now) a deeds self.old → HeldStands (cluster_of setup.now) a deeds self.new) }
     {
@@ -73,7 +73,7 @@ impl Held {
         txn: u32,
     ) -> Result<Emitted, NodeError>
         requires { MayAsk setup.now history.now actor (AnEvent.Begin txn) self.old }
-        ensures ok { IfOk result (λ emitted. (items earlier : List Item) (act : Act) → IsAsked setup.now history.now actor (AnEvent.Begin txn) self.old items earlier act
+        ensures ok { IfOk result (λ emitted. (items earlier : List Item) (act : Act) → IsAsked setup.now history.now actor (AnEvent.Begin txn) self.old (moment items earlier) act
             → HasTaken (cluster_of setup.now) earlier actor (AnEvent.Begin txn) act emitted self.new) }
         ensures err { OnErr result ((a : AnActor) (deeds : List Deed) → HeldStands (cluster_of setup.now) a deeds self.old → HeldStands (cluster_of setup.now) a deeds self.new) }
     {
@@ -97,7 +97,7 @@ impl Held {
         txn: u32,
     ) -> Result<Emitted, NodeError>
         requires { MayAsk setup.now history.now actor (AnEvent.Recover txn) self.old }
-        ensures ok { IfOk result (λ emitted. (items earlier : List Item) (act : Act) → IsAsked setup.now history.now actor (AnEvent.Recover txn) self.old items earlier act
+        ensures ok { IfOk result (λ emitted. (items earlier : List Item) (act : Act) → IsAsked setup.now history.now actor (AnEvent.Recover txn) self.old (moment items earlier) act
             → HasTaken (cluster_of setup.now) earlier actor (AnEvent.Recover txn) act emitted self.new) }
         ensures err { OnErr result ((a : AnActor) (deeds : List Deed) → HeldStands (cluster_of setup.now) a deeds self.old → HeldStands (cluster_of setup.now) a deeds self.new) }
     {
@@ -123,9 +123,9 @@ impl Held {
         txn: u32,
     ) -> Result<Emitted, NodeError>
         requires { MayAsk setup.now history.now actor (AnEvent.Slow txn) self.old }
-        ensures ok { IfOk result (λ emitted. (items earlier : List Item) (act : Act) → IsAsked setup.now history.now actor (AnEvent.Slow txn) self.old items earlier act
+        ensures ok { IfOk result (λ emitted. (items earlier : List Item) (act : Act) → IsAsked setup.now history.now actor (AnEvent.Slow txn) self.old (moment items earlier) act
             → HasTaken (cluster_of setup.now) earlier actor (AnEvent.Slow txn) act emitted self.new) }
-        ensures refused { IfErr result (λ error. (items earlier : List Item) (act : Act) → IsAsked setup.now history.now actor (AnEvent.Slow txn) self.old items earlier act
+        ensures refused { IfErr result (λ error. (items earlier : List Item) (act : Act) → IsAsked setup.now history.now actor (AnEvent.Slow txn) self.old (moment items earlier) act
             → IsRefused (cluster_of setup.now) earlier (AnEvent.Slow txn) error) }
         ensures err { OnErr result ((a : AnActor) (deeds : List Deed) → HeldStands (cluster_of setup.now) a deeds self.old → HeldStands (cluster_of setup.now) a deeds self.new) }
     {
@@ -146,7 +146,7 @@ impl Held {
         number: u64,
     ) -> Result<Emitted, NodeError>
         requires { MayAsk setup.now history.now actor (AnEvent.Message number) self.old }
-        ensures ok { IfOk result (λ emitted. (items earlier : List Item) (act : Act) → IsAsked setup.now history.now actor (AnEvent.Message number) self.old items earlier act
+        ensures ok { IfOk result (λ emitted. (items earlier : List Item) (act : Act) → IsAsked setup.now history.now actor (AnEvent.Message number) self.old (moment items earlier) act
             → HasTaken (cluster_of setup.now) earlier actor (AnEvent.Message number) act emitted self.new) }
         ensures err { OnErr result ((a : AnActor) (deeds : List Deed) → HeldStands (cluster_of setup.now) a deeds self.old → HeldStands (cluster_of setup.now) a deeds self.new) }
     {

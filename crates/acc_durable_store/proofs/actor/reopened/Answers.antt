@@ -13,8 +13,8 @@ returns-in-Ok-clause-ok g c =
     let small : c.args.kept < 2 ^ 64 - 1 = omega arith in
     let left : g.D.Disk.is_image c.args.disk (g.D.Disk.state c.crash.new.self).content = search rules in
     λ past lefts count.
-    subst (λ (n : ℕ). IsFound g.D.Disk c.args.topology.now c.args.actor c.args.version past (Some (ltb c.args.kept n)) (Open c.in-Ok.store)) (sym c.kept.ensures)
-    (found_up g.D.Disk c.args.topology.now c.args.actor c.args.version past (g.D.Disk.state c.crash.new.self).content c.in-Ok.store c.args.kept c.in-Ok.ensures.reads c.in-Ok.ensures.given c.in-Ok.ensures.ok
+    subst (λ (n : ℕ). IsFound g.D.Disk c.args.topology.now (record { actor = c.args.actor; version = c.args.version }) past (Some (ltb c.args.kept n)) (Open c.in-Ok.store)) (sym c.kept.ensures)
+    (found_up g.D.Disk c.args.topology.now (record { actor = c.args.actor; version = c.args.version }) past (g.D.Disk.state c.crash.new.self).content c.in-Ok.store c.args.kept c.in-Ok.ensures.reads (λ i. record { actor = c.in-Ok.ensures.given.0 i; version = c.in-Ok.ensures.given.1 i }) c.in-Ok.ensures.ok
     count small (lefts (g.D.Disk.state c.crash.new.self).content left)
     (λ image i. subst (λ (bytes : List ℕ). Reads bytes c.in-Ok.store.journal.payloads) (sym (c.in-Ok.ensures.disk.only image i)) c.in-Ok.ensures.reads))
 
@@ -25,5 +25,5 @@ returns-in-Ok-clause-strict g c =
     λ is_strict past keeps reads count.
     let by : CrashLeaves c.args.choice (g.D.Disk.state c.args.disk) (g.D.Disk.state c.crash.new.self).content = search rules in
     subst (λ (n : ℕ). TellsByChoice keeps past.stopped (Some (ltb c.args.kept n))) (sym c.kept.ensures)
-    (tells_if g.D.Disk c.args.topology.now c.args.actor c.args.version past (g.D.Disk.state c.crash.new.self).content c.in-Ok.store c.args.kept c.in-Ok.ensures.reads c.in-Ok.ensures.given c.in-Ok.ensures.ok
+    (tells_if g.D.Disk c.args.topology.now (record { actor = c.args.actor; version = c.args.version }) past (g.D.Disk.state c.crash.new.self).content c.in-Ok.store c.args.kept c.in-Ok.ensures.reads (λ i. record { actor = c.in-Ok.ensures.given.0 i; version = c.in-Ok.ensures.given.1 i }) c.in-Ok.ensures.ok
     count small keeps (reads (g.D.Disk.state c.crash.new.self).content left by))

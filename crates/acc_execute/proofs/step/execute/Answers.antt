@@ -1,7 +1,6 @@
 use Rattle.std.proofs.Common.{◌≡◌, true, sym, subst}
 use Rattle.acc_record.specs.declared.record.Record.{Record}
 use Rattle.acc_record.specs.Shelf.{record_at}
-use Rattle.acc_record.specs.Learning.{share_at}
 use Rattle.acc_execute.specs.Executed.{shows}
 use Rattle.acc_execute.proofs.Stepping.{learnt_of, moved, moved_at_once, left_moved, own_known, executed_here}
 use Rattle.acc_execute.proofs.step.execute.Goals as goal
@@ -19,7 +18,7 @@ learn_with_room-requires c =
 
 pub commit-requires-clause-known : goal.commit-requires-clause-known
 commit-requires-clause-known c =
-    own_known c.args.shelf.now c.flush.new.self c.flush.ensures.same c.learn_with_room.new.shelf c.args.step c.args.news.now.body.now (share_at c.args.topology.now c.args.shelf.now c.args.step.own.id c.args.news.now.body.now) c.args.news.now.t
+    own_known c.args.shelf.now c.flush.new.self c.flush.ensures.same c.learn_with_room.new.shelf c.args.step c.args.topology.now c.args.news.now.body.now c.args.news.now.t
     c.args.news.now.top
     (learnt_of c.args.topology.now (moved c.args.shelf.now c.flush.new.self c.flush.ensures.same) c.learn_with_room.new.shelf c.get.result.now c.args.step.own c.args.step.plan c.args.news.now.body.now c.args.news.now.t c.args.news.now.top
     c.get.ensures c.in_ok-learn_with_room.ensures.ok)
@@ -29,8 +28,8 @@ commit-requires-clause-room c = c.in_ok-learn_with_room.ensures.ok.room
 
 pub returns-clause-ok : goal.returns-clause-ok
 returns-clause-ok c =
-    executed_here c.args.shelf.now c.flush.new.self c.flush.ensures.same c.learn_with_room.new.shelf c.args.step c.args.news.now.body.now (share_at c.args.topology.now c.args.shelf.now c.args.step.own.id c.args.news.now.body.now) c.args.news.now.t
+    executed_here c.args.shelf.now c.flush.new.self c.flush.ensures.same c.learn_with_room.new.shelf c.args.step c.args.topology.now c.args.news.now.body.now c.args.news.now.t
     c.args.news.now.top
     (learnt_of c.args.topology.now (moved c.args.shelf.now c.flush.new.self c.flush.ensures.same) c.learn_with_room.new.shelf c.get.result.now c.args.step.own c.args.step.plan c.args.news.now.body.now c.args.news.now.t c.args.news.now.top
     c.get.ensures c.in_ok-learn_with_room.ensures.ok)
-    c.commit.new.shelf c.commit.ensures c.args.topology.now
+    c.commit.new.shelf c.commit.ensures

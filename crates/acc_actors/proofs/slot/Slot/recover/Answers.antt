@@ -3,24 +3,16 @@ use Rattle.acc_message.specs.declared.entry.Event.TheVariants.{Recover as Recove
 use Rattle.acc_message.specs.NodeRules.{Recovers}
 use Rattle.acc_durable_node.specs.Actor as node
 use Rattle.acc_schedule.specs.Content.{Content}
-use Rattle.acc_actors.proofs.Calls.{may_recover, called, called_strictly, recover_is}
-use Rattle.acc_actors.proofs.Few.{steps_up}
+use Rattle.acc_actors.proofs.Calls.{may_recover, answers, recover_is}
 use Rattle.acc_actors.proofs.slot.Slot.recover.Goals as goal
 
 pub recover-requires-clause-may : goal.recover-requires-clause-may
 recover-requires-clause-may g c =
     may_recover g.D.Disk c.args.plan.now c.args.actor c.args.self.now c.in-Node.node c.in-Node.is c.plan.inside.topology (ap (λ (p : Content). p.topology) c.plan.view_is) c.args.txn c.args.id c.args.body.now c.requires
 
-pub returns-in-Node-clause-ok : goal.returns-in-Node-clause-ok
-returns-in-Node-clause-ok g c =
-    called g.D.Disk c.args.plan.now c.args.actor c.args.self.now c.in-Node.node c.in-Node.is c.plan.inside.topology (ap (λ (p : Content). p.topology) c.plan.view_is)
-    (RecoverEvent c.args.txn) (Recovers c.args.id c.args.body.now) (λ layout number start past. node.recover_stop layout number start past c.args.txn c.args.id c.args.body.now) refl
+pub returns-in-Node : goal.returns-in-Node
+returns-in-Node g c =
+    answers g.D.Disk c.args.plan.now c.args.actor c.args.self.now c.in-Node.node c.in-Node.is c.plan.inside.topology (ap (λ (p : Content). p.topology) c.plan.view_is)
+    (RecoverEvent c.args.txn) (Recovers c.args.id c.args.body.now) (λ layout. node.recover_stop layout c.args.txn c.args.id c.args.body.now) refl
     (recover_is g.D.Disk c.args.plan.now c.args.actor c.args.self.now c.in-Node.node c.in-Node.is c.plan.inside.topology (ap (λ (p : Content). p.topology) c.plan.view_is) c.args.txn c.args.id c.args.body.now)
-    c.recover.new.self c.recover.result c.recover.ensures.ok c.recover.ensures.down (steps_up c.recover.result _ _ c.recover.ensures.faults) c.recover.ensures.faults.cause
-
-pub returns-in-Node-clause-strict : goal.returns-in-Node-clause-strict
-returns-in-Node-clause-strict g c =
-    called_strictly g.D.Disk c.args.plan.now c.args.actor c.args.self.now c.in-Node.node c.in-Node.is c.plan.inside.topology (ap (λ (p : Content). p.topology) c.plan.view_is)
-    (RecoverEvent c.args.txn) (Recovers c.args.id c.args.body.now) (λ layout number start past. node.recover_stop layout number start past c.args.txn c.args.id c.args.body.now) refl
-    (recover_is g.D.Disk c.args.plan.now c.args.actor c.args.self.now c.in-Node.node c.in-Node.is c.plan.inside.topology (ap (λ (p : Content). p.topology) c.plan.view_is) c.args.txn c.args.id c.args.body.now)
-    c.recover.new.self c.recover.result c.recover.ensures.strict
+    c.recover.new.self c.recover.result c.recover.ensures

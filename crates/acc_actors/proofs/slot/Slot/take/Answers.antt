@@ -1,8 +1,7 @@
 use Rattle.std.proofs.Common.{ap, subst}
 use Rattle.acc_schedule.specs.Content.{Content}
 use Rattle.acc_schedule.specs.Plan.{IsPlan}
-use Rattle.acc_actors.proofs.Takes.{top_low, node_took, node_took_strictly, may_take, store_called, store_called_strictly}
-use Rattle.acc_actors.proofs.Few.{steps_up}
+use Rattle.acc_actors.proofs.Takes.{top_low, node_answers, may_take, store_answers}
 use Rattle.acc_actors.proofs.slot.Slot.take.Goals as goal
 
 pub take-requires-clause-top_in_range : goal.take-requires-clause-top_in_range
@@ -13,22 +12,12 @@ take-requires-in-Store-clause-may g c =
     may_take g.D.Disk c.args.plan.now c.args.actor c.args.number c.args.m.now c.args.self.now c.plan.inside.topology (ap (λ (p : Content). p.topology) c.plan.view_is)
     c.in-Store.store c.in-Store.is c.messages_have_numbers_alone.ensures (subst IsPlan c.plan.view_is c.plan.invariant) c.requires
 
-pub returns-in_ok-take-in-Node-clause-ok : goal.returns-in_ok-take-in-Node-clause-ok
-returns-in_ok-take-in-Node-clause-ok g c =
-    node_took g.D.Disk c.args.plan.now c.args.actor c.args.number c.args.m.now c.args.self.now c.plan.inside.topology (ap (λ (p : Content). p.topology) c.plan.view_is)
-    c.in-Node.node c.take.new.self c.in_ok-take-in-Node.field-0 c.in-Node.is c.in_ok-take-in-Node.ensures.ok c.take.ensures.up c.take.ensures.disk
+pub returns-in_ok-take-in-Node : goal.returns-in_ok-take-in-Node
+returns-in_ok-take-in-Node g c =
+    node_answers g.D.Disk c.args.plan.now c.args.actor c.args.number c.args.m.now c.args.self.now c.plan.inside.topology (ap (λ (p : Content). p.topology) c.plan.view_is)
+    c.in-Node.node c.take.new.self c.in-Node.is c.take.ensures.disk c.in_ok-take-in-Node.field-0 c.in_ok-take-in-Node.ensures.ok c.take.ensures.up c.take.ensures.strict
 
-pub returns-in_ok-take-in-Node-clause-strict : goal.returns-in_ok-take-in-Node-clause-strict
-returns-in_ok-take-in-Node-clause-strict g c =
-    node_took_strictly g.D.Disk c.args.plan.now c.args.actor c.args.number c.args.m.now c.args.self.now c.plan.inside.topology (ap (λ (p : Content). p.topology) c.plan.view_is)
-    c.in-Node.node c.take.new.self c.in_ok-take-in-Node.field-0 c.in-Node.is c.take.ensures.strict
-
-pub returns-in-Store-clause-ok : goal.returns-in-Store-clause-ok
-returns-in-Store-clause-ok g c =
-    store_called g.D.Disk c.args.plan.now c.args.actor c.args.number c.args.m.now c.args.self.now c.plan.inside.topology (ap (λ (p : Content). p.topology) c.plan.view_is)
-    c.in-Store.store c.in-Store.is c.take-in-Store.new.self c.take-in-Store.result c.take-in-Store.ensures.ok c.take-in-Store.ensures.down (steps_up c.take-in-Store.result _ _ c.take-in-Store.ensures.faults) c.take-in-Store.ensures.faults.cause
-
-pub returns-in-Store-clause-strict : goal.returns-in-Store-clause-strict
-returns-in-Store-clause-strict g c =
-    store_called_strictly g.D.Disk c.args.plan.now c.args.actor c.args.number c.args.m.now c.args.self.now c.plan.inside.topology (ap (λ (p : Content). p.topology) c.plan.view_is)
-    c.in-Store.store c.in-Store.is c.take-in-Store.new.self c.take-in-Store.result c.take-in-Store.ensures.strict
+pub returns-in-Store : goal.returns-in-Store
+returns-in-Store g c =
+    store_answers g.D.Disk c.args.plan.now c.args.actor c.args.number c.args.m.now c.args.self.now c.plan.inside.topology (ap (λ (p : Content). p.topology) c.plan.view_is)
+    c.in-Store.store c.in-Store.is c.take-in-Store.new.self c.take-in-Store.result c.take-in-Store.ensures.ok c.take-in-Store.ensures.down c.take-in-Store.ensures.faults c.take-in-Store.ensures.strict

@@ -1,44 +1,22 @@
 -- The journal with the draw is one of the node, whether the append passed or failed.
-use Rattle.std.proofs.Common.{◌≡◌, ◌<◌, ◌^◌, false, sym, ap, subst, ◌∙◌, arith}
-use Rattle.std.specs.Prelude.{IsErrOf}
-use Rattle.acc_ports.specs.declared.error.PortError.TheVariants.{Failed}
-use Rattle.acc_ports.specs.Faults.{CountsFaults}
+use Rattle.std.proofs.Common.{◌<◌, ◌^◌, refl, arith}
+use Rattle.acc_message.specs.declared.entry.Event.TheVariants.{Begin as BeginEvent}
+use Rattle.acc_message.specs.NodeRules.{Begins}
 use Rattle.acc_payloads.specs.declared.draw.Purpose.TheVariants.{Begin}
-use Rattle.acc_durable_node.specs.Node.{draw_answer, draw_group}
-use Rattle.acc_durable_node.specs.declared.actor.NodeState.{NodeState}
-use Rattle.acc_durable_node.specs.Actor.{disk_in, disk_of, is_shut, begin_stop}
+use Rattle.acc_durable_node.specs.Node.{draw_group}
+use Rattle.acc_durable_node.specs.Actor.{begin_stop}
 use Rattle.acc_durable_node.proofs.Nodes.{can_begin, begin_longer, held_longer}
-use Rattle.acc_durable_node.proofs.NodeSteps.{steps, strictly, faults_settled, for_all}
+use Rattle.acc_durable_node.proofs.NodeSteps.{stepped}
 use Rattle.acc_durable_node.proofs.actor.NodeActor.begin.Goals as goal
 
-pub returns-clause-ok : goal.returns-clause-ok
-returns-clause-ok g c =
+pub returns : goal.returns
+returns g c =
     let small : c.args.txn < 2 ^ 32 = omega arith in
-    let sound : c.in-Open.node.journal.broken ≡ false = ap is_shut (sym c.in-Open.is) ∙ c.requires.up in
     let can = can_begin g.D.Disk c.args.topology.now c.args.self.now c.in-Open.node c.in-Open.is c.requires.up c.args.txn c.requires.may in
-    for_all g.D.Disk c.args.topology.now c.args.self.now c.settle.new.self (λ number start past. begin_stop c.args.topology.now number start past c.args.txn c.args.body.now) c.settle.result
-    (λ number start version past stands.
-    steps g.D.Disk c.args.topology.now c.args.self.now c.in-Open.node c.begin-given.new.self c.in-Open.is sound number start version past stands c.reserve.new.self c.reserve.ensures.items
-    (begin_stop c.args.topology.now number start past c.args.txn c.args.body.now) (draw_group c.in-Open.node Begin c.args.txn)
-    (begin_longer g.D.Disk c.args.topology.now c.args.self.now c.in-Open.node c.in-Open.is c.requires.up c.args.txn small number start version past stands c.args.body.now can)
-    (held_longer g.D.Disk c.args.topology.now c.args.self.now c.in-Open.node c.in-Open.is c.requires.up c.args.txn small number start version past stands Begin) c.begin-given.ensures.same
-    c.kept-kept.result c.begin-given.result c.settle.new.self c.settle.result c.kept-kept.ensures c.settle.ensures
-    c.begin-given.ensures.ok c.begin-given.ensures.err c.begin-given.ensures.appended (g.met.D.Disk.counts_now c.begin-given.new.self.journal.disk) c.begin-given.ensures.appends)
-
-pub returns-clause-faults : goal.returns-clause-faults
-returns-clause-faults g c =
-    faults_settled g.D.Disk (g.D.Disk.state (disk_of c.args.self.now)).faults _ _ c.begin-given.result _ _ _ c.settle.ensures
-    (subst (λ (s : NodeState g.row.D.Denot). CountsFaults (IsErrOf (draw_answer c.begin-given.result) Failed) (g.D.Disk.state (disk_in s)).faults (g.D.Disk.state c.begin-given.new.self.journal.disk).faults) (sym c.in-Open.is) c.begin-given.ensures.appends.calls.faults)
-
-pub returns-clause-strict : goal.returns-clause-strict
-returns-clause-strict g c =
-    let small : c.args.txn < 2 ^ 32 = omega arith in
-    let sound : c.in-Open.node.journal.broken ≡ false = ap is_shut (sym c.in-Open.is) ∙ c.requires.up in
-    let can = can_begin g.D.Disk c.args.topology.now c.args.self.now c.in-Open.node c.in-Open.is c.requires.up c.args.txn c.requires.may in
-    λ number start version armed passed past stands at.
-    strictly g.D.Disk c.args.topology.now c.args.self.now c.in-Open.node c.begin-given.new.self c.in-Open.is sound number start version past stands c.reserve.new.self c.reserve.ensures.items
-    (begin_stop c.args.topology.now number start past c.args.txn c.args.body.now) (draw_group c.in-Open.node Begin c.args.txn)
-    (begin_longer g.D.Disk c.args.topology.now c.args.self.now c.in-Open.node c.in-Open.is c.requires.up c.args.txn small number start version past stands c.args.body.now can)
-    (held_longer g.D.Disk c.args.topology.now c.args.self.now c.in-Open.node c.in-Open.is c.requires.up c.args.txn small number start version past stands Begin) c.begin-given.ensures.same armed passed at
-    c.kept-kept.result c.begin-given.result c.settle.new.self c.settle.result c.settle.ensures
-    c.begin-given.ensures.ok c.begin-given.ensures.err c.begin-given.ensures.appends
+    stepped g.D.Disk c.args.topology.now c.args.self.now c.settle.new.self c.in-Open.node c.begin-given.new.self c.in-Open.is c.requires.up c.reserve.new.self c.reserve.ensures.items
+    (begin_stop c.args.topology.now c.args.txn c.args.body.now) (draw_group c.in-Open.node Begin c.args.txn)
+    (λ name past stands. begin_longer g.D.Disk c.args.topology.now c.args.self.now c.in-Open.node c.in-Open.is c.requires.up c.args.txn small name past stands c.args.body.now can)
+    (λ name past stands. held_longer g.D.Disk c.args.topology.now c.args.self.now c.in-Open.node c.in-Open.is c.requires.up c.args.txn small name past stands Begin) c.begin-given.ensures.named
+    (BeginEvent c.args.txn) (Begins c.args.txn c.args.body.now) (λ name past. refl) (λ name past. refl) c.kept-kept.result c.kept-kept.ensures c.settle.result
+    c.begin-given.result c.settle.ensures c.requires.may.name c.requires.may.past c.requires.may.stands c.begin-given.ensures.ok c.begin-given.ensures.err c.begin-given.ensures.appended
+    (g.met.D.Disk.counts_now c.begin-given.new.self.journal.disk) c.begin-given.ensures.appends

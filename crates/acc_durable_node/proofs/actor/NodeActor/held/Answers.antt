@@ -6,5 +6,5 @@ use Rattle.acc_durable_node.proofs.actor.NodeActor.held.Goals as goal
 pub returns-in-Open : goal.returns-in-Open
 returns-in-Open g c =
     let sound : c.in-Open.node.journal.broken ≡ false = cc in
-    λ layout number start version past stands.
-    c.kept.ensures ∙ kept_up layout number start version past c.in-Open.node (up_in layout number start version past c.args.self.now.state c.in-Open.node c.in-Open.is (stands.up (ap is_shut c.in-Open.is ∙ sound)))
+    λ layout name past stands.
+    c.kept.ensures ∙ kept_up layout name past c.in-Open.node (up_in layout name past c.args.self.now.state c.in-Open.node c.in-Open.is (stands.up (ap is_shut c.in-Open.is ∙ sound)))

@@ -9,16 +9,12 @@ weigh_begin-requires-clause-not_begun g c =
 
 pub weigh_begin-requires-clause-node_in_range : goal.weigh_begin-requires-clause-node_in_range
 weigh_begin-requires-clause-node_in_range g c =
-    few_nodes g.D.Disk c.args.topology.now c.args.self.now c.in-Open.node c.in-Open.is c.requires.up c.requires.may.number c.requires.may.start c.requires.may.version c.requires.may.past
-    c.args.self.now.name.number_to c.requires.may.stands
+    few_nodes g.D.Disk c.args.topology.now c.args.self.now c.in-Open.node c.in-Open.is c.requires.up c.requires.may.name c.requires.may.past c.args.self.now.named.number_to
+    c.requires.may.stands
 
-pub weigh_begin-requires-clause-drawn_in_range : goal.weigh_begin-requires-clause-drawn_in_range
-weigh_begin-requires-clause-drawn_in_range g c =
-    (can_begin g.D.Disk c.args.topology.now c.args.self.now c.in-Open.node c.in-Open.is c.requires.up c.args.txn c.requires.may).low.drawn
-
-pub weigh_begin-requires-clause-seen_in_range : goal.weigh_begin-requires-clause-seen_in_range
-weigh_begin-requires-clause-seen_in_range g c =
-    (can_begin g.D.Disk c.args.topology.now c.args.self.now c.in-Open.node c.in-Open.is c.requires.up c.args.txn c.requires.may).low.seen
+pub weigh_begin-requires-clause-low : goal.weigh_begin-requires-clause-low
+weigh_begin-requires-clause-low g c =
+    (can_begin g.D.Disk c.args.topology.now c.args.self.now c.in-Open.node c.in-Open.is c.requires.up c.args.txn c.requires.may).low
 
 pub returns : goal.returns
 returns g c =

@@ -5,16 +5,12 @@ use Rattle.acc_durable_node.proofs.actor.NodeActor.weigh_recover.Goals as goal
 
 pub weigh_recover-requires-clause-node_in_range : goal.weigh_recover-requires-clause-node_in_range
 weigh_recover-requires-clause-node_in_range g c =
-    few_nodes g.D.Disk c.args.topology.now c.args.self.now c.in-Open.node c.in-Open.is c.requires.up c.requires.may.number c.requires.may.start c.requires.may.version c.requires.may.past
-    c.args.self.now.name.number_to c.requires.may.stands
+    few_nodes g.D.Disk c.args.topology.now c.args.self.now c.in-Open.node c.in-Open.is c.requires.up c.requires.may.name c.requires.may.past c.args.self.now.named.number_to
+    c.requires.may.stands
 
-pub weigh_recover-requires-clause-drawn_in_range : goal.weigh_recover-requires-clause-drawn_in_range
-weigh_recover-requires-clause-drawn_in_range g c =
-    (can_recover g.D.Disk c.args.topology.now c.args.self.now c.in-Open.node c.in-Open.is c.requires.up c.requires.may).drawn
-
-pub weigh_recover-requires-clause-seen_in_range : goal.weigh_recover-requires-clause-seen_in_range
-weigh_recover-requires-clause-seen_in_range g c =
-    (can_recover g.D.Disk c.args.topology.now c.args.self.now c.in-Open.node c.in-Open.is c.requires.up c.requires.may).seen
+pub weigh_recover-requires-clause-low : goal.weigh_recover-requires-clause-low
+weigh_recover-requires-clause-low g c =
+    can_recover g.D.Disk c.args.topology.now c.args.self.now c.in-Open.node c.in-Open.is c.requires.up c.requires.may
 
 pub returns : goal.returns
 returns g c =

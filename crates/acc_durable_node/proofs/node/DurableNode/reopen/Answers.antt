@@ -12,24 +12,24 @@ pub returns-in-Err-clause-never : goal.returns-in-Err-clause-never
 returns-in-Err-clause-never g c = λ payloads items reads journal. c.in-Err.ensures.never payloads reads
 
 pub reopened-requires-clause-above : goal.reopened-requires-clause-above
-reopened-requires-clause-above g c = told_above c.args.number c.args.version c.args.start _ _ c.in-Ok-read_node_journal.ensures.ok
+reopened-requires-clause-above g c = told_above c.args.name.number c.args.name.version c.args.name.start _ _ c.in-Ok-read_node_journal.ensures.ok
 
 pub reopened-requires-clause-most : goal.reopened-requires-clause-most
-reopened-requires-clause-most g c = told_most c.args.number c.args.version c.args.start _ _ c.requires.start_in_range c.in-Ok-read_node_journal.ensures.ok
+reopened-requires-clause-most g c = told_most c.args.name.number c.args.name.version c.args.name.start _ _ c.requires.named.start_in_range c.in-Ok-read_node_journal.ensures.ok
 
 pub returns-in-Ok-read_node_journal-clause-ok : goal.returns-in-Ok-read_node_journal-clause-ok
 returns-in-Ok-read_node_journal-clause-ok g c =
     let payloads : List (List ℕ) = c.in-Ok.opened.1 in
     let long : length payloads < 2 ^ 64 = omega (arith, c.len.ensures, c.len.type_inv) in
     reopened_is _ c.in-Ok-read_node_journal.told payloads
-    (subst (λ (l : List (List ℕ)). IsReadAs c.args.number c.args.version c.args.start l c.in-Ok-read_node_journal.told) c.as_slice.ensures c.in-Ok-read_node_journal.ensures.ok)
+    (subst (λ (l : List (List ℕ)). IsReadAs c.args.name.number c.args.name.version c.args.name.start l c.in-Ok-read_node_journal.told) c.as_slice.ensures c.in-Ok-read_node_journal.ensures.ok)
     (ap (λ (j : JournalState g.row.D.Denot). j.payloads) c.in-Ok.ensures.ok) (ap (λ (j : JournalState g.row.D.Denot). j.broken) c.in-Ok.ensures.ok)
     c.reopened.ensures.clock c.reopened.ensures.begun c.reopened.ensures.attempts c.reopened.ensures.clients refl (λ i. c.len.ensures i - c.marks.ensures i) long
 
 pub returns-clause-never : goal.returns-clause-never
 returns-clause-never g c = λ payloads items reads journal.
-    refused_never c.args.version c.args.start (g.D.Disk.state c.args.disk).content c.in-Ok.opened.1 payloads items c.in-Err-read_node_journal.error c.in-Ok.ensures.payloads reads journal
-    (subst (λ (l : List (List ℕ)). IsRefusedAs node_bytes (NodeMay c.args.version c.args.start) l c.in-Err-read_node_journal.error) c.as_slice.ensures c.in-Err-read_node_journal.ensures.refused)
+    refused_never c.args.name.version c.args.name.start (g.D.Disk.state c.args.disk).content c.in-Ok.opened.1 payloads items c.in-Err-read_node_journal.error c.in-Ok.ensures.payloads reads journal
+    (subst (λ (l : List (List ℕ)). IsRefusedAs node_bytes (NodeMay c.args.name.version c.args.name.start) l c.in-Err-read_node_journal.error) c.as_slice.ensures c.in-Err-read_node_journal.ensures.refused)
 
 pub returns-in-Ok-read_node_journal-clause-restarts : goal.returns-in-Ok-read_node_journal-clause-restarts
 returns-in-Ok-read_node_journal-clause-restarts g c = λ layout acts payloads reads after.

@@ -2,7 +2,6 @@ use Rattle.std.proofs.Common.{sym, subst}
 use Rattle.std.specs.Prelude.{IfOk}
 use Rattle.acc_durable_store.specs.Weighing.{IsPreparedIn}
 use Rattle.acc_durable_store.proofs.StoreActors.{can_take}
-use Rattle.acc_durable_store.proofs.Weighed.{store_stands}
 use Rattle.acc_durable_store.proofs.actor.StoreActor.prepare.Goals as goal
 
 pub prepare-requires : goal.prepare-requires
@@ -12,7 +11,7 @@ prepare-requires g c =
       store = can.goes_here;
       top = can.top;
       greatest = can.greatest;
-      stands = store_stands g.D.Disk c.args.topology.now c.args.self.now c.in-Open.store c.in-Open.is c.requires.up c.args.m.now c.requires.may;
+      stands = can.stands;
     }
 
 pub returns : goal.returns

@@ -25,14 +25,14 @@ returns-in_err-prepared-clause-appends g c =
     let p = err_from_is_err_and c.from_residual.result c.from_residual.ensures.1 in
     let journal = c.args.self.now.journal in
     subst (λ (r : Result (List Message) StepError). Appends g.D.Disk journal.disk journal.disk journal.payloads (appended c.args.self.now.version c.args.self.now.marked (message_bytes c.args.m.now)) (step_answer r)) (sym (p.1 ∙ ap Err p.2))
-    (no_append g.D.Disk journal.disk journal.disk journal.payloads _ (g.met.D.Disk.only_now journal.disk) (c.is_broken-sound.ensures.sound c.requires.sound) refl)
+    (no_append g.D.Disk journal.disk journal.disk journal.payloads _ (g.met.D.Disk.only_now journal.disk) (c.is_broken-sound.ensures.sound c.requires.can.sound) refl)
 
 pub returns-in_err-sent-clause-appends : goal.returns-in_err-sent-clause-appends
 returns-in_err-sent-clause-appends g c =
     let p = err_from_is_err_and c.from_residual-in_err-sent.result c.from_residual-in_err-sent.ensures.1 in
     let journal = c.args.self.now.journal in
     subst (λ (r : Result (List Message) StepError). Appends g.D.Disk journal.disk c.stage.new.self.journal.disk journal.payloads (appended c.args.self.now.version c.args.self.now.marked (message_bytes c.args.m.now)) (step_answer r)) (sym (p.1 ∙ ap Err p.2))
-    (no_append g.D.Disk journal.disk c.stage.new.self.journal.disk journal.payloads _ (g.met.D.Disk.only_now journal.disk) (c.is_broken-sound.ensures.sound c.requires.sound)
+    (no_append g.D.Disk journal.disk c.stage.new.self.journal.disk journal.payloads _ (g.met.D.Disk.only_now journal.disk) (c.is_broken-sound.ensures.sound c.requires.can.sound)
     (ap (λ (j : StagedState g.row.D.Denot). j.disk) c.in_err-sent.ensures.err.journal))
 
 pub returns-in-Ok-clause-ok : goal.returns-in-Ok-clause-ok

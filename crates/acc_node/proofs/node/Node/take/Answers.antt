@@ -12,7 +12,7 @@ returns-in-Inform-clause-ok c =
     let w = c.in-Inform in
     IfOk-weaker c.inform.result _ _
     (λ emitted h number start acts s.
-    subst (λ (m : Message). HasTaken layout number start c.args.self.now c.inform.new.self acts m emitted) (sym w.is)
+    subst (λ (m : Message). HasTaken layout number start c.inform.new.self acts m emitted) (sym w.is)
     (inform_taken layout number start acts c.args.self.now c.inform.new.self s w.from w.to w.id w.ballot w.outcome emitted
     (subst (λ (o : Outcome). HasInformed c.args.self.now c.inform.new.self w.id o.reply emitted) c.outcome.ensures h)))
     c.inform.ensures.ok
