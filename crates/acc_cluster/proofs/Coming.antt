@@ -23,8 +23,8 @@ use Rattle.acc_schedule_runs.specs.StrictFronts.{StrictlyDrainsTo, comes as come
 use Rattle.acc_cluster.specs.declared.cluster.Cluster.{Cluster}
 use Rattle.acc_cluster.specs.Stands.{StandsFor, AreStrict, faults_at}
 use Rattle.acc_cluster.specs.Limits.{NoneFell}
-use Rattle.acc_cluster.specs.Steps.{RoseByDowns, LimitLeaves}
-use Rattle.acc_cluster.specs.Tried.{fails_strictly, HasStepped, HitsLimit, HasDrained, HitsLimitInDrain}
+use Rattle.acc_cluster.specs.Steps.{hit, RoseByDowns, LimitLeaves}
+use Rattle.acc_cluster.specs.Tried.{scheduled, fails_strictly, HasStepped, HitsLimit, HasDrained, HitsLimitInDrain}
 use Rattle.acc_cluster.proofs.Counts.{at_most, most_on, rose_on}
 use Rattle.acc_cluster.proofs.Limited.{same_downs}
 use Rattle.acc_cluster.proofs.Drained.{one_more, to_the_end, one_more_strictly, to_the_strict_end}
@@ -145,7 +145,7 @@ module _ {D : Type 0} (port : Ghosts D)
         (sym is) (one_more_strictly (cluster_of plan) (over come.reached later) message oldest (over s disks) path)
 
     pub come_on : (new : Cluster D) (message : ℕ) → IsOldestWaiting come.reached message
-        → HasStepped port plan None 0 (receiver_in come.reached message) (MessageEvent message) now new come.reached
+        → HasStepped port plan (scheduled None 0 (receiver_in come.reached message) (MessageEvent message)) now new come.reached
         → NoneFell port plan now new → HasCome port plan old new s
     come_on new message oldest stepped none_fell =
         let a : Actor = receiver_in come.reached message in
@@ -192,7 +192,7 @@ module _ {D : Type 0} (port : Ghosts D)
     at_front P Q f items which limit h = record { next = h.next; front = f (h.next ∷ items) h.front; within = h.within; passed = h.passed }
 
     module _ (new : Cluster D) (message : ℕ) (oldest : IsOldestWaiting come.reached message) (which : Which) (limit : ℕ)
-        (hits : HitsLimit port plan None 0 (receiver_in come.reached message) (MessageEvent message) now new come.reached which limit) where
+        (hits : HitsLimit port plan (scheduled None 0 (receiver_in come.reached message) (MessageEvent message)) now new come.reached (hit which limit)) where
       abbrev HitsAt : Bool → Type 0
       HitsAt fails =
           EndsAt (λ front. front ≡ (tried_if fails (cluster_of plan) come.reached (receiver_in come.reached message) (MessageEvent message)).own) come.reached.own which limit
@@ -260,6 +260,7 @@ module _ {D : Type 0} (port : Ghosts D)
         record {
           items = come.reached.own;
           reached = hits.reached;
+          first = λ is. ap (λ (t : Situation). t.own) (hits.first is);
           answered = λ answers. led answers hits.ends;
           strictly = λ disks are.
               let found = come.strictly disks are in

@@ -32,7 +32,7 @@ use Rattle.acc_cluster.specs.Stands.{StandsFor, AreActors, AreStrict}
 use Rattle.acc_cluster.specs.Limits.{StopsAt}
 use Rattle.acc_cluster.specs.Steps.{IfLimit}
 use Rattle.acc_cluster.proofs.Limited.{stops_here}
-use Rattle.acc_cluster.specs.Tried.{HasStepped, HasChanged}
+use Rattle.acc_cluster.specs.Tried.{scheduled, HasStepped, HasChanged}
 use Rattle.acc_cluster.proofs.Hits.{exit_is, full_at}
 use Rattle.acc_cluster.proofs.Written.{actors_same, strict_same}
 
@@ -85,7 +85,7 @@ module _ {D : Type 0} (port : Ghosts D)
       apart b = record { untouched = record { deeds = refl; payloads = refl; downs = refl; down = refl; ends = refl }; stop = stops_same (cluster_of plan) b (stopped_at b s.stopped) s (message ∷ s.dropped) s.stopped true; downs = refl }
 
   pub changed_skipped : (cause : Skip) (a : Actor) (event : Event) → message_skip s message ≡ Some cause
-      → HasStepped port plan (Some cause) number a event old new s
+      → HasStepped port plan (scheduled (Some cause) number a event) old new s
       → HasChanged port plan old new s (dropped_unless (message_skip s message) number s message)
   changed_skipped cause a event is h =
       subst (λ (skip : Option Skip). HasChanged port plan old new s (dropped_unless skip number s message)) (sym is)

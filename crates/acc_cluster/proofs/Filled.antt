@@ -1,5 +1,5 @@
 -- What putting actors into slots leaves.
-use Rattle.std.proofs.Common.{◌≡◌, ℕ, zero, suc, ◌<◌, ◌==◌, Bool, true, false, cond, List, [], ◌∷◌, ◌++◌, ◌||◌, map, length, Contains, Option, IsTrue, Result, Ok, Err, OnOk, refl, sym, ◌∙◌, ap, subst, arith, ⊎_elim}
+use Rattle.std.proofs.Common.{◌≡◌, ℕ, zero, suc, ◌<◌, ◌==◌, Bool, true, false, cond, List, [], ◌∷◌, ◌++◌, ◌||◌, map, length, Contains, IsTrue, Result, Ok, Err, OnOk, refl, sym, ◌∙◌, ap, subst, arith, ⊎_elim}
 use Rattle.std.proofs.lemmas.Bool.{eq-eqb, eqb-true}
 use Rattle.std.proofs.lemmas.List.Elements.{Contains-append_cases}
 use Rattle.std.specs.List.{AllByRecursion, list_any, slice_index_or}
@@ -21,6 +21,7 @@ use Rattle.acc_actors.specs.declared.slot.Slot.TheVariants.{Empty}
 use Rattle.acc_actors.specs.Slots.{SlotStands, IsStrictSlot, IsTaken}
 use Rattle.acc_actors.specs.Opened.{HasDone, HasTaken, IsUnarmed}
 use Rattle.acc_cluster.specs.Stands.{slot_at, AreActors}
+use Rattle.acc_cluster.specs.Safe.{most_opened, IsSafe, HasLowPast, TookLow}
 use Rattle.acc_cluster.specs.Opened.{AreActorsOf, IsEarlier, AreFilled, AreFilledStrictly}
 
 -- ---- lists
@@ -81,18 +82,19 @@ module _ {D : Type 0} (before after : List (Slot D)) (own : Actor) (slot : Slot 
 
 module _ {D : Type 0} (port : Ghosts D) (plan : Content) where
   module _ (before after : List (Slot D)) (nodes : List (DurableNode D)) (stores : List (DurableStore D)) (slot : Slot D) (new : IsTaken slot) where
-    pub filled_node : (number : ℕ) (n : DurableNode D) → n.number ≡ number
+    pub filled_node : (number : ℕ) (n : DurableNode D) → n.name.number ≡ number
         → ((k : ℕ) → slice_index_or after k Empty ≡ cond (k == (actor_of number 0).0) slot (slice_index_or before k Empty))
         → Contains (actors plan.topology) (actor_of number 0)
         → ((earlier : List Item) → ((b : Actor) → is_down b earlier ≡ false) → HasDone plan earlier n → SlotStands port plan (opened earlier) (actor_of number 0) slot)
+        → (HasLowPast plan n → IsSafe port plan most_opened (actor_of number 0) slot)
         → AreFilled port plan nodes stores before → AreFilled port plan (nodes ++ n ∷ []) stores after
-    filled_node number n numbered put member opens filled =
+    filled_node number n numbered put member opens low filled =
         record {
           only = at_each before after own slot put (λ a x. Contains (actors plan.topology) a) (λ taken. member) filled.only;
           nodes_there =
-              all_push (λ (m : DurableNode D). IsTaken (slot_at after (actor_of m.number 0))) nodes n
-              (all_turn (λ (m : DurableNode D). IsTaken (slot_at before (actor_of m.number 0))) (λ (m : DurableNode D). IsTaken (slot_at after (actor_of m.number 0)))
-              (λ m. still_taken before after own slot put new (actor_of m.number 0)) nodes filled.nodes_there)
+              all_push (λ (m : DurableNode D). IsTaken (slot_at after (actor_of m.name.number 0))) nodes n
+              (all_turn (λ (m : DurableNode D). IsTaken (slot_at before (actor_of m.name.number 0))) (λ (m : DurableNode D). IsTaken (slot_at after (actor_of m.name.number 0)))
+              (λ m. still_taken before after own slot put new (actor_of m.name.number 0)) nodes filled.nodes_there)
               (subst (λ (k : ℕ). IsTaken (slot_at after (actor_of k 0))) (sym numbered) (now_taken before after own slot put new));
           stores_there =
               all_turn (λ (t : DurableStore D). IsTaken (slot_at before (durable_store.actor_in t))) (λ (t : DurableStore D). IsTaken (slot_at after (durable_store.actor_in t)))
@@ -100,6 +102,9 @@ module _ {D : Type 0} (port : Ghosts D) (plan : Content) where
           stand = λ earlier up did took.
               let parts = all_before (HasDone plan earlier) nodes n did in
               at_each before after own slot put (SlotStands port plan (opened earlier)) (λ taken. opens earlier up parts.1) (filled.stand earlier up parts.0 took);
+          safe = λ did took.
+              let parts = all_before (HasLowPast plan) nodes n did in
+              at_each before after own slot put (IsSafe port plan most_opened) (λ taken. low parts.1) (filled.safe parts.0 took);
         }
       where
         own : Actor
@@ -109,13 +114,14 @@ module _ {D : Type 0} (port : Ghosts D) (plan : Content) where
         → ((k : ℕ) → slice_index_or after k Empty ≡ cond (k == (durable_store.actor_in t).0) slot (slice_index_or before k Empty))
         → Contains (actors plan.topology) (durable_store.actor_in t)
         → ((earlier : List Item) → ((b : Actor) → is_down b earlier ≡ false) → HasTaken plan earlier t → SlotStands port plan (opened earlier) (durable_store.actor_in t) slot)
+        → (TookLow plan t → IsSafe port plan most_opened (durable_store.actor_in t) slot)
         → AreFilled port plan nodes stores before → AreFilled port plan nodes (stores ++ t ∷ []) after
-    filled_store t put member opens filled =
+    filled_store t put member opens low filled =
         record {
           only = at_each before after own slot put (λ a x. Contains (actors plan.topology) a) (λ taken. member) filled.only;
           nodes_there =
-              all_turn (λ (m : DurableNode D). IsTaken (slot_at before (actor_of m.number 0))) (λ (m : DurableNode D). IsTaken (slot_at after (actor_of m.number 0)))
-              (λ m. still_taken before after own slot put new (actor_of m.number 0)) nodes filled.nodes_there;
+              all_turn (λ (m : DurableNode D). IsTaken (slot_at before (actor_of m.name.number 0))) (λ (m : DurableNode D). IsTaken (slot_at after (actor_of m.name.number 0)))
+              (λ m. still_taken before after own slot put new (actor_of m.name.number 0)) nodes filled.nodes_there;
           stores_there =
               all_push (λ (u : DurableStore D). IsTaken (slot_at after (durable_store.actor_in u))) stores t
               (all_turn (λ (u : DurableStore D). IsTaken (slot_at before (durable_store.actor_in u))) (λ (u : DurableStore D). IsTaken (slot_at after (durable_store.actor_in u)))
@@ -124,6 +130,9 @@ module _ {D : Type 0} (port : Ghosts D) (plan : Content) where
           stand = λ earlier up did took.
               let parts = all_before (HasTaken plan earlier) stores t took in
               at_each before after own slot put (SlotStands port plan (opened earlier)) (λ taken. opens earlier up parts.1) (filled.stand earlier up did parts.0);
+          safe = λ did took.
+              let parts = all_before (TookLow plan) stores t took in
+              at_each before after own slot put (IsSafe port plan most_opened) (λ taken. low parts.1) (filled.safe did parts.0);
         }
       where
         own : Actor
@@ -160,9 +169,9 @@ module _ {D : Type 0} (port : Ghosts D) (plan : Content) where
   pub taken_everywhere : (nodes : List (DurableNode D)) (stores : List (DurableStore D)) (slots : List (Slot D)) → AreActorsOf plan nodes stores → AreFilled port plan nodes stores slots
       → (a : Actor) → Contains (actors plan.topology) a → IsTaken (slot_at slots a)
   taken_everywhere nodes stores slots are filled a member =
-      ⊎_elim (λ here. in_map (λ (n : DurableNode D). actor_of n.number 0) (λ b. IsTaken (slot_at slots b)) nodes a here.0 here.1 here.2 filled.nodes_there)
+      ⊎_elim (λ here. in_map (λ (n : DurableNode D). actor_of n.name.number 0) (λ b. IsTaken (slot_at slots b)) nodes a here.0 here.1 here.2 filled.nodes_there)
       (λ there. in_map durable_store.actor_in (λ b. IsTaken (slot_at slots b)) stores a there.0 there.1 there.2 filled.stores_there)
-      (Contains-append_cases (map (λ (n : DurableNode D). actor_of n.number 0) nodes) (map durable_store.actor_in stores) a (are.each a member))
+      (Contains-append_cases (map (λ (n : DurableNode D). actor_of n.name.number 0) nodes) (map durable_store.actor_in stores) a (are.each a member))
 
   pub filled_actors : (nodes : List (DurableNode D)) (stores : List (DurableStore D)) (slots : List (Slot D)) → AreActorsOf plan nodes stores → AreFilled port plan nodes stores slots
       → (earlier : List Item) → IsEarlier plan nodes stores earlier → AreActors port plan slots (opened earlier)
@@ -175,10 +184,10 @@ module _ {D : Type 0} (port : Ghosts D) (plan : Content) where
 -- ---- the numbers of nodes
 
 pub number_at : {D : Type 0} (before : List (DurableNode D)) (n : DurableNode D) (after : List (DurableNode D)) (numbers : List ℕ) (d : ℕ)
-    → map (λ (m : DurableNode D). m.number) (before ++ n ∷ after) ≡ numbers → n.number ≡ slice_index_or numbers (length before) d
+    → map (λ (m : DurableNode D). m.name.number) (before ++ n ∷ after) ≡ numbers → n.name.number ≡ slice_index_or numbers (length before) d
 number_at {D} before n after numbers d is = by before after ∙ ap (λ (xs : List ℕ). slice_index_or xs (length before) d) is
   where
-    by : (before after : List (DurableNode D)) → n.number ≡ slice_index_or (map (λ (m : DurableNode D). m.number) (before ++ n ∷ after)) (length before) d
+    by : (before after : List (DurableNode D)) → n.name.number ≡ slice_index_or (map (λ (m : DurableNode D). m.name.number) (before ++ n ∷ after)) (length before) d
     by [] after = refl
     by (first ∷ before) after = by before after
 

@@ -20,7 +20,9 @@ use Rattle.acc_safety.specs.RunLaws.{acts_done}
 use Rattle.acc_safety.specs.Valid.{IsStanding}
 use Rattle.acc_safety.proofs.BegunFacts.{begun_has}
 use Rattle.acc_safety.proofs.DrawFacts.{node_is, is_node-node}
+use Rattle.acc_durable_node.specs.declared.name.NodeName.{NodeName}
 use Rattle.acc_durable_node.specs.declared.node.DurableNode.{DurableNode}
+use Rattle.acc_durable_node.specs.Names.{id_begun}
 use Rattle.acc_durable_node.specs.Node as node
 use Rattle.acc_schedule.specs.Content.{Content}
 use Rattle.acc_pasts.specs.Stopped.{IsSound}
@@ -57,16 +59,16 @@ none_left numbers place n high there before = true≢false (sym there ∙ before
 
 -- ---- a node and its number
 
-pub number_read : {D : Type 0} (nodes : List (DurableNode D)) (numbers : List ℕ) (place : ℕ) (n : DurableNode D) → map (λ (m : DurableNode D). m.number) nodes ≡ numbers
-    → place < length nodes → n ≡ slice_index_or nodes place n → n.number ≡ slice_index_or numbers place 0
+pub number_read : {D : Type 0} (nodes : List (DurableNode D)) (numbers : List ℕ) (place : ℕ) (n : DurableNode D) → map (λ (m : DurableNode D). m.name.number) nodes ≡ numbers
+    → place < length nodes → n ≡ slice_index_or nodes place n → n.name.number ≡ slice_index_or numbers place 0
 number_read {D} nodes numbers place n are low is =
-    ap (λ (m : DurableNode D). m.number) is ∙ sym (get_or-map (λ (m : DurableNode D). m.number) nodes place n 0 low)
+    ap (λ (m : DurableNode D). m.name.number) is ∙ sym (get_or-map (λ (m : DurableNode D). m.name.number) nodes place n 0 low)
     ∙ ap (λ (l : List ℕ). slice_index_or l place 0) are
 
-pub node_within : {D : Type 0} (nodes : List (DurableNode D)) (numbers : List ℕ) (place : ℕ) → map (λ (m : DurableNode D). m.number) nodes ≡ numbers
+pub node_within : {D : Type 0} (nodes : List (DurableNode D)) (numbers : List ℕ) (place : ℕ) → map (λ (m : DurableNode D). m.name.number) nodes ≡ numbers
     → place < length numbers → place < length nodes
 node_within {D} nodes numbers place are low =
-    let many = sym (length-map nodes (λ (m : DurableNode D). m.number)) ∙ ap (λ (l : List ℕ). length l) are in
+    let many = sym (length-map nodes (λ (m : DurableNode D). m.name.number)) ∙ ap (λ (l : List ℕ). length l) are in
     subst (λ k. place < k) (sym many) low
 
 -- ---- the home of a transaction
@@ -80,8 +82,8 @@ known_so id drawn begun is so = known_is id ∙ ap (λ b. begun_as b id) so ∙ 
 
 module _ {D : Type 0} (port : Ghosts D) (plan : Content) where
   -- tells what the run before drew for it
-  home_tells : (n : DurableNode D) (txn : ℕ) (id : Option TxnId) → IsNodeOf port plan n → slice_get plan.homes txn ≡ Some n.number
-      → ((layout : Layout) (acts : List Act) → node.StandsFor layout n acts → id ≡ begun_id n.number n.start txn (node_replay layout n.number n.start acts))
+  home_tells : (n : DurableNode D) (txn : ℕ) (id : Option TxnId) → IsNodeOf port plan n → slice_get plan.homes txn ≡ Some n.name.number
+      → ((layout : Layout) → node.OfActs layout n (λ acts. id ≡ id_begun layout n.name txn acts))
       → (earlier : List Item) → IsSound (cluster_of plan) (opened earlier) → HasDone plan earlier n
       → known_as (Some id) ≡ begun_as (is_begun earlier txn) (id_of_txn earlier txn)
   home_tells n txn id of_plan home told earlier sound did =
@@ -93,7 +95,7 @@ module _ {D : Type 0} (port : Ghosts D) (plan : Content) where
       cluster = cluster_of plan
 
       number : ℕ
-      number = n.number
+      number = n.name.number
 
       a : Actor
       a = actor_of number 0
@@ -107,14 +109,14 @@ module _ {D : Type 0} (port : Ghosts D) (plan : Content) where
       at_home : id ≡ begun_id number (clock_start plan.starts number) txn (deeds_of cluster a earlier)
       at_home =
           told plan.topology acts did.stands
-          ∙ ap (λ start. begun_id number start txn (node_replay plan.topology number start acts)) of_plan.start_is
+          ∙ ap (λ (name : NodeName). id_begun plan.topology name txn acts) of_plan.named
           ∙ ap (λ m. begun_id number (clock_start plan.starts number) txn (node_replay plan.topology m (clock_start plan.starts m) acts)) (sym (node_is number))
           ∙ ap (begun_id number (clock_start plan.starts number) txn) (sym (node_replayed cluster earlier a standing (is_node-node number)))
 
   -- the node at this place is the home
   pub tells_at : (nodes : List (DurableNode D)) (place : ℕ) (n : DurableNode D) (txn : ℕ) (id : Option TxnId) → place < length nodes → n ≡ slice_index_or nodes place n
-      → slice_get plan.homes txn ≡ Some n.number → AllByRecursion (IsNodeOf port plan) nodes
-      → ((layout : Layout) (acts : List Act) → node.StandsFor layout n acts → id ≡ begun_id n.number n.start txn (node_replay layout n.number n.start acts))
+      → slice_get plan.homes txn ≡ Some n.name.number → AllByRecursion (IsNodeOf port plan) nodes
+      → ((layout : Layout) → node.OfActs layout n (λ acts. id ≡ id_begun layout n.name txn acts))
       → TellsOf plan nodes txn id
   tells_at nodes place n txn id low is home of_plan told = λ earlier sound did.
       home_tells n txn id (subst (IsNodeOf port plan) (sym is) (each_read (IsNodeOf port plan) nodes place n of_plan low)) home told earlier sound

@@ -1,5 +1,5 @@
 -- The disks of a cluster's slots: they rise, there is one of each actor of the plan, and each keeps its actor.
-use Rattle.std.proofs.Common.{◌≡◌, ℕ, zero, suc, ◌+◌, ◌≤◌, Bool, true, false, List, [], ◌∷◌, ◌++◌, map, length, Contains, refl, sym, ◌∙◌, ap, subst, inl, inr, arith}
+use Rattle.std.proofs.Common.{◌≡◌, ℕ, zero, suc, ◌+◌, ◌≤◌, Bool, true, false, List, [], ◌∷◌, ◌++◌, map, length, Contains, refl, ◌∙◌, ap, subst, inl, inr, arith}
 use Rattle.std.proofs.lemmas.List.{append-nil}
 use Rattle.std.specs.List.{AllByRecursion, slice_index_or}
 use Rattle.acc_stamp.specs.declared.actors.Actor.{Actor}
@@ -25,7 +25,7 @@ use Rattle.acc_schedule_runs.specs.Schedules.{cluster_of}
 use Rattle.acc_actors.specs.declared.slot.Slot.{Slot}
 use Rattle.acc_actors.specs.declared.slot.Slot.TheVariants.{Empty, Node, Store}
 use Rattle.acc_actors.specs.Pasts.{stops_at, store_stops, node_past, store_past}
-use Rattle.acc_actors.specs.Slots.{SlotStands, NodeStands, StoreStands, IsTaken}
+use Rattle.acc_actors.specs.Slots.{SlotStands, NodeStands, StoreStands, IsTaken, node_name, store_name}
 use Rattle.acc_actors.proofs.RestartPasts.{all_may, node_all, store_all}
 use Rattle.acc_cluster.specs.Stands.{AreActors, slot_at}
 use Rattle.acc_cluster.specs.Ends.{entry_of, disks_from, HoldsIn, KeepsIn, Rises, AreDisksOf}
@@ -127,7 +127,7 @@ module _ (plan : Content) (s : Situation) (sound : IsSound (cluster_of plan) s) 
     node_holds : (n : NodeActor D) → NodeStands port plan s a n → port.is_image (node.disk_of n) image → HoldsIn plan s a image
     node_holds n stands is = by (stands.stands.left image is)
       where
-        at : (keeps : Bool) → ReadsIf (node.IsJournal plan.topology (node_of a) (clock_start plan.starts (node_of a)) plan.version) (node_past (cluster_of plan) s a) keeps image
+        at : (keeps : Bool) → ReadsIf (node.IsJournal plan.topology (node_name plan (node_of a))) (node_past (cluster_of plan) s a) keeps image
             → HoldsIn plan s a image
         at keeps r =
             record {
@@ -138,14 +138,14 @@ module _ (plan : Content) (s : Situation) (sound : IsSound (cluster_of plan) s) 
               kept = r.held_are ∙ node_held a keeps;
             }
 
-        by : IsLeft (node.IsJournal plan.topology (node_of a) (clock_start plan.starts (node_of a)) plan.version) (node_past (cluster_of plan) s a) image → HoldsIn plan s a image
+        by : IsLeft (node.IsJournal plan.topology (node_name plan (node_of a))) (node_past (cluster_of plan) s a) image → HoldsIn plan s a image
         by (inl r) = at false r
         by (inr r) = at true r
 
     store_holds : (t : StoreActor D) → StoreStands port plan s a t → port.is_image (store.disk_of t) image → HoldsIn plan s a image
     store_holds t stands is = by (stands.stands.left image is)
       where
-        at : (keeps : Bool) → ReadsIf (store.IsJournal plan.topology a plan.version) (store_past (cluster_of plan) s a) keeps image → HoldsIn plan s a image
+        at : (keeps : Bool) → ReadsIf (store.IsJournal plan.topology (store_name plan a)) (store_past (cluster_of plan) s a) keeps image → HoldsIn plan s a image
         at keeps r =
             record {
               payloads = r.payloads;
@@ -155,7 +155,7 @@ module _ (plan : Content) (s : Situation) (sound : IsSound (cluster_of plan) s) 
               kept = r.held_are ∙ store_held a keeps stands.kind;
             }
 
-        by : IsLeft (store.IsJournal plan.topology a plan.version) (store_past (cluster_of plan) s a) image → HoldsIn plan s a image
+        by : IsLeft (store.IsJournal plan.topology (store_name plan a)) (store_past (cluster_of plan) s a) image → HoldsIn plan s a image
         by (inl r) = at false r
         by (inr r) = at true r
 

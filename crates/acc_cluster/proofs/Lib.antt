@@ -24,3 +24,8 @@ pub mod Filled
 pub mod Placed
 pub mod OverSlots
 pub mod Room
+pub mod Safe
+pub mod SafeStores
+pub mod KeepsTested
+pub mod SafeOpened
+pub mod Known

@@ -1,5 +1,5 @@
 -- What a limit leaves of a cluster.
-use Rattle.std.proofs.Common.{◌≡◌, ℕ, ◌≤◌, false, List, reverse, Option, None, Some, Result, Ok, Err, IfErr, refl, sym, ◌∙◌, ap, subst, inl, ⊎_elim, arith}
+use Rattle.std.proofs.Common.{◌≡◌, ℕ, ◌≤◌, false, List, reverse, Option, None, Some, Result, Ok, Err, IfErr, refl, ◌∙◌, ap, inl, ⊎_elim, arith}
 use Rattle.acc_stamp.specs.declared.actors.Actor.{Actor}
 use Rattle.acc_ports.specs.declared.disk.Disk.{Ghosts}
 use Rattle.acc_message.specs.declared.entry.Event.{Event}
@@ -16,8 +16,8 @@ use Rattle.acc_schedule_runs.specs.Schedules.{cluster_of}
 use Rattle.acc_cluster.specs.declared.cluster.Cluster.{Cluster}
 use Rattle.acc_cluster.specs.Stands.{StandsFor, faults_at}
 use Rattle.acc_cluster.specs.Limits.{StopsAt, HasEntered, NoneFell}
-use Rattle.acc_cluster.specs.Steps.{IfLimit, RoseByDowns, LimitLeaves}
-use Rattle.acc_cluster.specs.Tried.{stepped_if, HitsLimit}
+use Rattle.acc_cluster.specs.Steps.{hit, IfLimit, LimitLeaves}
+use Rattle.acc_cluster.specs.Tried.{scheduled, stepped_if, HitsLimit}
 
 -- ---- results
 
@@ -53,7 +53,7 @@ none_down cluster number (Some cause) s a b event = refl
 none_down cluster number None s a b event = refl
 
 module _ {D : Type 0} (port : Ghosts D) (plan : Content) (skip : Option Skip) (number : ℕ) (a : Actor) (event : Event) (old new : Cluster D) (s : Situation)
-    (which : Which) (limit : ℕ) (h : HitsLimit port plan skip number a event old new s which limit) where
+    (which : Which) (limit : ℕ) (h : HitsLimit port plan (scheduled skip number a event) old new s (hit which limit)) where
   pub same_downs : (b : Actor) → downs_in b h.reached.own ≡ downs_in b s.own
   same_downs b =
       ⊎_elim (λ unasked. ap (λ (t : Situation). downs_in b t.own) unasked.1)

@@ -25,9 +25,9 @@ use Rattle.acc_schedule_runs.specs.StrictFronts.{StrictlyComesTo}
 use Rattle.acc_cluster.specs.declared.cluster.Cluster.{Cluster}
 use Rattle.acc_cluster.specs.Stands.{StandsFor, AreStrict}
 use Rattle.acc_cluster.specs.Limits.{StopsAt, HasEntered}
-use Rattle.acc_cluster.specs.Steps.{StepsTo, StepsStrictly, EndsIn, EndsStrictlyIn, LimitLeaves}
+use Rattle.acc_cluster.specs.Steps.{change, hit, StepsTo, StepsStrictly, EndsIn, EndsStrictlyIn, LimitLeaves}
 use Rattle.acc_cluster.proofs.Limited.{limit_leaves, entered_there}
-use Rattle.acc_cluster.specs.Tried.{stepped_if, fails_strictly, disks_after, HasStepped, HasChanged, HitsLimit, restarted_by, kept_strictly, HasRestarted, HitsLimitInRestart, HasDrained, HitsLimitInDrain}
+use Rattle.acc_cluster.specs.Tried.{scheduled, stepped_if, fails_strictly, disks_after, HasStepped, HasChanged, HitsLimit, restarted_by, kept_strictly, HasRestarted, HitsLimitInRestart, HasDrained, HitsLimitInDrain}
 
 -- a limit ends the run inside the step, and the cluster stops there
 abbrev pub EndsHere : {D : Type 0} → Ghosts D → Content → ℕ → Step → Cluster D → Cluster D → Situation → Which → ℕ → Answers → Type 0
@@ -134,7 +134,7 @@ module _ {D : Type 0} (port : Ghosts D)
 
   module _ (s : Situation) (skip : Option Skip) (a : Actor) (event : Event) where
     pub steps_to : ((answers : Answers) (next : Situation) → next ≡ stepped_unless skip cluster answers number s a event → IsNext cluster answers number step s next)
-        → HasStepped port plan skip number a event old new s → (answers : Answers) → StepsTo port plan answers number step old new s
+        → HasStepped port plan (scheduled skip number a event) old new s → (answers : Answers) → StepsTo port plan answers number step (change old new) s
     steps_to to h answers =
         record {
           other = with_answer answers (length s.own) h.fails false;
@@ -146,7 +146,7 @@ module _ {D : Type 0} (port : Ghosts D)
         }
 
     pub ends_in : ((answers : Answers) (reached : Situation) → reached ≡ stepped_unless skip cluster answers number s a event → ComesTo cluster answers number step s reached)
-        → (which : Which) (limit : ℕ) → HitsLimit port plan skip number a event old new s which limit
+        → (which : Which) (limit : ℕ) → HitsLimit port plan (scheduled skip number a event) old new s (hit which limit)
         → (answers : Answers) → EndsHere port plan number step old new s which limit answers
     ends_in to which limit hits answers = (
       record {
@@ -157,6 +157,7 @@ module _ {D : Type 0} (port : Ghosts D)
         led =
             ⊎_elim (λ unasked. inl unasked.1)
             (λ asked. inr (to other hits.reached (asked.2 ∙ stepped_is cluster skip number s a event false (λ e. cc) answers false))) hits.ends;
+        first = λ is. inr (ap (λ (t : Situation). t.own) (hits.first is));
         ends = λ more agree.
             ⊎_elim (λ unasked. by more (is_journalled a event && more.fails (length s.own)) (stepped_any cluster skip number s a event more) (unasked.0 (is_journalled a event && more.fails (length s.own))))
             (λ asked.
@@ -185,7 +186,7 @@ module _ {D : Type 0} (port : Ghosts D)
 
   module _ (ss : StrictSituation) (skip : Option Skip) (a : Actor) (event : Event) where
     pub steps_strictly : ((next : StrictSituation) → next ≡ stepped_strictly skip cluster number ss a event → IsStrictNext cluster number step ss next)
-        → HasStepped port plan skip number a event old new ss.found → AreStrict port plan old.slots.items ss.found ss.disks
+        → HasStepped port plan (scheduled skip number a event) old new ss.found → AreStrict port plan old.slots.items ss.found ss.disks
         → StepsStrictly port plan number step new ss
     steps_strictly to h are =
         let after = h.strictly ss.disks are in
@@ -196,7 +197,7 @@ module _ {D : Type 0} (port : Ghosts D)
         }
 
     pub ends_strictly : ((reached : StrictSituation) → reached ≡ stepped_strictly skip cluster number ss a event → StrictlyComesTo cluster number step ss reached)
-        → (which : Which) (limit : ℕ) → HitsLimit port plan skip number a event old new ss.found which limit
+        → (which : Which) (limit : ℕ) → HitsLimit port plan (scheduled skip number a event) old new ss.found (hit which limit)
         → AreStrict port plan old.slots.items ss.found ss.disks → EndsStrictlyHere plan number step new ss which limit
     ends_strictly to which limit hits are =
         ⊎_elim (λ any. by (fails_strictly ss.disks a event) (λ none. refl) (any.0 (fails_strictly ss.disks a event)))
@@ -251,7 +252,7 @@ module _ {D : Type 0} (port : Ghosts D)
   run = cluster_of plan
 
   pub restarts_to : (s : Situation) → HasRestarted port plan a choice old new s → (answers : Answers)
-      → StepsTo port plan answers number (Restart a choice) old new s
+      → StepsTo port plan answers number (Restart a choice) (change old new) s
   restarts_to s h answers =
       record {
         other = with_answer answers (length s.own) h.fails h.keeps;
@@ -274,7 +275,7 @@ module _ {D : Type 0} (port : Ghosts D)
         stands = record { stands = h.stands; strictly = after.2 };
       }
 
-  pub restart_ends : (s : Situation) (which : Which) (limit : ℕ) → (hits : HitsLimitInRestart port plan a choice old s which limit)
+  pub restart_ends : (s : Situation) (which : Which) (limit : ℕ) → (hits : HitsLimitInRestart port plan a choice old s (hit which limit))
       → LimitLeaves port plan old new s hits.items hits.reached → (answers : Answers) → EndsHere port plan number (Restart a choice) old new s which limit answers
   restart_ends s which limit hits left answers =
       ⊎_elim
@@ -300,6 +301,7 @@ module _ {D : Type 0} (port : Ghosts D)
           reached = hits.reached;
           agree = agree_with answers (length s.own) false keeps;
           led = led;
+          first = λ is. inl tt;
           ends = λ more agree.
               let next : Situation = restarted_by (more.fails (length s.own)) (more.keeps (length s.own)) run s a in
               ends_map (λ front. Begins front next.own) _ (λ front begins. (next, restarted_any run s a more, begins)) hits.items which limit (ends more agree);
@@ -307,7 +309,7 @@ module _ {D : Type 0} (port : Ghosts D)
         left,
       )
 
-  pub restart_ends_strictly : (ss : StrictSituation) (which : Which) (limit : ℕ) → (hits : HitsLimitInRestart port plan a choice old ss.found which limit)
+  pub restart_ends_strictly : (ss : StrictSituation) (which : Which) (limit : ℕ) → (hits : HitsLimitInRestart port plan a choice old ss.found (hit which limit))
       → LimitLeaves port plan old new ss.found hits.items hits.reached
       → AreStrict port plan old.slots.items ss.found ss.disks → EndsStrictlyHere plan number (Restart a choice) new ss which limit
   restart_ends_strictly ss which limit hits left are =
@@ -337,7 +339,7 @@ module _ {D : Type 0} (port : Ghosts D)
   there = cluster_of plan
 
   pub drops_to : (message : ℕ) (s : Situation) → HasChanged port plan old new s (dropped_unless (message_skip s message) number s message)
-      → (answers : Answers) → StepsTo port plan answers number (Drop message) old new s
+      → (answers : Answers) → StepsTo port plan answers number (Drop message) (change old new) s
   drops_to message s h answers =
       record { other = answers; next = dropped_unless (message_skip s message) number s message; agree = λ place less. (refl, refl); next_is = refl; stands = h.stands; rose = h.rose }
 
@@ -359,6 +361,7 @@ module _ {D : Type 0} (port : Ghosts D)
       reached = s;
       agree = λ place less. (refl, refl);
       led = inl refl;
+      first = λ is. inr refl;
       ends = λ more agree.
           ends_map (λ front. front ≡ (dropped_unless (message_skip s message) number s message).own) _
           (λ front is. (dropped_unless (message_skip s message) number s message, refl, whole_front front (dropped_unless (message_skip s message) number s message).own is)) s.own which limit ends;
@@ -383,14 +386,14 @@ module _ {D : Type 0} (port : Ghosts D)
     entered_there port plan new ss.found.own ss.found stops,
   )
 
-  pub fails_to : (a : Actor) (calls : ℕ) (s : Situation) → StandsFor port plan new s → (answers : Answers) → StepsTo port plan answers number (Fail a calls) old new s
+  pub fails_to : (a : Actor) (calls : ℕ) (s : Situation) → StandsFor port plan new s → (answers : Answers) → StepsTo port plan answers number (Fail a calls) (change old new) s
   fails_to a calls s h answers = record { other = answers; next = s; agree = λ place less. (refl, refl); next_is = refl; stands = h; rose = λ b known. inl refl }
 
   pub fails_strictly_to : (a : Actor) (calls : ℕ) (ss : StrictSituation) → StandsFor port plan new ss.found
       → AreStrict port plan new.slots.items ss.found (after_fail a calls ss.disks) → StepsStrictly port plan number (Fail a calls) new ss
   fails_strictly_to a calls ss h are = record { next = record { found = ss.found; disks = after_fail a calls ss.disks }; next_is = refl; stands = record { stands = h; strictly = are } }
 
-  pub drains_to : (s : Situation) → HasDrained port plan old new s → (answers : Answers) → StepsTo port plan answers number Drain old new s
+  pub drains_to : (s : Situation) → HasDrained port plan old new s → (answers : Answers) → StepsTo port plan answers number Drain (change old new) s
   drains_to s h answers =
       let found = h.answered answers in record { other = found.0; next = h.next; agree = found.1; next_is = found.2; stands = h.stands; rose = h.rose }
 
@@ -404,7 +407,7 @@ module _ {D : Type 0} (port : Ghosts D)
       → (answers : Answers) → EndsHere port plan number Drain old new s which limit answers
   drain_ends s which limit hits left answers =
       let found = hits.answered answers in
-      (record { other = found.0; items = hits.items; reached = hits.reached; agree = found.1; led = inr found.2; ends = found.3 }, left)
+      (record { other = found.0; items = hits.items; reached = hits.reached; agree = found.1; led = inr found.2; first = λ is. inr (hits.first is); ends = found.3 }, left)
 
   pub drain_ends_strictly : (ss : StrictSituation) (which : Which) (limit : ℕ) → (hits : HitsLimitInDrain port plan old ss.found which limit)
       → LimitLeaves port plan old new ss.found hits.items hits.reached

@@ -1,5 +1,5 @@
 -- The cluster behind a restart.
-use Rattle.std.proofs.Common.{◌≡◌, ℕ, suc, ◌+◌, ◌^◌, ◌<◌, ◌≤◌, Bool, true, false, List, [], ◌∷◌, ◌++◌, Option, None, Contains, length, Result, Ok, Err, OnOk, IfOk, IfErr, IsErrAnd, refl, sym, ◌∙◌, ap, subst, inl, inr, arith}
+use Rattle.std.proofs.Common.{◌≡◌, ℕ, suc, ◌+◌, ◌^◌, ◌<◌, ◌≤◌, Bool, true, false, List, [], ◌∷◌, ◌++◌, None, Contains, length, Result, Ok, Err, OnOk, IfOk, IfErr, IsErrAnd, refl, sym, ◌∙◌, ap, subst, inl, inr, arith}
 use Rattle.std.proofs.Math.ListN.{set}
 use Rattle.std.proofs.lemmas.List.{length-set, append_assoc}
 use Rattle.std.proofs.lemmas.Result.{on_ok_weaker, IfErr-weaker}
@@ -34,7 +34,7 @@ use Rattle.acc_schedule_runs.specs.Fronts.{Begins}
 use Rattle.acc_actors.specs.declared.slot.Slot.{Slot}
 use Rattle.acc_actors.specs.declared.slot.Slot.TheVariants.{Empty}
 use Rattle.acc_actors.specs.Slots.{SlotStands, IsStrictSlot, faults_in}
-use Rattle.acc_actors.specs.Asked.{IsFew, HasRestartedAt, HasRestartedStrictlyAt, HasRoom}
+use Rattle.acc_actors.specs.Asked.{over_disks, IsFew, HasRestartedAt, HasRestartedStrictlyAt, HasRoom}
 use Rattle.acc_actors.proofs.Apart.{apart_down, apart_reopened}
 use Rattle.acc_actors.proofs.Few.{entry_other}
 use Rattle.acc_actors.proofs.RestartPasts.{kept_can, downs_reopened}
@@ -43,7 +43,7 @@ use Rattle.acc_history.specs.declared.history.History.{History}
 use Rattle.acc_history.specs.Stands as history
 use Rattle.acc_cluster.specs.Entering.{HasPlace, IsPastOf}
 use Rattle.acc_cluster.specs.Stands.{slot_at, StandsFor}
-use Rattle.acc_cluster.specs.Steps.{IfLimit, LimitLeaves}
+use Rattle.acc_cluster.specs.Steps.{change, hit, IfLimit, LimitLeaves}
 use Rattle.acc_cluster.specs.Tried.{restarted_by, HasRestarted, HitsLimitInRestart}
 use Rattle.acc_cluster.specs.Restarting.{AreSendableBehind, CanComeBack, HasReopened, come_up, EndsInRestart}
 use Rattle.acc_cluster.proofs.Limited.{stops_here}
@@ -55,7 +55,7 @@ use Rattle.acc_cluster.proofs.Written.{IsWritten, write_is, AllApart, actors_wri
 -- a limit ends it, and the cluster stops there
 abbrev pub EndedAt : {D : Type 0} → Ghosts D → Content → Actor → ℕ → Cluster D → Cluster D → Situation → Which → ℕ → Type 0
 EndedAt port plan a choice old new s which limit =
-    (hits : HitsLimitInRestart port plan a choice old s which limit) × LimitLeaves port plan old new s hits.items hits.reached
+    (hits : HitsLimitInRestart port plan a choice old s (hit which limit)) × LimitLeaves port plan old new s hits.items hits.reached
 
 room_reopened : (plan : Content) (s : Situation) (a : Actor) (kept : List Event) → HasRoom s → HasRoom (reopened (cluster_of plan) s a kept)
 room_reopened plan s a kept room = subst (λ (earlier : List Item). length earlier + most_items < 2 ^ 31) (sym (all_earlier (cluster_of plan) a true s kept)) room
@@ -67,7 +67,7 @@ module _ {D : Type 0} (port : Ghosts D)
   others_disks disks b e = (entry_other a b None disks.armed (turned a b e), entry_other a b None disks.passed (turned a b e))
 
   pub has_come_up : (kept : List Unsent)
-      → HasReopened port plan a choice old.slots.items new.slots.items (Up kept) s
+      → HasReopened port plan a choice (change old.slots.items new.slots.items) (Up kept) s
       → IsPastOf new.history (come_up (cluster_of plan) s a kept)
       → HasRestarted port plan a choice old new s
   has_come_up kept found past =
@@ -101,7 +101,7 @@ module _ {D : Type 0} (port : Ghosts D)
       apart : AllApart plan s next a
       apart b e = apart_reopened (cluster_of plan) s h.sound a b (kept_if (some kept) a s) e (kept_can (cluster_of plan) s a (some kept) h.sound)
 
-  pub has_stayed_down : HasReopened port plan a choice old.slots.items new.slots.items Down s
+  pub has_stayed_down : HasReopened port plan a choice (change old.slots.items new.slots.items) Down s
       → IsPastOf new.history (with_item (WentDown a) s)
       → HasRestarted port plan a choice old new s
   has_stayed_down found past =
@@ -167,7 +167,7 @@ module _ {D : Type 0} (port : Ghosts D)
 
   -- behind the crash
   pub refused_up : (kept : List Unsent)
-      → HasReopened port plan a choice old.slots.items new.slots.items (Up kept) s
+      → HasReopened port plan a choice (change old.slots.items new.slots.items) (Up kept) s
       → (which : Which) (limit : ℕ) → EndsInRestart new.history (cluster_of plan) s a kept which limit → EndedAt port plan a choice old new s which limit
   refused_up kept found which limit ends = (
     record {
@@ -205,14 +205,14 @@ module _ {D : Type 0} (port : Ghosts D)
     (plan : Content) (a : Actor) (choice : ℕ) (before now : List (Slot D)) (place : ℕ) (slot : Slot D) where
   pub has_reopened : place ≡ a.0 → place < length before → now ≡ set (set before place Empty) place slot → (s : Situation) (found : Restarted) → HasRestartedAt port plan s a found slot
       → ((disks : Disks) → IsStrictSlot port plan s disks a (slot_at before a)
-      → HasRestartedStrictlyAt port plan s disks a choice found slot)
+      → HasRestartedStrictlyAt port plan (over_disks s disks) a choice found slot)
       → (found ≡ Down → Rose (faults_in port (slot_at before a)) (faults_in port slot))
-      → HasReopened port plan a choice before now found s
+      → HasReopened port plan a choice (change before now) found s
   has_reopened at within is s found restarted strictly cause =
       record {
         others = λ b e. put.there b e ∙ taken.there b e;
         restarted = subst (λ x. HasRestartedAt port plan s a found x) (sym put.here) restarted;
-        strictly = λ disks are. subst (λ x. HasRestartedStrictlyAt port plan s disks a choice found x) (sym put.here) (strictly disks are);
+        strictly = λ disks are. subst (λ x. HasRestartedStrictlyAt port plan (over_disks s disks) a choice found x) (sym put.here) (strictly disks are);
         cause = λ down. subst (λ x. Rose (faults_in port (slot_at before a)) (faults_in port x)) (sym put.here) (cause down);
       }
     where
@@ -239,14 +239,14 @@ module _ {D : Type 0} (port : Ghosts D)
 
   module _ (middle : Cluster D) (same : middle.history ≡ old.history) (place : (s : Situation) → history.StandsFor old.history s → HasPlace s) (found : Restarted)
       (opened : (s : Situation) → StandsFor port plan old s → HasPlace s
-      → HasReopened port plan a choice old.slots.items middle.slots.items found s) where
+      → HasReopened port plan a choice (change old.slots.items middle.slots.items) found s) where
     abbrev with_history : History → Cluster D
     with_history h = record { alloc = middle.alloc; history = h; slots = middle.slots }
 
     opened_as : (other : Restarted) → found ≡ other → (s : Situation) → StandsFor port plan old s
-        → HasReopened port plan a choice old.slots.items middle.slots.items other s
+        → HasReopened port plan a choice (change old.slots.items middle.slots.items) other s
     opened_as other is s h =
-        subst (λ x. HasReopened port plan a choice old.slots.items middle.slots.items x s) is (opened s h (place s h.past.stands))
+        subst (λ x. HasReopened port plan a choice (change old.slots.items middle.slots.items) x s) is (opened s h (place s h.past.stands))
 
     past_middle : (s : Situation) → StandsFor port plan old s → IsPastOf middle.history s
     past_middle s h = subst (λ x. IsPastOf x s) (sym same) h.past
@@ -263,7 +263,7 @@ module _ {D : Type 0} (port : Ghosts D)
 
     module _ (kept : List Unsent) (is : found ≡ Up kept) where
       abbrev reopened_up : (s : Situation) → StandsFor port plan old s
-          → HasReopened port plan a choice old.slots.items middle.slots.items (Up kept) s
+          → HasReopened port plan a choice (change old.slots.items middle.slots.items) (Up kept) s
       reopened_up s h = opened_as (Up kept) is s h
 
       pub up_back : (s : Situation) → StandsFor port plan old s → CanComeBack middle.history a kept s × AreSendableBehind a kept s
@@ -294,10 +294,10 @@ module _ {D : Type 0} (port : Ghosts D)
   pub slot_reopened : (r : Result Restarted NoMemory) → a.0 < length old.slots.items → left ≡ Empty → taken ≡ slot_at old.slots.items a
       → IfOk r (λ found. (s : Situation) → IsSound (cluster_of plan) s → IsFew s → SlotStands port plan s a taken → HasRestartedAt port plan s a found slot)
       → IfOk r (λ found. (s : Situation) (disks : Disks) → IsSound (cluster_of plan) s → SlotStands port plan s a taken
-      → IsStrictSlot port plan s disks a taken → HasRestartedStrictlyAt port plan s disks a choice found slot)
+      → IsStrictSlot port plan s disks a taken → HasRestartedStrictlyAt port plan (over_disks s disks) a choice found slot)
       → (r ≡ Ok Down → Rose (faults_in port taken) (faults_in port slot))
       → IfOk r (λ found. (s : Situation) → StandsFor port plan old s → HasPlace s
-      → HasReopened port plan a choice old.slots.items (set (set old.slots.items a.0 left) a.0 slot) found s)
+      → HasReopened port plan a choice (change old.slots.items (set (set old.slots.items a.0 left) a.0 slot)) found s)
   slot_reopened (Err e) within left_is taken_is ok strictly cause = tt
   slot_reopened (Ok found) within left_is taken_is ok strictly cause = λ s h place.
       let stands : SlotStands port plan s a taken = subst (λ (x : Slot D). SlotStands port plan s a x) (sym taken_is) (h.actors.each a known) in

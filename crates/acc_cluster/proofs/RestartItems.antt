@@ -39,7 +39,7 @@ use Rattle.acc_pasts.proofs.Replayed.{restart_emits}
 use Rattle.acc_pasts.proofs.Sound.{sound_standing}
 use Rattle.acc_schedule_runs.specs.Situations.{Situation, whole, without, is_lost}
 use Rattle.acc_schedule_runs.specs.Moves.{with_item, with_stopped, event_in, entry_of, entered, kept_if, with_kept}
-use Rattle.acc_schedule_runs.specs.Limits.{IsWithin, EndsAt, most_items}
+use Rattle.acc_schedule_runs.specs.Limits.{EndsAt, most_items}
 use Rattle.acc_schedule_runs.specs.Fronts.{Begins}
 use Rattle.acc_history.specs.declared.history.History.{History}
 use Rattle.acc_history.specs.Stands.{EventTakesSent}

@@ -1,34 +1,30 @@
 -- What a round of a drain asks and gives.
-use Rattle.std.proofs.Common.{◌≡◌, ℕ, suc, ◌-◌, ◌<◌, ◌≤◌, Bool, true, false, List, ◌∷◌, Option, None, Result, Err, IfErr, IsTrue, length, refl, sym, ◌∙◌, ap, subst, inl, arith}
+use Rattle.std.proofs.Common.{◌≡◌, ℕ, ◌-◌, ◌<◌, ◌≤◌, true, false, None, Result, Err, IfErr, IsTrue, length, sym, ◌∙◌, ap, subst, arith}
 use Rattle.std.specs.Result.{IsErrAnd}
 use Rattle.std.proofs.lemmas.Result.{err_from_is_err_and}
 use Rattle.std.proofs.lemmas.List.{length-reverse}
-use Rattle.acc_stamp.specs.declared.actors.Actor.{Actor}
 use Rattle.acc_ports.specs.declared.disk.Disk.{Ghosts}
-use Rattle.acc_message.specs.declared.entry.Event.{Event}
 use Rattle.acc_message.specs.declared.entry.Event.TheVariants.{Message as MessageEvent}
 use Rattle.acc_message.specs.declared.error.Which.{Which}
 use Rattle.acc_message.specs.declared.error.Which.TheVariants.{Items}
 use Rattle.acc_message.specs.declared.error.RunError.{RunError}
 use Rattle.acc_message.specs.declared.error.RunError.TheVariants.{Limit, OutOfMemory}
-use Rattle.acc_message.specs.declared.item.Item.{Item}
-use Rattle.acc_message.specs.declared.item.Item.TheVariants.{Down}
 use Rattle.acc_message.specs.Run.{Cluster as RunCluster}
 use Rattle.acc_schedule.specs.Content.{Content}
 use Rattle.acc_pasts.proofs.Skips.{deliver_skip_is, waiting_goes}
 use Rattle.acc_schedule_runs.specs.Situations.{Situation, waits, IsOldestWaiting, receiver_in}
-use Rattle.acc_schedule_runs.specs.Moves.{deliver_skip, entry_of, tried_if}
+use Rattle.acc_schedule_runs.specs.Moves.{deliver_skip}
 use Rattle.acc_schedule_runs.specs.Schedules.{cluster_of}
-use Rattle.acc_schedule_runs.specs.Limits.{IsWithin, EndsAt, most_items}
+use Rattle.acc_schedule_runs.specs.Limits.{most_items}
 use Rattle.acc_history.specs.declared.history.History.{History}
 use Rattle.acc_history.specs.Stands as history
 use Rattle.acc_cluster.specs.declared.cluster.Cluster.{Cluster}
-use Rattle.acc_cluster.specs.Entering.{HasPlace}
+use Rattle.acc_cluster.specs.Entering.{HasPlace, IsPastOf, HasGrown}
 use Rattle.acc_cluster.specs.Stands.{StandsFor}
-use Rattle.acc_cluster.specs.Steps.{IfLimit, LimitLeaves}
-use Rattle.acc_cluster.specs.Tried.{HasStepped, HitsLimit, HitsLimitInDrain}
+use Rattle.acc_cluster.specs.Steps.{hit, IfLimit, LimitLeaves}
+use Rattle.acc_cluster.specs.Tried.{scheduled, HitsLimit, HitsLimitInDrain}
 use Rattle.acc_cluster.proofs.Hits.{hits_full}
-use Rattle.acc_cluster.proofs.Coming.{longer, HasCome, hits_in_drain}
+use Rattle.acc_cluster.proofs.Coming.{HasCome, hits_in_drain}
 
 -- a message that waits isn't passed over
 pub waiting_is_taken : (cluster : RunCluster) (s : Situation) (message : ℕ) → IsTrue (waits s message) → deliver_skip s message ≡ None
@@ -41,18 +37,15 @@ as_many h s stands = ap length stands.holds.items_are ∙ length-reverse s.own
 
 -- ---- the room that is left gets smaller
 
-less_room : (before now n : ℕ) → before ≡ n → now ≡ suc n → n < most_items → most_items - now < most_items - before
-less_room before now n is grown place = omega (arith, is, grown, place)
+less_room : (before now n k : ℕ) → before ≡ n → now ≡ k → n < k → n < most_items → most_items - now < most_items - before
+less_room before now n k is grown longer place = omega (arith, is, grown, longer, place)
 
-pub smaller : {D : Type 0} (port : Ghosts D)
-    (plan : Content) (now new : Cluster D) (s : Situation) (message : ℕ) → StandsFor port plan now s → HasPlace s
-    → HasStepped port plan None 0 (receiver_in s message) (MessageEvent message) now new s
-    → most_items - length new.history.items.items < most_items - length now.history.items.items
-smaller port plan now new s message stands place stepped =
-    less_room (length now.history.items.items) (length new.history.items.items) (length s.own)
-    (as_many now.history s stands.past.stands)
-    (as_many new.history _ stepped.stands.past.stands ∙ longer stepped.fails (cluster_of plan) s (receiver_in s message) (MessageEvent message))
-    place
+pub grown_smaller : (now new : History) (s : Situation) → IsPastOf now s → HasPlace s → ((s : Situation) → IsPastOf now s → HasPlace s → HasGrown new s)
+    → most_items - length new.items.items < most_items - length now.items.items
+grown_smaller now new s past place grows =
+    let grown : HasGrown new s = grows s past place in
+    less_room (length now.items.items) (length new.items.items) (length s.own) (length grown.next.own)
+    (as_many now s past.stands) (as_many new grown.next grown.past.stands) grown.longer place
 
 -- ---- limits
 
@@ -84,7 +77,7 @@ module _ {D : Type 0} (port : Ghosts D)
   -- the step hits one
   pub ends_taken : (new : Cluster D) (e : RunError)
       → IfLimit (λ which most. (number : ℕ) (s : Situation) → StandsFor port plan now s → HasPlace s → deliver_skip s message ≡ None
-      → HitsLimit port plan None number (receiver_in s message) (MessageEvent message) now new s which most) e
+      → HitsLimit port plan (scheduled None number (receiver_in s message) (MessageEvent message)) now new s (hit which most)) e
       → ((s : Situation) → history.StandsFor now.history s → HasPlace s) → (r : Result (Unit {0}) RunError) → IsErrAnd r (λ x. x ≡ e) → IfErr r (IfLimit (Hits new))
   ends_taken new OutOfMemory h place = passed_on new OutOfMemory tt
   ends_taken new (Limit which most) h place = passed_on new (Limit which most) hits

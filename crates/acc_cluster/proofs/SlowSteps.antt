@@ -1,5 +1,5 @@
 -- A slow in the cluster: its home gives the fast path up, or refuses.
-use Rattle.std.proofs.Common.{◌≡◌, ℕ, ◌<◌, Bool, true, false, List, Option, None, Some, Result, OnOk, IfErr, Contains, is_none, length, unwrap_or, refl, sym, ◌∙◌, ap, subst, inl, inr, ⊎_elim}
+use Rattle.std.proofs.Common.{◌≡◌, ℕ, ◌<◌, Bool, true, false, None, Some, Result, OnOk, IfErr, Contains, is_none, length, unwrap_or, refl, sym, ◌∙◌, ap, subst, inl, inr, ⊎_elim}
 use Rattle.std.specs.List.{slice_index_or}
 use Rattle.std.proofs.Math.ListN.{set}
 use Rattle.acc_stamp.specs.declared.actors.Actor.{Actor}
@@ -37,17 +37,18 @@ use Rattle.acc_history.specs.Stands.{EventTakesSent}
 use Rattle.acc_actors.specs.declared.slot.Slot.{Slot}
 use Rattle.acc_actors.specs.declared.slot.Slot.TheVariants.{Empty}
 use Rattle.acc_actors.specs.Slots.{SlotStands, IsStrictSlot, faults_in}
-use Rattle.acc_actors.specs.Asked.{IsEmitted, HasTried, HasTriedStrictly, IsHomeUp, skips_slow}
+use Rattle.acc_actors.specs.Asked.{over_disks, IsEmitted, HasTried, HasTriedStrictly, IsHomeUp, skips_slow}
 use Rattle.acc_actors.proofs.Apart.{apart_itself}
 use Rattle.acc_cluster.specs.declared.cluster.Cluster.{Cluster}
 use Rattle.acc_cluster.specs.Entering.{HasPlace, IsPastOf}
 use Rattle.acc_cluster.specs.Stands.{slot_at, faults_at, StandsFor, AreStrict}
-use Rattle.acc_cluster.specs.Steps.{IfLimit}
-use Rattle.acc_cluster.specs.Tried.{HasStepped, HitsLimit}
+use Rattle.acc_cluster.specs.Steps.{hit, IfLimit}
+use Rattle.acc_cluster.specs.Tried.{scheduled, HasStepped, HitsLimit}
 use Rattle.acc_cluster.proofs.Going.{there_is}
 use Rattle.acc_cluster.proofs.Counts.{same_most}
 use Rattle.acc_cluster.proofs.Limited.{both_limits}
 use Rattle.acc_cluster.proofs.Stepped.{has_stepped, stops_stepped}
+use Rattle.acc_cluster.proofs.Hits.{not_full}
 use Rattle.acc_cluster.proofs.Taken.{Goes, on_ok, if_limit, within_any, sendable_at, taken_counted}
 use Rattle.acc_cluster.proofs.Written.{IsWritten, AllApart, write_is, actors_written, strict_written}
 
@@ -110,16 +111,16 @@ module _ {D : Type 0} (port : Ghosts D)
         (ok : (s : Situation) → IsHomeUp port plan s a txn slot → (skips_slow plan s txn ≡ None) × HasTried port plan s a (SlowEvent txn) new_slot (Some emitted)) where
       pub slowed_ok : (new : Cluster D) → new.slots.items ≡ set old.slots.items a.0 new_slot
           → ((s : Situation) (disks : Disks) → IsHomeUp port plan s a txn slot → IsStrictSlot port plan s disks a slot
-          → HasTriedStrictly port plan s disks a (SlowEvent txn) new_slot (Some emitted))
+          → HasTriedStrictly port plan (over_disks s disks) a (SlowEvent txn) new_slot (Some emitted))
           → OnOk r ((cluster : RunCluster) (s : Situation) → IsPastOf old.history s → HasPlace s → EventTakesSent s (SlowEvent txn) → IsEmitted cluster s a (SlowEvent txn) (Some emitted)
           → IsPastOf new.history (tried_if (is_none (Some emitted)) cluster s a (SlowEvent txn)))
           → OnOk r ((s : Situation) → StandsFor port plan old s → HasPlace s → is_down a (whole s) ≡ false
-          → HasStepped port plan (skips_slow plan s txn) number a (SlowEvent txn) old new s)
+          → HasStepped port plan (scheduled (skips_slow plan s txn) number a (SlowEvent txn)) old new s)
       slowed_ok new set_is strictly = on_ok _ _ r (λ enter s h place up.
           let up_there : IsHomeUp port plan s a txn slot = home_up s h up in
           let answer = ok s up_there in
           let go = goes_slow s h up answer.0 in
-          subst (λ skip. HasStepped port plan skip number a (SlowEvent txn) old new s) (sym answer.0)
+          subst (λ skip. HasStepped port plan (scheduled skip number a (SlowEvent txn)) old new s) (sym answer.0)
           (has_stepped port plan old new s number a (SlowEvent txn) h (Slows go.0) new_slot (Some emitted) go.1.known
           (write_is old.slots.items new.slots.items a a.0 new_slot refl within set_is) go.1.may go.1.none go.1.up answer.1
           (enter (cluster_of plan) s h.past place tt answer.1.emitted)
@@ -131,15 +132,16 @@ module _ {D : Type 0} (port : Ghosts D)
           → IfErr r (IfLimit (λ which limit. (cluster : RunCluster) (s : Situation) → IsPastOf old.history s → HasPlace s → IsEmitted cluster s a (SlowEvent txn) (Some emitted)
           → (is_none (Some emitted) ≡ false) × EndsAt (λ front. front ≡ (tried_if false cluster s a (SlowEvent txn)).own) s.own which limit))
           → IfErr r (IfLimit (λ which limit. (s : Situation) → StandsFor port plan old s → HasPlace s → is_down a (whole s) ≡ false
-          → HitsLimit port plan (skips_slow plan s txn) number a (SlowEvent txn) old new s which limit))
+          → HitsLimit port plan (scheduled (skips_slow plan s txn) number a (SlowEvent txn)) old new s (hit which limit)))
       slowed_limit new set_is same_count same entered = if_limit _ _ r (λ which limit told s h place up.
           let answer = ok s (home_up s h up) in
           let go = goes_slow s h up answer.0 in
           let ends = told.1 (cluster_of plan) s h.past place answer.1.emitted in
-          subst (λ skip. HitsLimit port plan skip number a (SlowEvent txn) old new s which limit) (sym answer.0)
+          subst (λ skip. HitsLimit port plan (scheduled skip number a (SlowEvent txn)) old new s (hit which limit)) (sym answer.0)
           (record {
             reached = tried_if false (cluster_of plan) s a (SlowEvent txn);
             ends = inr (ends.1, λ disks are skipped. refl, refl);
+            first = λ is. absurd (not_full _ s which limit ends.1 place is);
             stops =
                 stops_stepped port plan old new s number a (SlowEvent txn) h (Slows go.0) new_slot go.1.known
                 (write_is old.slots.items new.slots.items a a.0 new_slot refl within set_is) go.1.may go.1.none go.1.up told.0 answer.1.stands;
@@ -185,13 +187,13 @@ module _ {D : Type 0} (port : Ghosts D)
       pub refused_ok : (new : Cluster D) → faults_in port new_slot ≡ faults_in port slot
           → ((s : Situation) (disks : Disks) → IsHomeUp port plan s a txn slot → IsStrictSlot port plan s disks a slot → IsStrictSlot port plan s disks a new_slot)
           → OnOk r ((s : Situation) (b : Actor) (event : Event) → StandsFor port plan between s → HasPlace s
-          → HasStepped port plan (Some cause) number b event between new s)
+          → HasStepped port plan (scheduled (Some cause) number b event) between new s)
           → OnOk r ((s : Situation) → StandsFor port plan old s → HasPlace s → is_down a (whole s) ≡ false
-          → HasStepped port plan (skips_slow plan s txn) number a (SlowEvent txn) old new s)
+          → HasStepped port plan (scheduled (skips_slow plan s txn) number a (SlowEvent txn)) old new s)
       refused_ok new same_count strictly = on_ok _ _ r (λ passed s h place up.
-          let step : HasStepped port plan (Some cause) number a (SlowEvent txn) between new s =
+          let step : HasStepped port plan (scheduled (Some cause) number a (SlowEvent txn)) between new s =
           passed s a (SlowEvent txn) (still_stands s h up) place in
-          subst (λ skip. HasStepped port plan skip number a (SlowEvent txn) old new s) (sym (refused s (home_up s h up)))
+          subst (λ skip. HasStepped port plan (scheduled skip number a (SlowEvent txn)) old new s) (sym (refused s (home_up s h up)))
           (record {
             fails = step.fails;
             may = step.may;
@@ -202,5 +204,5 @@ module _ {D : Type 0} (port : Ghosts D)
 
       pub refused_limit : (new : Cluster D) → IfErr r (IfLimit (λ which limit. (s : Situation) → StandsFor port plan between s → HasPlace s → ⊥))
           → IfErr r (IfLimit (λ which limit. (s : Situation) → StandsFor port plan old s → HasPlace s → is_down a (whole s) ≡ false
-          → HitsLimit port plan (skips_slow plan s txn) number a (SlowEvent txn) old new s which limit))
+          → HitsLimit port plan (scheduled (skips_slow plan s txn) number a (SlowEvent txn)) old new s (hit which limit)))
       refused_limit new = if_limit _ _ r (λ which limit never s h place up. absurd (never s (still_stands s h up) place))

@@ -26,7 +26,7 @@ use Rattle.acc_payloads.specs.Appends.{after_append, passed_in}
 use Rattle.acc_schedule_runs.specs.Disks.{Disks, after_step}
 use Rattle.acc_actors.specs.declared.slot.Slot.{Slot}
 use Rattle.acc_actors.specs.Slots.{SlotStands, IsStrictSlot, faults_in}
-use Rattle.acc_actors.specs.Asked.{HasRoom, IsEmitted, HasTried, HasTriedStrictly}
+use Rattle.acc_actors.specs.Asked.{over_disks, HasRoom, IsEmitted, HasTried, HasTriedStrictly}
 use Rattle.acc_actors.proofs.Apart.{IsApart, apart_skip, apart_tried}
 use Rattle.acc_actors.proofs.Few.{entry_other}
 use Rattle.acc_cluster.specs.declared.cluster.Cluster.{Cluster}
@@ -34,7 +34,7 @@ use Rattle.acc_history.specs.declared.history.History.{History}
 use Rattle.acc_cluster.specs.Entering.{IsPastOf}
 use Rattle.acc_cluster.specs.Stands.{slot_at, AreActors, StandsFor, AreStrict}
 use Rattle.acc_cluster.specs.Limits.{StopsAt}
-use Rattle.acc_cluster.specs.Tried.{HasStepped}
+use Rattle.acc_cluster.specs.Tried.{scheduled, HasStepped}
 use Rattle.acc_cluster.proofs.Written.{IsWritten, AllApart, actors_written, strict_written, rose_written, actors_same, strict_same}
 
 -- what is armed on the disks of others
@@ -68,8 +68,8 @@ module _ {D : Type 0} (port : Ghosts D)
       → HasTried port plan s a event slot given → IsPastOf new.history (tried_if (is_none given) (cluster_of plan) s a event)
       → (given ≡ None → Rose (faults_in port (slot_at old.slots.items a)) (faults_in port slot))
       → ((disks : Disks) → IsStrictSlot port plan s disks a (slot_at old.slots.items a)
-      → HasTriedStrictly port plan s disks a event slot given)
-      → HasStepped port plan None number a event old new s
+      → HasTriedStrictly port plan (over_disks s disks) a event slot given)
+      → HasStepped port plan (scheduled None number a event) old new s
   has_stepped act slot given known written may none up tried past cause strictly =
       record {
         fails = is_none given;
@@ -82,7 +82,7 @@ module _ {D : Type 0} (port : Ghosts D)
         };
         rose = λ b there. rose_written plan old.slots.items new.slots.items s (tried_if (is_none given) (cluster_of plan) s a event) a slot written known apart port (rose given cause) b;
         strictly = λ disks are.
-            let answer : HasTriedStrictly port plan s disks a event slot given = strictly disks (are a known) in (
+            let answer : HasTriedStrictly port plan (over_disks s disks) a event slot given = strictly disks (are a known) in (
               λ skipped. answer.fails,
               strict_written plan old.slots.items new.slots.items s (tried_if (is_none given) (cluster_of plan) s a event) a slot written known apart port disks
                   (after_step (is_journalled a event) a disks) (λ b e. others_disks (is_journalled a event) a disks b (turned a b e)) are answer.strictly,
@@ -103,7 +103,7 @@ module _ {D : Type 0} (port : Ghosts D)
 
   -- passed over
   pub has_skipped : (cause : Skip) → new.slots.items ≡ old.slots.items → IsPastOf new.history (with_item (Skipped number cause) s)
-      → HasStepped port plan (Some cause) number a event old new s
+      → HasStepped port plan (scheduled (Some cause) number a event) old new s
   has_skipped cause same_slots past =
       record {
         fails = false;

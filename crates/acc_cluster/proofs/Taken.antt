@@ -29,14 +29,14 @@ use Rattle.acc_history.specs.Stands.{EventTakesSent}
 use Rattle.acc_actors.specs.declared.slot.Slot.{Slot}
 use Rattle.acc_actors.specs.declared.slot.Slot.TheVariants.{Empty}
 use Rattle.acc_actors.specs.Slots.{SlotStands, IsStrictSlot, faults_in}
-use Rattle.acc_actors.specs.Asked.{IsAsked, IsEmitted, HasTried, HasTriedStrictly}
+use Rattle.acc_actors.specs.Asked.{step_by, over_disks, IsAsked, IsEmitted, HasTried, HasTriedStrictly}
 use Rattle.acc_actors.proofs.Few.{few_whole}
 use Rattle.acc_cluster.specs.declared.cluster.Cluster.{Cluster}
 use Rattle.acc_cluster.specs.Entering.{HasPlace, IsPastOf}
 use Rattle.acc_cluster.specs.Stands.{slot_at, StandsFor}
-use Rattle.acc_cluster.specs.Steps.{IfLimit}
-use Rattle.acc_cluster.specs.Tried.{HasStepped, HitsLimit}
-use Rattle.acc_cluster.proofs.Hits.{map_limit}
+use Rattle.acc_cluster.specs.Steps.{hit, IfLimit}
+use Rattle.acc_cluster.specs.Tried.{scheduled, HasStepped, HitsLimit}
+use Rattle.acc_cluster.proofs.Hits.{map_limit, not_full}
 use Rattle.acc_message.specs.Items.{same_actor}
 use Rattle.acc_safety.proofs.Bridge.{same}
 use Rattle.acc_cluster.proofs.Written.{IsWritten, write_is}
@@ -88,7 +88,7 @@ module _ {D : Type 0} (port : Ghosts D) (plan : Content) (old : Cluster D) (a : 
   slot_is : slot ≡ slot_at old.slots.items a
   slot_is = here ∙ within_any old.slots.items a.0 slot Empty within
 
-  pub asked_at : (s : Situation) → StandsFor port plan old s → Goes plan s a event act → IsAsked port plan s a event act slot
+  pub asked_at : (s : Situation) → StandsFor port plan old s → Goes plan s a event act → IsAsked port plan s (step_by a event act) slot
   asked_at s h goes =
       record {
         sound = h.sound;
@@ -124,19 +124,19 @@ module _ {D : Type 0} (port : Ghosts D) (plan : Content) (old : Cluster D) (a : 
           (subst (λ (x : Slot D). faults_in port x ≤ faults_in port (slot_at new a)) slot_is (subst (λ (x : Slot D). faults_in port slot ≤ faults_in port x) (sym written.here) counted))
 
   module _ (new_slot : Slot D) (given : Option Emitted)
-      (ok : (s : Situation) → IsAsked port plan s a event act slot → HasTried port plan s a event new_slot given)
-      (strictly : (s : Situation) (disks : Disks) → IsAsked port plan s a event act slot → IsStrictSlot port plan s disks a slot
-      → HasTriedStrictly port plan s disks a event new_slot given)
+      (ok : (s : Situation) → IsAsked port plan s (step_by a event act) slot → HasTried port plan s a event new_slot given)
+      (strictly : (s : Situation) (disks : Disks) → IsAsked port plan s (step_by a event act) slot → IsStrictSlot port plan s disks a slot
+      → HasTriedStrictly port plan (over_disks s disks) a event new_slot given)
       (P : Situation → Type 0) (goes : (s : Situation) → StandsFor port plan old s → P s → Goes plan s a event act) (r : Result (Unit {0}) RunError) where
     pub taken_ok : (new : Cluster D) → new.slots.items ≡ set old.slots.items a.0 new_slot
         → (given ≡ None → Rose (faults_in port slot) (faults_in port new_slot))
         → OnOk r ((cluster : RunCluster) (s : Situation) → IsPastOf old.history s → HasPlace s → EventTakesSent s event → IsEmitted cluster s a event given
         → IsPastOf new.history (tried_if (is_none given) cluster s a event))
         → OnOk r ((number : ℕ) (s : Situation) → StandsFor port plan old s → HasPlace s → P s
-        → HasStepped port plan None number a event old new s)
+        → HasStepped port plan (scheduled None number a event) old new s)
     taken_ok new set_is cause entered = on_ok _ _ r (λ enter number s h place p.
         let go : Goes plan s a event act = goes s h p in
-        let asked : IsAsked port plan s a event act slot = asked_at s h go in
+        let asked : IsAsked port plan s (step_by a event act) slot = asked_at s h go in
         let tried : HasTried port plan s a event new_slot given = ok s asked in
         has_stepped port plan old new s number a event h act new_slot given go.known
         (write_is old.slots.items new.slots.items a a.0 new_slot refl within set_is) go.may go.none go.up tried
@@ -149,10 +149,10 @@ module _ {D : Type 0} (port : Ghosts D) (plan : Content) (old : Cluster D) (a : 
         → IfErr r (IfLimit (λ which limit. (cluster : RunCluster) (s : Situation) → IsPastOf old.history s → HasPlace s → IsEmitted cluster s a event given
         → (is_none given ≡ false) × EndsAt (λ front. front ≡ (tried_if false cluster s a event).own) s.own which limit))
         → IfErr r (IfLimit (λ which limit. (number : ℕ) (s : Situation) → StandsFor port plan old s → HasPlace s → P s
-        → HitsLimit port plan None number a event old new s which limit))
+        → HitsLimit port plan (scheduled None number a event) old new s (hit which limit)))
     taken_limit new set_is counted same entered = if_limit _ _ r (λ which limit told number s h place p.
         let go : Goes plan s a event act = goes s h p in
-        let asked : IsAsked port plan s a event act slot = asked_at s h go in
+        let asked : IsAsked port plan s (step_by a event act) slot = asked_at s h go in
         let tried : HasTried port plan s a event new_slot given = ok s asked in
         let ends = told.1 (cluster_of plan) s h.past place tried.emitted in
         record {
@@ -160,11 +160,12 @@ module _ {D : Type 0} (port : Ghosts D) (plan : Content) (old : Cluster D) (a : 
           ends = inr (
             ends.1,
             λ disks are skipped.
-                let answer : HasTriedStrictly port plan s disks a event new_slot given =
+                let answer : HasTriedStrictly port plan (over_disks s disks) a event new_slot given =
                 strictly s disks asked (subst (λ (x : Slot D). IsStrictSlot port plan s disks a x) (sym slot_is) (are a go.known)) in
                 sym answer.fails ∙ ends.0,
             refl,
           );
+          first = λ is. absurd (not_full _ s which limit ends.1 place is);
           stops =
               stops_stepped port plan old new s number a event h act new_slot go.known
               (write_is old.slots.items new.slots.items a a.0 new_slot refl within set_is) go.may go.none go.up told.0

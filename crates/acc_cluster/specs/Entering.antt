@@ -25,3 +25,9 @@ pub record IsPastOf (h : History) (s : Situation) : Type 0 where
   pub stands : history.StandsFor h s
   pub weighed : history.IsWeighed h s
   pub within : IsWithin s.own
+
+-- the history has more items than before, within the limits
+pub record HasGrown (h : History) (s : Situation) : Type 0 where
+  pub next : Situation
+  pub past : IsPastOf h next
+  pub longer : length s.own < length next.own

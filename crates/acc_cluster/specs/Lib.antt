@@ -7,3 +7,5 @@ pub mod Ends
 pub mod Opened
 pub mod Restarting
 pub mod Over
+pub mod Safe
+pub mod Tested

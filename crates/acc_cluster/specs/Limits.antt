@@ -1,5 +1,5 @@
 -- Where a limit leaves a cluster.
-use Rattle.std.specs.Prelude.{◌≡◌, ◌⊎◌, ℕ, ◌≤◌, Bool, IsTrue, List, ◌∷◌, ◌++◌, reverse, Contains}
+use Rattle.std.specs.Prelude.{◌≡◌, ◌⊎◌, ◌≤◌, IsTrue, List, ◌∷◌, ◌++◌, reverse, Contains}
 use Rattle.std.specs.List.{list_all}
 use Rattle.acc_stamp.specs.declared.actors.Actor.{Actor}
 use Rattle.acc_ports.specs.declared.disk.Disk.{Ghosts}

@@ -1,5 +1,5 @@
 -- A cluster over actors that stand already, after the items in which they took part.
-use Rattle.std.specs.Prelude.{ℕ, Bool, List, [], reverse, map, Option, Contains}
+use Rattle.std.specs.Prelude.{List, [], reverse, map, Contains}
 use Rattle.std.specs.List.{AllByRecursion}
 use Rattle.acc_stamp.specs.declared.actors.Actor.{Actor}
 use Rattle.acc_ports.specs.declared.disk.Disk.{Ghosts}

@@ -1,9 +1,11 @@
 -- What a restart finds at the actor's number, and what entering it comes to.
-use Rattle.std.specs.Prelude.{◌≡◌, ℕ, Bool, true, false, IsTrue, List, [], ◌∷◌, ◌++◌, Option}
+use Rattle.std.specs.Prelude.{◌≡◌, ℕ, nat_lt, Bool, true, false, IsTrue, List, [], ◌∷◌, ◌++◌}
 use Rattle.std.specs.List.{AllByRecursion, list_all}
 use Rattle.acc_stamp.specs.declared.actors.Actor.{Actor}
 use Rattle.acc_ports.specs.declared.disk.Disk.{Ghosts}
 use Rattle.acc_ports.specs.Faults.{Rose}
+use Rattle.acc_message.specs.declared.entry.Event.{Event}
+use Rattle.acc_message.specs.declared.entry.Event.TheVariants.{Message}
 use Rattle.acc_message.specs.declared.error.Which.{Which}
 use Rattle.acc_message.specs.declared.item.Item.{Item}
 use Rattle.acc_message.specs.Items.{same_actor}
@@ -18,24 +20,26 @@ use Rattle.acc_schedule_runs.specs.Situations.{Situation, is_lost}
 use Rattle.acc_schedule_runs.specs.Moves.{with_item, kept_if, reopened}
 use Rattle.acc_history.specs.declared.history.History.{History}
 use Rattle.acc_history.specs.Stands.{EventTakesSent}
+use Rattle.acc_history.specs.Stands as history
 use Rattle.acc_schedule_runs.specs.Disks.{Disks}
 use Rattle.acc_schedule_runs.specs.Limits.{EndsAt}
 use Rattle.acc_schedule_runs.specs.Fronts.{Begins}
 use Rattle.acc_actors.specs.declared.slot.Slot.{Slot}
 use Rattle.acc_actors.specs.Slots.{IsStrictSlot, faults_in}
-use Rattle.acc_actors.specs.Asked.{HasRestartedAt, HasRestartedStrictlyAt}
+use Rattle.acc_actors.specs.Asked.{over_disks, HasRestartedAt, HasRestartedStrictlyAt}
 use Rattle.acc_cluster.specs.Entering.{HasPlace, IsPastOf, step_item}
 use Rattle.acc_cluster.specs.Limits.{IsMoveAhead}
 use Rattle.acc_cluster.specs.Stands.{slot_at}
+use Rattle.acc_cluster.specs.Steps.{Change}
 
 -- The actor has restarted in its slot, and the other slots are as before.
-pub record HasReopened {D : Type 0} (port : Ghosts D) (plan : Content) (a : Actor) (choice : ℕ) (before now : List (Slot D)) (found : Restarted) (s : Situation) : Type 0 where
-  pub others : (b : Actor) → same_actor a b ≡ false → slot_at now b ≡ slot_at before b
-  pub restarted : HasRestartedAt port plan s a found (slot_at now a)
+pub record HasReopened {D : Type 0} (port : Ghosts D) (plan : Content) (a : Actor) (choice : ℕ) (slots : Change (List (Slot D))) (found : Restarted) (s : Situation) : Type 0 where
+  pub others : (b : Actor) → same_actor a b ≡ false → slot_at slots.new b ≡ slot_at slots.old b
+  pub restarted : HasRestartedAt port plan s a found (slot_at slots.new a)
   pub strictly :
-      (disks : Disks) → IsStrictSlot port plan s disks a (slot_at before a)
-      → HasRestartedStrictlyAt port plan s disks a choice found (slot_at now a)
-  pub cause : found ≡ Down → Rose (faults_in port (slot_at before a)) (faults_in port (slot_at now a))
+      (disks : Disks) → IsStrictSlot port plan s disks a (slot_at slots.old a)
+      → HasRestartedStrictlyAt port plan (over_disks s disks) a choice found (slot_at slots.new a)
+  pub cause : found ≡ Down → Rose (faults_in port (slot_at slots.old a)) (faults_in port (slot_at slots.new a))
 
 -- the situation after a restart that kept this
 abbrev pub come_up : Cluster → Situation → Actor → List Unsent → Situation
@@ -69,6 +73,16 @@ pub record CanComeBack (h : History) (a : Actor) (kept : List Unsent) (s : Situa
   pub past : IsPastOf h s
   pub place : HasPlace s
   pub taken : AllByRecursion (λ unsent. EventTakesSent s unsent.event) kept
+
+-- the event takes one of the first messages, of which there are so many, if any
+abbrev pub takes_below : ℕ → Event → Bool
+takes_below sent (Message number) = nat_lt number sent
+takes_below sent event = true
+
+-- whatever the history stands for, the step takes a message that was sent, if any, and its messages can be sent
+pub record CanBeEntered (h : History) (unsent : Unsent) : Type 0 where
+  pub takes : (s : Situation) → history.StandsFor h s → EventTakesSent s unsent.event
+  pub sends : AreSendable unsent.emitted.out
 
 -- these lost entries are missing, newest first
 pub record AreMissing (items all : List Item) : Type 0 where

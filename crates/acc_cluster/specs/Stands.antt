@@ -1,7 +1,7 @@
 -- When a cluster stands for a situation.
 --     StandsFor images faults plan cluster s      its history does, and so does each actor of the plan with its disk
 --     StandsStrictly ..      the same over strict disks, on which is known what is armed
-use Rattle.std.specs.Prelude.{ℕ, Bool, List, Option, Contains}
+use Rattle.std.specs.Prelude.{ℕ, List, Contains}
 use Rattle.std.specs.List.{slice_index_or}
 use Rattle.acc_stamp.specs.declared.actors.Actor.{Actor}
 use Rattle.acc_ports.specs.declared.disk.Disk.{Ghosts}

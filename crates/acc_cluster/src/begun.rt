@@ -26,7 +26,7 @@ pub(crate) fn begun_before<D: Rig>(
     nodes: &[DurableNode<D>],
 ) -> Result<Vec<Option<TxnId>>, OutOfMemory>
     requires nodes { AllByRecursion (IsNodeOf D.Disk plan.now) nodes.now }
-    requires numbers { map (λ (n : ANode D). n.number) nodes.now ≡ plan.now.topology.nodes }
+    requires numbers { map (λ (n : ANode D). n.name.number) nodes.now ≡ plan.now.topology.nodes }
     ensures few { IfOk result (λ ids. length ids.items < 2 ^ 32) }
     ensures told { IfOk result (λ ids. (earlier : List AnItem) → IsSound (cluster_of plan.now) (opened earlier) → AllByRecursion (HasDone plan.now earlier) nodes.now
         → (txn : ℕ) → known_as (slice_get ids.items txn) ≡ begun_as (is_begun earlier txn) (id_of_txn earlier txn)) }
@@ -48,7 +48,7 @@ fn id_at_home<D: Rig>(
     txn: u32,
 ) -> Option<TxnId>
     requires nodes { AllByRecursion (IsNodeOf D.Disk plan.now) nodes.now }
-    requires numbers { map (λ (n : ANode D). n.number) nodes.now ≡ numbers.now }
+    requires numbers { map (λ (n : ANode D). n.name.number) nodes.now ≡ numbers.now }
     requires members { numbers.now ≡ plan.now.topology.nodes }
     requires known { txn < length plan.now.names }
     ensures { TellsOf plan.now nodes.now txn result }

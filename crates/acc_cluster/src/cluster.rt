@@ -1,5 +1,5 @@
 //! The steps of a schedule.
-ghost use Rattle.std.specs.Prelude.{◌≡◌, reverse, length, IfErr, OnOk, IfSome, None};
+ghost use Rattle.std.specs.Prelude.{◌≡◌, true, false, reverse, length, IfErr, OnOk, IfSome, None};
 ghost use Rattle.acc_stamp.specs.declared.actors.Actor.{Actor as AnActor};
 ghost use Rattle.acc_message.specs.declared.error.Which.{Which as AWhich};
 ghost use Rattle.acc_message.specs.Items.{is_begun};
@@ -32,7 +32,8 @@ impl<D: Rig + Drop> Cluster<D> {
     ghost use Rattle.acc_actors.specs.Stores.{IsStoreUp, IsStoreOf};
     ghost use Rattle.acc_cluster.specs.Stands.{StandsFor, StandsStrictly};
     ghost use Rattle.acc_cluster.specs.Limits.{HasEntered};
-    ghost use Rattle.acc_cluster.specs.Steps.{StepsTo, StepsStrictly, IfLimit, EndsIn, EndsStrictlyIn, LimitLeaves};
+    ghost use Rattle.acc_cluster.specs.Tested.{IsTested};
+    ghost use Rattle.acc_cluster.specs.Steps.{change, StepsTo, StepsStrictly, IfLimit, EndsIn, EndsStrictlyIn, LimitLeaves};
 
     /// Takes the step of the schedule that has this number. After an error no step may follow. Where the step enters an item, one more has
     /// to be within the limit of items, which is asked first; then the step is passed over by its first cause, or its actor takes it over
@@ -43,7 +44,7 @@ impl<D: Rig + Drop> Cluster<D> {
         requires known { IsStep (length plan.now.names) plan.now.topology step.now }
 
         ensures ok { OnOk result ((s : Situation) (answers : Answers) → StandsFor D.Disk plan.now self.old s
-            → StepsTo D.Disk plan.now answers number step.now self.old self.new s) }
+            → StepsTo D.Disk plan.now answers number step.now (change self.old self.new) s) }
         ensures strict { OnOk result ((s : StrictSituation) → StandsStrictly D.Disk plan.now self.old s
             → StepsStrictly D.Disk plan.now number step.now self.new s) }
 
@@ -53,15 +54,43 @@ impl<D: Rig + Drop> Cluster<D> {
         ensures strict_limit { IfErr result (IfLimit (λ which most. (s : StrictSituation) → StandsStrictly D.Disk plan.now self.old s
             → (ends : EndsStrictlyIn plan.now number step.now s which most) × HasEntered self.new ends.items)) }
     {
+        self.step_by(false, plan, number, step)
+    }
+
+    /// Takes the step, as `step`. Where the cluster tests, it asks an actor for nothing that the actor's own past doesn't allow.
+    pub(crate) fn step_by(
+        &mut self,
+        tests: bool,
+        plan: &Plan,
+        number: u32,
+        step: &Step,
+    ) -> Result<(), RunError>
+        requires standing { tests ≡ false → (s : Situation) × StandsFor D.Disk plan.now self.old s }
+        requires tested { tests ≡ true → IsTested D.Disk plan.now self.old }
+        requires known { IsStep (length plan.now.names) plan.now.topology step.now }
+
+        ensures ok { OnOk result ((s : Situation) (answers : Answers) → StandsFor D.Disk plan.now self.old s
+            → StepsTo D.Disk plan.now answers number step.now (change self.old self.new) s) }
+        ensures strict { OnOk result ((s : StrictSituation) → StandsStrictly D.Disk plan.now self.old s
+            → StepsStrictly D.Disk plan.now number step.now self.new s) }
+
+        ensures limit { IfErr result (IfLimit (λ which most. (s : Situation) (answers : Answers) → StandsFor D.Disk plan.now self.old s
+            → (ends : EndsIn plan.now answers number step.now s which most)
+            × LimitLeaves D.Disk plan.now self.old self.new s ends.items ends.reached)) }
+        ensures strict_limit { IfErr result (IfLimit (λ which most. (s : StrictSituation) → StandsStrictly D.Disk plan.now self.old s
+            → (ends : EndsStrictlyIn plan.now number step.now s which most) × HasEntered self.new ends.items)) }
+
+        ensures tested { tests ≡ true → OnOk result (IsTested D.Disk plan.now self.new) }
+    {
         match *step {
-            Step::Begin { txn } => self.begin(plan, number, txn),
-            Step::Deliver { number: message } => self.deliver(plan, number, message),
+            Step::Begin { txn } => self.begin(tests, plan, number, txn),
+            Step::Deliver { number: message } => self.deliver(tests, plan, number, message),
             Step::Drop { number: message } => self.drop_message(plan, number, message),
-            Step::Recover { txn, node } => self.recover(plan, number, txn, node),
-            Step::Slow { txn } => self.slow(plan, number, txn),
-            Step::Restart { actor, choice } => self.restart(plan, actor, choice),
+            Step::Recover { txn, node } => self.recover(tests, plan, number, txn, node),
+            Step::Slow { txn } => self.slow(tests, plan, number, txn),
+            Step::Restart { actor, choice } => self.restart(tests, plan, actor, choice),
             Step::Fail { actor, calls } => self.fail(plan, actor, calls),
-            Step::Drain => self.drain(plan),
+            Step::Drain => self.drain(tests, plan),
         }
     }
 

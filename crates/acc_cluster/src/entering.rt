@@ -12,7 +12,7 @@ ghost use Rattle.acc_schedule_runs.specs.Limits.{EndsAt, most_items};
 ghost use Rattle.acc_history.specs.Stands.{StandsFor, TakesSent, EventTakesSent};
 ghost use Rattle.acc_actors.specs.Asked.{IsEmitted};
 ghost use Rattle.acc_cluster.specs.Steps.{IfLimit};
-ghost use Rattle.acc_cluster.specs.Entering.{HasPlace, IsPastOf, step_item};
+ghost use Rattle.acc_cluster.specs.Entering.{HasPlace, IsPastOf, HasGrown, step_item};
 
 use acc_history::History;
 use acc_message::{Emitted, Entry, Event, Item, RunError, Skip, Which};
@@ -125,6 +125,7 @@ pub(crate) fn enter_given(
     ensures limit { IfErr result (IfLimit (λ which number. (cluster : RunCluster) (s : Situation) → IsPastOf history.old s → HasPlace s → IsEmitted cluster s actor event given
         → (is_none given ≡ false) × EndsAt (λ front. front ≡ (tried_if false cluster s actor event).own) s.own which number)) }
     ensures as_before { IfErr result (IfLimit (λ which number. history.new ≡ history.old)) }
+    ensures grown { OnOk result ((s : Situation) → IsPastOf history.old s → HasPlace s → EventTakesSent s event → HasGrown history.new s) }
 {
     match given {
         Some(emitted) => enter_entry(history, actor, event, emitted, false),

@@ -4,6 +4,7 @@
 //! disks gave; over strict disks the plan alone fixes it.
 #![tactic(auto)]
 
+mod asking;
 mod begun;
 mod cluster;
 mod draining;
@@ -13,7 +14,9 @@ mod opening;
 mod over;
 mod restarting;
 mod stepping;
+mod tested;
 
 pub use cluster::Cluster;
 pub use ending::{Disks, Ended, Remains};
 pub use over::Slots;
+pub use tested::TestedCluster;

@@ -12,10 +12,10 @@ ghost use Rattle.acc_cluster.specs.Opened.{IsNodeOf, IsStoreOf, IsStoreNumber, A
 
 use crate::begun::begun_before;
 use crate::cluster::Cluster;
-use acc_actors::{Slot, start_of};
+use acc_actors::Slot;
 use acc_base::OutOfMemory;
 use acc_durable_node::{DurableNode, NodeActor};
-use acc_durable_store::{DurableStore, StoreActor};
+use acc_durable_store::{DurableStore, StoreActor, StoreName};
 use acc_history::History;
 use acc_ports::Rig;
 use acc_schedule::Plan;
@@ -25,6 +25,7 @@ use std::alloc::Global;
 
 impl<D: Rig + Drop> Cluster<D> {
     ghost use Rattle.acc_cluster.specs.Stands.{StandsFor, StandsStrictly};
+    ghost use Rattle.acc_cluster.specs.Tested.{IsTested, HaveLowPasts};
 
     /// The cluster of the actors of a plan, after any run that stood before, in which nobody is down and for which these actors stand. Of fresh
     /// actors that run has no items. The nodes stand in rising order, and the stores in any order.
@@ -42,6 +43,7 @@ impl<D: Rig + Drop> Cluster<D> {
         ensures strict { IfOk result (λ cluster. (earlier : List AnItem) → IsEarlier plan.now nodes.items stores.items earlier
             → AreUnarmed D.Disk nodes.items stores.items
             → StandsStrictly D.Disk plan.now cluster (opened_strictly earlier)) }
+        ensures tested { IfOk result (λ cluster. HaveLowPasts plan.now nodes.items stores.items → IsTested D.Disk plan.now cluster) }
     {
         let begun = begun_before(alloc, plan, nodes.as_slice())?;
         let history = History::behind(alloc, begun.as_slice())?;
@@ -62,7 +64,7 @@ fn node_slots<D: Rig + Drop>(
     nodes: Vec<DurableNode<D>>,
 ) -> Result<Vec<Slot<D>>, OutOfMemory>
     requires nodes { AllByRecursion (IsNodeOf D.Disk plan.now) nodes.items }
-    requires numbers { map (λ (n : ANode D). n.number) nodes.items ≡ plan.now.topology.nodes }
+    requires numbers { map (λ (n : ANode D). n.name.number) nodes.items ≡ plan.now.topology.nodes }
     ensures filled { IfOk result (λ slots. AreFilled D.Disk plan.now nodes.items [] slots.items) }
     ensures strictly { IfOk result (λ slots. AreFilledStrictly D.Disk plan.now nodes.items [] slots.items) }
 {
@@ -109,7 +111,7 @@ fn put_node<D: Rig + Drop>(
     node: DurableNode<D>,
 ) -> Result<(), OutOfMemory>
     requires node { IsNodeOf D.Disk plan.now node }
-    requires number { node.number ≡ number }
+    requires number { node.name.number ≡ number }
     requires known { IsTrue (is_among plan.now.topology.nodes number) }
     ensures filled { OnOk result ((nodes : List (ANode D)) (stores : List (AStore D)) → AreFilled D.Disk plan.now nodes stores slots.old.items
         → AreFilled D.Disk plan.now (nodes ++ node ∷ []) stores slots.new.items) }
@@ -117,9 +119,9 @@ fn put_node<D: Rig + Drop>(
         → AreFilledStrictly D.Disk plan.now nodes stores slots.old.items
         → AreFilledStrictly D.Disk plan.now (nodes ++ node ∷ []) stores slots.new.items) }
 {
-    let start = start_of(plan.starts.as_slice(), number);
+    let _plan = plan.version;
     let place = actor(number, 0).0;
-    let opened = NodeActor::opened(alloc, number, start, plan.version, node);
+    let opened = NodeActor::opened(alloc, node);
     put(slots, place, Slot::Node(opened))
 }
 
@@ -139,7 +141,11 @@ fn put_store<D: Rig + Drop>(
         → AreFilledStrictly D.Disk plan.now nodes (stores ++ store ∷ []) slots.new.items) }
 {
     let own = store.store().actor();
-    let opened = StoreActor::opened(alloc, own, plan.version, store);
+    let name = StoreName {
+        actor: own,
+        version: plan.version,
+    };
+    let opened = StoreActor::opened(alloc, name, store);
     put(slots, own.0, Slot::Store(opened))
 }
 

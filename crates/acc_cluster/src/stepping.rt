@@ -16,6 +16,8 @@ ghost use Rattle.acc_schedule_runs.specs.Disks.{Disks, after_fail};
 ghost use Rattle.acc_schedule_runs.specs.Limits.{EndsAt};
 ghost use Rattle.acc_message.specs.declared.error.RunError.{RunError as AnError};
 
+use crate::asking;
+use crate::asking::check_given;
 use crate::cluster::Cluster;
 use crate::entering::{check_place, enter_given, enter_skip};
 use acc_base::OutOfMemory;
@@ -35,28 +37,38 @@ fn home_of(plan: &Plan, txn: u32) -> Actor
 
 impl<D: Rig + Drop> Cluster<D> {
     ghost use Rattle.acc_cluster.specs.Stands.{StandsFor, AreStrict, faults_at};
-    ghost use Rattle.acc_cluster.specs.Steps.{IfLimit};
-    ghost use Rattle.acc_cluster.specs.Entering.{HasPlace};
+    ghost use Rattle.acc_cluster.specs.Steps.{hit, IfLimit};
+    ghost use Rattle.acc_cluster.specs.Entering.{HasPlace, IsPastOf, HasGrown};
     ghost use Rattle.acc_cluster.specs.Limits.{StopsAt};
-    ghost use Rattle.acc_cluster.specs.Tried.{HasStepped, HasChanged, HitsLimit};
+    ghost use Rattle.acc_cluster.specs.Tried.{scheduled, HasStepped, HasChanged, HitsLimit};
+    ghost use Rattle.acc_cluster.specs.Tested.{IsTested, HasTestedPlace};
 
     // Enters that the step was passed over.
     fn pass_over(&mut self, plan: &Plan, number: u32, cause: Skip) -> Result<(), RunError>
         ensures ok { OnOk result ((s : Situation) (a : AnActor) (event : AnEvent) → StandsFor D.Disk plan.now self.old s → HasPlace s
-            → HasStepped D.Disk plan.now (Some cause) number a event self.old self.new s) }
+            → HasStepped D.Disk plan.now (scheduled (Some cause) number a event) self.old self.new s) }
         ensures never { IfErr result (IfLimit (λ which most. (s : Situation) → StandsFor D.Disk plan.now self.old s → HasPlace s → ⊥)) }
+        ensures tested { HasTestedPlace D.Disk plan.now self.old → OnOk result (IsTested D.Disk plan.now self.new) }
     {
         enter_skip(&mut self.history, number, cause)
     }
 
     /// The home of a transaction begins it.
-    pub(crate) fn begin(&mut self, plan: &Plan, number: u32, txn: u32) -> Result<(), RunError>
-        requires standing { (s : Situation) × StandsFor D.Disk plan.now self.old s }
+    pub(crate) fn begin(
+        &mut self,
+        tests: bool,
+        plan: &Plan,
+        number: u32,
+        txn: u32,
+    ) -> Result<(), RunError>
+        requires standing { tests ≡ false → (s : Situation) × StandsFor D.Disk plan.now self.old s }
+        requires tested { tests ≡ true → IsTested D.Disk plan.now self.old }
         requires known { txn < length plan.now.names }
         ensures ok { OnOk result ((s : Situation) → StandsFor D.Disk plan.now self.old s
-            → HasStepped D.Disk plan.now (begin_skip (cluster_of plan.now) s txn) number (home_of_txn (cluster_of plan.now) txn) (AnEvent.Begin txn) self.old self.new s) }
+            → HasStepped D.Disk plan.now (scheduled (begin_skip (cluster_of plan.now) s txn) number (home_of_txn (cluster_of plan.now) txn) (AnEvent.Begin txn)) self.old self.new s) }
         ensures limit { IfErr result (IfLimit (λ which most. (s : Situation) → StandsFor D.Disk plan.now self.old s
-            → HitsLimit D.Disk plan.now (begin_skip (cluster_of plan.now) s txn) number (home_of_txn (cluster_of plan.now) txn) (AnEvent.Begin txn) self.old self.new s which most)) }
+            → HitsLimit D.Disk plan.now (scheduled (begin_skip (cluster_of plan.now) s txn) number (home_of_txn (cluster_of plan.now) txn) (AnEvent.Begin txn)) self.old self.new s (hit which most))) }
+        ensures tested { tests ≡ true → OnOk result (IsTested D.Disk plan.now self.new) }
     {
         let home = home_of(plan, txn);
         check_place(&self.history)?;
@@ -66,43 +78,50 @@ impl<D: Rig + Drop> Cluster<D> {
         if self.history.is_begun(txn) {
             return self.pass_over(plan, number, Skip::Begun { txn });
         }
-        self.begin_at(plan, home, txn)
+        self.begin_at(tests, plan, home, txn)
     }
 
     // The home of a transaction that isn't begun begins it. It is up.
-    fn begin_at(&mut self, plan: &Plan, home: Actor, txn: u32) -> Result<(), RunError>
-        requires standing { (s : Situation) × StandsFor D.Disk plan.now self.old s × HasPlace s × (begin_skip (cluster_of plan.now) s txn ≡ None) }
+    fn begin_at(&mut self, tests: bool, plan: &Plan, home: Actor, txn: u32) -> Result<(), RunError>
+        requires standing { tests ≡ false → (s : Situation) × StandsFor D.Disk plan.now self.old s × HasPlace s × (begin_skip (cluster_of plan.now) s txn ≡ None) }
+        requires tested { tests ≡ true → HasTestedPlace D.Disk plan.now self.old }
         requires known { txn < length plan.now.names }
         requires home { home ≡ home_of_txn (cluster_of plan.now) txn }
         ensures ok { OnOk result ((number : ℕ) (s : Situation) → StandsFor D.Disk plan.now self.old s → HasPlace s → begin_skip (cluster_of plan.now) s txn ≡ None
-            → HasStepped D.Disk plan.now None number home (AnEvent.Begin txn) self.old self.new s) }
+            → HasStepped D.Disk plan.now (scheduled None number home (AnEvent.Begin txn)) self.old self.new s) }
         ensures limit { IfErr result (IfLimit (λ which most. (number : ℕ) (s : Situation) → StandsFor D.Disk plan.now self.old s → HasPlace s → begin_skip (cluster_of plan.now) s txn ≡ None
-            → HitsLimit D.Disk plan.now None number home (AnEvent.Begin txn) self.old self.new s which most)) }
+            → HitsLimit D.Disk plan.now (scheduled None number home (AnEvent.Begin txn)) self.old self.new s (hit which most))) }
+        ensures tested { tests ≡ true → OnOk result (IsTested D.Disk plan.now self.new) }
     {
         let place = home.0 as usize;
         if place >= self.slots.len() {
             return Err(RunError::OutOfMemory);
         }
         let body = &plan.bodies.as_slice()[txn as usize];
-        let given = self.slots[place].begin(plan, home, txn, body)?;
+        let given = asking::begin(tests, &mut self.slots[place], plan, home, txn, body)?;
+        check_given(tests, &given)?;
         enter_given(&mut self.history, home, Event::Begin { txn }, given)
     }
 
     /// A node recovers a transaction.
     pub(crate) fn recover(
         &mut self,
+        tests: bool,
         plan: &Plan,
         number: u32,
         txn: u32,
         node: u32,
     ) -> Result<(), RunError>
-        requires standing { (s : Situation) × StandsFor D.Disk plan.now self.old s }
+        requires standing { tests ≡ false → (s : Situation) × StandsFor D.Disk plan.now self.old s }
+        requires tested { tests ≡ true → IsTested D.Disk plan.now self.old }
         requires known { (txn < length plan.now.names) × IsTrue (is_among plan.now.topology.nodes node) }
         ensures ok { OnOk result ((s : Situation) → StandsFor D.Disk plan.now self.old s
-            → HasStepped D.Disk plan.now (recover_skip s txn node) number (actor_of node 0) (AnEvent.Recover txn) self.old self.new s) }
+            → HasStepped D.Disk plan.now (scheduled (recover_skip s txn node) number (actor_of node 0) (AnEvent.Recover txn)) self.old self.new s) }
         ensures limit { IfErr result (IfLimit (λ which most. (s : Situation) → StandsFor D.Disk plan.now self.old s
-            → HitsLimit D.Disk plan.now (recover_skip s txn node) number (actor_of node 0) (AnEvent.Recover txn) self.old self.new s which most)) }
+            → HitsLimit D.Disk plan.now (scheduled (recover_skip s txn node) number (actor_of node 0) (AnEvent.Recover txn)) self.old self.new s (hit which most))) }
+        ensures tested { tests ≡ true → OnOk result (IsTested D.Disk plan.now self.new) }
     {
+        let _plan = plan.version;
         let actor = Actor(node * 64);
         check_place(&self.history)?;
         if self.history.is_down(actor) {
@@ -111,54 +130,81 @@ impl<D: Rig + Drop> Cluster<D> {
         let Some(id) = self.history.id_of(txn) else {
             return self.pass_over(plan, number, Skip::Unknown { txn });
         };
-        self.recover_at(plan, actor, txn, id)
+        self.recover_at(tests, plan, actor, txn, id)
     }
 
     // A node that is up recovers a transaction that is begun.
-    fn recover_at(&mut self, plan: &Plan, actor: Actor, txn: u32, id: TxnId) -> Result<(), RunError>
-        requires standing { (s : Situation) × StandsFor D.Disk plan.now self.old s × HasPlace s × (is_down actor (whole s) ≡ false) × (id_of_txn (whole s) txn ≡ Some id) }
+    fn recover_at(
+        &mut self,
+        tests: bool,
+        plan: &Plan,
+        actor: Actor,
+        txn: u32,
+        id: TxnId,
+    ) -> Result<(), RunError>
+        requires standing { tests ≡ false → (s : Situation) × StandsFor D.Disk plan.now self.old s × HasPlace s × (is_down actor (whole s) ≡ false) × (id_of_txn (whole s) txn ≡ Some id) }
+        requires tested { tests ≡ true → HasTestedPlace D.Disk plan.now self.old }
         requires known { txn < length plan.now.names }
         requires node { IsNodeOf plan.now.topology actor }
         ensures ok { OnOk result ((number : ℕ) (s : Situation) → StandsFor D.Disk plan.now self.old s → HasPlace s → is_down actor (whole s) ≡ false → id_of_txn (whole s) txn ≡ Some id
-            → HasStepped D.Disk plan.now None number actor (AnEvent.Recover txn) self.old self.new s) }
+            → HasStepped D.Disk plan.now (scheduled None number actor (AnEvent.Recover txn)) self.old self.new s) }
         ensures limit { IfErr result (IfLimit (λ which most. (number : ℕ) (s : Situation) → StandsFor D.Disk plan.now self.old s → HasPlace s → is_down actor (whole s) ≡ false → id_of_txn (whole s) txn ≡ Some id
-            → HitsLimit D.Disk plan.now None number actor (AnEvent.Recover txn) self.old self.new s which most)) }
+            → HitsLimit D.Disk plan.now (scheduled None number actor (AnEvent.Recover txn)) self.old self.new s (hit which most))) }
+        ensures tested { tests ≡ true → OnOk result (IsTested D.Disk plan.now self.new) }
     {
         let place = actor.0 as usize;
         if place >= self.slots.len() {
             return Err(RunError::OutOfMemory);
         }
         let body = &plan.bodies.as_slice()[txn as usize];
-        let given = self.slots[place].recover(plan, actor, txn, id, body)?;
+        let given = asking::recover(tests, &mut self.slots[place], plan, actor, txn, id, body)?;
+        check_given(tests, &given)?;
         enter_given(&mut self.history, actor, Event::Recover { txn }, given)
     }
 
     /// The home of a transaction gives its fast path up.
-    pub(crate) fn slow(&mut self, plan: &Plan, number: u32, txn: u32) -> Result<(), RunError>
-        requires standing { (s : Situation) × StandsFor D.Disk plan.now self.old s }
+    pub(crate) fn slow(
+        &mut self,
+        tests: bool,
+        plan: &Plan,
+        number: u32,
+        txn: u32,
+    ) -> Result<(), RunError>
+        requires standing { tests ≡ false → (s : Situation) × StandsFor D.Disk plan.now self.old s }
+        requires tested { tests ≡ true → IsTested D.Disk plan.now self.old }
         requires known { txn < length plan.now.names }
         ensures ok { OnOk result ((s : Situation) → StandsFor D.Disk plan.now self.old s
-            → HasStepped D.Disk plan.now (slowing_skip (cluster_of plan.now) s txn) number (home_of_txn (cluster_of plan.now) txn) (AnEvent.Slow txn) self.old self.new s) }
+            → HasStepped D.Disk plan.now (scheduled (slowing_skip (cluster_of plan.now) s txn) number (home_of_txn (cluster_of plan.now) txn) (AnEvent.Slow txn)) self.old self.new s) }
         ensures limit { IfErr result (IfLimit (λ which most. (s : Situation) → StandsFor D.Disk plan.now self.old s
-            → HitsLimit D.Disk plan.now (slowing_skip (cluster_of plan.now) s txn) number (home_of_txn (cluster_of plan.now) txn) (AnEvent.Slow txn) self.old self.new s which most)) }
+            → HitsLimit D.Disk plan.now (scheduled (slowing_skip (cluster_of plan.now) s txn) number (home_of_txn (cluster_of plan.now) txn) (AnEvent.Slow txn)) self.old self.new s (hit which most))) }
+        ensures tested { tests ≡ true → OnOk result (IsTested D.Disk plan.now self.new) }
     {
         let home = home_of(plan, txn);
         check_place(&self.history)?;
         if self.history.is_down(home) {
             return self.pass_over(plan, number, Skip::Down { actor: home });
         }
-        self.slow_at(plan, number, home, txn)
+        self.slow_at(tests, plan, number, home, txn)
     }
 
     // The home, which is up, gives the fast path up, or the step is passed over.
-    fn slow_at(&mut self, plan: &Plan, number: u32, home: Actor, txn: u32) -> Result<(), RunError>
-        requires standing { (s : Situation) × StandsFor D.Disk plan.now self.old s × HasPlace s × (is_down home (whole s) ≡ false) }
+    fn slow_at(
+        &mut self,
+        tests: bool,
+        plan: &Plan,
+        number: u32,
+        home: Actor,
+        txn: u32,
+    ) -> Result<(), RunError>
+        requires standing { tests ≡ false → (s : Situation) × StandsFor D.Disk plan.now self.old s × HasPlace s × (is_down home (whole s) ≡ false) }
+        requires tested { tests ≡ true → HasTestedPlace D.Disk plan.now self.old }
         requires known { txn < length plan.now.names }
         requires home { home ≡ home_of_txn (cluster_of plan.now) txn }
         ensures ok { OnOk result ((s : Situation) → StandsFor D.Disk plan.now self.old s → HasPlace s → is_down home (whole s) ≡ false
-            → HasStepped D.Disk plan.now (slow_skip (cluster_of plan.now) (whole s) txn (id_of_txn (whole s) txn)) number home (AnEvent.Slow txn) self.old self.new s) }
+            → HasStepped D.Disk plan.now (scheduled (slow_skip (cluster_of plan.now) (whole s) txn (id_of_txn (whole s) txn)) number home (AnEvent.Slow txn)) self.old self.new s) }
         ensures limit { IfErr result (IfLimit (λ which most. (s : Situation) → StandsFor D.Disk plan.now self.old s → HasPlace s → is_down home (whole s) ≡ false
-            → HitsLimit D.Disk plan.now (slow_skip (cluster_of plan.now) (whole s) txn (id_of_txn (whole s) txn)) number home (AnEvent.Slow txn) self.old self.new s which most)) }
+            → HitsLimit D.Disk plan.now (scheduled (slow_skip (cluster_of plan.now) (whole s) txn (id_of_txn (whole s) txn)) number home (AnEvent.Slow txn)) self.old self.new s (hit which most))) }
+        ensures tested { tests ≡ true → OnOk result (IsTested D.Disk plan.now self.new) }
     {
         if txn as usize >= plan.homes.as_slice().len() {
             return Err(RunError::OutOfMemory);
@@ -167,8 +213,12 @@ impl<D: Rig + Drop> Cluster<D> {
         if place >= self.slots.len() {
             return Err(RunError::OutOfMemory);
         }
-        match self.slots[place].slow(plan, home, txn) {
-            Ok(emitted) => enter_given(&mut self.history, home, Event::Slow { txn }, Some(emitted)),
+        match asking::slow(&mut self.slots[place], plan, home, txn) {
+            Ok(emitted) => {
+                let given = Some(emitted);
+                check_given(tests, &given)?;
+                enter_given(&mut self.history, home, Event::Slow { txn }, given)
+            }
             Err(NodeError::Unknown) => self.pass_over(plan, number, Skip::Unknown { txn }),
             Err(NodeError::NoQuorum) => self.pass_over(plan, number, Skip::NoQuorum { txn }),
             Err(_) => Err(RunError::OutOfMemory),
@@ -176,12 +226,20 @@ impl<D: Rig + Drop> Cluster<D> {
     }
 
     /// A message is delivered.
-    pub(crate) fn deliver(&mut self, plan: &Plan, number: u32, message: u64) -> Result<(), RunError>
-        requires standing { (s : Situation) × StandsFor D.Disk plan.now self.old s }
+    pub(crate) fn deliver(
+        &mut self,
+        tests: bool,
+        plan: &Plan,
+        number: u32,
+        message: u64,
+    ) -> Result<(), RunError>
+        requires standing { tests ≡ false → (s : Situation) × StandsFor D.Disk plan.now self.old s }
+        requires tested { tests ≡ true → IsTested D.Disk plan.now self.old }
         ensures ok { OnOk result ((s : Situation) → StandsFor D.Disk plan.now self.old s
-            → HasStepped D.Disk plan.now (deliver_skip s message) number (receiver_in s message) (AnEvent.Message message) self.old self.new s) }
+            → HasStepped D.Disk plan.now (scheduled (deliver_skip s message) number (receiver_in s message) (AnEvent.Message message)) self.old self.new s) }
         ensures limit { IfErr result (IfLimit (λ which most. (s : Situation) → StandsFor D.Disk plan.now self.old s
-            → HitsLimit D.Disk plan.now (deliver_skip s message) number (receiver_in s message) (AnEvent.Message message) self.old self.new s which most)) }
+            → HitsLimit D.Disk plan.now (scheduled (deliver_skip s message) number (receiver_in s message) (AnEvent.Message message)) self.old self.new s (hit which most))) }
+        ensures tested { tests ≡ true → OnOk result (IsTested D.Disk plan.now self.new) }
     {
         check_place(&self.history)?;
         let Some(m) = self.history.message(message) else {
@@ -199,18 +257,21 @@ impl<D: Rig + Drop> Cluster<D> {
         if self.history.is_down(actor) {
             return self.pass_over(plan, number, Skip::Down { actor });
         }
-        self.take(plan, message)
+        self.take(tests, plan, message)
     }
 
     /// The actor that a message goes to takes it. The message was sent, and the actor is up.
     #[inline(always)]
-    pub(crate) fn take(&mut self, plan: &Plan, message: u64) -> Result<(), RunError>
-        requires standing { (s : Situation) × StandsFor D.Disk plan.now self.old s × HasPlace s × (deliver_skip s message ≡ None) }
+    pub(crate) fn take(&mut self, tests: bool, plan: &Plan, message: u64) -> Result<(), RunError>
+        requires standing { tests ≡ false → (s : Situation) × StandsFor D.Disk plan.now self.old s × HasPlace s × (deliver_skip s message ≡ None) }
+        requires tested { tests ≡ true → HasTestedPlace D.Disk plan.now self.old }
         ensures ok { OnOk result ((number : ℕ) (s : Situation) → StandsFor D.Disk plan.now self.old s → HasPlace s → deliver_skip s message ≡ None
-            → HasStepped D.Disk plan.now None number (receiver_in s message) (AnEvent.Message message) self.old self.new s) }
+            → HasStepped D.Disk plan.now (scheduled None number (receiver_in s message) (AnEvent.Message message)) self.old self.new s) }
         ensures limit { IfErr result (IfLimit (λ which most. (number : ℕ) (s : Situation) → StandsFor D.Disk plan.now self.old s → HasPlace s → deliver_skip s message ≡ None
-            → HitsLimit D.Disk plan.now None number (receiver_in s message) (AnEvent.Message message) self.old self.new s which most)) }
+            → HitsLimit D.Disk plan.now (scheduled None number (receiver_in s message) (AnEvent.Message message)) self.old self.new s (hit which most))) }
         ensures counted { OnOk result ((a : AnActor) → Contains (actors plan.now.topology) a → faults_at D.Disk self.old a ≤ faults_at D.Disk self.new a) }
+        ensures tested { tests ≡ true → OnOk result (IsTested D.Disk plan.now self.new) }
+        ensures grown { OnOk result ((s : Situation) → IsPastOf self.old.history s → HasPlace s → HasGrown self.new.history s) }
     {
         let Some(m) = self.history.message(message) else {
             return Err(RunError::OutOfMemory);
@@ -220,7 +281,8 @@ impl<D: Rig + Drop> Cluster<D> {
         if place >= self.slots.len() {
             return Err(RunError::OutOfMemory);
         }
-        let given = self.slots[place].take(plan, actor, message, m)?;
+        let given = asking::take(tests, &mut self.slots[place], plan, actor, message, m)?;
+        check_given(tests, &given)?;
         enter_given(
             &mut self.history,
             actor,
@@ -240,6 +302,7 @@ impl<D: Rig + Drop> Cluster<D> {
             → HasChanged D.Disk plan.now self.old self.new s (dropped_unless (message_skip s message) number s message)) }
         ensures limit { IfErr result (IfLimit (λ which most. (s : Situation) → StandsFor D.Disk plan.now self.old s
             → EndsAt (λ front. front ≡ (dropped_unless (message_skip s message) number s message).own) s.own which most × StopsAt D.Disk plan.now self.new s.own s)) }
+        ensures tested { IsTested D.Disk plan.now self.old → OnOk result (IsTested D.Disk plan.now self.new) }
     {
         if message < self.history.sent() {
             self.history.drop_message(message);
@@ -265,12 +328,13 @@ impl<D: Rig + Drop> Cluster<D> {
             → AreStrict D.Disk plan.now self.old.slots.items s disks
             → AreStrict D.Disk plan.now self.new.slots.items s (after_fail actor calls disks)) }
         ensures never { IfErr result (λ error. error ≡ AnError.OutOfMemory) }
+        ensures tested { IsTested D.Disk plan.now self.old → OnOk result (IsTested D.Disk plan.now self.new) }
     {
         let place = actor.0 as usize;
         if place >= self.slots.len() {
             return Err(RunError::OutOfMemory);
         }
-        self.slots[place].arm(plan, actor, calls);
+        asking::arm(&mut self.slots[place], plan, actor, calls);
         Ok(())
     }
 }

@@ -1,12 +1,11 @@
 -- The actors of a plan at the beginning, and a run that has no item.
-use Rattle.std.proofs.Common.{◌≡◌, ℕ, ◌+◌, ◌*◌, ◌%◌, ◌≤◌, Bool, true, false, IsTrue, List, [], ◌∷◌, ◌++◌, map, Option, Result, Ok, Err, Vec, Global, Contains, refl, sym, ◌∙◌, ap, subst, arith}
+use Rattle.std.proofs.Common.{◌≡◌, ℕ, ◌+◌, ◌*◌, ◌%◌, ◌≤◌, Bool, true, false, List, [], ◌∷◌, ◌++◌, map, Result, Ok, Err, Vec, Global, Contains, refl, sym, ◌∙◌, ap, subst, arith}
 use Rattle.std.specs.List.{AllByRecursion}
 use Rattle.std.specs.Prelude.{IfOk}
 use Rattle.std.proofs.lemmas.Bool.{eqb-true}
 use Rattle.std.proofs.lemmas.List.{map-append}
-use Rattle.acc_ports.specs.State.{Ranges}
 use Rattle.acc_ports.specs.Moments.{IsFresh}
-use Rattle.acc_ports.specs.Disk.{Only, IsAtRest}
+use Rattle.acc_ports.specs.Disk.{Only}
 use Rattle.acc_stamp.specs.declared.actors.Actor.{Actor}
 use Rattle.acc_stamp.specs.Actor.{actor_of}
 use Rattle.acc_stamp.proofs.Rising.{each_append, each_weaker}
@@ -14,7 +13,7 @@ use Rattle.acc_topology.specs.Layout.{Layout}
 use Rattle.acc_ports.specs.declared.disk.Disk.{Ghosts}
 use Rattle.acc_journal.specs.Layout.{Reads}
 use Rattle.acc_message.specs.declared.item.Item.{Item}
-use Rattle.acc_message.specs.Run.{clock_start, is_node}
+use Rattle.acc_message.specs.Run.{is_node}
 use Rattle.acc_payloads.specs.Items.{without_marks}
 use Rattle.acc_safety.specs.Valid.{IsValidCluster}
 use Rattle.acc_run_laws.specs.Sends.{HasFewBodies}
@@ -32,6 +31,7 @@ use Rattle.acc_schedule_runs.specs.Situations.{opened}
 use Rattle.acc_schedule_runs.specs.Schedules.{cluster_of}
 use Rattle.acc_schedule_runs.specs.StrictMoves.{opened_strictly}
 use Rattle.acc_cluster.specs.declared.cluster.Cluster.{Cluster}
+use Rattle.acc_actors.specs.Slots.{node_name}
 use Rattle.acc_actors.specs.Opened.{HasDone, HasTaken, IsUnarmed}
 use Rattle.acc_cluster.specs.Opened.{IsStoreNumber, AreActorsOf, IsEarlier, AreUnarmed}
 use Rattle.acc_cluster.specs.Stands.{StandsFor, StandsStrictly}
@@ -41,7 +41,7 @@ abbrev pub items_of : {T : Type 0} → Vec T Global → List T
 items_of v = v.items
 
 abbrev pub number_in : {D : Type 0} → DurableNode D → ℕ
-number_in n = n.number
+number_in n = n.name.number
 
 abbrev pub IsNodeUnarmed : {D : Type 0} → Ghosts D → DurableNode D → Type 0
 IsNodeUnarmed port n = IsUnarmed port n.journal.disk
@@ -104,13 +104,12 @@ pub fresh_only : {D : Type 0} (port : Ghosts D) (disk : D) → IsFresh port disk
 fresh_only port disk fresh image left = fresh.rest.only image left ∙ fresh.content
 
 module _ {D : Type 0} (port : Ghosts D) (plan : Content) where
-  pub node_fresh : (n : DurableNode D) (disk : D) → ((layout : Layout) → node.StandsFor layout n []) → n.start ≡ clock_start plan.starts n.number → n.version ≡ plan.version
+  pub node_fresh : (n : DurableNode D) (disk : D) → ((layout : Layout) → node.StandsFor layout n []) → n.name ≡ node_name plan n.name.number
       → n.journal.disk ≡ disk → n.journal.payloads ≡ [] → Only new_disk (port.is_image disk) → IsFreshNode port plan n
-  node_fresh n disk stands start version same payloads only = record {
+  node_fresh n disk stands named same payloads only = record {
     of_plan = record {
       sound = (stands plan.topology).sound;
-      start_is = start;
-      version_is = version;
+      named = named;
       lasts = λ image there. subst (Reads image) (sym payloads) (fresh_reads port.is_image n.journal.disk disk same only image there);
     };
     did_nothing = record { stands = stands plan.topology; held = ap without_marks payloads };
@@ -131,9 +130,9 @@ module _ {D : Type 0} (port : Ghosts D) (plan : Content) where
 
   -- ---- all of them
 
-  numbered_as : (nodes : List (DurableNode D)) → map (λ (n : DurableNode D). actor_of n.number 0) nodes ≡ map (λ (k : ℕ). actor_of k 0) (map (λ (n : DurableNode D). n.number) nodes)
+  numbered_as : (nodes : List (DurableNode D)) → map (λ (n : DurableNode D). actor_of n.name.number 0) nodes ≡ map (λ (k : ℕ). actor_of k 0) (map (λ (n : DurableNode D). n.name.number) nodes)
   numbered_as [] = refl
-  numbered_as (n ∷ nodes) = ap (λ rest. actor_of n.number 0 ∷ rest) (numbered_as nodes)
+  numbered_as (n ∷ nodes) = ap (λ rest. actor_of n.name.number 0 ∷ rest) (numbered_as nodes)
 
   both_of : (stores : List (DurableStore D)) → ((t : DurableStore D) → IsFreshStore port plan t → is_node (store.actor_in t) ≡ false)
       → AllByRecursion (IsFreshStore port plan) stores → AllByRecursion (λ (t : DurableStore D). Contains (actors plan.topology) (store.actor_in t)) stores
@@ -144,7 +143,7 @@ module _ {D : Type 0} (port : Ghosts D) (plan : Content) where
   pub fresh_actors : (nodes : List (DurableNode D)) (stores : List (DurableStore D)) → AreFreshNodes port plan nodes → AreFreshStores port plan stores → AreActorsOf plan nodes stores
   fresh_actors nodes stores ns ts =
       let front = map (λ (k : ℕ). actor_of k 0) plan.topology.nodes in
-      let all : map (λ (n : DurableNode D). actor_of n.number 0) nodes ++ map store.actor_in stores ≡ actors plan.topology =
+      let all : map (λ (n : DurableNode D). actor_of n.name.number 0) nodes ++ map store.actor_in stores ≡ actors plan.topology =
       (λ i. (numbered_as nodes ∙ ap (map (λ (k : ℕ). actor_of k 0)) ns.numbers) i ++ ts.actors_are i) in
       record {
         nodes_are = ns.numbers;

@@ -1,16 +1,14 @@
--- Nodes of a plan by their numbers: in which order a loop finds them, and where their clocks start.
+-- Nodes of a plan by their numbers, and in which order a loop finds them.
 use Rattle.std.proofs.Common.{◌≡◌, ℕ, zero, suc, ◌+◌, ◌-◌, ◌<◌, ◌≤◌, ◌==◌, Bool, true, false, cond, IsTrue, List, [], ◌∷◌, ◌++◌, length, take, map, filter, get_or, sym, ◌∙◌, ap, arith, add-one, zero-add, ⊎_elim}
-use Rattle.std.specs.List.{AllByRecursion, range_with_len}
-use Rattle.std.proofs.lemmas.Bool.{true≢false, cond_both, eqb-true, or_cases}
+use Rattle.std.specs.List.{range_with_len}
+use Rattle.std.proofs.lemmas.Bool.{true≢false, eqb-true, or_cases}
 use Rattle.std.proofs.lemmas.List.{append_assoc, append-nil, map-append, take_more, length-take}
 use Rattle.std.proofs.lemmas.List.Elements.{filter-append}
 use Rattle.acc_stamp.specs.declared.actors.Actor.{Actor}
 use Rattle.acc_stamp.specs.Actor.{actor_of}
-use Rattle.acc_topology.specs.declared.given.NodeSpec.{NodeSpec}
 use Rattle.acc_topology.specs.Layout.{Layout, Shard, IsLayout, node_numbers, no_shard, shard_at}
 use Rattle.acc_topology.specs.Sets.{in_set, is_among, members, numbers}
 use Rattle.acc_topology.proofs.Counts.{among_part}
-use Rattle.acc_message.specs.Run.{clock_start}
 use Rattle.acc_schedule.specs.Actors.{stores_from}
 
 -- ---- the members of a set
@@ -55,12 +53,6 @@ one_more_store before shard set n b within told =
 pub no_more_store : (before : List Actor) (shard set n : ℕ) (b : Bool) → b ≡ false → b ≡ in_set set n
     → before ++ map (λ node. actor_of node shard) (members_below set (n + 1)) ≡ before ++ map (λ node. actor_of node shard) (members_below set n)
 no_more_store before shard set n b outside told = ap (λ ms. before ++ map (λ node. actor_of node shard) ms) (no_more set n b outside told)
-
--- ---- where a clock starts
-
-pub start_low : (starts : List NodeSpec) (node : ℕ) → AllByRecursion (λ (s : NodeSpec). s.clock ≤ 1000000000000) starts → clock_start starts node ≤ 1000000000000
-start_low [] node h = omega arith
-start_low (spec ∷ starts) node h = cond_both (spec.id == node) spec.clock (clock_start starts node) (λ n. n ≤ 1000000000000) (λ _. h.0) (λ _. start_low starts node h.1)
 
 -- ---- numbers of nodes
 

@@ -1,5 +1,5 @@
 -- A cluster has taken the steps so far, and takes one more.
-use Rattle.std.proofs.Common.{◌≡◌, ◌⊎◌, ℕ, ◌+◌, ◌<◌, ◌≤◌, Bool, List, [], ◌∷◌, ◌++◌, length, take, drop, get_or, length-append, length-take-le, take_all, Result, Err, Option, refl, sym, ◌∙◌, ap, subst, inl, inr, ⊎_elim, arith}
+use Rattle.std.proofs.Common.{◌≡◌, ◌⊎◌, ℕ, ◌+◌, ◌<◌, ◌≤◌, List, [], ◌∷◌, ◌++◌, length, take, drop, get_or, length-append, length-take-le, take_all, Result, Err, refl, sym, ◌∙◌, ap, subst, inl, inr, ⊎_elim, arith}
 use Rattle.std.specs.Prelude.{IfErr, IsErrAnd}
 use Rattle.std.proofs.lemmas.List.{append_assoc, take-append-drop, take_more}
 use Rattle.std.proofs.lemmas.Result.{err_from_is_err_and}
@@ -24,7 +24,7 @@ use Rattle.acc_schedule_runs.specs.StrictFronts.{StrictlyComesTo, StrictlyReache
 use Rattle.acc_cluster.specs.declared.cluster.Cluster.{Cluster}
 use Rattle.acc_cluster.specs.Stands.{StandsFor, StandsStrictly}
 use Rattle.acc_cluster.specs.Limits.{HasEntered}
-use Rattle.acc_cluster.specs.Steps.{StepsTo, StepsStrictly, IfLimit}
+use Rattle.acc_cluster.specs.Steps.{change, StepsTo, StepsStrictly, IfLimit}
 use Rattle.acc_cluster.proofs.Next.{EndsHere, EndsStrictlyHere}
 use Rattle.acc_run.specs.Taken.{HasTaken, HasTakenStrictly, IsStopped}
 
@@ -66,7 +66,7 @@ module _ {D : Type 0} (port : Ghosts D) (plan : Content) where
 
   module _ (law : GoOn) (steps : List Step) (step : Step) (number : ℕ) (numbered : number ≡ 0 + length steps) where
     pub one_more : (old new : Cluster D) → HasTaken port plan old steps
-        → ((s : Situation) (answers : Answers) → StandsFor port plan old s → StepsTo port plan answers number step old new s)
+        → ((s : Situation) (answers : Answers) → StandsFor port plan old s → StepsTo port plan answers number step (change old new) s)
         → HasTaken port plan new (steps ++ step ∷ [])
     one_more old new taken steps_to =
         let n = steps_to taken.last taken.answers taken.stands in

@@ -1,5 +1,5 @@
 -- Actors that have done nothing, over new disks.
-use Rattle.std.specs.Prelude.{◌≡◌, ℕ, false, List, [], map}
+use Rattle.std.specs.Prelude.{◌≡◌, false, List, [], map}
 use Rattle.std.specs.List.{AllByRecursion}
 use Rattle.acc_ports.specs.declared.disk.Disk.{Ghosts}
 use Rattle.acc_message.specs.Run.{is_node}
@@ -22,7 +22,7 @@ pub record IsFreshStore {D : Type 0} (port : Ghosts D) (plan : Content) (t : Dur
 
 -- a node for each node of the plan, in rising order
 pub record AreFreshNodes {D : Type 0} (port : Ghosts D) (plan : Content) (nodes : List (DurableNode D)) : Type 0 where
-  pub numbers : map (λ (n : DurableNode D). n.number) nodes ≡ plan.topology.nodes
+  pub numbers : map (λ (n : DurableNode D). n.name.number) nodes ≡ plan.topology.nodes
   pub each : AllByRecursion (IsFreshNode port plan) nodes
 
 -- a store for each replica of each shard, in the order of the shards

@@ -1,5 +1,5 @@
 -- The steps of a plan that a cluster has taken, from actors that had done nothing.
-use Rattle.std.specs.Prelude.{ℕ, Bool, List, [], length, Option}
+use Rattle.std.specs.Prelude.{ℕ, List, [], length}
 use Rattle.acc_ports.specs.declared.disk.Disk.{Ghosts}
 use Rattle.acc_message.specs.declared.error.Which.{Which}
 use Rattle.acc_message.specs.declared.item.Item.{Item}

@@ -12,7 +12,7 @@ ghost use Rattle.acc_cluster.specs.Stands.{StandsFor, StandsStrictly};
 ghost use Rattle.acc_actors.specs.Opened.{IsUnarmed};
 ghost use Rattle.acc_run.specs.Fresh.{AreFreshNodes, AreFreshStores, IsFreshNode, IsFreshStore};
 
-use acc_actors::start_of;
+use acc_actors::name_of;
 use acc_base::OutOfMemory;
 use acc_cluster::Cluster;
 use acc_durable_node::DurableNode;
@@ -82,15 +82,15 @@ where
     M::D: Drop,
     requires is_plan { IsPlan plan.now }
     requires known { IsTrue (is_among plan.now.topology.nodes number) }
-    ensures number { IfOk result (λ n. n.number ≡ number) }
+    ensures number { IfOk result (λ n. n.name.number ≡ number) }
     ensures fresh { IfOk result (IsFreshNode M.D.Disk plan.now) }
     ensures strict { IsTrue (M.strict disks.old) → IfOk result (λ n. IsUnarmed M.D.Disk n.journal.disk) }
     ensures given { M.given disks.new ≡ M.given disks.old }
     ensures kind { M.strict disks.new ≡ M.strict disks.old }
 {
-    let start = start_of(plan.starts.as_slice(), number);
+    let name = name_of(plan, number);
     let disk = disks.make(number * 64)?;
-    Ok(DurableNode::fresh(alloc, number, start, plan.version, disk))
+    Ok(DurableNode::fresh(alloc, name, disk))
 }
 
 // The stores of the plan, in the order of the shards.

@@ -23,7 +23,7 @@ put_node-requires-clause-number g c =
     let seam = ap (λ (l : List (DurableNode g.row.D.Denot)). c.loop-node.yielded ++ l) (sym c.in-Some.ensures.steps.0) ∙ c.loop-node.invariant.rest in
     let numbers = c.in_ok-numbers.numbers.items in
     let d = c.index.result.now in
-    let are = ap (λ (ns : List (DurableNode g.row.D.Denot)). map (λ (m : DurableNode g.row.D.Denot). m.number) ns) seam ∙ c.requires.numbers ∙ ap (λ (p : Content). p.topology.nodes) (sym c.plan.view_is)
+    let are = ap (λ (ns : List (DurableNode g.row.D.Denot)). map (λ (m : DurableNode g.row.D.Denot). m.name.number) ns) seam ∙ c.requires.numbers ∙ ap (λ (p : Content). p.topology.nodes) (sym c.plan.view_is)
     ∙ sym c.nodes.ensures.listed ∙ sym c.in_ok-numbers.ensures in
     number_at c.loop-node.yielded c.in-Some.node after numbers d are ∙ ap (λ (k : ℕ). slice_index_or numbers k d) (sym c.loop-node.invariant.place) ∙ sym c.index.ensures
 

@@ -11,8 +11,16 @@ use Rattle.acc_actors.specs.declared.slot.Slot.TheVariants.{Empty, Store}
 use Rattle.acc_actors.specs.Slots.{SlotStands}
 use Rattle.acc_actors.proofs.Opens.{store_opens}
 use Rattle.acc_actors.proofs.Unarmed.{store_unarmed}
+use Rattle.acc_cluster.specs.Safe.{most_opened, IsSafe}
+use Rattle.acc_cluster.proofs.SafeOpened.{store_opens_safe}
 use Rattle.acc_cluster.proofs.Filled.{filled_store, filled_store_strictly, on_ok}
 use Rattle.acc_cluster.proofs.opening.put_store.Goals as goal
+
+pub opened-opened-requires-clause-named : goal.opened-opened-requires-clause-named
+opened-opened-requires-clause-named g c =
+    let owned : c.actor-own.result ≡ actor_in c.args.store = c.actor-own.ensures ∙ ap actor_of c.store.ensures in
+    let version = c.requires.store.version_is ∙ sym (ap (λ (p : Content). p.version) c.plan.view_is) in
+    λ i. record { actor = sym owned i; version = version i }
 
 pub returns-clause-filled : goal.returns-clause-filled
 returns-clause-filled g c =
@@ -29,8 +37,10 @@ returns-clause-filled g c =
     c.requires.number.member
     (λ earlier up took.
     subst (λ (a : Actor). SlotStands d plan (opened earlier) a (Store actor)) owned
-    (store_opens d plan c.plan.inside.version c.args.store own actor (sym owned) (ap is_node owned ∙ c.requires.number.kind) version
+    (store_opens d plan c.args.store own (record { actor = own; version = c.plan.inside.version }) actor (sym owned) (ap is_node owned ∙ c.requires.number.kind)
+    (λ i. record { actor = own; version = version i })
     (λ messages h. c.opened-opened.ensures.stands plan.topology messages h) c.opened-opened.ensures.up earlier up took))
+    (λ took. subst (λ (a : Actor). IsSafe d plan most_opened a (Store actor)) owned (store_opens_safe d plan c.args.store own c.plan.inside.version actor (sym owned) version (λ messages h. c.opened-opened.ensures.stands plan.topology messages h) took))
     filled)
     c.put.ensures
 
@@ -45,7 +55,7 @@ returns-clause-strictly g c =
     (λ put nodes stores filled.
     filled_store_strictly d plan c.args.slots.now.items c.put.new.slots.items nodes stores own (Store actor) put c.args.store
     (λ unarmed earlier.
-    store_unarmed d plan own c.plan.inside.version (d.state c.args.store.journal.disk).armed actor version unarmed.1
+    store_unarmed d plan own (record { actor = own; version = c.plan.inside.version }) (d.state c.args.store.journal.disk).armed actor (λ i. record { actor = own; version = version i }) unarmed.1
     (λ passed past. c.opened-opened.ensures.strict unarmed.0 plan.topology passed past) earlier)
     filled)
     c.put.ensures

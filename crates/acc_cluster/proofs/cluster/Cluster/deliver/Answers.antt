@@ -12,10 +12,12 @@ use Rattle.acc_pasts.proofs.Skips.{deliver_skip_is}
 use Rattle.acc_schedule_runs.specs.Situations.{whole, receiver_in}
 use Rattle.acc_schedule_runs.specs.Moves.{deliver_skip}
 use Rattle.acc_schedule_runs.specs.Schedules.{cluster_of}
-use Rattle.acc_cluster.specs.Tried.{HasStepped, HitsLimit}
+use Rattle.acc_cluster.specs.Tried.{scheduled, HasStepped, HitsLimit}
+use Rattle.acc_cluster.specs.Steps.{hit}
 use Rattle.acc_cluster.proofs.Dropped.{less_is, nothing_sent}
 use Rattle.acc_cluster.proofs.Hits.{full_refused}
 use Rattle.acc_cluster.proofs.Taken.{on_ok, if_limit}
+use Rattle.acc_cluster.proofs.KeepsTested.{placed}
 use Rattle.acc_cluster.proofs.cluster.Cluster.deliver.Goals as goal
 
 pub returns-in_err-check_place-clause-limit : goal.returns-in_err-check_place-clause-limit
@@ -28,7 +30,7 @@ returns-in_default-clause-ok g c =
     on_ok _ _ c.pass_over.result
     (λ f s h.
     let some = nothing_sent c.args.plan.now s c.args.message c.sent-sent.result (c.sent-sent.ensures s h.past.stands) (sym (c.message.ensures s h.past.stands) ∙ ap option_copied c.in_default.is) in
-    subst (λ (skip : Option Skip). HasStepped g.D.Disk c.args.plan.now skip c.args.number (receiver_in s c.args.message) (MessageEvent c.args.message) c.args.self.now c.pass_over.new.self s) (sym some)
+    subst (λ (skip : Option Skip). HasStepped g.D.Disk c.args.plan.now (scheduled skip c.args.number (receiver_in s c.args.message) (MessageEvent c.args.message)) c.args.self.now c.pass_over.new.self s) (sym some)
     (f s (receiver_in s c.args.message) (MessageEvent c.args.message) h (c.in_ok-check_place.ensures.ok s h.past.stands)))
     c.pass_over.ensures.ok
 
@@ -40,7 +42,7 @@ returns-then-is_down-clause-ok g c =
     let to = c.to-actor.ensures ∙ sym (ap receiver found) in
     let down = sym (c.is_down.ensures s h.past.stands ∙ ap (λ (a : Actor). is_down a (whole s)) to) ∙ c.if-is_down.true in
     let some = deliver_skip_is (cluster_of c.args.plan.now) s c.args.message true true (less_is c.args.message (length (sent_of s.own)) (slice_get_within (sent_of s.own) c.args.message c.in-Some.m.now found)) down in
-    subst (λ (skip : Option Skip). HasStepped g.D.Disk c.args.plan.now skip c.args.number (receiver_in s c.args.message) (MessageEvent c.args.message) c.args.self.now c.pass_over-then-is_down.new.self s)
+    subst (λ (skip : Option Skip). HasStepped g.D.Disk c.args.plan.now (scheduled skip c.args.number (receiver_in s c.args.message) (MessageEvent c.args.message)) c.args.self.now c.pass_over-then-is_down.new.self s)
     (ap (λ (a : Actor). Some (Down a)) to ∙ sym some)
     (f s (receiver_in s c.args.message) (MessageEvent c.args.message) h (c.in_ok-check_place.ensures.ok s h.past.stands)))
     c.pass_over-then-is_down.ensures.ok
@@ -54,7 +56,7 @@ returns-clause-ok g c =
     let up = sym (c.is_down.ensures s h.past.stands ∙ ap (λ (a : Actor). is_down a (whole s)) to) ∙ c.if-is_down.false in
     let none : deliver_skip s c.args.message ≡ None =
     deliver_skip_is (cluster_of c.args.plan.now) s c.args.message true false (less_is c.args.message (length (sent_of s.own)) (slice_get_within (sent_of s.own) c.args.message c.in-Some.m.now found)) up in
-    subst (λ (skip : Option Skip). HasStepped g.D.Disk c.args.plan.now skip c.args.number (receiver_in s c.args.message) (MessageEvent c.args.message) c.args.self.now c.take.new.self s) (sym none)
+    subst (λ (skip : Option Skip). HasStepped g.D.Disk c.args.plan.now (scheduled skip c.args.number (receiver_in s c.args.message) (MessageEvent c.args.message)) c.args.self.now c.take.new.self s) (sym none)
     (f c.args.number s h (c.in_ok-check_place.ensures.ok s h.past.stands) none))
     c.take.ensures.ok
 
@@ -67,6 +69,15 @@ returns-clause-limit g c =
     let up = sym (c.is_down.ensures s h.past.stands ∙ ap (λ (a : Actor). is_down a (whole s)) to) ∙ c.if-is_down.false in
     let none : deliver_skip s c.args.message ≡ None =
     deliver_skip_is (cluster_of c.args.plan.now) s c.args.message true false (less_is c.args.message (length (sent_of s.own)) (slice_get_within (sent_of s.own) c.args.message c.in-Some.m.now found)) up in
-    subst (λ (skip : Option Skip). HitsLimit g.D.Disk c.args.plan.now skip c.args.number (receiver_in s c.args.message) (MessageEvent c.args.message) c.args.self.now c.take.new.self s which limit) (sym none)
+    subst (λ (skip : Option Skip). HitsLimit g.D.Disk c.args.plan.now (scheduled skip c.args.number (receiver_in s c.args.message) (MessageEvent c.args.message)) c.args.self.now c.take.new.self s (hit which limit)) (sym none)
     (f c.args.number s h (c.in_ok-check_place.ensures.ok s h.past.stands) none))
     c.take.ensures.limit
+
+pub returns-in_default-clause-tested : goal.returns-in_default-clause-tested
+returns-in_default-clause-tested g c = λ tests. c.pass_over.ensures.tested (placed g.D.Disk c.args.plan.now c.args.self.now (c.requires.tested tests) c.in_ok-check_place.ensures.ok)
+
+pub returns-then-is_down-clause-tested : goal.returns-then-is_down-clause-tested
+returns-then-is_down-clause-tested g c = λ tests. c.pass_over-then-is_down.ensures.tested (placed g.D.Disk c.args.plan.now c.args.self.now (c.requires.tested tests) c.in_ok-check_place.ensures.ok)
+
+pub take-requires-clause-tested : goal.take-requires-clause-tested
+take-requires-clause-tested g c = λ tests. (placed g.D.Disk c.args.plan.now c.args.self.now (c.requires.tested tests) c.in_ok-check_place.ensures.ok)

@@ -4,6 +4,7 @@ use Rattle.acc_message.specs.declared.entry.Event.TheVariants.{Message as Messag
 use Rattle.acc_message.specs.declared.item.Skip.TheVariants.{NoMessage}
 use Rattle.acc_cluster.proofs.Dropped.{none_sent, few_more, changed_dropped, changed_skipped, drop_refused}
 use Rattle.acc_cluster.proofs.Taken.{on_ok, if_limit}
+use Rattle.acc_cluster.proofs.KeepsTested.{placed, drop_tested}
 use Rattle.acc_cluster.proofs.cluster.Cluster.drop_message.Goals as goal
 
 pub returns-then-message-sent-clause-ok : goal.returns-then-message-sent-clause-ok
@@ -27,3 +28,11 @@ returns-clause-ok g c =
 
 pub returns-clause-limit : goal.returns-clause-limit
 returns-clause-limit g c = if_limit _ _ c.pass_over.result (λ which limit f s h. absurd (f s h (c.in_ok-check_place.ensures.ok s h.past.stands))) c.pass_over.ensures.never
+
+pub returns-then-message-sent-clause-tested : goal.returns-then-message-sent-clause-tested
+returns-then-message-sent-clause-tested g c = λ t.
+    drop_tested g.D.Disk c.args.plan.now c.args.self.now c.drop_message.new.self c.args.message
+    (λ s stands. subst (λ n. c.args.message < n) (c.sent.ensures s stands) c.if-message-sent.true) c.drop_message.ensures.stands c.drop_message.ensures.weighed t
+
+pub returns-clause-tested : goal.returns-clause-tested
+returns-clause-tested g c = λ t. c.pass_over.ensures.tested (placed g.D.Disk c.args.plan.now c.args.self.now t c.in_ok-check_place.ensures.ok)
