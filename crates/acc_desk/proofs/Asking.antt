@@ -31,7 +31,8 @@ use Rattle.acc_actors.specs.declared.slot.Slot.{Slot}
 use Rattle.acc_free_laws.specs.Commands.{commands_of}
 use Rattle.acc_tape.specs.ItemViews.{addressee, taken_by_item, is_lost_item}
 use Rattle.acc_tape.specs.Messages.{IsOldest, AreOldest, IsSentBy, posts_in}
-use Rattle.acc_desk.specs.Desks.{IsAt, MayStep, begins_it}
+use Rattle.acc_desk.specs.Commands.{begins_it}
+use Rattle.acc_desk.specs.Desks.{IsAt, MayStep}
 use Rattle.acc_desk.proofs.Next.{drop_next, own_command, none_gone}
 use Rattle.acc_desk.proofs.Posts.{sent_through, sent_reversed, message_through, untaken_reversed}
 use Rattle.acc_desk.proofs.Unbegun.{unbegun}

@@ -24,7 +24,7 @@ use Rattle.acc_tape.specs.ItemViews.{addressee, taken_by_item, is_lost_item}
 use Rattle.acc_tape.specs.Messages.{AreOldest, posts_in}
 use Rattle.acc_tape.specs.Seats.{SeatView}
 use Rattle.acc_desk.specs.Desks.{newest, item_of}
-use Rattle.acc_desk.specs.Groups.{Joining, events_of, joining_of, item_of_unsent}
+use Rattle.acc_desk.specs.Groups.{events_of, joining_of, item_of_unsent}
 use Rattle.acc_desk.proofs.Asking.{IsOldestHere}
 use Rattle.acc_desk.specs.Choices.{AreEntriesOf, AreItemsFor, HasEntered, TakesCommand, TakesMessages}
 

@@ -1,5 +1,5 @@
--- The messages of a group are entered one behind another, behind others' items.
-use Rattle.std.proofs.Common.{◌≡◌, ◌≢◌, ℕ, zero, suc, ◌+◌, ◌<◌, ◌≤◌, ◌^◌, Bool, true, false, ◌||◌, List, [], ◌∷◌, ◌++◌, length, map, take, reverse, Option, Some, Contains, refl, sym, ◌∙◌, ap, subst, arith, eqb-true}
+-- The messages of a group are entered one after another, after others' items.
+use Rattle.std.proofs.Common.{◌≡◌, ◌≢◌, ℕ, zero, suc, ◌+◌, ◌<◌, ◌≤◌, ◌^◌, Bool, true, false, ◌||◌, List, [], ◌∷◌, ◌++◌, length, map, take, reverse, Some, Contains, refl, sym, ◌∙◌, ap, subst, arith, eqb-true}
 use Rattle.std.specs.Prelude.{All, sum, sum_by}
 use Rattle.std.specs.List.{list_any}
 use Rattle.std.proofs.lemmas.List.{reverse-append, append_assoc}
@@ -54,10 +54,10 @@ use Rattle.acc_free_laws.proofs.Serving.{each_both, serving_entered}
 use Rattle.acc_free_laws.proofs.Going.{message_went}
 use Rattle.acc_tape.specs.ItemViews.{actor_of_item}
 use Rattle.acc_desk.specs.Desks.{IsAt, item_of}
-use Rattle.acc_desk.specs.Groups.{AreWeighed, MayJoin, AreJoined, IsEntering, item_of_unsent}
+use Rattle.acc_desk.specs.Groups.{to_enter, AreWeighed, MayJoin, AreJoined, IsEntering, item_of_unsent}
 use Rattle.acc_desk.proofs.Stepping.{step_on}
 
--- ---- what may be taken, behind others' items
+-- ---- what may be taken, after others' items
 
 pub joined_on : (plan : Content) (a : Actor) (seen others : List Item) (left : List Step) (events : List Event) → AreOthers a others → IsFreeRun plan (others ++ seen)
     → AreJoined plan seen a left events → AreJoined plan (others ++ seen) a left events
@@ -68,7 +68,7 @@ joined_on plan a seen others left events apart free h =
       different = h.different;
     }
 
--- ---- and behind an entry of its own
+-- ---- and after an entry of its own
 
 plain_message : (event : Event) → is_message event ≡ true → is_plain_event event ≡ true
 plain_message (TakesMessage number) is = refl
@@ -139,7 +139,7 @@ module _ (cluster : Cluster) (before items : List Item) (a : Actor) (event : Eve
 
 module _ {D : Type 0} (port : Ghosts D) (strict_run : Bool) (plan : Content) (a : Actor) (slot : Slot D) (left : List Step) where
   abbrev Entering : List Item → List Event → List Unsent → List ℕ → Type 0
-  Entering items events unsent weights = IsEntering port strict_run plan a items slot left events unsent weights
+  Entering items events unsent weights = IsEntering port strict_run plan a items slot (to_enter left events unsent weights)
 
   -- others' items leave the actor where it was
   pub entering_on : (items others : List Item) (events : List Event) (unsent : List Unsent) (weights : List ℕ) → AreOthers a others → IsFreeRun plan (others ++ items) → Entering items events unsent weights
@@ -240,14 +240,14 @@ module _ {D : Type 0} (port : Ghosts D) (strict_run : Bool) (plan : Content) (a 
     pub first_short : AreFew items → All IsShortMessage (sent_in first_item)
     first_short few = (sendable few).short
 
-    -- behind others' items too
+    -- after others' items too
     pub first_fits : (others : List Item) → AreOthers a others → IsFreeRun plan (others ++ items) → IsFreeRun plan (first_item ∷ others ++ items)
     first_fits others apart free =
         let m = h.joined.each.0.may in
         subst (λ item. IsFreeRun plan (item ∷ others ++ items)) (sym first_is)
         (turn_fits plan items others a event h.could.0.0 known apart h.could.0.2 m.plain m.kept m.up m.untaken free)
 
-    -- ---- behind it
+    -- ---- after it
 
     abbrev entered_item : Item
     entered_item = entering (cluster_of plan) items a event false
@@ -258,7 +258,7 @@ module _ {D : Type 0} (port : Ghosts D) (strict_run : Bool) (plan : Content) (a 
     now_on : entered (cluster_of plan) now a event false ≡ alone (entered_item ∷ items) h.stopped
     now_on = alone_entered (cluster_of plan) items h.stopped a event false
 
-    did_one : DidMore (cluster_of plan) items (entered_item ∷ items) a h.could.0.0 (emits (cluster_of plan) items a h.could.0.0) (payload_by items a event (emits (cluster_of plan) items a h.could.0.0).notes) false
+    did_one : DidMore (cluster_of plan) items (entered_item ∷ items) a (record { act = h.could.0.0; emitted = emits (cluster_of plan) items a h.could.0.0 }) (payload_by items a event (emits (cluster_of plan) items a h.could.0.0).notes) false
     did_one = did_more (cluster_of plan) items a event h.could.0.0 false h.could.0.2
 
     join_behind : (other : Event) → event ≢ other → MayJoin plan items a left other → MayJoin plan (entered_item ∷ items) a left other
@@ -313,7 +313,7 @@ module _ {D : Type 0} (port : Ghosts D) (strict_run : Bool) (plan : Content) (a 
     pub first_entered : Entering (first_item ∷ items) events unsent weights
     first_entered = subst (λ item. Entering (item ∷ items) events unsent weights) (sym first_is) rest_entered
 
-  -- ---- all of them, one behind another
+  -- ---- all of them, one after another
 
   -- the first one stands nearest to what was there before
   turned : (item : Item) (others items : List Item) → reverse (item ∷ others) ++ items ≡ reverse others ++ item ∷ items
@@ -354,7 +354,7 @@ module _ {D : Type 0} (port : Ghosts D) (strict_run : Bool) (plan : Content) (a 
         let weighed = sum_by-cons (λ n. n) weight weights in
         omega arith
 
-    -- the actor stands behind all of them
+    -- the actor stands after all of them
     pub all_at : (items : List Item) (events : List Event) (unsent : List Unsent) (weights : List ℕ) → Entering items events unsent weights
         → IsAt port strict_run plan a (reverse (map (item_of_unsent a) unsent) ++ items) slot left
     all_at items [] [] weights h = all_entered items [] weights h

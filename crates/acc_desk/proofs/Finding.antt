@@ -25,7 +25,7 @@ use Rattle.acc_desk.specs.Fits.{fits_plan}
 use Rattle.acc_desk.specs.Groups.{events_of, joining_of, CanJoin, CanAllJoin}
 use Rattle.acc_desk.proofs.Asking.{HasSent, may_take}
 
--- one call behind another
+-- one call after another
 pub turns_both : (plan : Content) (old between new : SeatView Item) → Turns actor_of_item weight_of (fits_plan plan) old between → Turns actor_of_item weight_of (fits_plan plan) between new
     → Turns actor_of_item weight_of (fits_plan plan) old new
 turns_both plan old between new one two =
@@ -53,7 +53,7 @@ module _ (plan : Content) (a : Actor) (seat : SeatView Item) where
   abbrev Oldest : ℕ → List (Post × Message) → Type 0
   Oldest from found = AreOldest taken_by_item (λ item. map addressee (sent_in item)) is_lost_item seat.seen a.0 from (posts_in found)
 
-  -- those behind a message have other numbers
+  -- those after a message have other numbers
   later_apart : (number from : ℕ) (found : List (Post × Message)) → number < from → Oldest from found → AllByRecursion (λ (other : Event). TakesMessage number ≢ other) (events_of (map joining_of found))
   later_apart number from [] less oldest = tt
   later_apart number from (one ∷ found) less oldest =

@@ -1,5 +1,5 @@
 -- A store stages messages, and settles them.
-use Rattle.std.proofs.Common.{◌≡◌, ◌≢◌, ℕ, ◌<◌, ◌≤◌, Bool, true, false, List, [], ◌∷◌, ◌++◌, length, Option, None, Some, Contains, refl, sym, ◌∙◌, ap, subst, arith, length-append}
+use Rattle.std.proofs.Common.{◌≡◌, ◌≢◌, ℕ, ◌<◌, ◌≤◌, Bool, true, false, List, [], ◌∷◌, ◌++◌, length, None, Some, Contains, refl, sym, ◌∙◌, ap, subst, arith, length-append}
 use Rattle.std.proofs.lemmas.List.{length-map}
 use Rattle.std.specs.List.{AllByRecursion}
 use Rattle.std.proofs.lemmas.Bool.{true≢false}
@@ -26,7 +26,7 @@ use Rattle.acc_schedule_runs.specs.Limits.{most_items}
 use Rattle.acc_schedule_runs.specs.Disks.{Disks, fresh_disks}
 use Rattle.acc_actors.specs.declared.slot.Slot.{Slot}
 use Rattle.acc_actors.specs.Slots.{SlotStages, IsStrictSlot}
-use Rattle.acc_actors.specs.Asked.{MayTakeEach, AreSteps, IsStaged, IsAskedBehind}
+use Rattle.acc_actors.specs.Asked.{step_by, MayTakeEach, AreSteps, IsStaged, IsAskedBehind}
 use Rattle.acc_actors.proofs.Pasts.{none_stopped}
 use Rattle.acc_free_laws.specs.Commands.{is_message}
 use Rattle.acc_free_laws.specs.FreeRun.{AreOthers, IsFreeRun, IsUntaken, alone}
@@ -34,7 +34,7 @@ use Rattle.acc_free_laws.proofs.Alone.{alone_whole, alone_event}
 use Rattle.acc_free_laws.proofs.Serving.{serving_stopped}
 use Rattle.acc_free_laws.proofs.Going.{messages_stopped}
 use Rattle.acc_desk.specs.Desks.{IsAt}
-use Rattle.acc_desk.specs.Groups.{Joining, events_of, IsReady, AreWeighed, HasStaged, Settles, SettlesStrictly, CanJoin, CanAllJoin, MayJoin, IsEntering}
+use Rattle.acc_desk.specs.Groups.{to_enter, Joining, events_of, IsReady, AreWeighed, HasStaged, Settles, SettlesStrictly, CanJoin, CanAllJoin, MayJoin, IsEntering}
 use Rattle.acc_desk.proofs.Stepping.{few_alone, step_on, stops_put}
 use Rattle.acc_desk.proofs.Unarmed.{stepped_fresh}
 
@@ -142,14 +142,14 @@ module _ {D : Type 0} (port : Ghosts D) (plan : Content) (a : Actor) (first : Sl
         }
 
     module _ (j : Joining) where
-      pub asks_behind : (s : Situation) → Ready s joinings → MayTake (cluster_of plan) (whole s) a (event_in s j.event) j.act → IsAskedBehind port plan s a (events_of joinings) j.event j.act slot
+      pub asks_behind : (s : Situation) → Ready s joinings → MayTake (cluster_of plan) (whole s) a (event_in s j.event) j.act → IsAskedBehind port plan s (events_of joinings) (step_by a j.event j.act) slot
       asks_behind s ready may = record { behind = staged_now s ready; may = may }
 
       -- a message was staged
       pub staged_more : (new : Slot D) (weight : ℕ) → length weights ≡ length joinings
-          → ((s : Situation) (events : List Event) → IsAskedBehind port plan s a events j.event j.act slot
+          → ((s : Situation) (events : List Event) → IsAskedBehind port plan s events (step_by a j.event j.act) slot
           → weight ≡ weight_of (entry_of (cluster_of plan) (entered_all (cluster_of plan) s a events false) a j.event false))
-          → ((s : Situation) (events : List Event) → IsAskedBehind port plan s a events j.event j.act slot → SlotStages port plan s a (events ++ j.event ∷ []) new)
+          → ((s : Situation) (events : List Event) → IsAskedBehind port plan s events (step_by a j.event j.act) slot → SlotStages port plan s a (events ++ j.event ∷ []) new)
           → ((s : Situation) (disks : Disks) → IsStrictSlot port plan s disks a slot → IsStrictSlot port plan s disks a new)
           → Staged new (joinings ++ j ∷ []) (weights ++ weight ∷ [])
       staged_more new weight long weighs stages strictly =
@@ -219,7 +219,7 @@ module _ {D : Type 0} (port : Ghosts D) (strict_run : Bool) (plan : Content) (a 
   -- it was settled
   module _ (new : Slot D) (weights : List ℕ) (given : List Unsent) (weighed : (s : Situation) → IsReady port plan s a joinings first → AreWeighed (cluster_of plan) s a (events_of joinings) weights)
       (settles : Settles port plan a first joinings new (Some given)) (strictly : SettlesStrictly port plan a first joinings new (Some given)) where
-    pub begins_entering : IsEntering port strict_run plan a items new left (events_of joinings) given weights
+    pub begins_entering : IsEntering port strict_run plan a items new (to_enter left (events_of joinings) given weights)
     begins_entering =
         let settled = settles here ready_here in
         record {

@@ -22,7 +22,7 @@ use Rattle.acc_schedule_runs.specs.Limits.{most_items}
 use Rattle.acc_schedule_runs.specs.Disks.{Disks, fresh_disks}
 use Rattle.acc_actors.specs.declared.slot.Slot.{Slot}
 use Rattle.acc_actors.specs.Slots.{SlotStages, IsStrictSlot}
-use Rattle.acc_actors.specs.Asked.{IsStaged, IsAskedBehind, MayAskBehind, HasSettled, HasSettledStrictly}
+use Rattle.acc_actors.specs.Asked.{step_by, over_disks, IsStaged, IsAskedBehind, MayAskBehind, HasSettled, HasSettledStrictly}
 use Rattle.acc_free_laws.specs.FreeRun.{IsFreeRun}
 use Rattle.acc_free_laws.proofs.Alone.{entry_is}
 use Rattle.acc_tape.specs.declared.error.TapeError.TheVariants.{Full}
@@ -30,9 +30,9 @@ use Rattle.acc_tape.specs.Refusals.{Refuses}
 use Rattle.acc_tape.specs.ItemViews.{actor_of_item}
 use Rattle.acc_tape.specs.Seats.{TapeName, SeatView, Turns}
 use Rattle.acc_desk.specs.declared.hold.Hold.{Hold}
-use Rattle.acc_desk.specs.Desks.{newest, no_hold, IsSeated, IsDesk}
+use Rattle.acc_desk.specs.Desks.{desk_with, run_with, newest, no_hold, IsSeated, IsDesk}
 use Rattle.acc_desk.specs.Fits.{fits_plan}
-use Rattle.acc_desk.specs.Groups.{Joining, events_of, CanJoin, CanAllJoin, IsGathering, IsStopping, IsEnteringDesk, Settles, SettlesStrictly}
+use Rattle.acc_desk.specs.Groups.{gathered, Joining, events_of, CanJoin, CanAllJoin, IsGathering, IsStopping, IsEnteringDesk, Settles, SettlesStrictly}
 use Rattle.acc_desk.specs.Outcomes.{HasNoRoom}
 use Rattle.acc_desk.proofs.Stepping.{step_on}
 use Rattle.acc_desk.proofs.Seating.{came, newest_few}
@@ -41,12 +41,12 @@ use Rattle.acc_desk.proofs.Gathering.{joined_more, joined_over, none_staged, sta
 
 module _ {D : Type 0} (port : Ghosts D) (strict_run : Bool) (plan : Content) (tape : TapeName) (limits : tape.limits.items ≤ most_items) (a : Actor) (commands : List Step) (gone : ℕ)
     (first slot : Slot D) (joinings : List Joining) (used : ℕ) (held : Hold) (seat : SeatView Item)
-    (gathering : IsGathering port strict_run plan tape a seat first slot commands gone joinings used held) where
+    (gathering : IsGathering port (run_with strict_run plan tape) (desk_with a seat slot commands gone) (gathered first joinings used held)) where
   -- ---- one message more
 
   module _ (j : Joining) (can : CanJoin plan (newest seat) a (drop gone commands) j) where
     -- the slot may be asked
-    pub asks_now : MayAskBehind port plan a j.event j.act slot
+    pub asks_now : MayAskBehind port plan (step_by a j.event j.act) slot
     asks_now =
         let items = newest seat in
         let left = drop gone commands in
@@ -62,11 +62,11 @@ module _ {D : Type 0} (port : Ghosts D) (strict_run : Bool) (plan : Content) (ta
     -- it was staged
     pub joins : (next : Slot D) (weight total : ℕ) → total ≡ used + weight → total ≤ held.weight → length joinings < held.items → length joinings < 16
         → AllByRecursion (λ (other : Event). other ≢ j.event) (events_of joinings)
-        → ((s : Situation) (events : List Event) → IsAskedBehind port plan s a events j.event j.act slot
+        → ((s : Situation) (events : List Event) → IsAskedBehind port plan s events (step_by a j.event j.act) slot
         → weight ≡ weight_of (entry_of (cluster_of plan) (entered_all (cluster_of plan) s a events false) a j.event false))
-        → ((s : Situation) (events : List Event) → IsAskedBehind port plan s a events j.event j.act slot → SlotStages port plan s a (events ++ j.event ∷ []) next)
+        → ((s : Situation) (events : List Event) → IsAskedBehind port plan s events (step_by a j.event j.act) slot → SlotStages port plan s a (events ++ j.event ∷ []) next)
         → ((s : Situation) (disks : Disks) → IsStrictSlot port plan s disks a slot → IsStrictSlot port plan s disks a next)
-        → IsGathering port strict_run plan tape a seat first next commands gone (joinings ++ j ∷ []) total held
+        → IsGathering port (run_with strict_run plan tape) (desk_with a seat next commands gone) (gathered first (joinings ++ j ∷ []) total held)
     joins next weight total is within more few another weighs stages strictly =
         record {
           kind = gathering.kind;
@@ -85,7 +85,7 @@ module _ {D : Type 0} (port : Ghosts D) (strict_run : Bool) (plan : Content) (ta
   pub refused : (next : Slot D)
       → ((s : Situation) (events : List Event) → SlotStages port plan s a events slot → SlotStages port plan s a events next)
       → ((s : Situation) (disks : Disks) → IsStrictSlot port plan s disks a slot → IsStrictSlot port plan s disks a next)
-      → IsGathering port strict_run plan tape a seat first next commands gone joinings used held
+      → IsGathering port (run_with strict_run plan tape) (desk_with a seat next commands gone) (gathered first joinings used held)
   refused next still strictly =
       record {
         kind = gathering.kind;
@@ -125,7 +125,7 @@ module _ {D : Type 0} (port : Ghosts D) (strict_run : Bool) (plan : Content) (ta
   module _ (next : Slot D) (given : Option (List Unsent))
       (settled : (s : Situation) (staged : List Event) → IsStaged port plan s a staged slot → HasSettled port plan s a staged next given)
       (strictly : (s : Situation) (staged : List Event) (disks : Disks) → IsStaged port plan s a staged slot → staged ≢ [] → IsStrictSlot port plan s disks a slot
-      → HasSettledStrictly port plan s disks a staged next given) (some : joinings ≢ []) where
+      → HasSettledStrictly port plan (over_disks s disks) a staged next given) (some : joinings ≢ []) where
     all_settle : Settles port plan a first joinings next given
     all_settle s ready = settled s (events_of joinings) (staged_now port plan a first slot joinings gathering.weights gathering.staged s ready)
 
@@ -138,8 +138,8 @@ module _ {D : Type 0} (port : Ghosts D) (strict_run : Bool) (plan : Content) (ta
   pub settled_none : (next : Slot D)
       → ((s : Situation) (staged : List Event) → IsStaged port plan s a staged slot → HasSettled port plan s a staged next None)
       → ((s : Situation) (staged : List Event) (disks : Disks) → IsStaged port plan s a staged slot → staged ≢ [] → IsStrictSlot port plan s disks a slot
-      → HasSettledStrictly port plan s disks a staged next None) → joinings ≢ []
-      → IsStopping port strict_run plan tape a seat first next commands gone joinings held
+      → HasSettledStrictly port plan (over_disks s disks) a staged next None) → joinings ≢ []
+      → IsStopping port (run_with strict_run plan tape) (desk_with a seat next commands gone) first joinings held
   settled_none next settled strictly some =
       record {
         desk = gathering.desk;
@@ -154,8 +154,8 @@ module _ {D : Type 0} (port : Ghosts D) (strict_run : Bool) (plan : Content) (ta
   pub settled_some : (next : Slot D) (given : List Unsent)
       → ((s : Situation) (staged : List Event) → IsStaged port plan s a staged slot → HasSettled port plan s a staged next (Some given))
       → ((s : Situation) (staged : List Event) (disks : Disks) → IsStaged port plan s a staged slot → staged ≢ [] → IsStrictSlot port plan s disks a slot
-      → HasSettledStrictly port plan s disks a staged next (Some given)) → joinings ≢ []
-      → IsEnteringDesk port strict_run plan tape held a seat next commands gone (events_of joinings) given
+      → HasSettledStrictly port plan (over_disks s disks) a staged next (Some given)) → joinings ≢ []
+      → IsEnteringDesk port (run_with strict_run plan tape) held (desk_with a seat next commands gone) (events_of joinings) given
   settled_some next given settled strictly some =
       let entering = begins_entering port strict_run plan a (newest seat) first (drop gone commands) joinings gathering.desk.known
       (newest_few plan tape limits a held seat gathering.desk.seated) gathering.up gathering.desk.at gathering.joined next gathering.weights given gathering.staged.weighed
@@ -174,7 +174,7 @@ module _ {D : Type 0} (port : Ghosts D) (strict_run : Bool) (plan : Content) (ta
       }
 
   -- nothing joined, so the slot stands for what the seat has seen
-  pub none_joined : length joinings ≡ 0 → IsDesk port strict_run plan tape held a seat slot commands gone
+  pub none_joined : length joinings ≡ 0 → IsDesk port (run_with strict_run plan tape) held (desk_with a seat slot commands gone)
   none_joined none =
       let at = gathering.desk.at in
       let few = newest_few plan tape limits a held seat gathering.desk.seated in
@@ -202,8 +202,8 @@ module _ {D : Type 0} (port : Ghosts D) (strict_run : Bool) (plan : Content) (ta
 
 module _ {D : Type 0} (port : Ghosts D) (strict_run : Bool) (plan : Content) (tape : TapeName) (limits : tape.limits.items ≤ most_items) (a : Actor) (commands : List Step) (gone : ℕ) where
   pub begins_gathering : (slot : Slot D) (seat : SeatView Item) → is_node a ≡ false → is_down a (newest seat) ≡ false
-      → IsDesk port strict_run plan tape no_hold a seat slot commands gone
-      → IsGathering port strict_run plan tape a seat slot slot commands gone [] 0 no_hold
+      → IsDesk port (run_with strict_run plan tape) no_hold (desk_with a seat slot commands gone)
+      → IsGathering port (run_with strict_run plan tape) (desk_with a seat slot commands gone) (gathered slot [] 0 no_hold)
   begins_gathering slot seat kind up desk =
       record {
         kind = kind;
@@ -219,9 +219,9 @@ module _ {D : Type 0} (port : Ghosts D) (strict_run : Bool) (plan : Content) (ta
       }
 
   -- a store that has staged nothing was asked what it would send for its oldest message, and the tape has no room for it
-  pub first_no_room : (slot : Slot D) (seat : SeatView Item) (j : Joining) → IsGathering port strict_run plan tape a seat slot slot commands gone [] 0 no_hold
+  pub first_no_room : (slot : Slot D) (seat : SeatView Item) (j : Joining) → IsGathering port (run_with strict_run plan tape) (desk_with a seat slot commands gone) (gathered slot [] 0 no_hold)
       → CanJoin plan (newest seat) a (drop gone commands) j → (weight : ℕ)
-      → ((s : Situation) (events : List Event) → IsAskedBehind port plan s a events j.event j.act slot
+      → ((s : Situation) (events : List Event) → IsAskedBehind port plan s events (step_by a j.event j.act) slot
       → weight ≡ weight_of (entry_of (cluster_of plan) (entered_all (cluster_of plan) s a events false) a j.event false))
       → (which : Which) (number : ℕ) → Refuses tape.limits (length seat.seen + seat.out_count) (sum_by weight_of seat.seen + seat.out_weight) 1 weight (Full which number)
       → HasNoRoom plan tape a (drop gone commands) seat
@@ -236,7 +236,7 @@ module _ {D : Type 0} (port : Ghosts D) (strict_run : Bool) (plan : Content) (ta
       lacks_room plan tape a left left seat j.event j.act can.may weight (is ∙ ap weight_of (entry_is (cluster_of plan) s refl a j.event false))
       (passed tape.limits (length seat.seen + seat.out_count) (sum_by weight_of seat.seen + seat.out_weight) weight which number refuses)
 
--- ---- behind what others entered
+-- ---- after what others entered
 
 module _ (plan : Content) (tape : TapeName) (limits : tape.limits.items ≤ most_items) (a : Actor) (held : Hold) (left : List Step) (old new : SeatView Item) (seated : IsSeated tape a held old)
     (turns : Turns actor_of_item weight_of (fits_plan plan) old new) (same : new.mine ≡ old.mine) where

@@ -22,3 +22,4 @@ pub mod Noting
 pub mod Chosen
 pub mod Marked
 pub mod Threads
+pub mod Rising

@@ -1,5 +1,5 @@
 -- What a desk is after memory was refused.
-use Rattle.std.proofs.Common.{◌≡◌, ◌≢◌, ℕ, zero, suc, ◌<◌, ◌==◌, Bool, true, false, List, [], ◌∷◌, length, set, get_or, Option, Some, Result, Ok, Err, refl, sym, ◌∙◌, ap, subst, eqb-true, eq-eqb}
+use Rattle.std.proofs.Common.{◌≡◌, ◌≢◌, ℕ, zero, suc, ◌==◌, Bool, true, false, List, [], ◌∷◌, set, get_or, Some, Result, Ok, Err, refl, sym, ◌∙◌, ap, subst, eqb-true, eq-eqb}
 use Rattle.std.specs.Prelude.{OnErr, IsErrAnd, All}
 use Rattle.std.specs.List.{slice_get}
 use Rattle.std.proofs.lemmas.Bool.{true≢false}
@@ -10,7 +10,7 @@ use Rattle.acc_ports.specs.declared.disk.Disk.{Ghosts}
 use Rattle.acc_schedule.specs.Content.{Content}
 use Rattle.acc_tape.specs.Seats.{TapeName}
 use Rattle.acc_desk.specs.declared.desk.Desk.{Desk}
-use Rattle.acc_desk.specs.Desks.{no_hold, IsSeated, IsSound, IsSoundOrMarked, AreSound, AreSoundButOne, AreSeated}
+use Rattle.acc_desk.specs.Desks.{run_with, no_hold, IsSeated, IsSound, IsSoundOrMarked, AreSound, AreSoundButOne, AreSeated, state_of}
 
 -- what holds, holds after an error
 pub on_err : {X E P : Type 0} (r : Result X E) → P → OnErr r P
@@ -24,7 +24,7 @@ no_answer P r x failed is = let e = err_from_is_err_and r failed in absurd (cc (
 -- ---- one desk
 
 module _ {D J : Type 0} (port : Ghosts D) (strict_run : Bool) (plan : Content) (tape : TapeName) (desk : Desk D J) where
-  pub still_sound : IsSound port strict_run plan tape desk.actor desk.seat desk.slot desk.commands desk.gone → IsSoundOrMarked port strict_run plan tape desk
+  pub still_sound : IsSound port (run_with strict_run plan tape) (state_of desk) → IsSoundOrMarked port strict_run plan tape desk
   still_sound sound = record { seated = sound.seated; sound = λ _. sound }
 
   pub marked : IsSeated tape desk.actor no_hold desk.seat → desk.unsound ≡ true → IsSoundOrMarked port strict_run plan tape desk
@@ -60,7 +60,7 @@ module _ {D J : Type 0} (port : Ghosts D) (strict_run : Bool) (plan : Content) (
       record {
         one = place;
         others = λ k desk is apart.
-            at_place (λ (d : Desk D J). IsSound port strict_run plan tape d.actor d.seat d.slot d.commands d.gone) desks k desk (set_elsewhere desks place k new desk apart is) sound;
+            at_place (λ (d : Desk D J). IsSound port (run_with strict_run plan tape) (state_of d)) desks k desk (set_elsewhere desks place k new desk apart is) sound;
         marked = λ desk is. subst (IsSoundOrMarked port strict_run plan tape) (set_there desks place new desk is) kept;
       }
 

@@ -1,5 +1,5 @@
 -- What others enter changes nothing for a desk.
-use Rattle.std.proofs.Common.{◌≡◌, ℕ, ◌==◌, Bool, true, false, cond, List, [], ◌∷◌, ◌++◌, length, reverse, Option, refl, sym, ◌∙◌, ap, subst, arith, length-append}
+use Rattle.std.proofs.Common.{◌≡◌, ◌==◌, Bool, true, false, cond, List, [], ◌∷◌, ◌++◌, length, reverse, refl, sym, ◌∙◌, ap, subst, arith, length-append}
 use Rattle.std.proofs.lemmas.List.{reverse-append}
 use Rattle.std.proofs.lemmas.List.Elements.{filter-append}
 use mathlib.Core.List.{IsPrefix}
@@ -54,7 +54,7 @@ nothing_long (x ∷ xs) e = absurd (omega arith)
 no_rest : {X : Type 0} (xs ys : List X) → xs ++ ys ≡ xs → ys ≡ []
 no_rest xs ys e = nothing_long ys (let n = ap length e in let m = length-append xs ys in omega arith)
 
--- the items of others that stand behind what a seat has seen
+-- the items of others that stand after what a seat has seen
 pub record Between (a : Actor) (seen before : List Item) : Type 0 where
   pub others : List Item
   pub apart : AreOthers a others

@@ -1,5 +1,5 @@
 -- The next command of a desk, and which commands went by.
-use Rattle.std.proofs.Common.{◌≡◌, ℕ, zero, suc, ◌+◌, ◌≤◌, Bool, true, false, cond, ◌||◌, List, [], ◌∷◌, ◌++◌, length, reverse, take, drop, Option, Some, refl, sym, ◌∙◌, ap, arith}
+use Rattle.std.proofs.Common.{◌≡◌, ℕ, zero, suc, ◌+◌, ◌≤◌, Bool, true, false, cond, ◌||◌, List, [], ◌∷◌, ◌++◌, length, reverse, take, drop, Some, refl, sym, ◌∙◌, ap, arith}
 use Rattle.std.specs.List.{slice_get, list_any, filter}
 use Rattle.std.proofs.lemmas.List.{reverse-append, take-append-drop, append_cancel_right}
 use Rattle.std.proofs.lemmas.List.Folds.{list_any-append}

@@ -1,5 +1,5 @@
 -- What an actor enters has two notes at most.
-use Rattle.std.proofs.Common.{◌≡◌, ℕ, ◌≤◌, Bool, List, [], ◌∷◌, length, map, Option, None, Some, sym, subst, arith}
+use Rattle.std.proofs.Common.{◌≤◌, Bool, List, [], ◌∷◌, length, map, Option, None, Some, sym, subst, arith}
 use Rattle.std.specs.Prelude.{All}
 use Rattle.std.proofs.lemmas.List.Elements.{All-nil, All-cons}
 use Rattle.acc_stamp.specs.declared.actors.Actor.{Actor}

@@ -1,5 +1,5 @@
--- A desk before its actor did anything, and behind the closed list.
-use Rattle.std.proofs.Common.{◌≡◌, ◌≢◌, ℕ, ◌≤◌, Bool, true, Option, List, [], ◌++◌, drop, reverse, Contains, refl, sym, ◌∙◌, ap, subst}
+-- A desk before its actor did anything, and after the closed list.
+use Rattle.std.proofs.Common.{◌≡◌, ◌≢◌, ℕ, ◌≤◌, Bool, true, List, [], ◌++◌, drop, reverse, Contains, refl, sym, ◌∙◌, ap, subst}
 use mathlib.Core.List.{IsPrefix}
 use Rattle.acc_stamp.specs.declared.actors.Actor.{Actor}
 use Rattle.acc_ports.specs.declared.disk.Disk.{Ghosts}
@@ -20,7 +20,7 @@ use Rattle.acc_tape.specs.Lists.{items_of}
 use Rattle.acc_tape.specs.ItemViews.{actor_of_item}
 use Rattle.acc_tape.specs.Seats.{TapeName, SeatView, Turns}
 use Rattle.acc_desk.specs.declared.hold.Hold.{Hold}
-use Rattle.acc_desk.specs.Desks.{newest, no_hold, IsAt, IsDesk}
+use Rattle.acc_desk.specs.Desks.{desk_with, run_with, newest, no_hold, IsAt, IsDesk}
 use Rattle.acc_desk.specs.Fits.{fits_plan}
 use Rattle.acc_desk.proofs.Moving.{Between, between, at_on}
 use Rattle.acc_desk.proofs.Seating.{hold_is, seen_few, seen_light, others_since}
@@ -37,7 +37,7 @@ module _ {D : Type 0} (port : Ghosts D) (strict_run : Bool) (plan : Content) (ta
   -- others entered items while the desk was made
   pub first_desk : IsServing plan (alone [] []) → Contains (actors plan.topology) a → (commands : List Step) → commands ≡ commands_of plan a
       → (old new : SeatView Item) → old.tape ≡ tape → old.actor ≡ a.0 → old.actor ≢ 0 → old.mine ≡ [] → (old.held_items ≡ 0) × (old.held_weight ≡ 0) → Turns actor_of_item weight_of (fits_plan plan) old new → new.mine ≡ old.mine → (new.held_items ≡ old.held_items) × (new.held_weight ≡ old.held_weight)
-      → SlotStands port plan (alone [] []) a slot → StrictFirst → IsDesk port strict_run plan tape no_hold a new slot commands 0
+      → SlotStands port plan (alone [] []) a slot → StrictFirst → IsDesk port (run_with strict_run plan tape) no_hold (desk_with a new slot commands 0)
   first_desk serving known commands all old new tape_is actor_is some mine_is held_is turns same_mine same_held stands strictly =
       let owned : items_of actor_of_item a.0 new.seen ≡ [] =
       sym (ap (λ k. items_of actor_of_item k new.seen) (turns.actor ∙ actor_is)) ∙ turns.mine ∙ same_mine ∙ mine_is in
@@ -60,7 +60,7 @@ module _ {D : Type 0} (port : Ghosts D) (strict_run : Bool) (plan : Content) (ta
       }
 
   -- the actor stands for the closed list
-  pub at_closed : (held : Hold) (seat : SeatView Item) (commands : List Step) (gone : ℕ) → IsDesk port strict_run plan tape held a seat slot commands gone
+  pub at_closed : (held : Hold) (seat : SeatView Item) (commands : List Step) (gone : ℕ) → IsDesk port (run_with strict_run plan tape) held (desk_with a seat slot commands gone)
       → (items : List Item) → IsPrefix seat.seen items → items_of actor_of_item seat.actor items ≡ seat.mine → IsFreeRun plan (reverse items) → IsAt port strict_run plan a (reverse items) slot (drop gone commands)
   at_closed held seat commands gone desk items begins mine free =
       let b = others_since plan tape limits a held seat desk.seated items begins mine in

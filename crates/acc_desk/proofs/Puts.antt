@@ -1,5 +1,5 @@
 -- What a desk enters of a group, and what it releases.
-use Rattle.std.proofs.Common.{◌≡◌, ℕ, ◌-◌, ◌≤◌, Bool, false, List, [], ◌∷◌, ◌++◌, length, map, take, drop, reverse, Option, sym, ◌∙◌, ap, subst, arith, length-append}
+use Rattle.std.proofs.Common.{◌≡◌, ℕ, ◌-◌, ◌≤◌, Bool, false, List, [], ◌∷◌, ◌++◌, length, map, take, drop, reverse, sym, ◌∙◌, ap, subst, arith, length-append}
 use Rattle.std.specs.Prelude.{All, sum_by}
 use Rattle.std.proofs.lemmas.List.{length-map, length-reverse, reverse-append}
 use Rattle.acc_stamp.specs.declared.actors.Actor.{Actor}
@@ -23,9 +23,9 @@ use Rattle.acc_schedule_runs.specs.Schedules.{cluster_of}
 use Rattle.acc_tape.specs.ItemViews.{actor_of_item}
 use Rattle.acc_tape.specs.Seats.{TapeName, SeatView, Turns, FitsBehind, FitAllBehind, ComesLast, ComeLast}
 use Rattle.acc_desk.specs.declared.hold.Hold.{Hold}
-use Rattle.acc_desk.specs.Desks.{newest, held_of, no_hold, IsSeated, IsAt, IsDesk}
+use Rattle.acc_desk.specs.Desks.{desk_with, run_with, newest, held_of, no_hold, IsSeated, IsAt, IsDesk}
 use Rattle.acc_desk.specs.Fits.{fits_plan}
-use Rattle.acc_desk.specs.Groups.{Joining, CanAllJoin, IsGathering, IsStopping, IsEnteringDesk, item_of_unsent}
+use Rattle.acc_desk.specs.Groups.{gathered, Joining, CanAllJoin, IsGathering, IsStopping, IsEnteringDesk, item_of_unsent}
 use Rattle.acc_desk.proofs.Moving.{at_on}
 use Rattle.acc_desk.proofs.Seating.{held_none, reverse_last, seen_few, seated_on, others_since, came, newest_few, desk_on}
 use Rattle.acc_desk.proofs.Entered.{entering_on, all_fit, all_short, all_weigh, all_at, all_own}
@@ -39,7 +39,7 @@ module _ {D : Type 0} (port : Ghosts D) (strict_run : Bool) (plan : Content) (ta
   -- ---- what was settled is entered at once
 
   module _ (slot : Slot D) (held : Hold) (events : List Event) (unsent : List Unsent) (seat : SeatView Item)
-      (desk : IsEnteringDesk port strict_run plan tape held a seat slot commands gone events unsent) where
+      (desk : IsEnteringDesk port (run_with strict_run plan tape) held (desk_with a seat slot commands gone) events unsent) where
     abbrev items : List Item
     items = map (item_of_unsent a) unsent
 
@@ -72,7 +72,7 @@ module _ {D : Type 0} (port : Ghosts D) (strict_run : Bool) (plan : Content) (ta
         (entering_on port strict_run plan a slot (drop gone commands) (newest seat) b.others events unsent desk.weights b.apart run desk.entering) run k)
 
     pub puts_on : (new : SeatView Item) → TurnsOf seat new → held_of new ≡ no_hold → ComeLast actor_of_item (fits_plan plan) seat new.seen items
-        → IsDesk port strict_run plan tape no_hold a new slot commands gone
+        → IsDesk port (run_with strict_run plan tape) no_hold (desk_with a new slot commands gone)
     puts_on new turns free last =
         let b = others_since plan tape limits a held seat desk.seated last.before last.begins last.mine in
         let there = entering_on port strict_run plan a slot (drop gone commands) (newest seat) b.others events unsent desk.weights b.apart (subst (IsFreeRun plan) b.items_are last.fitting) desk.entering in
@@ -87,7 +87,7 @@ module _ {D : Type 0} (port : Ghosts D) (strict_run : Bool) (plan : Content) (ta
   -- ---- the disk failed
 
   module _ (first slot : Slot D) (joinings : List Joining) (held : Hold) (seat : SeatView Item)
-      (stopping : IsStopping port strict_run plan tape a seat first slot commands gone joinings held) where
+      (stopping : IsStopping port (run_with strict_run plan tape) (desk_with a seat slot commands gone) first joinings held) where
     pub down_own : actor_of_item (Down a) ≡ seat.actor
     down_own = sym stopping.desk.seated.actor_is
 
@@ -102,7 +102,7 @@ module _ {D : Type 0} (port : Ghosts D) (strict_run : Bool) (plan : Content) (ta
         subst (IsFreeRun plan) (sym (reverse_last before (Down a))) (down_fits plan (reverse before) a stopping.desk.known free)
 
     pub down_on : (new : SeatView Item) → TurnsOf seat new → held_of new ≡ no_hold → ComesLast actor_of_item (fits_plan plan) seat new.seen (Down a)
-        → IsDesk port strict_run plan tape no_hold a new slot commands gone
+        → IsDesk port (run_with strict_run plan tape) no_hold (desk_with a new slot commands gone)
     down_on new turns free last =
         let b = others_since plan tape limits a held seat stopping.desk.seated last.before last.begins last.mine in
         let items = b.others ++ newest seat in
@@ -123,10 +123,10 @@ module _ {D : Type 0} (port : Ghosts D) (strict_run : Bool) (plan : Content) (ta
   -- ---- while messages are staged
 
   module _ (first slot : Slot D) (joinings : List Joining) (used : ℕ) (held later : Hold) (old new : SeatView Item)
-      (gathering : IsGathering port strict_run plan tape a old first slot commands gone joinings used held)
+      (gathering : IsGathering port (run_with strict_run plan tape) (desk_with a old slot commands gone) (gathered first joinings used held))
       (turns : TurnsOf old new) (same : new.mine ≡ old.mine) (is : held_of new ≡ later) where
     -- the desk as it was before, and what may be taken
-    pub desk_moves : IsDesk port strict_run plan tape later a new first commands gone
+    pub desk_moves : IsDesk port (run_with strict_run plan tape) later (desk_with a new first commands gone)
     desk_moves = desk_on plan tape limits a port strict_run commands gone first held later old new gathering.desk turns same is
 
     pub up_moves : is_down a (newest new) ≡ false
@@ -142,7 +142,7 @@ module _ {D : Type 0} (port : Ghosts D) (strict_run : Bool) (plan : Content) (ta
 
     -- with the same slot, where what is staged is within what the seat holds now
     pub gathering_moves : used ≤ later.weight → length joinings ≤ later.items
-        → IsGathering port strict_run plan tape a new first slot commands gone joinings used later
+        → IsGathering port (run_with strict_run plan tape) (desk_with a new slot commands gone) (gathered first joinings used later)
     gathering_moves within few =
         record {
           kind = gathering.kind;
@@ -163,8 +163,8 @@ module _ {D : Type 0} (port : Ghosts D) (strict_run : Bool) (plan : Content) (ta
     pub released_seat : IsSeated tape a hold old → IsSeated tape a no_hold new
     released_seat seated = seated_on plan tape limits a hold no_hold old new seated turns (held_none old new hold seated.held_is items_less weight_less)
 
-    pub released_desk : (slot : Slot D) → new.mine ≡ old.mine → IsDesk port strict_run plan tape hold a old slot commands gone
-        → IsDesk port strict_run plan tape no_hold a new slot commands gone
+    pub released_desk : (slot : Slot D) → new.mine ≡ old.mine → IsDesk port (run_with strict_run plan tape) hold (desk_with a old slot commands gone)
+        → IsDesk port (run_with strict_run plan tape) no_hold (desk_with a new slot commands gone)
     released_desk slot same desk =
         desk_on plan tape limits a port strict_run commands gone slot hold no_hold old new desk turns same
         (held_none old new hold desk.seated.held_is items_less weight_less)

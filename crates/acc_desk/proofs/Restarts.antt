@@ -38,7 +38,7 @@ use Rattle.acc_free_laws.proofs.Going.{reopened_went, stayed_down}
 use Rattle.acc_tape.specs.ItemViews.{actor_of_item}
 use Rattle.acc_tape.specs.Seats.{TapeName, SeatView, Turns, FitsBehind, ComesLast}
 use Rattle.acc_desk.specs.declared.hold.Hold.{Hold}
-use Rattle.acc_desk.specs.Desks.{newest, held_of, no_hold, HasStayed, IsAt, IsDesk, item_of, HasReopened, HasReopenedStrictly}
+use Rattle.acc_desk.specs.Desks.{desk_with, run_with, newest, held_of, no_hold, HasStayed, IsAt, IsDesk, item_of, HasReopened, HasReopenedStrictly}
 use Rattle.acc_desk.specs.Fits.{fits_plan}
 use Rattle.acc_desk.proofs.Moving.{at_on}
 use Rattle.acc_desk.proofs.Unarmed.{reopened_fresh}
@@ -87,7 +87,7 @@ restart_weighs a (Some emitted) is = subst (λ (e : Emitted). weight_of (StepIte
 
 module _ {D : Type 0} (port : Ghosts D) (strict_run : Bool) (plan : Content) (a : Actor) (items : List Item) (slot new_slot : Slot D) (left : List Step) (command : Step)
     (known : Contains (actors plan.topology) a) (few : length items ≤ most_items) (restart : is_restart command ≡ true) (at : IsAt port strict_run plan a items slot (command ∷ left)) where
-  -- the actor stands behind its restart
+  -- the actor stands after its restart
   pub restarted : (given : Option Emitted)
       → ((s : Situation) → IsSound (cluster_of plan) s → IsFew s → SlotStands port plan s a slot → HasReopened port plan s a given new_slot)
       → ((s : Situation) (disks : Disks) → IsSound (cluster_of plan) s → SlotStands port plan s a slot → IsStrictSlot port plan s disks a slot
@@ -123,7 +123,7 @@ module _ {D : Type 0} (port : Ghosts D) (strict_run : Bool) (plan : Content) (a 
       }
 
 module _ {D : Type 0} (port : Ghosts D) (strict_run : Bool) (plan : Content) (tape : TapeName) (limits : tape.limits.items ≤ most_items) (a : Actor) (commands : List Step) (gone : ℕ) (slot new_slot : Slot D) (held : Hold) (seat : SeatView Item) (command : Step)
-    (desk : IsDesk port strict_run plan tape held a seat slot commands gone) (next : drop gone commands ≡ command ∷ drop (gone + 1) commands) (restart : is_restart command ≡ true) (given : Option Emitted) where
+    (desk : IsDesk port (run_with strict_run plan tape) held (desk_with a seat slot commands gone)) (next : drop gone commands ≡ command ∷ drop (gone + 1) commands) (restart : is_restart command ≡ true) (given : Option Emitted) where
   pub restart_fits_behind : is_silent given → FitsBehind actor_of_item (fits_plan plan) seat (item_of a (RestartEvent 0) given)
   restart_fits_behind silent before begins mine free =
       let item = item_of a (RestartEvent 0) given in
@@ -133,7 +133,7 @@ module _ {D : Type 0} (port : Ghosts D) (strict_run : Bool) (plan : Content) (ta
       → ((s : Situation) (disks : Disks) → IsSound (cluster_of plan) s → SlotStands port plan s a slot → IsStrictSlot port plan s disks a slot
       → HasReopenedStrictly port plan s disks a given new_slot)
       → (new : SeatView Item) → Turns actor_of_item weight_of (fits_plan plan) seat new → held_of new ≡ no_hold → ComesLast actor_of_item (fits_plan plan) seat new.seen (item_of a (RestartEvent 0) given)
-      → IsDesk port strict_run plan tape no_hold a new new_slot commands (gone + 1)
+      → IsDesk port (run_with strict_run plan tape) no_hold (desk_with a new new_slot commands (gone + 1))
   restart_taken opened strictly new turns free last =
       let item = item_of a (RestartEvent 0) given in
       let b = others_since plan tape limits a held seat desk.seated last.before last.begins last.mine in

@@ -1,5 +1,5 @@
 -- The tape refuses what an actor would enter.
-use Rattle.std.proofs.Common.{◌≡◌, ◌⊎◌, ℕ, ◌+◌, ◌<◌, ◌≤◌, Bool, false, List, length, drop, Option, inl, inr, refl, ◌∙◌, ap, subst, arith}
+use Rattle.std.proofs.Common.{◌≡◌, ◌⊎◌, ℕ, ◌+◌, ◌<◌, ◌≤◌, Bool, false, List, length, drop, inl, inr, refl, ◌∙◌, ap, subst, arith}
 use Rattle.std.specs.Prelude.{sum_by}
 use Rattle.acc_stamp.specs.declared.actors.Actor.{Actor}
 use Rattle.acc_ports.specs.declared.disk.Disk.{Ghosts}
@@ -17,7 +17,7 @@ use Rattle.acc_schedule_runs.specs.Moves.{entry_of}
 use Rattle.acc_schedule_runs.specs.Schedules.{cluster_of}
 use Rattle.acc_schedule_runs.specs.Limits.{most_items}
 use Rattle.acc_actors.specs.declared.slot.Slot.{Slot}
-use Rattle.acc_actors.specs.Asked.{IsAsked}
+use Rattle.acc_actors.specs.Asked.{step_by, IsAsked}
 use Rattle.acc_free_laws.specs.FreeRun.{alone}
 use Rattle.acc_free_laws.proofs.Alone.{entry_is}
 use Rattle.acc_tape.specs.declared.content.Limits.{Limits}
@@ -25,7 +25,7 @@ use Rattle.acc_tape.specs.declared.error.TapeError.TheVariants.{Full}
 use Rattle.acc_tape.specs.Refusals.{Refuses}
 use Rattle.acc_tape.specs.Seats.{TapeName, SeatView}
 use Rattle.acc_desk.specs.declared.hold.Hold.{Hold}
-use Rattle.acc_desk.specs.Desks.{newest, IsDesk, MayStep}
+use Rattle.acc_desk.specs.Desks.{desk_with, run_with, newest, IsDesk, MayStep}
 use Rattle.acc_desk.specs.Outcomes.{HasNoRoom}
 use Rattle.acc_desk.proofs.Seating.{newest_few}
 use Rattle.acc_desk.proofs.Stepping.{asked}
@@ -45,9 +45,9 @@ module _ (plan : Content) (tape : TapeName) (a : Actor) (left later : List Step)
   lacks_room weight is (inr heavy) = inr (event, act, later, may, subst (λ w. tape.limits.weight < sum_by weight_of seat.seen + seat.out_weight + w) is heavy)
 
 module _ {D : Type 0} (port : Ghosts D) (strict_run : Bool) (plan : Content) (tape : TapeName) (limits : tape.limits.items ≤ most_items) (a : Actor) (commands : List Step) (gone : ℕ) (slot : Slot D)
-    (event : Event) (act : Act) (later : ℕ) (held : Hold) (seat : SeatView Item) (desk : IsDesk port strict_run plan tape held a seat slot commands gone) (may : MayStep plan (newest seat) a event act (drop gone commands) (drop later commands)) where
+    (event : Event) (act : Act) (later : ℕ) (held : Hold) (seat : SeatView Item) (desk : IsDesk port (run_with strict_run plan tape) held (desk_with a seat slot commands gone)) (may : MayStep plan (newest seat) a event act (drop gone commands) (drop later commands)) where
   -- an actor that was asked what it would send
-  pub asked_no_room : (weight : ℕ) → ((s : Situation) → IsAsked port plan s a event act slot → weight ≡ weight_of (entry_of (cluster_of plan) s a event false))
+  pub asked_no_room : (weight : ℕ) → ((s : Situation) → IsAsked port plan s (step_by a event act) slot → weight ≡ weight_of (entry_of (cluster_of plan) s a event false))
       → (which : Which) (number : ℕ) → Refuses tape.limits (length seat.seen + seat.out_count) (sum_by weight_of seat.seen + seat.out_weight) 1 weight (Full which number)
       → HasNoRoom plan tape a (drop gone commands) seat
   asked_no_room weight is which number refuses =

@@ -21,13 +21,13 @@ use Rattle.acc_schedule_runs.specs.Disks.{Disks}
 use Rattle.acc_schedule_runs.specs.Limits.{most_items}
 use Rattle.acc_actors.specs.declared.slot.Slot.{Slot}
 use Rattle.acc_actors.specs.Slots.{IsStrictSlot}
-use Rattle.acc_actors.specs.Asked.{IsAsked, MayAsk, HasTried, HasTriedStrictly}
+use Rattle.acc_actors.specs.Asked.{step_by, over_disks, IsAsked, MayAsk, HasTried, HasTriedStrictly}
 use Rattle.acc_free_laws.specs.FreeRun.{IsFreeRun, alone}
 use Rattle.acc_tape.specs.Lists.{items_of}
 use Rattle.acc_tape.specs.ItemViews.{actor_of_item}
 use Rattle.acc_tape.specs.Seats.{TapeName, SeatView, Turns, FitsBehind, ComesLast}
 use Rattle.acc_desk.specs.declared.hold.Hold.{Hold}
-use Rattle.acc_desk.specs.Desks.{newest, held_of, no_hold, IsSeated, IsAt, IsDesk, MayStep, item_of}
+use Rattle.acc_desk.specs.Desks.{desk_with, run_with, newest, held_of, no_hold, IsSeated, IsAt, IsDesk, MayStep, item_of}
 use Rattle.acc_desk.specs.Fits.{fits_plan}
 use Rattle.acc_desk.proofs.Moving.{Between, between, at_on}
 use Rattle.acc_desk.proofs.Noting.{noted_few}
@@ -110,7 +110,7 @@ module _ (plan : Content) (tape : TapeName) (limits : tape.limits.items ≤ most
 
   module _ {D : Type 0} (port : Ghosts D) (strict_run : Bool) (commands : List Step) (gone : ℕ) (slot : Slot D) where
     abbrev Desk : Hold → SeatView Item → Type 0
-    Desk held seat = IsDesk port strict_run plan tape held a seat slot commands gone
+    Desk held seat = IsDesk port (run_with strict_run plan tape) held (desk_with a seat slot commands gone)
 
     pub desk_on : (held later : Hold) (old new : SeatView Item) → Desk held old → TurnsOf old new → new.mine ≡ old.mine → held_of new ≡ later → Desk later new
     desk_on held later old new desk turns same is =
@@ -141,13 +141,13 @@ module _ (plan : Content) (tape : TapeName) (limits : tape.limits.items ≤ most
         abbrev seen_now : Situation
         seen_now = alone (newest seat) desk.at.stopped
 
-        asked_now : IsAsked port plan seen_now a event act slot
+        asked_now : IsAsked port plan seen_now (step_by a event act) slot
         asked_now = asked port strict_run plan a (newest seat) slot (drop gone commands) (drop later commands) event act desk.known few_now desk.at may
 
-        pub asks : MayAsk port plan a event act slot
+        pub asks : MayAsk port plan (step_by a event act) slot
         asks = (seen_now, asked_now)
 
-        module _ (given : Option Emitted) (new_slot : Slot D) (tried : (s : Situation) → IsAsked port plan s a event act slot → HasTried port plan s a event new_slot given) where
+        module _ (given : Option Emitted) (new_slot : Slot D) (tried : (s : Situation) → IsAsked port plan s (step_by a event act) slot → HasTried port plan s a event new_slot given) where
           now_tried : HasTried port plan seen_now a event new_slot given
           now_tried = tried seen_now asked_now
 
@@ -160,7 +160,7 @@ module _ (plan : Content) (tape : TapeName) (limits : tape.limits.items ≤ most
           pub noted : length (noted_in (item_of a event given)) ≤ 2
           noted = noted_few (cluster_of plan) seen_now a event given now_tried.emitted
 
-          pub weighs : (weight : ℕ) → ((s : Situation) → IsAsked port plan s a event act slot → weight ≡ weight_of (entry_of (cluster_of plan) s a event false)) → weight_of (item_of a event given) ≤ weight
+          pub weighs : (weight : ℕ) → ((s : Situation) → IsAsked port plan s (step_by a event act) slot → weight ≡ weight_of (entry_of (cluster_of plan) s a event false)) → weight_of (item_of a event given) ≤ weight
           weighs weight is = item_weighs port strict_run plan a (newest seat) slot (drop gone commands) (drop later commands) event act desk.known few_now desk.at may given now_tried.emitted weight (is seen_now asked_now)
 
           pub fits : FitsBehind actor_of_item (fits_plan plan) seat (item_of a event given)
@@ -172,10 +172,10 @@ module _ (plan : Content) (tape : TapeName) (limits : tape.limits.items ≤ most
 
           abbrev Strictly : Type 0
           Strictly =
-              (s : Situation) (disks : Disks) → IsAsked port plan s a event act slot → IsStrictSlot port plan s disks a slot
-              → HasTriedStrictly port plan s disks a event new_slot given
+              (s : Situation) (disks : Disks) → IsAsked port plan s (step_by a event act) slot → IsStrictSlot port plan s disks a slot
+              → HasTriedStrictly port plan (over_disks s disks) a event new_slot given
 
-          pub taken : Strictly → (new : SeatView Item) → TurnsOf seat new → held_of new ≡ no_hold → ComesLast actor_of_item (fits_plan plan) seat new.seen (item_of a event given) → IsDesk port strict_run plan tape no_hold a new new_slot commands later
+          pub taken : Strictly → (new : SeatView Item) → TurnsOf seat new → held_of new ≡ no_hold → ComesLast actor_of_item (fits_plan plan) seat new.seen (item_of a event given) → IsDesk port (run_with strict_run plan tape) no_hold (desk_with a new new_slot commands later)
           taken strictly new turns free last =
               let item = item_of a event given in
               let b = others_since held seat desk.seated last.before last.begins last.mine in

@@ -30,7 +30,7 @@ use Rattle.acc_schedule_runs.specs.Disks.{Disks, fresh_disks, after_step}
 use Rattle.acc_schedule_runs.specs.Limits.{most_items}
 use Rattle.acc_actors.specs.declared.slot.Slot.{Slot}
 use Rattle.acc_actors.specs.Slots.{SlotStands, IsStrictSlot}
-use Rattle.acc_actors.specs.Asked.{IsFew, IsAsked, IsEmitted, HasTried, HasTriedStrictly}
+use Rattle.acc_actors.specs.Asked.{step_by, over_disks, IsFew, IsAsked, IsEmitted, HasTried, HasTriedStrictly}
 use Rattle.acc_actors.proofs.Few.{few_whole}
 use Rattle.acc_free_laws.specs.FreeRun.{AreOthers, IsFreeRun, alone}
 use Rattle.acc_free_laws.specs.Serving.{IsServing, HasGone, AreStopsOf}
@@ -43,7 +43,7 @@ use Rattle.acc_free_laws.proofs.Going.{command_went, message_went}
 use Rattle.acc_desk.specs.Desks.{HasStayed, IsAt, IsTurn, MayStep, item_of}
 use Rattle.acc_desk.proofs.Unarmed.{stepped_fresh}
 
--- ---- what may be taken, behind others' items
+-- ---- what may be taken, after others' items
 
 pub step_on : (plan : Content) (a : Actor) (seen others : List Item) (event : Event) (act : Act) (left later : List Step) → AreOthers a others → IsFreeRun plan (others ++ seen)
     → MayStep plan seen a event act left later → MayStep plan (others ++ seen) a event act left later
@@ -82,7 +82,7 @@ module _ {D : Type 0} (port : Ghosts D) (strict_run : Bool) (plan : Content) (a 
   up_here : is_down a (whole here) ≡ false
   up_here = ap (is_down a) (alone_whole items at.stopped) ∙ may.up
 
-  pub asked : IsAsked port plan here a event act slot
+  pub asked : IsAsked port plan here (step_by a event act) slot
   asked = record { sound = at.serving.sound; few = few_alone items at.stopped few; stands = at.stands; up = up_here; may = may_here }
 
   -- what it emits is what its entry has
@@ -92,7 +92,7 @@ module _ {D : Type 0} (port : Ghosts D) (strict_run : Bool) (plan : Content) (a 
   entering_is : (emitted : Emitted) → IsEmitted (cluster_of plan) here a event (Some emitted) → item_of a event (Some emitted) ≡ entering (cluster_of plan) items a event false
   entering_is emitted is = emitted_is emitted is ∙ entry_is (cluster_of plan) here refl a event false
 
-  -- behind others' items too
+  -- after others' items too
   pub item_behind : (given : Option Emitted) → IsEmitted (cluster_of plan) here a event given → (others : List Item) → AreOthers a others → IsFreeRun plan (others ++ items) → IsFreeRun plan (item_of a event given ∷ others ++ items)
   item_behind None is others apart free = down_fits plan (others ++ items) a known free
   item_behind (Some emitted) is others apart free =
@@ -120,7 +120,7 @@ module _ {D : Type 0} (port : Ghosts D) (strict_run : Bool) (plan : Content) (a 
   went fails (inr command) gone = command_went plan here a event fails command.0 later command.2 command.3 (λ _. may.up) (subst (HasGone plan here a) command.1 gone)
 
   module _ (given : Option Emitted) (new_slot : Slot D) (tried : HasTried port plan here a event new_slot given)
-      (strictly : (disks : Disks) → IsStrictSlot port plan here disks a slot → HasTriedStrictly port plan here disks a event new_slot given) where
+      (strictly : (disks : Disks) → IsStrictSlot port plan here disks a slot → HasTriedStrictly port plan (over_disks here disks) a event new_slot given) where
     journalled : is_none given ≡ true → is_journalled a event ≡ true
     journalled = by given tried.emitted
       where
@@ -168,6 +168,6 @@ module _ {D : Type 0} (port : Ghosts D) (strict_run : Bool) (plan : Content) (a 
           stayed = λ on. subst (λ (s : Situation). Stays s) (sym e) (stayed on);
         }
 
-    -- the actor stands behind its item
+    -- the actor stands after its item
     pub stepped : IsAt port strict_run plan a (item_of a event given ∷ items) new_slot later
     stepped = stepped_by given tried.emitted tried.stands serving (went (is_none given) may.turn at.gone) stays

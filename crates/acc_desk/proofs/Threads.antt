@@ -10,7 +10,7 @@ use Rattle.acc_tape.specs.Lists.{items_of}
 use Rattle.acc_tape.specs.ItemViews.{actor_of_item}
 use Rattle.acc_tape.specs.Seats.{TapeName, SeatView}
 use Rattle.acc_desk.specs.declared.desk.Desk.{Desk}
-use Rattle.acc_desk.specs.Desks.{IsSound, AreSound}
+use Rattle.acc_desk.specs.Desks.{run_with, IsSound, AreSound, state_of}
 use Rattle.acc_desk.specs.Fits.{fits_plan}
 use Rattle.acc_desk.specs.Threads.{seat_of, AreEnteredBy}
 use Rattle.acc_desk.proofs.Seating.{at_actor}
@@ -21,7 +21,7 @@ HasComeTo made items seat = IsPrefix seat.seen items × (items_of actor_of_item 
 
 module _ {D J : Type 0} (port : Ghosts D) (strict_run : Bool) (plan : Content) (tape : TapeName) (made : List ℕ) (items : List Item) where
   abbrev Sound : Desk D J → Type 0
-  Sound desk = IsSound port strict_run plan tape desk.actor desk.seat desk.slot desk.commands desk.gone
+  Sound desk = IsSound port (run_with strict_run plan tape) (state_of desk)
 
   abbrev HasOwn : Desk D J → Type 0
   HasOwn desk = items_of actor_of_item desk.actor.0 items ≡ desk.seat.mine

@@ -16,7 +16,7 @@ use Rattle.acc_schedule.specs.declared.plan.Step.{Step}
 use Rattle.acc_schedule.specs.declared.plan.Step.TheVariants.{Begin, Deliver, Drop, Recover, Slow, Restart, Fail, Drain}
 use Rattle.acc_free_laws.specs.Commands.{is_event_of, is_message}
 use Rattle.acc_free_laws.specs.Turns.{Went, begins, aside, delivered, took, came_up, stopped, stayed, went_down, kept, kept_message, passed}
-use Rattle.acc_desk.specs.Desks.{begins_it}
+use Rattle.acc_desk.specs.Commands.{begins_it}
 
 none_first : (a b : Bool) → (a || b) ≡ false → a ≡ false
 none_first true b e = e

@@ -1,19 +1,16 @@
 -- What an actor is asked for with nothing staged.
-use Rattle.std.proofs.Common.{◌≡◌, ℕ, false, List, [], Result, Ok, Err, IfOk, arith}
+use Rattle.std.proofs.Common.{ℕ, [], Result, Ok, Err, IfOk, arith}
 use Rattle.acc_stamp.specs.declared.actors.Actor.{Actor}
 use Rattle.acc_ports.specs.declared.disk.Disk.{Ghosts}
 use Rattle.acc_message.specs.declared.entry.Event.{Event}
 use Rattle.acc_message.specs.NodeRules.{Act}
-use Rattle.acc_message_code.specs.Weight.{weight_of}
 use Rattle.acc_schedule.specs.Content.{Content}
 use Rattle.acc_schedule_runs.specs.Situations.{Situation}
-use Rattle.acc_schedule_runs.specs.Moves.{entry_of, entered_all}
-use Rattle.acc_schedule_runs.specs.Schedules.{cluster_of}
 use Rattle.acc_actors.specs.declared.slot.Slot.{Slot}
-use Rattle.acc_actors.specs.Asked.{IsAsked, MayAsk, IsAskedBehind, MayAskBehind}
+use Rattle.acc_actors.specs.Asked.{step_by, IsAsked, MayAsk, Weighs, IsAskedBehind, MayAskBehind, WeighsBehind}
 
 module _ {D : Type 0} (port : Ghosts D) (plan : Content) (a : Actor) (event : Event) (act : Act) (slot : Slot D) where
-  asked_behind : (s : Situation) → IsAsked port plan s a event act slot → IsAskedBehind port plan s a [] event act slot
+  asked_behind : (s : Situation) → IsAsked port plan s (step_by a event act) slot → IsAskedBehind port plan s [] (step_by a event act) slot
   asked_behind s asked =
       record {
         behind = record {
@@ -26,12 +23,9 @@ module _ {D : Type 0} (port : Ghosts D) (plan : Content) (a : Actor) (event : Ev
         may = asked.may;
       }
 
-  pub may_ask_behind : MayAsk port plan a event act slot → MayAskBehind port plan a event act slot
+  pub may_ask_behind : MayAsk port plan (step_by a event act) slot → MayAskBehind port plan (step_by a event act) slot
   may_ask_behind may = (may.0, [], asked_behind may.0 may.1)
 
-  pub weighs_alone : {E : Type 0} (r : Result ℕ E)
-      → IfOk r (λ weight. (s : Situation) (staged : List Event) → IsAskedBehind port plan s a staged event act slot
-      → weight ≡ weight_of (entry_of (cluster_of plan) (entered_all (cluster_of plan) s a staged false) a event false))
-      → IfOk r (λ weight. (s : Situation) → IsAsked port plan s a event act slot → weight ≡ weight_of (entry_of (cluster_of plan) s a event false))
+  pub weighs_alone : {E : Type 0} (r : Result ℕ E) → IfOk r (WeighsBehind port plan (step_by a event act) slot) → IfOk r (Weighs port plan (step_by a event act) slot)
   weighs_alone (Err e) h = tt
   weighs_alone (Ok weight) h = λ s asked. h s [] (asked_behind s asked)

@@ -1,5 +1,5 @@
 -- When a desk is sound, and what it may take.
-use Rattle.std.specs.Prelude.{◌≡◌, ◌≢◌, ◌⊎◌, ℕ, ◌≤◌, ◌==◌, Bool, true, false, List, [], ◌∷◌, length, reverse, sum_by, drop, All, Option, None, Some, Contains}
+use Rattle.std.specs.Prelude.{◌≡◌, ◌≢◌, ◌⊎◌, ℕ, ◌≤◌, Bool, true, false, List, [], ◌∷◌, length, reverse, sum_by, drop, All, Option, None, Some, Contains}
 use Rattle.std.specs.List.{slice_get}
 use Rattle.acc_stamp.specs.declared.stamps.TxnId.{TxnId}
 use Rattle.acc_stamp.specs.declared.actors.Actor.{Actor}
@@ -17,7 +17,6 @@ use Rattle.acc_payloads.specs.Items.{downs_in}
 use Rattle.acc_schedule.specs.Actors.{actors}
 use Rattle.acc_schedule.specs.Content.{Content}
 use Rattle.acc_schedule.specs.declared.plan.Step.{Step}
-use Rattle.acc_schedule.specs.declared.plan.Step.TheVariants.{Begin}
 use Rattle.acc_pasts.specs.Entries.{MayTake}
 use Rattle.acc_schedule_runs.specs.Situations.{Stopped, Situation}
 use Rattle.acc_schedule_runs.specs.Moves.{with_item, reopened}
@@ -77,16 +76,36 @@ pub record IsAt {D : Type 0} (port : Ghosts D) (strict_run : Bool) (plan : Conte
   pub gone : HasGone plan (alone items stopped) a left
   pub stayed : strict_run ≡ true → HasStayed port plan (alone items stopped) a slot
 
+-- what the desks of a run share: whether all its disks are strict, its plan and its tape
+pub record DeskRun : Type 0 where
+  pub strict_run : Bool
+  pub plan : Content
+  pub tape : TapeName
+
+abbrev pub run_with : Bool → Content → TapeName → DeskRun
+run_with strict_run plan tape = record { strict_run = strict_run; plan = plan; tape = tape }
+
+-- a desk, without the counts of which nothing is said
+pub record DeskState (D : Type 0) : Type 0 where
+  pub actor : Actor
+  pub seat : SeatView Item
+  pub slot : Slot D
+  pub commands : List Step
+  pub gone : ℕ
+
+abbrev pub desk_with : {D : Type 0} → Actor → SeatView Item → Slot D → List Step → ℕ → DeskState D
+desk_with a seat slot commands gone = record { actor = a; seat = seat; slot = slot; commands = commands; gone = gone }
+
 -- The desk of an actor of the plan that holds so much reserved: so many of its commands went by.
-pub record IsDesk {D : Type 0} (port : Ghosts D) (strict_run : Bool) (plan : Content) (tape : TapeName) (held : Hold) (a : Actor) (seat : SeatView Item) (slot : Slot D) (commands : List Step) (gone : ℕ) : Type 0 where
-  pub known : Contains (actors plan.topology) a
-  pub all : commands ≡ commands_of plan a
-  pub seated : IsSeated tape a held seat
-  pub at : IsAt port strict_run plan a (newest seat) slot (drop gone commands)
+pub record IsDesk {D : Type 0} (port : Ghosts D) (run : DeskRun) (held : Hold) (desk : DeskState D) : Type 0 where
+  pub known : Contains (actors run.plan.topology) desk.actor
+  pub all : desk.commands ≡ commands_of run.plan desk.actor
+  pub seated : IsSeated run.tape desk.actor held desk.seat
+  pub at : IsAt port run.strict_run run.plan desk.actor (newest desk.seat) desk.slot (drop desk.gone desk.commands)
 
 -- The seat belongs to the tape, and holds nothing that is reserved; and its actor stands for what it has seen.
-abbrev pub IsSound : {D : Type 0} → Ghosts D → Bool → Content → TapeName → Actor → SeatView Item → Slot D → List Step → ℕ → Type 0
-IsSound port strict_run plan tape a seat slot commands gone = IsDesk port strict_run plan tape no_hold a seat slot commands gone
+abbrev pub IsSound : {D : Type 0} → Ghosts D → DeskRun → DeskState D → Type 0
+IsSound port run desk = IsDesk port run no_hold desk
 
 -- ---- what may be taken
 
@@ -96,7 +115,7 @@ IsTurn event left later =
     ((is_message event ≡ true) × (later ≡ left))
     ⊎ ((command : Step) × (left ≡ command ∷ later) × (is_event_of command event ≡ true) × (is_restart command ≡ false))
 
--- behind the items the actor, which is up, may take the event, and these commands are left later
+-- after the items the actor, which is up, may take the event, and these commands are left later
 pub record MayStep (plan : Content) (items : List Item) (a : Actor) (event : Event) (act : Act) (left later : List Step) : Type 0 where
   pub up : is_down a items ≡ false
   pub may : MayTake (cluster_of plan) items a event act
@@ -104,11 +123,6 @@ pub record MayStep (plan : Content) (items : List Item) (a : Actor) (event : Eve
   pub kept : kept_of event ≡ 0
   pub untaken : IsUntaken items event
   pub turn : IsTurn event left later
-
--- the command begins the transaction
-abbrev pub begins_it : ℕ → Step → Bool
-begins_it txn (Begin number) = number == txn
-begins_it txn _ = false
 
 -- the item begins the transaction, and drew this id
 abbrev pub BeginsAs : ℕ → TxnId → Item → Type 0
@@ -130,9 +144,12 @@ abbrev pub item_of : Actor → Event → Option Emitted → Item
 item_of a event None = Down a
 item_of a event (Some emitted) = StepItem (record { actor = a; event = event; emitted = emitted; lost = false })
 
+abbrev pub state_of : {D J : Type 0} → Desk D J → DeskState D
+state_of desk = desk_with desk.actor desk.seat desk.slot desk.commands desk.gone
+
 -- the same of a desk
 abbrev pub IsSoundDesk : {D J : Type 0} → Ghosts D → Bool → Content → TapeName → Desk D J → Type 0
-IsSoundDesk port strict_run plan tape desk = IsSound port strict_run plan tape desk.actor desk.seat desk.slot desk.commands desk.gone
+IsSoundDesk port strict_run plan tape desk = IsSound port (run_with strict_run plan tape) (state_of desk)
 
 -- ---- desks together
 

@@ -1,4 +1,4 @@
--- Messages that a store takes as a group: while they are staged, and while they are entered one behind another.
+-- Messages that a store takes as a group: while they are staged, and while they are entered one after another.
 use Rattle.std.specs.Prelude.{◌≡◌, ◌≢◌, ℕ, ◌<◌, ◌≤◌, Bool, true, false, List, [], ◌∷◌, length, map, drop, sum, Option, None, Some, Contains}
 use Rattle.std.specs.List.{AllByRecursion}
 use Rattle.acc_stamp.specs.declared.actors.Actor.{Actor}
@@ -24,15 +24,15 @@ use Rattle.acc_schedule_runs.specs.Schedules.{cluster_of}
 use Rattle.acc_schedule_runs.specs.Disks.{Disks, fresh_disks}
 use Rattle.acc_actors.specs.declared.slot.Slot.{Slot}
 use Rattle.acc_actors.specs.Slots.{SlotStages, SlotStands, IsStrictSlot}
-use Rattle.acc_actors.specs.Asked.{IsFewBehind, AreSteps, HasSettled, HasSettledStrictly}
+use Rattle.acc_actors.specs.Asked.{over_disks, IsFewBehind, AreSteps, HasSettled, HasSettledStrictly}
 use Rattle.acc_free_laws.specs.Commands.{commands_of, is_message}
 use Rattle.acc_free_laws.specs.FreeRun.{alone}
 use Rattle.acc_free_laws.specs.Serving.{IsServing, HasGone, AreStopsOf}
 use Rattle.acc_message_index.specs.declared.posting.Post.{Post}
-use Rattle.acc_tape.specs.Seats.{TapeName, SeatView}
+use Rattle.acc_tape.specs.Seats.{TapeName}
 use Rattle.acc_desk.specs.declared.hold.Hold.{Hold}
 use Rattle.acc_desk.specs.declared.desk.Desk.{Desk}
-use Rattle.acc_desk.specs.Desks.{newest, item_of, IsSeated, IsDesk, MayStep}
+use Rattle.acc_desk.specs.Desks.{newest, item_of, IsSeated, IsDesk, MayStep, DeskRun, run_with, DeskState, desk_with, state_of}
 
 -- ---- what is staged
 
@@ -52,7 +52,7 @@ pub record IsReady {D : Type 0} (port : Ghosts D) (plan : Content) (s : Situatio
   pub up : is_down a (whole s) ≡ false
   pub each : AllByRecursion (λ (j : Joining). MayTake (cluster_of plan) (whole s) a (event_in s j.event) j.act × (is_journalled a j.event ≡ true)) joinings
 
--- The first of the weights are those of the entries of the events, each behind the entries of those before it.
+-- The first of the weights are those of the entries of the events, each after the entries of those before it.
 abbrev pub AreWeighed : Cluster → Situation → Actor → List Event → List ℕ → Type 0
 AreWeighed cluster s a [] weights = Unit {0}
 AreWeighed cluster s a (event ∷ events) [] = ⊥
@@ -73,9 +73,9 @@ Settles port plan a first joinings slot given =
 abbrev pub SettlesStrictly : {D : Type 0} → Ghosts D → Content → Actor → Slot D → List Joining → Slot D → Option (List Unsent) → Type 0
 SettlesStrictly port plan a first joinings slot given =
     (s : Situation) (disks : Disks) → IsReady port plan s a joinings first → IsStrictSlot port plan s disks a first
-    → HasSettledStrictly port plan s disks a (events_of joinings) slot given
+    → HasSettledStrictly port plan (over_disks s disks) a (events_of joinings) slot given
 
--- behind the items the store may take the message, whatever commands are left
+-- after the items the store may take the message, whatever commands are left
 pub record CanJoin (plan : Content) (items : List Item) (a : Actor) (left : List Step) (j : Joining) : Type 0 where
   pub may : MayStep plan items a j.event j.act left left
   pub message : is_message j.event ≡ true
@@ -86,36 +86,6 @@ pub record CanAllJoin (plan : Content) (items : List Item) (a : Actor) (left : L
   pub each : AllByRecursion (CanJoin plan items a left) joinings
   pub different : AreDifferent (events_of joinings)
   pub few : length joinings ≤ 16
-
--- The desk of an actor that stood in the first slot, with these messages staged. What is entered for them weighs so much, which is within what
--- the desk holds.
-pub record IsGathering {D : Type 0} (port : Ghosts D) (strict_run : Bool) (plan : Content) (tape : TapeName) (a : Actor) (seat : SeatView Item) (first slot : Slot D) (commands : List Step) (gone : ℕ) (joinings : List Joining) (used : ℕ) (held : Hold) : Type 0 where
-  pub kind : is_node a ≡ false
-  pub desk : IsDesk port strict_run plan tape held a seat first commands gone
-  pub up : is_down a (newest seat) ≡ false
-  pub joined : CanAllJoin plan (newest seat) a (drop gone commands) joinings
-  pub weights : List ℕ
-  pub long : length weights ≡ length joinings
-  pub staged : HasStaged port plan a first slot joinings weights
-  pub used_is : sum weights ≡ used
-  pub within : used ≤ held.weight
-  pub few : length joinings ≤ held.items
-
--- One message more can join, if it weighs no more than is left: it is none of them, and they are fewer than the desk holds items.
-pub record CanGather {D : Type 0} (port : Ghosts D) (strict_run : Bool) (plan : Content) (tape : TapeName) (a : Actor) (seat : SeatView Item) (first slot : Slot D) (commands : List Step) (gone : ℕ) (joinings : List Joining) (used : ℕ) (held : Hold) (j : Joining) : Type 0 where
-  pub gathering : IsGathering port strict_run plan tape a seat first slot commands gone joinings used held
-  pub can : CanJoin plan (newest seat) a (drop gone commands) j
-  pub another : AllByRecursion (λ (other : Event). other ≢ j.event) (events_of joinings)
-  pub few : length joinings < 16
-  pub more : length joinings < held.items
-
--- a message joins by being taken
-abbrev pub joining : ℕ → Message → Joining
-joining number message = record { event = MessageEvent number; act = Takes message }
-
--- one that was found
-abbrev pub joining_of : Post × Message → Joining
-joining_of found = joining found.0.number found.1
 
 -- What a desk gathered: the slot in which its actor stood before, the messages that joined, what is entered for them weighs, and what is
 -- reserved for it.
@@ -128,27 +98,57 @@ pub record Gathered (D : Type 0) : Type 0 where
 abbrev pub gathered : {D : Type 0} → Slot D → List Joining → ℕ → Hold → Gathered D
 gathered first joinings used held = record { first = first; joinings = joinings; used = used; held = held }
 
+-- The desk of an actor that stood in the first slot, with these messages staged. What is entered for them weighs so much, which is within what
+-- the desk holds.
+pub record IsGathering {D : Type 0} (port : Ghosts D) (run : DeskRun) (at : DeskState D) (g : Gathered D) : Type 0 where
+  pub kind : is_node at.actor ≡ false
+  pub desk : IsDesk port run g.held (desk_with at.actor at.seat g.first at.commands at.gone)
+  pub up : is_down at.actor (newest at.seat) ≡ false
+  pub joined : CanAllJoin run.plan (newest at.seat) at.actor (drop at.gone at.commands) g.joinings
+  pub weights : List ℕ
+  pub long : length weights ≡ length g.joinings
+  pub staged : HasStaged port run.plan at.actor g.first at.slot g.joinings weights
+  pub used_is : sum weights ≡ g.used
+  pub within : g.used ≤ g.held.weight
+  pub few : length g.joinings ≤ g.held.items
+
+-- One message more can join, if it weighs no more than is left: it is none of them, and they are fewer than the desk holds items.
+pub record CanGather {D : Type 0} (port : Ghosts D) (run : DeskRun) (at : DeskState D) (g : Gathered D) (j : Joining) : Type 0 where
+  pub gathering : IsGathering port run at g
+  pub can : CanJoin run.plan (newest at.seat) at.actor (drop at.gone at.commands) j
+  pub another : AllByRecursion (λ (other : Event). other ≢ j.event) (events_of g.joinings)
+  pub few : length g.joinings < 16
+  pub more : length g.joinings < g.held.items
+
+-- a message joins by being taken
+abbrev pub joining : ℕ → Message → Joining
+joining number message = record { event = MessageEvent number; act = Takes message }
+
+-- one that was found
+abbrev pub joining_of : Post × Message → Joining
+joining_of found = joining found.0.number found.1
+
 abbrev pub Gathers : {D J : Type 0} → Ghosts D → Bool → Content → TapeName → Desk D J → Gathered D → Type 0
 Gathers port strict_run plan tape desk g =
-    IsGathering port strict_run plan tape desk.actor desk.seat g.first desk.slot desk.commands desk.gone g.joinings g.used g.held
+    IsGathering port (run_with strict_run plan tape) (state_of desk) g
 
 -- and one message more can join
 abbrev pub GathersMore : {D J : Type 0} → Ghosts D → Bool → Content → TapeName → Desk D J → Gathered D → Joining → Type 0
 GathersMore port strict_run plan tape desk g j =
-    CanGather port strict_run plan tape desk.actor desk.seat g.first desk.slot desk.commands desk.gone g.joinings g.used g.held j
+    CanGather port (run_with strict_run plan tape) (state_of desk) g j
 
 -- The disk failed when what was staged was settled: the desk of the actor, which stood in the first slot before and is down now.
-pub record IsStopping {D : Type 0} (port : Ghosts D) (strict_run : Bool) (plan : Content) (tape : TapeName) (a : Actor) (seat : SeatView Item) (first slot : Slot D) (commands : List Step) (gone : ℕ) (joinings : List Joining) (held : Hold) : Type 0 where
-  pub desk : IsDesk port strict_run plan tape held a seat first commands gone
-  pub up : is_down a (newest seat) ≡ false
-  pub joined : CanAllJoin plan (newest seat) a (drop gone commands) joinings
-  pub settles : Settles port plan a first joinings slot None
-  pub strictly : SettlesStrictly port plan a first joinings slot None
+pub record IsStopping {D : Type 0} (port : Ghosts D) (run : DeskRun) (at : DeskState D) (first : Slot D) (joinings : List Joining) (held : Hold) : Type 0 where
+  pub desk : IsDesk port run held (desk_with at.actor at.seat first at.commands at.gone)
+  pub up : is_down at.actor (newest at.seat) ≡ false
+  pub joined : CanAllJoin run.plan (newest at.seat) at.actor (drop at.gone at.commands) joinings
+  pub settles : Settles port run.plan at.actor first joinings at.slot None
+  pub strictly : SettlesStrictly port run.plan at.actor first joinings at.slot None
   pub some : 0 < held.items
 
 -- ---- what is entered
 
--- a message that a store may take behind the items, whatever commands are left
+-- a message that a store may take after the items, whatever commands are left
 pub record MayJoin (plan : Content) (items : List Item) (a : Actor) (left : List Step) (event : Event) : Type 0 where
   pub act : Act
   pub may : MayStep plan items a event act left left
@@ -158,34 +158,44 @@ pub record AreJoined (plan : Content) (items : List Item) (a : Actor) (left : Li
   pub each : AllByRecursion (MayJoin plan items a left) events
   pub different : AreDifferent events
 
--- The actor settled the messages of the events, of which these are still to be entered. Its slot stands behind all of them, as they come
--- behind what it had done, which others' items don't change.
-pub record IsEntering {D : Type 0} (port : Ghosts D) (strict_run : Bool) (plan : Content) (a : Actor) (items : List Item) (slot : Slot D) (left : List Step) (events : List Event) (unsent : List Unsent) (weights : List ℕ) : Type 0 where
+-- what an actor settled and has still to enter, with the weights of its items, and the commands that are left
+pub record ToEnter : Type 0 where
+  pub left : List Step
+  pub events : List Event
+  pub unsent : List Unsent
+  pub weights : List ℕ
+
+abbrev pub to_enter : List Step → List Event → List Unsent → List ℕ → ToEnter
+to_enter left events unsent weights = record { left = left; events = events; unsent = unsent; weights = weights }
+
+-- The actor settled the messages of the events, of which these are still to be entered. Its slot stands after all of them, as they come
+-- after what it had done, which others' items don't change.
+pub record IsEntering {D : Type 0} (port : Ghosts D) (strict_run : Bool) (plan : Content) (a : Actor) (items : List Item) (slot : Slot D) (due : ToEnter) : Type 0 where
   pub stopped : List Stopped
   pub before : List Item
   pub untouched : IsUntouched (cluster_of plan) before items a
   pub none : stopped_at a stopped ≡ []
-  pub stands : SlotStands port plan (entered_all (cluster_of plan) (alone before stopped) a events false) a slot
-  pub steps : AreSteps (cluster_of plan) (alone before stopped) a events false unsent
-  pub weighed : AreWeighed (cluster_of plan) (alone before stopped) a events weights
-  pub could : AllByRecursion (λ (event : Event). (act : Act) × MayTake (cluster_of plan) before a event act × MayTake (cluster_of plan) items a event act) events
-  pub joined : AreJoined plan items a left events
+  pub stands : SlotStands port plan (entered_all (cluster_of plan) (alone before stopped) a due.events false) a slot
+  pub steps : AreSteps (cluster_of plan) (alone before stopped) a due.events false due.unsent
+  pub weighed : AreWeighed (cluster_of plan) (alone before stopped) a due.events due.weights
+  pub could : AllByRecursion (λ (event : Event). (act : Act) × MayTake (cluster_of plan) before a event act × MayTake (cluster_of plan) items a event act) due.events
+  pub joined : AreJoined plan items a due.left due.events
   pub serving : IsServing plan (alone items stopped)
   pub stops : AreStopsOf a stopped
-  pub gone : HasGone plan (alone items stopped) a left
-  pub stayed : strict_run ≡ true → IsStrictSlot port plan (entered_all (cluster_of plan) (alone before stopped) a events false) fresh_disks a slot × (stopped ≡ []) × (downs_in a items ≡ 0)
+  pub gone : HasGone plan (alone items stopped) a due.left
+  pub stayed : strict_run ≡ true → IsStrictSlot port plan (entered_all (cluster_of plan) (alone before stopped) a due.events false) fresh_disks a slot × (stopped ≡ []) × (downs_in a items ≡ 0)
 
 -- the item of what is unsent
 abbrev pub item_of_unsent : Actor → Unsent → Item
 item_of_unsent a one = item_of a one.event (Some one.emitted)
 
 -- the desk of such an actor, which holds enough for what is still to be entered, sixteen items at most
-pub record IsEnteringDesk {D : Type 0} (port : Ghosts D) (strict_run : Bool) (plan : Content) (tape : TapeName) (held : Hold) (a : Actor) (seat : SeatView Item) (slot : Slot D) (commands : List Step) (gone : ℕ) (events : List Event) (unsent : List Unsent) : Type 0 where
-  pub known : Contains (actors plan.topology) a
-  pub all : commands ≡ commands_of plan a
-  pub seated : IsSeated tape a held seat
+pub record IsEnteringDesk {D : Type 0} (port : Ghosts D) (run : DeskRun) (held : Hold) (desk : DeskState D) (events : List Event) (unsent : List Unsent) : Type 0 where
+  pub known : Contains (actors run.plan.topology) desk.actor
+  pub all : desk.commands ≡ commands_of run.plan desk.actor
+  pub seated : IsSeated run.tape desk.actor held desk.seat
   pub weights : List ℕ
-  pub entering : IsEntering port strict_run plan a (newest seat) slot (drop gone commands) events unsent weights
+  pub entering : IsEntering port run.strict_run run.plan desk.actor (newest desk.seat) desk.slot (to_enter (drop desk.gone desk.commands) events unsent weights)
   pub light : sum weights ≤ held.weight
   pub few : length unsent ≤ held.items
   pub most : length unsent ≤ 16

@@ -1,5 +1,6 @@
 pub mod Asks
 pub mod Choices
+pub mod Commands
 pub mod Desks
 pub mod Fits
 pub mod Groups

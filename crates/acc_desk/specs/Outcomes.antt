@@ -13,7 +13,8 @@ use Rattle.acc_txn.specs.declared.parts.BodyParts.{BodyParts}
 use Rattle.acc_pasts.specs.Entries.{entering}
 use Rattle.acc_schedule_runs.specs.Schedules.{cluster_of}
 use Rattle.acc_tape.specs.Seats.{TapeName, SeatView}
-use Rattle.acc_desk.specs.Desks.{newest, MayStep, begins_it}
+use Rattle.acc_desk.specs.Commands.{begins_it}
+use Rattle.acc_desk.specs.Desks.{newest, MayStep}
 use Rattle.acc_desk.specs.declared.desk.Desk.{Desk}
 use Rattle.acc_desk.specs.declared.turning.Turned.{Turned}
 use Rattle.acc_desk.specs.declared.turning.Turned.TheVariants.{Taken, Idle, Full}
@@ -28,14 +29,14 @@ HasNoRoom plan tape a left seat =
 
 -- What a turn came to, of the items that the actor had entered and its commands that had gone by. Taken: it entered an item or more.
 -- Idle: it entered none, and no command went by. Full: it entered none and no command went by, as the tape has no room.
-abbrev pub CameTo : Content → TapeName → Actor → List Step → Turned → List Item → ℕ → SeatView Item → ℕ → Type 0
-CameTo plan tape a commands Taken mine gone seat later = length mine < length seat.mine
-CameTo plan tape a commands Idle mine gone seat later = (seat.mine ≡ mine) × (later ≡ gone)
-CameTo plan tape a commands Full mine gone seat later = (seat.mine ≡ mine) × (later ≡ gone) × HasNoRoom plan tape a (drop gone commands) seat
+abbrev pub CameTo : Content → TapeName → Actor × List Step → Turned → List Item × ℕ → SeatView Item → ℕ → Type 0
+CameTo plan tape name Taken had seat later = length had.0 < length seat.mine
+CameTo plan tape name Idle had seat later = (seat.mine ≡ had.0) × (later ≡ had.1)
+CameTo plan tape name Full had seat later = (seat.mine ≡ had.0) × (later ≡ had.1) × HasNoRoom plan tape name.0 (drop had.1 name.1) seat
 
 -- what a turn of a desk came to
 abbrev pub HasTurned : {D J : Type 0} → Content → TapeName → Turned → Desk D J → Desk D J → Type 0
-HasTurned plan tape turned old new = CameTo plan tape old.actor old.commands turned old.seat.mine old.gone new.seat new.gone
+HasTurned plan tape turned old new = CameTo plan tape (old.actor, old.commands) turned (old.seat.mine, old.gone) new.seat new.gone
 
 -- It is a restart, or it begins a transaction that has a node and a body and that none of the commands before begins: an actor that is up
 -- takes it as its next, whatever stands on the tape.

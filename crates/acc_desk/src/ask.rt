@@ -1,13 +1,6 @@
 //! What an actor in its slot is asked for, and what it would send.
-ghost use Rattle.std.specs.Prelude.{◌≡◌, IfOk, false, is_none};
-ghost use Rattle.acc_stamp.specs.declared.actors.Actor.{Actor as AnActor};
-ghost use Rattle.acc_message_code.specs.Weight.{weight_of};
-ghost use Rattle.acc_schedule_runs.specs.Situations.{Situation};
-ghost use Rattle.acc_schedule_runs.specs.Moves.{entry_of};
-ghost use Rattle.acc_schedule_runs.specs.Schedules.{cluster_of};
-ghost use Rattle.acc_schedule_runs.specs.Disks.{Disks};
-ghost use Rattle.acc_actors.specs.Slots.{IsStrictSlot};
-ghost use Rattle.acc_actors.specs.Asked.{IsAsked, MayAsk, HasTried, HasTriedStrictly};
+ghost use Rattle.std.specs.Prelude.{◌≡◌, IfOk};
+ghost use Rattle.acc_actors.specs.Asked.{step_by, MayAsk, Weighs, HasAnswered};
 ghost use Rattle.acc_desk.specs.Asks.{event_of, act_of_ask};
 
 use acc_actors::Slot;
@@ -53,9 +46,8 @@ pub(crate) fn weigh<D: Rig>(
     actor: Actor,
     ask: Ask,
 ) -> Result<u64, OutOfMemory>
-    requires { MayAsk D.Disk plan.now actor (event_of ask) (act_of_ask ask) slot.now }
-    ensures { IfOk result (λ weight. (s : Situation) → IsAsked D.Disk plan.now s actor (event_of ask.entry) (act_of_ask ask.entry) slot.now
-        → weight ≡ weight_of (entry_of (cluster_of plan.now) s actor (event_of ask.entry) false)) }
+    requires { MayAsk D.Disk plan.now (step_by actor (event_of ask) (act_of_ask ask)) slot.now }
+    ensures { IfOk result (Weighs D.Disk plan.now (step_by actor (event_of ask.entry) (act_of_ask ask.entry)) slot.now) }
 {
     match ask {
         Ask::Begin { txn, body } => slot.weigh_begin(plan, actor, txn, body),
@@ -71,12 +63,8 @@ pub(crate) fn step<D: Rig>(
     actor: Actor,
     ask: Ask,
 ) -> Result<Option<Emitted>, OutOfMemory>
-    requires { MayAsk D.Disk plan.now actor (event_of ask) (act_of_ask ask) slot.old }
-    ensures ok { IfOk result (λ given. (s : Situation) → IsAsked D.Disk plan.now s actor (event_of ask.entry) (act_of_ask ask.entry) slot.old
-        → HasTried D.Disk plan.now s actor (event_of ask.entry) slot.new given) }
-    ensures strict { IfOk result (λ given. (s : Situation) (disks : Disks) → IsAsked D.Disk plan.now s actor (event_of ask.entry) (act_of_ask ask.entry) slot.old
-        → IsStrictSlot D.Disk plan.now s disks actor slot.old
-        → HasTriedStrictly D.Disk plan.now s disks actor (event_of ask.entry) slot.new given) }
+    requires { MayAsk D.Disk plan.now (step_by actor (event_of ask) (act_of_ask ask)) slot.old }
+    ensures { HasAnswered D.Disk plan.now (step_by actor (event_of ask.entry) (act_of_ask ask.entry)) slot.old slot.new result }
 {
     match ask {
         Ask::Begin { txn, body } => slot.begin(plan, actor, txn, body),

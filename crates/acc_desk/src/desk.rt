@@ -9,6 +9,7 @@ ghost use Rattle.acc_free_laws.specs.FreeRun.{alone};
 ghost use Rattle.acc_free_laws.specs.Serving.{IsServing};
 ghost use Rattle.acc_desk.specs.Desks.{IsSoundDesk};
 
+use crate::commands::Commands;
 use crate::rules::{PlanRules, PlanTape, Planned};
 use acc_actors::Slot;
 use acc_base::Sequence;
@@ -31,7 +32,7 @@ pub struct Desk<D: Rig, J: Planned> {
     pub(crate) actor: Actor,
     pub(crate) seat: Seat<Item, PlanRules<J>>,
     pub(crate) slot: Slot<D>,
-    pub(crate) commands: Steps,
+    pub(crate) commands: Commands,
     /// How many commands went by.
     pub(crate) gone: usize,
     /// So many items, of those that the seat has seen, don't begin the transaction that the next command recovers.
@@ -90,7 +91,7 @@ impl<D: Rig + Drop, J: Planned> Desk<D, J> {
             actor,
             seat,
             slot,
-            commands,
+            commands: Commands::new(commands),
             gone: 0,
             looked: 0,
             taken: 0,
@@ -126,7 +127,7 @@ impl<D: Rig + Drop, J: Planned> Desk<D, J> {
             actor,
             seat,
             slot,
-            commands,
+            commands: commands.into_steps(),
             gone,
         }
     }

@@ -8,7 +8,7 @@ ghost use Rattle.acc_tape.specs.ItemViews.{actor_of_item};
 ghost use Rattle.acc_tape.specs.Seats.{Turns};
 ghost use Rattle.acc_desk.specs.Fits.{fits_plan};
 ghost use Rattle.acc_desk.specs.Choices.{HasEntered};
-ghost use Rattle.acc_desk.specs.Desks.{no_hold, IsSeated, IsSoundDesk, IsSoundOrMarked, IsDesk};
+ghost use Rattle.acc_desk.specs.Desks.{run_with, no_hold, IsSeated, IsSoundDesk, IsSoundOrMarked, IsDesk, state_of};
 ghost use Rattle.acc_desk.specs.Groups.{Joining, events_of, gathered, Gathers, IsStopping, IsEnteringDesk, item_of_unsent};
 
 use crate::desk::Desk;
@@ -78,12 +78,12 @@ impl<D: Rig + Drop, J: Planned> Desk<D, J> {
         requires plan { plan.now ≡ J.plan }
         requires limits { tape.now.limits.items ≤ most_items }
         requires group { (events : List AnEvent)
-            × IsEnteringDesk D.Disk J.strict plan.now tape.now hold self.old.actor self.old.seat self.old.slot self.old.commands self.old.gone events unsent }
+            × IsEnteringDesk D.Disk (run_with J.strict plan.now tape.now) hold (state_of self.old) events unsent }
         requires room { (items.items ≡ []) × (16 ≤ vec_capacity items) }
         ensures same { (self.new.actor ≡ self.old.actor) × (self.new.commands ≡ self.old.commands) × (self.new.gone ≡ self.old.gone) }
         ensures sound { IsSoundDesk D.Disk J.strict plan.now tape.now self.new }
         ensures longer { unsent ≢ [] → length self.old.seat.mine < length self.new.seat.mine }
-        ensures entered { (events : List AnEvent) → IsEnteringDesk D.Disk J.strict plan.now tape.now hold self.old.actor self.old.seat self.old.slot self.old.commands self.old.gone events unsent
+        ensures entered { (events : List AnEvent) → IsEnteringDesk D.Disk (run_with J.strict plan.now tape.now) hold (state_of self.old) events unsent
             → HasEntered self.old.actor events self.old.seat self.new.seat }
     {
         let _plan = plan;
@@ -113,7 +113,7 @@ impl<D: Rig + Drop, J: Planned> Desk<D, J> {
         requires plan { plan.now ≡ J.plan }
         requires limits { tape.now.limits.items ≤ most_items }
         requires group { (first : ASlot D) × (joinings : List Joining)
-            × IsStopping D.Disk J.strict plan.now tape.now self.old.actor self.old.seat first self.old.slot self.old.commands self.old.gone joinings hold }
+            × IsStopping D.Disk (run_with J.strict plan.now tape.now) (state_of self.old) first joinings hold }
         ensures same { (self.new.actor ≡ self.old.actor) × (self.new.commands ≡ self.old.commands) × (self.new.gone ≡ self.old.gone) }
         ensures sound { IsSoundDesk D.Disk J.strict plan.now tape.now self.new }
         ensures longer { length self.old.seat.mine < length self.new.seat.mine }
@@ -134,7 +134,7 @@ impl<D: Rig + Drop, J: Planned> Desk<D, J> {
         ensures still { hold ≡ no_hold → self.new.seat ≡ self.old.seat }
         ensures seated { IsSeated tape.now self.new.actor no_hold self.new.seat }
         ensures on { hold ≡ no_hold ⊎ Turns actor_of_item weight_of (fits_plan J.plan) self.old.seat self.new.seat }
-        ensures sound { IsDesk D.Disk J.strict plan.now tape.now hold self.old.actor self.old.seat self.old.slot self.old.commands self.old.gone
+        ensures sound { IsDesk D.Disk (run_with J.strict plan.now tape.now) hold (state_of self.old)
             → IsSoundDesk D.Disk J.strict plan.now tape.now self.new }
     {
         let _plan = plan;

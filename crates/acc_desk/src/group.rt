@@ -234,7 +234,7 @@ impl<D: Rig + Drop, J: Planned> Desk<D, J> {
         Ok(Some((weight, hold)))
     }
 
-    // Stages the messages behind the first one that were found, as long as what the store sends for them fits into what is reserved.
+    // Stages the messages after the first one that were found, as long as what the store sends for them fits into what is reserved.
     fn join_others(
         &mut self,
         plan: &Plan,
@@ -271,7 +271,7 @@ impl<D: Rig + Drop, J: Planned> Desk<D, J> {
         (found.len(), Ended::Dry)
     }
 
-    // Stages a message behind those that are staged, where what the store sends for it fits into what is reserved. Answers how much all
+    // Stages a message after those that are staged, where what the store sends for it fits into what is reserved. Answers how much all
     // weighs then, or `None` where it doesn't fit.
     fn join_next(
         &mut self,

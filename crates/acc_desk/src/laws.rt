@@ -15,7 +15,7 @@ ghost use Rattle.acc_tape.specs.Lists.{items_of};
 ghost use Rattle.acc_tape.specs.ItemViews.{actor_of_item};
 ghost use Rattle.acc_tape.specs.Seats.{TapeName, SeatView};
 ghost use Rattle.acc_desk.specs.declared.desk.Desk.{Desk as ADesk};
-ghost use Rattle.acc_desk.specs.Desks.{no_hold, IsAt, IsSeated, IsSound, AreSound};
+ghost use Rattle.acc_desk.specs.Desks.{desk_with, run_with, no_hold, IsAt, IsSeated, IsSound, AreSound};
 ghost use Rattle.acc_desk.specs.Fits.{fits_plan};
 ghost use Rattle.acc_desk.specs.Threads.{seat_of, AreEnteredBy};
 
@@ -25,7 +25,7 @@ use acc_ports::Rig;
 /// Once the tape is closed, the actor of a sound desk stands for the whole list.
 pub fn desks_stand_at_the_end<D: Rig>()
     ensures { (strict_run : Bool) (plan : Content) (tape : TapeName) (a : Actor) (seat : SeatView Item) (slot : Slot D) (commands : List Step) (gone : ℕ) →
-        tape.limits.items ≤ most_items → IsSound D.Disk strict_run plan tape a seat slot commands gone → (items : List Item) →
+        tape.limits.items ≤ most_items → IsSound D.Disk (run_with strict_run plan tape) (desk_with a seat slot commands gone) → (items : List Item) →
         IsPrefix seat.seen items → items_of actor_of_item seat.actor items ≡ seat.mine → fits_plan plan items →
         IsAt D.Disk strict_run plan a (reverse items) slot (drop gone commands) }
 {}

@@ -6,6 +6,7 @@
 
 mod ask;
 mod bell;
+mod commands;
 mod desk;
 mod entering;
 mod floor;

@@ -3,7 +3,7 @@ ghost use Rattle.std.specs.Prelude.{◌≡◌, ◌+◌, ◌≤◌, take, Ok, IfO
 ghost use mathlib.Core.List.{IsPrefix};
 ghost use Rattle.std.specs.Option.{option_copied};
 ghost use Rattle.acc_stamp.specs.declared.actors.Actor.{Actor as AnActor};
-ghost use Rattle.std.specs.List.{slice_get, list_any};
+ghost use Rattle.std.specs.List.{slice_get};
 ghost use Rattle.acc_message.specs.Run.{is_node, is_down};
 ghost use Rattle.acc_schedule.specs.Content.{Content};
 ghost use Rattle.acc_schedule.specs.declared.plan.Step.{Step as AStep};
@@ -12,7 +12,7 @@ ghost use Rattle.acc_schedule_runs.specs.Limits.{most_items};
 ghost use Rattle.acc_actors.specs.Slots.{SlotStands};
 ghost use Rattle.acc_tape.specs.Seats.{TapeName};
 ghost use Rattle.acc_desk.specs.Choices.{TakesCommand, TakesMessages, NoneAtOnce, HasTaken};
-ghost use Rattle.acc_desk.specs.Desks.{newest, IsSoundDesk, IsSoundOrMarked, begins_it};
+ghost use Rattle.acc_desk.specs.Desks.{newest, IsSoundDesk, IsSoundOrMarked};
 ghost use Rattle.acc_desk.specs.Outcomes.{HasTurned, IsTakenAtOnce};
 ghost use Rattle.acc_desk.specs.declared.turning.Turned.{Turned as Answer};
 
@@ -44,28 +44,6 @@ fn command_at(commands: &[Step], place: usize) -> Option<Step>
     ensures { result ≡ slice_get commands.now place }
 {
     commands.get(place).copied()
-}
-
-// Whether some of the commands begins the transaction.
-fn has_begun(commands: &[Step], txn: u32) -> bool
-    ensures { result ≡ list_any (begins_it txn) commands.now }
-{
-    for command in commands {
-        if begins_txn(*command, txn) {
-            return true;
-        }
-    }
-    false
-}
-
-// Whether the command begins the transaction.
-fn begins_txn(command: Step, txn: u32) -> bool
-    ensures { result ≡ begins_it txn command }
-{
-    match command {
-        Step::Begin { txn: begun } => begun == txn,
-        _ => false,
-    }
 }
 
 // The node of a transaction.
@@ -213,7 +191,7 @@ impl<D: Rig + Drop, J: Planned> Desk<D, J> {
         let Some(body) = body_of(plan, txn) else {
             return Ok(Turned::Idle);
         };
-        if has_begun(&self.commands.as_slice()[..self.gone], txn) {
+        if self.commands.is_begun_before(self.gone, txn) {
             return Ok(Turned::Idle);
         }
         let _home = home;

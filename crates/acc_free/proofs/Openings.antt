@@ -15,7 +15,7 @@ use Rattle.acc_safety.proofs.PlaceOrder.{Contains-IsIn, IsIn-map, each_at}
 use Rattle.acc_schedule.specs.Content.{Content}
 use Rattle.acc_tape.specs.Seats.{TapeName, SeatView}
 use Rattle.acc_desk.specs.declared.desk.Desk.{Desk}
-use Rattle.acc_desk.specs.Desks.{IsSound}
+use Rattle.acc_desk.specs.Desks.{run_with, IsSound, state_of}
 use Rattle.acc_free.specs.Opened.{desk_actor, number_of, rank_of, AreBefore, AreOpened}
 
 -- ---- ranks
@@ -87,10 +87,10 @@ not_made names made a is before there =
 
 module _ {D J : Type 0} (port : Ghosts D) (strict_run : Bool) (plan : Content) (tape : TapeName) where
   abbrev Opened : List Actor → ℕ → SeatView Item → List (Desk D J) → Type 0
-  Opened names rank first desks = AreOpened port strict_run plan tape names rank first desks
+  Opened names rank first desks = AreOpened port (run_with strict_run plan tape) names rank first desks
 
   abbrev Sound : Desk D J → Type 0
-  Sound desk = IsSound port strict_run plan tape desk.actor desk.seat desk.slot desk.commands desk.gone
+  Sound desk = IsSound port (run_with strict_run plan tape) (state_of desk)
 
   pub none_opened : (first : SeatView Item) (desks : List (Desk D J)) → first.tape ≡ tape → first.actor ≡ 0 → first.made ≡ [] → desks ≡ [] → Opened [] 0 first desks
   none_opened first desks tape_is actor_is made none = record {

@@ -24,7 +24,7 @@ use Rattle.acc_tape.specs.Lists.{items_of}
 use Rattle.acc_tape.specs.Seats.{TapeName, SeatView}
 use Rattle.acc_desk.specs.declared.desk.Desk.{Desk}
 use Rattle.acc_desk.specs.declared.hold.Hold.{Hold}
-use Rattle.acc_desk.specs.Desks.{IsAt, IsSeated, IsSound, AreSound, name_of, no_hold}
+use Rattle.acc_desk.specs.Desks.{desk_with, run_with, IsAt, IsSeated, IsSound, AreSound, name_of, no_hold, state_of}
 use Rattle.acc_desk.specs.Fits.{fits_plan}
 use Rattle.acc_free_ending.specs.declared.rest.Rest.{Rest}
 use Rattle.acc_free_ending.specs.Finish.{HaveRested}
@@ -44,13 +44,13 @@ HasComeTo made items seat = IsPrefix seat.seen items × (items_of actor_of_item 
 abbrev pub EndLaw : {D : Type 0} → Ghosts D → Type 0
 EndLaw {D} port =
     (strict_run : Bool) (plan : Content) (tape : TapeName) (a : Actor) (seat : SeatView Item) (slot : Slot D) (commands : List Step) (gone : ℕ) → tape.limits.items ≤ most_items
-    → IsSound port strict_run plan tape a seat slot commands gone → (items : List Item) → IsPrefix seat.seen items
+    → IsSound port (run_with strict_run plan tape) (desk_with a seat slot commands gone) → (items : List Item) → IsPrefix seat.seen items
     → items_of actor_of_item seat.actor items ≡ seat.mine → fits_plan plan items
     → IsAt port strict_run plan a (reverse items) slot (drop gone commands)
 
 module _ {D J : Type 0} (port : Ghosts D) (strict_run : Bool) (plan : Content) (tape : TapeName) where
   abbrev Sound : Desk D J → Type 0
-  Sound desk = IsSound port strict_run plan tape desk.actor desk.seat desk.slot desk.commands desk.gone
+  Sound desk = IsSound port (run_with strict_run plan tape) (state_of desk)
 
   -- as the closing of the tape asks
   pub seats_ready : (desks : List (Desk D J)) (seats : List (SeatView Item)) → seats ≡ map seat_in desks → All Sound desks
@@ -106,7 +106,7 @@ module _ {D J : Type 0} (plan : Content) where
   -- the desks that were opened have all actors
   pub are_all : (port : Ghosts D) (strict_run : Bool) (tape : TapeName)
       (rank : ℕ) (first : SeatView Item) (desks : List (Desk D J))
-      → AreOpened port strict_run plan tape (actors plan.topology) rank first desks → AreAllActors plan (map desk_actor desks)
+      → AreOpened port (run_with strict_run plan tape) (actors plan.topology) rank first desks → AreAllActors plan (map desk_actor desks)
   are_all port strict_run tape rank first desks h =
       subst (AreAllActors plan) (sym h.named)
       (record {
@@ -138,7 +138,7 @@ module _ {D J : Type 0} (plan : Content) where
       (desks dealt : List (Desk D J)) → IsPermutation desks dealt → AreSound port strict_run plan tape desks
       → AreSound port strict_run plan tape dealt
   sound_dealt port strict_run tape desks dealt moved all =
-      All-permutation (λ (desk : Desk D J). IsSound port strict_run plan tape desk.actor desk.seat desk.slot desk.commands desk.gone) desks dealt moved all
+      All-permutation (λ (desk : Desk D J). IsSound port (run_with strict_run plan tape) (state_of desk)) desks dealt moved all
 
   -- as many as seats were made
   pub as_many : (made : List ℕ) (names : List Actor) (desks dealt served : List (Desk D J)) → made ≡ map number_of names → map desk_actor desks ≡ names → IsPermutation desks dealt
@@ -166,7 +166,7 @@ pub record IsClosed (plan : Content) (made : List ℕ) (seats : List (SeatView I
 module _ {D J : Type 0} (port : Ghosts D) (strict_run : Bool) (plan : Content) (tape : TapeName) where
   pub closes : IsPlan plan → TogetherLaw → EachLaw → UpLaw → WithinLaw → EndLaw port
       → tape.limits.items ≤ most_items → tape.limits.weight ≤ most_bytes → (desks : List (Desk D J)) → AreAllActors plan (map desk_actor desks)
-      → All (λ (desk : Desk D J). IsSound port strict_run plan tape desk.actor desk.seat desk.slot desk.commands desk.gone) desks
+      → All (λ (desk : Desk D J). IsSound port (run_with strict_run plan tape) (state_of desk)) desks
       → (made : List ℕ) (seats : List (SeatView Item)) (items entered : List Item) (rests : List (Rest D)) → seats ≡ map seat_in desks → rests ≡ map rest_in desks → entered ≡ items
       → IsClosed plan made seats items → HaveRested port strict_run plan rests entered
   closes valid together each nobody bounds ends few light desks are all made seats items entered rests seats_are rests_are same closed =

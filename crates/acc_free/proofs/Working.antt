@@ -10,7 +10,7 @@ use Rattle.acc_schedule.specs.Content.{Content}
 use Rattle.acc_tape.specs.Seats.{TapeName}
 use Rattle.acc_desk.specs.declared.desk.Desk.{Desk}
 use Rattle.acc_desk.specs.declared.serving.Served.{Served}
-use Rattle.acc_desk.specs.Desks.{IsSound, AreSound, name_of}
+use Rattle.acc_desk.specs.Desks.{run_with, IsSound, AreSound, name_of, state_of}
 use Rattle.acc_free.specs.Dealing.{all_in}
 use Rattle.acc_free.specs.Workers.{KeepsSound}
 use Rattle.acc_free.proofs.Hands.{all_in_more}
@@ -60,7 +60,7 @@ both_ok (Err e) served Q P R joined ok p f = tt
 
 module _ {D J : Type 0} (port : Ghosts D) (strict_run : Bool) (plan : Content) (tape : TapeName) where
   abbrev pub Sound : Desk D J → Type 0
-  Sound desk = IsSound port strict_run plan tape desk.actor desk.seat desk.slot desk.commands desk.gone
+  Sound desk = IsSound port (run_with strict_run plan tape) (state_of desk)
 
   abbrev AllSound : List (Desk D J) → Type 0
   AllSound desks = AreSound port strict_run plan tape desks

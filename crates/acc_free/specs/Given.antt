@@ -15,7 +15,7 @@ pub record GivesBackFreely {D : Type 0} (port : Ghosts D) (plan : Content) (item
   pub items_are : items ≡ last.own
   pub back : GivesBack port plan last before after
 
--- Behind a limit each keeps its actor in a situation that free steps came to, which has these items or is a move ahead of them, that the
+-- After a limit each keeps its actor in a situation that free steps came to, which has these items or is a move ahead of them, that the
 -- limit keeps out.
 pub record GivesBackAtLimit {D : Type 0} (port : Ghosts D) (plan : Content) (items : List Item) (before after : List (ℕ × D)) : Type 0 where
   pub reached : Situation

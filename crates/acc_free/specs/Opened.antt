@@ -1,15 +1,14 @@
 -- The desks of a plan's actors, as they are made one after another.
-use Rattle.std.specs.Prelude.{◌≡◌, ℕ, ◌+◌, ◌*◌, ◌<◌, Bool, List, map}
+use Rattle.std.specs.Prelude.{◌≡◌, ℕ, ◌+◌, ◌*◌, ◌<◌, List, map}
 use Rattle.std.specs.List.{AllByRecursion, IsDistinct}
 use Rattle.acc_stamp.specs.declared.actors.Actor.{Actor}
 use Rattle.acc_stamp.specs.Actor.{node_of, shard_of}
 use Rattle.acc_ports.specs.declared.disk.Disk.{Ghosts}
 use Rattle.acc_message.specs.declared.item.Item.{Item}
 use Rattle.acc_message.specs.Items.{same_actor}
-use Rattle.acc_schedule.specs.Content.{Content}
-use Rattle.acc_tape.specs.Seats.{TapeName, SeatView}
+use Rattle.acc_tape.specs.Seats.{SeatView}
 use Rattle.acc_desk.specs.declared.desk.Desk.{Desk}
-use Rattle.acc_desk.specs.Desks.{AreSound}
+use Rattle.acc_desk.specs.Desks.{AreSound, DeskRun}
 
 abbrev pub desk_actor : {D J : Type 0} → Desk D J → Actor
 desk_actor desk = desk.actor
@@ -28,10 +27,10 @@ pub record AreBefore (rank : ℕ) (names : List Actor) : Type 0 where
 
 -- The desks are those of these actors, which come before this rank. Each is sound, and has a seat for which the first one was split, as it
 -- was for no other.
-pub record AreOpened {D J : Type 0} (port : Ghosts D) (strict_run : Bool) (plan : Content) (tape : TapeName) (names : List Actor) (rank : ℕ) (first : SeatView Item) (desks : List (Desk D J)) : Type 0 where
+pub record AreOpened {D J : Type 0} (port : Ghosts D) (run : DeskRun) (names : List Actor) (rank : ℕ) (first : SeatView Item) (desks : List (Desk D J)) : Type 0 where
   pub named : map desk_actor desks ≡ names
-  pub sound : AreSound port strict_run plan tape desks
-  pub tape_is : first.tape ≡ tape
+  pub sound : AreSound port run.strict_run run.plan run.tape desks
+  pub tape_is : first.tape ≡ run.tape
   pub actor_is : first.actor ≡ 0
   pub made : first.made ≡ map number_of names
   pub before : AreBefore rank names

@@ -10,6 +10,7 @@ ghost use Rattle.acc_schedule_runs.specs.Disks.{fresh_disks};
 ghost use Rattle.acc_schedule_runs.specs.Limits.{most_items};
 ghost use Rattle.acc_actors.specs.Slots.{SlotStands, IsStrictSlot};
 ghost use Rattle.acc_free_laws.specs.FreeRun.{alone};
+ghost use Rattle.acc_desk.specs.Desks.{run_with};
 ghost use Rattle.acc_free.specs.Opened.{desk_actor, rank_of, AreOpened};
 
 use crate::owned::commands_of;
@@ -46,8 +47,7 @@ where
     requires strict { J.strict ≡ M.strict disks.old }
     requires limits { tape.now.limits.items ≤ most_items }
     requires first { (first.old.tape ≡ tape.now) × (first.old.actor ≡ 0) × (first.old.made ≡ []) }
-    ensures ok { IfOk result (λ desks. AreOpened M.D.Disk J.strict plan.now tape.now
-        (actors plan.now.topology) ((length plan.now.topology.shards + 1) * 16) first.new desks.items) }
+    ensures ok { IfOk result (λ desks. AreOpened M.D.Disk (run_with J.strict plan.now tape.now) (actors plan.now.topology) ((length plan.now.topology.shards + 1) * 16) first.new desks.items) }
     ensures given { M.given disks.new ≡ M.given disks.old }
     ensures kind { M.strict disks.new ≡ M.strict disks.old }
 {
@@ -73,10 +73,8 @@ where
     requires is_plan { IsPlan plan.now }
     requires strict { J.strict ≡ M.strict disks.old }
     requires limits { tape.now.limits.items ≤ most_items }
-    requires opened { AreOpened M.D.Disk J.strict plan.now tape.now
-        [] 0 first.old desks.old.items }
-    ensures ok { OnOk result (AreOpened M.D.Disk J.strict plan.now tape.now
-        (map (λ node. actor_of node 0) plan.now.topology.nodes) 16 first.new desks.new.items) }
+    requires opened { AreOpened M.D.Disk (run_with J.strict plan.now tape.now) [] 0 first.old desks.old.items }
+    ensures ok { OnOk result (AreOpened M.D.Disk (run_with J.strict plan.now tape.now) (map (λ node. actor_of node 0) plan.now.topology.nodes) 16 first.new desks.new.items) }
     ensures given { M.given disks.new ≡ M.given disks.old }
     ensures kind { M.strict disks.new ≡ M.strict disks.old }
 {
@@ -89,7 +87,7 @@ where
     Ok(())
 }
 
-// Puts the desk of a node behind the others.
+// Puts the desk of a node after the others.
 fn put_node<W: Wait, M: DiskMaker, J: Planned>(
     rt: &W,
     alloc: Global,
@@ -107,10 +105,8 @@ where
     requires strict { J.strict ≡ M.strict disks.old }
     requires limits { tape.now.limits.items ≤ most_items }
     requires known { IsTrue (is_among plan.now.topology.nodes number) }
-    requires opened { AreOpened M.D.Disk J.strict plan.now tape.now
-        (map desk_actor desks.old.items) number first.old desks.old.items }
-    ensures ok { OnOk result (AreOpened M.D.Disk J.strict plan.now tape.now
-        (map desk_actor desks.old.items ++ actor_of number 0 ∷ []) (number + 1) first.new desks.new.items) }
+    requires opened { AreOpened M.D.Disk (run_with J.strict plan.now tape.now) (map desk_actor desks.old.items) number first.old desks.old.items }
+    ensures ok { OnOk result (AreOpened M.D.Disk (run_with J.strict plan.now tape.now) (map desk_actor desks.old.items ++ actor_of number 0 ∷ []) (number + 1) first.new desks.new.items) }
     ensures given { M.given disks.new ≡ M.given disks.old }
     ensures kind { M.strict disks.new ≡ M.strict disks.old }
 {
@@ -120,7 +116,7 @@ where
     put(rt, alloc, plan, tape, first, desks, own, slot)
 }
 
-// Puts the desks of the stores behind those of the nodes.
+// Puts the desks of the stores after those of the nodes.
 fn put_stores<W: Wait, M: DiskMaker, J: Planned>(
     rt: &W,
     alloc: Global,
@@ -136,10 +132,8 @@ where
     requires is_plan { IsPlan plan.now }
     requires strict { J.strict ≡ M.strict disks.old }
     requires limits { tape.now.limits.items ≤ most_items }
-    requires opened { AreOpened M.D.Disk J.strict plan.now tape.now
-        (map (λ node. actor_of node 0) plan.now.topology.nodes) 16 first.old desks.old.items }
-    ensures ok { OnOk result (AreOpened M.D.Disk J.strict plan.now tape.now
-        (actors plan.now.topology) ((length plan.now.topology.shards + 1) * 16) first.new desks.new.items) }
+    requires opened { AreOpened M.D.Disk (run_with J.strict plan.now tape.now) (map (λ node. actor_of node 0) plan.now.topology.nodes) 16 first.old desks.old.items }
+    ensures ok { OnOk result (AreOpened M.D.Disk (run_with J.strict plan.now tape.now) (actors plan.now.topology) ((length plan.now.topology.shards + 1) * 16) first.new desks.new.items) }
     ensures given { M.given disks.new ≡ M.given disks.old }
     ensures kind { M.strict disks.new ≡ M.strict disks.old }
 {
@@ -149,7 +143,7 @@ where
     Ok(())
 }
 
-// Puts the desks of a shard's stores behind the others.
+// Puts the desks of a shard's stores after the others.
 fn put_stores_of<W: Wait, M: DiskMaker, J: Planned>(
     rt: &W,
     alloc: Global,
@@ -167,10 +161,8 @@ where
     requires strict { J.strict ≡ M.strict disks.old }
     requires limits { tape.now.limits.items ≤ most_items }
     requires shard { HasShard plan.now.topology shard }
-    requires opened { AreOpened M.D.Disk J.strict plan.now tape.now
-        (map desk_actor desks.old.items) (shard * 16) first.old desks.old.items }
-    ensures ok { OnOk result (AreOpened M.D.Disk J.strict plan.now tape.now
-        (map desk_actor desks.old.items ++ map (λ node. actor_of node shard) (shard_at plan.now.topology shard).replicas) ((shard + 1) * 16) first.new desks.new.items) }
+    requires opened { AreOpened M.D.Disk (run_with J.strict plan.now tape.now) (map desk_actor desks.old.items) (shard * 16) first.old desks.old.items }
+    ensures ok { OnOk result (AreOpened M.D.Disk (run_with J.strict plan.now tape.now) (map desk_actor desks.old.items ++ map (λ node. actor_of node shard) (shard_at plan.now.topology shard).replicas) ((shard + 1) * 16) first.new desks.new.items) }
     ensures given { M.given disks.new ≡ M.given disks.old }
     ensures kind { M.strict disks.new ≡ M.strict disks.old }
 {
@@ -192,7 +184,7 @@ where
     Ok(())
 }
 
-// Puts the desk of a store behind the others.
+// Puts the desk of a store after the others.
 fn put_store<W: Wait, M: DiskMaker, J: Planned>(
     rt: &W,
     alloc: Global,
@@ -211,10 +203,8 @@ where
     requires limits { tape.now.limits.items ≤ most_items }
     requires known { Contains (actors plan.now.topology) own }
     requires kind { is_node own ≡ false }
-    requires opened { AreOpened M.D.Disk J.strict plan.now tape.now
-        (map desk_actor desks.old.items) (rank_of own) first.old desks.old.items }
-    ensures ok { OnOk result (AreOpened M.D.Disk J.strict plan.now tape.now
-        (map desk_actor desks.old.items ++ own ∷ []) (rank_of own + 1) first.new desks.new.items) }
+    requires opened { AreOpened M.D.Disk (run_with J.strict plan.now tape.now) (map desk_actor desks.old.items) (rank_of own) first.old desks.old.items }
+    ensures ok { OnOk result (AreOpened M.D.Disk (run_with J.strict plan.now tape.now) (map desk_actor desks.old.items ++ own ∷ []) (rank_of own + 1) first.new desks.new.items) }
     ensures given { M.given disks.new ≡ M.given disks.old }
     ensures kind { M.strict disks.new ≡ M.strict disks.old }
 {
@@ -223,7 +213,7 @@ where
     put(rt, alloc, plan, tape, first, desks, own, slot)
 }
 
-// Puts the desk of an actor that has done nothing behind the others.
+// Puts the desk of an actor that has done nothing after the others.
 fn put<W: Wait, D: Rig + Drop, J: Planned>(
     rt: &W,
     alloc: Global,
@@ -239,12 +229,10 @@ fn put<W: Wait, D: Rig + Drop, J: Planned>(
     requires limits { tape.now.limits.items ≤ most_items }
     requires known { Contains (actors plan.now.topology) own }
     requires some { own.0 ≢ 0 }
-    requires opened { AreOpened D.Disk J.strict plan.now tape.now
-        (map desk_actor desks.old.items) (rank_of own) first.old desks.old.items }
+    requires opened { AreOpened D.Disk (run_with J.strict plan.now tape.now) (map desk_actor desks.old.items) (rank_of own) first.old desks.old.items }
     requires slot { SlotStands D.Disk plan.now (alone [] []) own slot }
     requires strict { J.strict ≡ true → IsStrictSlot D.Disk plan.now (alone [] []) fresh_disks own slot }
-    ensures ok { OnOk result (AreOpened D.Disk J.strict plan.now tape.now
-        (map desk_actor desks.old.items ++ own ∷ []) (rank_of own + 1) first.new desks.new.items) }
+    ensures ok { OnOk result (AreOpened D.Disk (run_with J.strict plan.now tape.now) (map desk_actor desks.old.items ++ own ∷ []) (rank_of own + 1) first.new desks.new.items) }
 {
     free_runs_begin();
     let commands = commands_of(alloc, plan, own)?;

@@ -105,7 +105,7 @@ module _ {D : Type 0} (port : Ghosts D) (strict_run : Bool) (plan : Content) (en
       let e = ends plan h.last h.serves.stands in
       subst NobodyIsDown (sym (ap reverse e.items_are ∙ reverse-reverse h.last.own)) (h.serves.stayed on).up
 
--- ---- behind a limit
+-- ---- after a limit
 
 up_to : (n k : ℕ) → (n ≤ k) ⊎ (k < n)
 up_to n k = grind arith

@@ -11,7 +11,7 @@ use Rattle.acc_message.specs.Items.{same_actor}
 -- ---- one place of a list
 
 module _ {X : Type 0} where
-  -- behind a put there stands what was put, or what stood there before
+  -- after a put there stands what was put, or what stood there before
   pub set_cases : (xs : List X) (i : ℕ) (y : X) (j : ℕ) (z : X) → slice_get (slice_set xs i y) j ≡ Some z → ((j ≡ i) × (z ≡ y)) ⊎ ((j ≡ i → ⊥) × (slice_get xs j ≡ Some z))
   set_cases [] i y j z e = absurd (none-some z e)
   set_cases (x ∷ xs) zero y zero z e = inl (refl, sym (same_Some y z e))

@@ -13,7 +13,7 @@ use Rattle.acc_schedule_runs.proofs.Beginnings.{begins_itself, begins_chain}
 use Rattle.acc_cluster.specs.declared.cluster.Cluster.{Cluster}
 use Rattle.acc_free_laws.specs.Commands.{IsHeld}
 use Rattle.acc_free_laws.specs.Serving.{HasGone}
-use Rattle.acc_free_ending.specs.Moves.{Serves, HasMoved, EachWent, StopsFreely}
+use Rattle.acc_free_ending.specs.Moves.{progress, Serves, HasMoved, EachWent, StopsFreely}
 use Rattle.acc_free_ending.proofs.Steps.{ends_later, each_goes_on}
 
 -- some commands went by so far
@@ -61,9 +61,9 @@ module _ {D : Type 0} (port : Ghosts D) (strict_run : Bool) (plan : Content) (a 
     moved_limit new which number ends each =
         ends_later port strict_run plan s.own m.reached.own new which number m.behind (ends m.reached m.serves gone_so_far (each_goes_on plan a s m.reached mid m.gone m.others each))
 
-    module _ (now : List Step) (moved : Bool) (new : Cluster D) (told : HasMoved port strict_run plan b mid now moved new m.reached) where
-      move : HasMoved port strict_run plan a mid now moved new m.reached
-      move = subst (λ (c : Actor). HasMoved port strict_run plan c mid now moved new m.reached) is told
+    module _ (now : List Step) (moved : Bool) (new : Cluster D) (told : HasMoved port strict_run plan b (progress mid now moved) new m.reached) where
+      move : HasMoved port strict_run plan a (progress mid now moved) new m.reached
+      move = subst (λ (c : Actor). HasMoved port strict_run plan c (progress mid now moved) new m.reached) is told
 
       pub fewer_left : moved ≡ true → length now < length mid
       fewer_left = told.fewer
@@ -82,7 +82,7 @@ module _ {D : Type 0} (port : Ghosts D) (strict_run : Bool) (plan : Content) (a 
             still = λ e. absurd (true≢false e);
           }
 
-      pub moving_ended : moved ≡ false → HasMoved port strict_run plan a before now went new s
+      pub moving_ended : moved ≡ false → HasMoved port strict_run plan a (progress before now went) new s
       moving_ended is_false =
           let kept = move.held is_false in
           record {

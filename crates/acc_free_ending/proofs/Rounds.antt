@@ -1,4 +1,4 @@
--- Rounds of all actors, with all deliveries behind each.
+-- Rounds of all actors, with all deliveries after each.
 use Rattle.std.proofs.Common.{◌≡◌, ◌⊎◌, ℕ, zero, suc, ◌+◌, ◌<◌, ◌≤◌, Bool, true, false, List, [], ◌∷◌, length, map, Contains, Some, refl, sym, ◌∙◌, ap, subst, arith, ⊎_elim}
 use Rattle.std.specs.List.{slice_get, slice_set}
 use Rattle.std.proofs.lemmas.Bool.{true≢false}
@@ -28,14 +28,14 @@ use Rattle.acc_schedule_runs.proofs.Beginnings.{begins_itself, begins_chain}
 use Rattle.acc_schedule_runs.proofs.Reached.{next_adds, comes_adds}
 use Rattle.acc_cluster.specs.declared.cluster.Cluster.{Cluster}
 use Rattle.acc_cluster.specs.Stands.{StandsFor, StandsStrictly}
-use Rattle.acc_cluster.specs.Steps.{StepsTo, StepsStrictly, EndsIn, LimitLeaves, EndsStrictlyIn}
+use Rattle.acc_cluster.specs.Steps.{change, StepsTo, StepsStrictly, EndsIn, LimitLeaves, EndsStrictlyIn}
 use Rattle.acc_cluster.specs.Limits.{HasEntered}
 use Rattle.acc_cluster.proofs.Limited.{entered_there}
 use Rattle.acc_free_laws.specs.Commands.{IsHeld}
 use Rattle.acc_free_laws.specs.Serving.{IsServing, HasGone}
 use Rattle.acc_free_ending.specs.declared.rest.Queue.{Queue}
 use Rattle.acc_free_ending.specs.Queues.{left_in, actor_in, AreAllActors, HaveGone, AreHeld, count_in, count_left}
-use Rattle.acc_free_ending.specs.Moves.{StaysUp, Serves, HasMoved, HasGoneRound, IsEmptied, HasEnded, EachWent, IsFreeFront, StopsFreely}
+use Rattle.acc_free_ending.specs.Moves.{progress, StaysUp, Serves, HasMoved, HasGoneRound, IsEmptied, HasEnded, EachWent, IsFreeFront, StopsFreely}
 use Rattle.acc_free_ending.proofs.Steps.{some_answers, same_entered}
 use Rattle.acc_free_ending.proofs.Strictly.{up_drained, DeliveryLaw, drained_to}
 use Rattle.acc_free_ending.proofs.Lists.{set_cases, each_at_place, contained_at, apart_at, mapped_at, from_map}
@@ -127,7 +127,7 @@ module _ (plan : Content) (valid : IsPlan plan) where
             subst (λ (items : List Item). EndsAt (IsFreeFront strict_run plan s.own) items which number)
             (same_entered new told.items e.items said.1 (entered_there port plan new e.items e.reached leaves.stops)) ends
 
-    pub drained : DrainLaw → (answers : Answers) (new : Cluster D) → StepsTo port plan answers 0 Drain cluster new s
+    pub drained : DrainLaw → (answers : Answers) (new : Cluster D) → StepsTo port plan answers 0 Drain (change cluster new) s
         → Strictly (λ t. StepsStrictly port plan 0 Drain new t)
         → IsEmptied port strict_run plan new s
     drained law answers new steps strictly = by strict_run refl
@@ -247,7 +247,7 @@ module _ {D : Type 0} (port : Ghosts D) (strict_run : Bool) (plan : Content) (s 
         set_named (x ∷ xs) (suc i) e = ap (λ (l : List Actor). x.actor ∷ l) (set_named xs i e)
 
     module _ (went moved : Bool) (old new : Cluster D) (under : IsUnder port strict_run plan before now place went old s)
-        (move : HasMoved port strict_run plan queue.actor (left_in queue) (left_in turned) moved new under.reached) where
+        (move : HasMoved port strict_run plan queue.actor (progress (left_in queue) (left_in turned) moved) new under.reached) where
       gone_now : HaveGone plan move.next (slice_set now place turned)
       gone_now j other is =
           ⊎_elim
@@ -297,7 +297,7 @@ module _ {D : Type 0} (port : Ghosts D) (strict_run : Bool) (plan : Content) (s 
       }
 
   pub round_ended : (before now : List Queue) (place : ℕ) (went : Bool) (cluster : Cluster D) → IsUnder port strict_run plan before now place went cluster s → length now ≤ place
-      → HasGoneRound port strict_run plan before now went cluster s
+      → HasGoneRound port strict_run plan (progress before now went) cluster s
   round_ended before now place went cluster under all = record {
     next = under.reached;
     serves = under.serves;
@@ -312,7 +312,7 @@ module _ {D : Type 0} (port : Ghosts D) (strict_run : Bool) (plan : Content) (s 
 
 -- ---- all rounds
 
--- behind a drain
+-- after a drain
 pub record HasCome {D : Type 0} (port : Ghosts D) (strict_run : Bool) (plan : Content) (now : List Queue) (cluster : Cluster D) (s : Situation) : Type 0 where
   pub reached : Situation
   pub serves : Serves port strict_run plan cluster reached
@@ -331,7 +331,7 @@ module _ {D : Type 0} (port : Ghosts D) (strict_run : Bool) (plan : Content) (s 
   }
 
   pub come_on : (before now : List Queue) (old between new : Cluster D) (come : HasCome port strict_run plan before old s)
-      → (turned : HasGoneRound port strict_run plan before now true between come.reached) → IsEmptied port strict_run plan new turned.next → HasCome port strict_run plan now new s
+      → (turned : HasGoneRound port strict_run plan (progress before now true) between come.reached) → IsEmptied port strict_run plan new turned.next → HasCome port strict_run plan now new s
   come_on before now old between new come turned e = record {
     reached = e.next;
     serves = e.serves;
@@ -340,7 +340,7 @@ module _ {D : Type 0} (port : Ghosts D) (strict_run : Bool) (plan : Content) (s 
     nothing = e.nothing;
   }
 
-  pub come_to_end : (before now : List Queue) (old new : Cluster D) (come : HasCome port strict_run plan before old s) → HasGoneRound port strict_run plan before now false new come.reached
+  pub come_to_end : (before now : List Queue) (old new : Cluster D) (come : HasCome port strict_run plan before old s) → HasGoneRound port strict_run plan (progress before now false) new come.reached
       → HasEnded port strict_run plan now new s
   come_to_end before now old new come turned =
       let held = turned.held refl in

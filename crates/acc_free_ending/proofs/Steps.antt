@@ -33,7 +33,7 @@ use Rattle.acc_schedule_runs.proofs.Beginnings.{begins_itself, begins_chain}
 use Rattle.acc_schedule_runs.proofs.Reached.{next_adds}
 use Rattle.acc_cluster.specs.declared.cluster.Cluster.{Cluster}
 use Rattle.acc_cluster.specs.Stands.{StandsFor, StandsStrictly}
-use Rattle.acc_cluster.specs.Steps.{StepsTo, StepsStrictly, IfLimit, EndsIn, LimitLeaves, EndsStrictlyIn}
+use Rattle.acc_cluster.specs.Steps.{change, StepsTo, StepsStrictly, IfLimit, EndsIn, LimitLeaves, EndsStrictlyIn}
 use Rattle.acc_cluster.specs.Limits.{HasEntered}
 use Rattle.acc_cluster.proofs.Limited.{entered_there}
 use Rattle.acc_free_laws.specs.Commands.{is_command_of, IsPassed, IsReady, IsHeld}
@@ -42,7 +42,7 @@ use Rattle.acc_free_ending.specs.declared.rest.Queue.{Queue}
 use Rattle.acc_free_ending.specs.Queues.{left_in}
 use Rattle.acc_free_ending.proofs.Lists.{none_left, one_left}
 use Rattle.acc_free_ending.specs.declared.command.Turn.TheVariants.{Takes, Passes, Waits}
-use Rattle.acc_free_ending.specs.Moves.{StaysUp, Serves, IsTurn, HasMoved, EachWent, IsFreeFront, StopsFreely}
+use Rattle.acc_free_ending.specs.Moves.{progress, StaysUp, Serves, IsTurn, HasMoved, EachWent, IsFreeFront, StopsFreely}
 use Rattle.acc_free_ending.proofs.Strictly.{up_command}
 
 -- an error that is handed on
@@ -180,7 +180,7 @@ not_less n = omega arith
 module _ {D : Type 0} (port : Ghosts D) (strict_run : Bool) (plan : Content) (a : Actor) (s : Situation) where
   -- nothing went by
   pub stays : (cluster : Cluster D) (before : List Step) → Serves port strict_run plan cluster s → HasGone plan s a before → IsHeld s.own before
-      → HasMoved port strict_run plan a before before false cluster s
+      → HasMoved port strict_run plan a (progress before before false) cluster s
   stays cluster before serves gone held = record {
     next = s;
     serves = serves;
@@ -194,20 +194,20 @@ module _ {D : Type 0} (port : Ghosts D) (strict_run : Bool) (plan : Content) (a 
 
   -- none is left
   pub nothing_left : (cluster : Cluster D) (before : List Step) → Serves port strict_run plan cluster s → HasGone plan s a before → before ≡ []
-      → HasMoved port strict_run plan a before before false cluster s
+      → HasMoved port strict_run plan a (progress before before false) cluster s
   nothing_left cluster before serves gone none = stays cluster before serves gone (subst (IsHeld s.own) (sym none) tt)
 
   module _ (before now : List Step) (command : Step) (is : before ≡ command ∷ now) (gone : HasGone plan s a before) where
     pub gone_on : HasGone plan s a (command ∷ now)
     gone_on = subst (HasGone plan s a) is gone
 
-    pub waits_still : (cluster : Cluster D) → Serves port strict_run plan cluster s → IsTurn Waits a (whole s) command → HasMoved port strict_run plan a before before false cluster s
+    pub waits_still : (cluster : Cluster D) → Serves port strict_run plan cluster s → IsTurn Waits a (whole s) command → HasMoved port strict_run plan a (progress before before false) cluster s
     waits_still cluster serves turn =
         stays cluster before serves gone
         (subst (IsHeld s.own) (sym is) (subst (λ (items : List Item). IsHeld items (command ∷ now)) (whole_alone s serves.serving.earlier) (turn now)))
 
     pub passes_on : PassedLaw → (cluster : Cluster D) → Serves port strict_run plan cluster s → IsTurn Passes a (whole s) command
-        → HasMoved port strict_run plan a before now true cluster s
+        → HasMoved port strict_run plan a (progress before now true) cluster s
     passes_on law cluster serves turn =
         let less : length now < length before = one_less before now command is in
         record {
@@ -225,7 +225,7 @@ module _ {D : Type 0} (port : Ghosts D) (strict_run : Bool) (plan : Content) (a 
     taken_to : CommandLaw → IsPlan plan → Contains (actors plan.topology) a → (new : Cluster D) → IsServing plan s → IsTurn Takes a (whole s) command
         → (answers : Answers) (next : Situation) → IsNext (cluster_of plan) answers 0 command s next → StandsFor port plan new next
         → (strict_run ≡ true → StaysUp port plan new next)
-        → HasMoved port strict_run plan a before now true new s
+        → HasMoved port strict_run plan a (progress before now true) new s
     taken_to law valid there new serving turn answers next is_next stands stayed =
         let less : length now < length before = one_less before now command is in
         let goes = law plan answers 0 s next a command now valid there turn is_next serving gone_on in
@@ -242,13 +242,13 @@ module _ {D : Type 0} (port : Ghosts D) (strict_run : Bool) (plan : Content) (a 
 
     pub goes_on : CommandLaw → IsPlan plan → Contains (actors plan.topology) a → (answers : Answers) (old new : Cluster D)
         → Serves port strict_run plan old s → IsTurn Takes a (whole s) command
-        → StepsTo port plan answers 0 command old new s
+        → StepsTo port plan answers 0 command (change old new) s
         → ((t : StrictSituation) → StandsStrictly port plan old t
         → StepsStrictly port plan 0 command new t)
-        → HasMoved port strict_run plan a before now true new s
+        → HasMoved port strict_run plan a (progress before now true) new s
     goes_on law valid there answers old new serves turn steps strictly = by strict_run refl
       where
-        by : (test : Bool) → strict_run ≡ test → HasMoved port strict_run plan a before now true new s
+        by : (test : Bool) → strict_run ≡ test → HasMoved port strict_run plan a (progress before now true) new s
         by false off =
             taken_to law valid there new serves.serving turn steps.other steps.next steps.next_is steps.stands
             (λ on. absurd (true≢false (sym on ∙ off)))
@@ -295,7 +295,7 @@ module _ {D : Type 0} (port : Ghosts D) (strict_run : Bool) (plan : Content) (a 
         by (Fail actor calls) reached t ready comes = absurd ready
         by Drain reached t ready comes = absurd ready
 
-    -- the front behind the command
+    -- the front after the command
     front_of : CommandLaw → IsPlan plan → Contains (actors plan.topology) a → IsServing plan s → IsTurn Takes a (whole s) command → EachWent plan s
         → (front : List Item) (answers : Answers) (reached : Situation) → IsNext (cluster_of plan) answers 0 command s reached → Begins front reached.own
         → (IsTrue strict_run → NobodyIsDown reached.own) → IsFreeFront strict_run plan s.own front

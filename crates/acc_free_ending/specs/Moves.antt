@@ -44,27 +44,36 @@ IsTurn Waits a items command = (left : List Step) → IsHeld items (command ∷ 
 
 -- ---- the commands of an actor
 
+-- what was left of commands before and is left now, and whether any went by
+pub record Progress (Left : Type 0) : Type 0 where
+  pub before : Left
+  pub now : Left
+  pub went : Bool
+
+abbrev pub progress : {Left : Type 0} → Left → Left → Bool → Progress Left
+progress before now went = record { before = before; now = now; went = went }
+
 -- commands went by, or the first one is held
-pub record HasMoved {D : Type 0} (port : Ghosts D) (strict_run : Bool) (plan : Content) (a : Actor) (before now : List Step) (went : Bool) (cluster : Cluster D) (s : Situation) : Type 0 where
+pub record HasMoved {D : Type 0} (port : Ghosts D) (strict_run : Bool) (plan : Content) (a : Actor) (made : Progress (List Step)) (cluster : Cluster D) (s : Situation) : Type 0 where
   pub next : Situation
   pub serves : Serves port strict_run plan cluster next
-  pub gone : HasGone plan next a now
+  pub gone : HasGone plan next a made.now
   pub others : (b : Actor) (left : List Step) → same_actor a b ≡ false → HasGone plan s b left → HasGone plan next b left
   pub behind : Begins s.own next.own
-  pub less : length now ≤ length before
-  pub fewer : went ≡ true → length now < length before
-  pub held : went ≡ false → (next ≡ s) × IsHeld s.own now
+  pub less : length made.now ≤ length made.before
+  pub fewer : made.went ≡ true → length made.now < length made.before
+  pub held : made.went ≡ false → (next ≡ s) × IsHeld s.own made.now
 
 -- ---- rounds
 
-pub record HasGoneRound {D : Type 0} (port : Ghosts D) (strict_run : Bool) (plan : Content) (before now : List Queue) (went : Bool) (cluster : Cluster D) (s : Situation) : Type 0 where
+pub record HasGoneRound {D : Type 0} (port : Ghosts D) (strict_run : Bool) (plan : Content) (made : Progress (List Queue)) (cluster : Cluster D) (s : Situation) : Type 0 where
   pub next : Situation
   pub serves : Serves port strict_run plan cluster next
-  pub gone : HaveGone plan next now
+  pub gone : HaveGone plan next made.now
   pub behind : Begins s.own next.own
-  pub less : count_left now ≤ count_left before
-  pub fewer : went ≡ true → count_left now < count_left before
-  pub held : went ≡ false → (next ≡ s) × AreHeld s.own now
+  pub less : count_left made.now ≤ count_left made.before
+  pub fewer : made.went ≡ true → count_left made.now < count_left made.before
+  pub held : made.went ≡ false → (next ≡ s) × AreHeld s.own made.now
 
 -- every message that waited was taken
 pub record IsEmptied {D : Type 0} (port : Ghosts D) (strict_run : Bool) (plan : Content) (cluster : Cluster D) (s : Situation) : Type 0 where
@@ -99,7 +108,7 @@ pub record IsFreeFront (strict_run : Bool) (plan : Content) (entered front : Lis
   pub begins : Begins front reached.own
   pub stayed : IsTrue strict_run → NobodyIsDown reached.own
 
--- The limit ends a free run, which begins with the items that were entered, behind all that the cluster has entered by now. Its actors with
+-- The limit ends a free run, which begins with the items that were entered, after all that the cluster has entered by now. Its actors with
 -- their disks came there by free steps, or to what a move adds, whose items the limit keeps out.
 pub record StopsFreely {D : Type 0} (port : Ghosts D) (strict_run : Bool) (plan : Content) (entered : List Item) (cluster : Cluster D) (which : Which) (number : ℕ) : Type 0 where
   pub items : List Item

@@ -11,7 +11,7 @@ ghost use Rattle.acc_cluster.specs.Steps.{IfLimit};
 ghost use Rattle.acc_free_laws.specs.Commands.{is_command_of};
 ghost use Rattle.acc_free_laws.specs.Serving.{HasGone};
 ghost use Rattle.acc_free_ending.specs.Queues.{left_in};
-ghost use Rattle.acc_free_ending.specs.Moves.{Serves, IsTurn, HasMoved, EachWent, StopsFreely};
+ghost use Rattle.acc_free_ending.specs.Moves.{progress, Serves, IsTurn, HasMoved, EachWent, StopsFreely};
 
 use crate::rest::Queue;
 use acc_cluster::Cluster;
@@ -87,7 +87,7 @@ fn take_command<D: Rig + Drop>(
     requires standing { (s : Situation) × Serves D.Disk false plan.now cluster.old s × HasGone plan.now s queue.old.actor (left_in queue.old) }
     ensures same { queue.new.actor ≡ queue.old.actor }
     ensures ok { IfOk result (λ went. (strict_run : Bool) (s : Situation) → Serves D.Disk strict_run plan.now cluster.old s → HasGone plan.now s queue.old.actor (left_in queue.old)
-        → HasMoved D.Disk strict_run plan.now queue.old.actor (left_in queue.old) (left_in queue.new) went cluster.new s) }
+        → HasMoved D.Disk strict_run plan.now queue.old.actor (progress (left_in queue.old) (left_in queue.new) went) cluster.new s) }
     ensures limit { IfErr result (IfLimit (λ which most. (strict_run : Bool) (s : Situation) → Serves D.Disk strict_run plan.now cluster.old s → HasGone plan.now s queue.old.actor (left_in queue.old)
         → EachWent plan.now s → StopsFreely D.Disk strict_run plan.now s.own cluster.new which most)) }
 {
@@ -122,7 +122,7 @@ pub(crate) fn take_commands<D: Rig + Drop>(
     requires standing { (s : Situation) × Serves D.Disk false plan.now cluster.old s × HasGone plan.now s queue.old.actor (left_in queue.old) }
     ensures same { queue.new.actor ≡ queue.old.actor }
     ensures ok { IfOk result (λ went. (strict_run : Bool) (s : Situation) → Serves D.Disk strict_run plan.now cluster.old s → HasGone plan.now s queue.old.actor (left_in queue.old)
-        → HasMoved D.Disk strict_run plan.now queue.old.actor (left_in queue.old) (left_in queue.new) went cluster.new s) }
+        → HasMoved D.Disk strict_run plan.now queue.old.actor (progress (left_in queue.old) (left_in queue.new) went) cluster.new s) }
     ensures limit { IfErr result (IfLimit (λ which most. (strict_run : Bool) (s : Situation) → Serves D.Disk strict_run plan.now cluster.old s → HasGone plan.now s queue.old.actor (left_in queue.old)
         → EachWent plan.now s → StopsFreely D.Disk strict_run plan.now s.own cluster.new which most)) }
 {

@@ -4,7 +4,7 @@ ghost use Rattle.acc_schedule.specs.Plan.{IsPlan};
 ghost use Rattle.acc_schedule_runs.specs.Situations.{Situation};
 ghost use Rattle.acc_cluster.specs.Steps.{IfLimit};
 ghost use Rattle.acc_free_ending.specs.Queues.{actor_in, AreAllActors, HaveGone};
-ghost use Rattle.acc_free_ending.specs.Moves.{Serves, HasGoneRound, IsEmptied, HasEnded, EachWent, StopsFreely};
+ghost use Rattle.acc_free_ending.specs.Moves.{progress, Serves, HasGoneRound, IsEmptied, HasEnded, EachWent, StopsFreely};
 
 use crate::command::take_commands;
 use crate::rest::Queues;
@@ -36,7 +36,7 @@ fn round<D: Rig + Drop>(
     requires standing { (s : Situation) × Serves D.Disk false plan.now cluster.old s × HaveGone plan.now s queues.old.items }
     ensures same { OnOk result (map actor_in queues.new.items ≡ map actor_in queues.old.items) }
     ensures ok { IfOk result (λ went. (strict_run : Bool) (s : Situation) → Serves D.Disk strict_run plan.now cluster.old s → HaveGone plan.now s queues.old.items
-        → HasGoneRound D.Disk strict_run plan.now queues.old.items queues.new.items went cluster.new s) }
+        → HasGoneRound D.Disk strict_run plan.now (progress queues.old.items queues.new.items went) cluster.new s) }
     ensures limit { IfErr result (IfLimit (λ which most. (strict_run : Bool) (s : Situation) → Serves D.Disk strict_run plan.now cluster.old s → HaveGone plan.now s queues.old.items
         → StopsFreely D.Disk strict_run plan.now s.own cluster.new which most)) }
 {
@@ -49,7 +49,7 @@ fn round<D: Rig + Drop>(
     Ok(went)
 }
 
-/// Delivers what waits, and goes round until no command goes by any more, with all deliveries behind each round.
+/// Delivers what waits, and goes round until no command goes by any more, with all deliveries after each round.
 pub(crate) fn rounds<D: Rig + Drop>(
     cluster: &mut Cluster<D>,
     plan: &Plan,

@@ -1,32 +1,24 @@
-use Rattle.std.proofs.Common.{IfOk, sym, subst}
-use Rattle.acc_schedule_runs.specs.Situations.{Situation}
-use Rattle.acc_schedule_runs.specs.Disks.{Disks}
-use Rattle.acc_actors.specs.Slots.{IsStrictSlot}
-use Rattle.acc_actors.specs.Asked.{IsAsked, HasTriedStrictly}
+-- The actor answers what it was asked for.
+use Rattle.std.proofs.Common.{sym, subst}
+use Rattle.acc_actors.specs.Asked.{step_by, HasAnswered}
 use Rattle.acc_desk.specs.Asks.{event_of, act_of_ask}
 use Rattle.acc_desk.specs.declared.ask.Ask.{Ask}
 use Rattle.acc_desk.proofs.ask.step.Goals as goal
 
-pub returns-in-Begin-clause-strict : goal.returns-in-Begin-clause-strict
-returns-in-Begin-clause-strict g c =
+pub returns-in-Begin : goal.returns-in-Begin
+returns-in-Begin g c =
     subst
-    (λ (ask : Ask). IfOk c.begin.result (λ given. (s : Situation) (disks : Disks) → IsAsked g.D.Disk c.args.plan.now s c.args.actor (event_of ask) (act_of_ask ask) c.args.slot.now
-    → IsStrictSlot g.D.Disk c.args.plan.now s disks c.args.actor c.args.slot.now
-    → HasTriedStrictly g.D.Disk c.args.plan.now s disks c.args.actor (event_of ask) c.begin.new.self given))
-    (sym c.in-Begin.is) c.begin.ensures.strict
+    (λ (ask : Ask). HasAnswered g.D.Disk c.args.plan.now (step_by c.args.actor (event_of ask) (act_of_ask ask)) c.args.slot.now c.begin.new.self c.begin.result)
+    (sym c.in-Begin.is) c.begin.ensures
 
-pub returns-in-Recover-clause-strict : goal.returns-in-Recover-clause-strict
-returns-in-Recover-clause-strict g c =
+pub returns-in-Recover : goal.returns-in-Recover
+returns-in-Recover g c =
     subst
-    (λ (ask : Ask). IfOk c.recover.result (λ given. (s : Situation) (disks : Disks) → IsAsked g.D.Disk c.args.plan.now s c.args.actor (event_of ask) (act_of_ask ask) c.args.slot.now
-    → IsStrictSlot g.D.Disk c.args.plan.now s disks c.args.actor c.args.slot.now
-    → HasTriedStrictly g.D.Disk c.args.plan.now s disks c.args.actor (event_of ask) c.recover.new.self given))
-    (sym c.in-Recover.is) c.recover.ensures.strict
+    (λ (ask : Ask). HasAnswered g.D.Disk c.args.plan.now (step_by c.args.actor (event_of ask) (act_of_ask ask)) c.args.slot.now c.recover.new.self c.recover.result)
+    (sym c.in-Recover.is) c.recover.ensures
 
-pub returns-in-Message-clause-strict : goal.returns-in-Message-clause-strict
-returns-in-Message-clause-strict g c =
+pub returns-in-Message : goal.returns-in-Message
+returns-in-Message g c =
     subst
-    (λ (ask : Ask). IfOk c.take.result (λ given. (s : Situation) (disks : Disks) → IsAsked g.D.Disk c.args.plan.now s c.args.actor (event_of ask) (act_of_ask ask) c.args.slot.now
-    → IsStrictSlot g.D.Disk c.args.plan.now s disks c.args.actor c.args.slot.now
-    → HasTriedStrictly g.D.Disk c.args.plan.now s disks c.args.actor (event_of ask) c.take.new.self given))
-    (sym c.in-Message.is) c.take.ensures.strict
+    (λ (ask : Ask). HasAnswered g.D.Disk c.args.plan.now (step_by c.args.actor (event_of ask) (act_of_ask ask)) c.args.slot.now c.take.new.self c.take.result)
+    (sym c.in-Message.is) c.take.ensures

@@ -1,4 +1,4 @@
-use Rattle.std.proofs.Common.{◌≡◌, ℕ, ◌==◌, Bool, true, List, [], ◌∷◌, length, Option, Result, Ok, Err, sym, ◌∙◌, ap, subst, arith, eqb-true}
+use Rattle.std.proofs.Common.{◌≡◌, ℕ, ◌==◌, true, List, [], ◌∷◌, length, Result, Ok, Err, sym, ◌∙◌, ap, subst, arith, eqb-true}
 use Rattle.std.specs.Prelude.{IfOk}
 use Rattle.acc_base.specs.declared.memory.OutOfMemory.{OutOfMemory}
 use Rattle.acc_stamp.specs.declared.actors.Actor.{Actor}
@@ -14,14 +14,14 @@ use Rattle.acc_schedule_runs.specs.Schedules.{cluster_of}
 use Rattle.acc_schedule_runs.specs.Disks.{Disks, after_restart}
 use Rattle.acc_actors.specs.declared.slot.Slot.{Slot}
 use Rattle.acc_actors.specs.Slots.{SlotStands, IsStrictSlot}
-use Rattle.acc_actors.specs.Asked.{IsFew, HasRestartedAt, HasRestartedStrictlyAt}
+use Rattle.acc_actors.specs.Asked.{over_disks, IsFew, HasRestartedAt, HasRestartedStrictlyAt}
 use Rattle.acc_desk.proofs.restarting.reopen.Goals as goal
 
 module _ {D : Type 0} (port : Ghosts D) (plan : Content) (a : Actor) (choice : ℕ) (new : Slot D) where
   abbrev OpensFrom : Slot D → Restarted → Type 0
   OpensFrom slot found =
       (s : Situation) (disks : Disks) → IsSound (cluster_of plan) s → SlotStands port plan s a slot → IsStrictSlot port plan s disks a slot
-      → HasRestartedStrictlyAt port plan s disks a choice found new
+      → HasRestartedStrictlyAt port plan (over_disks s disks) a choice found new
 
   -- the slot that was restarted is the one that stood there
   opened : (slot taken : Slot D) (r : Result Restarted OutOfMemory) (found : Restarted) → taken ≡ slot → r ≡ Ok found → IfOk r (OpensFrom taken) → OpensFrom slot found
@@ -38,7 +38,7 @@ module _ {D : Type 0} (port : Ghosts D) (plan : Content) (a : Actor) (choice : �
   none_kept [] none h = h.1
   none_kept (one ∷ kept) none h = absurd (let e = eqb-true (length (one ∷ kept)) 0 none in omega arith)
 
-  none_kept_strictly : (disks : Disks) (kept : List Unsent) → (length kept == 0) ≡ true → HasRestartedStrictlyAt port plan s disks a choice (Up kept) new
+  none_kept_strictly : (disks : Disks) (kept : List Unsent) → (length kept == 0) ≡ true → HasRestartedStrictlyAt port plan (over_disks s disks) a choice (Up kept) new
       → IsStrictSlot port plan (reopened (cluster_of plan) s a []) (after_restart a disks) a new
   none_kept_strictly disks [] none h = h.1
   none_kept_strictly disks (one ∷ kept) none h = absurd (let e = eqb-true (length (one ∷ kept)) 0 none in omega arith)

@@ -1,7 +1,7 @@
 use Rattle.std.proofs.Common.{◌≡◌, ◌<◌, length, set, sym, ap, ◌∙◌, subst, arith}
 use Rattle.std.proofs.Math.Seq.{map-set_same}
 use Rattle.std.proofs.lemmas.List.Elements.{All-set}
-use Rattle.acc_desk.specs.Desks.{IsSound, name_of}
+use Rattle.acc_desk.specs.Desks.{run_with, IsSound, name_of, state_of}
 use Rattle.acc_desk.specs.declared.desk.Desk.{Desk}
 use Rattle.acc_desk.specs.declared.turning.Turned.{Turned}
 use Rattle.acc_desk.specs.declared.turning.Turned.TheVariants.{Taken, Idle, Full}
@@ -25,7 +25,7 @@ returns-in-Full-clause-same g c =
 
 pub returns-in-Full-clause-ok : goal.returns-in-Full-clause-ok
 returns-in-Full-clause-ok g c =
-    All-set (λ (desk : Desk g.row.D.Denot g.row.J.Denot). IsSound g.D.Disk g.J.Planned.strict c.args.plan.now c.args.tape.now desk.actor desk.seat desk.slot desk.commands desk.gone) c.loop-place.desks.items c.loop-place.place c.turn.new.self c.in_ok-turn.ensures.ok c.loop-place.invariant.sound
+    All-set (λ (desk : Desk g.row.D.Denot g.row.J.Denot). IsSound g.D.Disk (run_with g.J.Planned.strict c.args.plan.now c.args.tape.now) (state_of desk)) c.loop-place.desks.items c.loop-place.place c.turn.new.self c.in_ok-turn.ensures.ok c.loop-place.invariant.sound
 
 pub loop-place-preserved : goal.loop-place-preserved
 loop-place-preserved g c =
@@ -37,15 +37,15 @@ loop-place-preserved g c =
     let new = c.turn.new.self in
     let d = c.index_mut.result.now in
     let there : place < length ys = let t = c.loop-place-test.true in let n = c.loop-place.invariant.long in omega arith in
-    let turned = λ (t : Turned) (is : c.in_ok-turn.field-0 ≡ t). subst (λ (o : Desk g.row.D.Denot g.row.J.Denot). CameTo plan tape o.actor o.commands t o.seat.mine o.gone new.seat new.gone) c.index_mut.ensures.value
-    (subst (λ so. CameTo plan tape d.actor d.commands so d.seat.mine d.gone new.seat new.gone) is c.in_ok-turn.ensures.came) in
+    let turned = λ (t : Turned) (is : c.in_ok-turn.field-0 ≡ t). subst (λ (o : Desk g.row.D.Denot g.row.J.Denot). CameTo plan tape (o.actor, o.commands) t (o.seat.mine, o.gone) new.seat new.gone) c.index_mut.ensures.value
+    (subst (λ so. CameTo plan tape (d.actor, d.commands) so (d.seat.mine, d.gone) new.seat new.gone) is c.in_ok-turn.ensures.came) in
     record {
       same =
           map-set_same name_of c.loop-place.desks.items c.loop-place.place c.turn.new.self c.index_mut.result.now
           ((λ i. (c.turn.ensures.same.0 i, c.turn.ensures.same.1 i)) ∙ ap name_of c.index_mut.ensures.value)
           ∙ c.loop-place.invariant.same;
       sound =
-          All-set (λ (desk : Desk g.row.D.Denot g.row.J.Denot). IsSound g.D.Disk g.J.Planned.strict c.args.plan.now c.args.tape.now desk.actor desk.seat desk.slot desk.commands desk.gone) c.loop-place.desks.items c.loop-place.place c.turn.new.self c.in_ok-turn.ensures.ok c.loop-place.invariant.sound;
+          All-set (λ (desk : Desk g.row.D.Denot g.row.J.Denot). IsSound g.D.Disk (run_with g.J.Planned.strict c.args.plan.now c.args.tape.now) (state_of desk)) c.loop-place.desks.items c.loop-place.place c.turn.new.self c.in_ok-turn.ensures.ok c.loop-place.invariant.sound;
       came = elim c.match-branch-2.branch [
         | in-Idle w ↦ subst (λ so. SoFar so xs (set ys place new)) (sym w.all-is) (after_idle plan tape xs ys place new d there c.loop-place.all c.loop-place.invariant.came (turned Idle w.in-Idle.is))
         | in-Taken w ↦ subst (λ so. SoFar so xs (set ys place new)) (sym w.all-is) (after_taken plan tape xs ys place new d there c.loop-place.all c.loop-place.invariant.came (turned Taken w.in-Taken.is))
@@ -64,8 +64,8 @@ returns-in-Full-clause-came g c =
     let d = c.index_mut.result.now in
     let there : place < length ys = let t = c.loop-place-test.true in let n = c.loop-place.invariant.long in omega arith in
     let value = c.index_mut.ensures.value in
-    let turned = subst (λ (o : Desk g.row.D.Denot g.row.J.Denot). CameTo plan tape o.actor o.commands Full o.seat.mine o.gone new.seat new.gone) value
-    (subst (λ so. CameTo plan tape d.actor d.commands so d.seat.mine d.gone new.seat new.gone) c.in-Full.is c.in_ok-turn.ensures.came) in
+    let turned = subst (λ (o : Desk g.row.D.Denot g.row.J.Denot). CameTo plan tape (o.actor, o.commands) Full (o.seat.mine, o.gone) new.seat new.gone) value
+    (subst (λ so. CameTo plan tape (d.actor, d.commands) so (d.seat.mine, d.gone) new.seat new.gone) c.in-Full.is c.in_ok-turn.ensures.came) in
     after_full plan tape xs ys place new d there c.loop-place.all c.loop-place.invariant.came
     (c.turn.ensures.same.0 ∙ ap (λ (o : Desk g.row.D.Denot g.row.J.Denot). o.actor) value) (c.turn.ensures.same.1 ∙ ap (λ (o : Desk g.row.D.Denot g.row.J.Denot). o.commands) value) turned
 

@@ -1,7 +1,7 @@
 -- One round more with all deliveries, or the last one.
 use Rattle.std.proofs.Common.{◌∙◌, false, map, refl, sym, subst}
 use Rattle.acc_free_ending.specs.Queues.{actor_in, AreAllActors}
-use Rattle.acc_free_ending.specs.Moves.{HasGoneRound}
+use Rattle.acc_free_ending.specs.Moves.{progress, HasGoneRound}
 use Rattle.acc_free_ending.proofs.Steps.{limit_handed, ends_later}
 use Rattle.acc_free_ending.proofs.Rounds.{each_went, come_first, come_on, come_to_end}
 use Rattle.acc_free_ending.proofs.round.rounds.Goals as goal
@@ -40,7 +40,7 @@ rounds-preserved g c = record {
   same = c.in_ok-round.ensures.same ∙ c.rounds.invariant.same;
   come = λ strict_run s serves gone.
       let come = c.rounds.invariant.come strict_run s serves gone in
-      let turned = subst (λ went. HasGoneRound g.D.Disk strict_run c.args.plan.now c.rounds.queues.items c.round.new.queues.items went c.round.new.cluster come.reached)
+      let turned = subst (λ went. HasGoneRound g.D.Disk strict_run c.args.plan.now (progress c.rounds.queues.items c.round.new.queues.items went) c.round.new.cluster come.reached)
       c.if-branch.true (c.in_ok-round.ensures.ok strict_run come.reached come.serves come.gone) in
       come_on g.D.Disk strict_run c.args.plan.now s c.rounds.queues.items c.round.new.queues.items c.rounds.cluster c.round.new.cluster c.drain-in-rounds.new.cluster
       come turned (c.in_ok-drain-2.ensures.ok strict_run turned.next turned.serves);
@@ -53,7 +53,7 @@ pub returns-clause-ok : goal.returns-clause-ok
 returns-clause-ok g c = λ strict_run s serves gone.
     let come = c.rounds.invariant.come strict_run s serves gone in
     come_to_end g.D.Disk strict_run c.args.plan.now s c.rounds.queues.items c.round.new.queues.items c.rounds.cluster c.round.new.cluster come
-    (subst (λ went. HasGoneRound g.D.Disk strict_run c.args.plan.now c.rounds.queues.items c.round.new.queues.items went c.round.new.cluster come.reached)
+    (subst (λ went. HasGoneRound g.D.Disk strict_run c.args.plan.now (progress c.rounds.queues.items c.round.new.queues.items went) c.round.new.cluster come.reached)
     c.if-branch.false (c.in_ok-round.ensures.ok strict_run come.reached come.serves come.gone))
 
 pub returns-in_err-drain-clause-limit : goal.returns-in_err-drain-clause-limit

@@ -9,9 +9,9 @@ use Rattle.acc_message_code.specs.Weight.{weight_of}
 use Rattle.acc_tape.specs.ItemViews.{actor_of_item}
 use Rattle.acc_message.specs.declared.item.Item.{Item}
 use Rattle.acc_tape.specs.Seats.{SeatView, Turns}
-use Rattle.acc_desk.specs.Desks.{newest, no_hold}
+use Rattle.acc_desk.specs.Desks.{run_with, newest, no_hold, state_of}
 use Rattle.acc_desk.specs.Fits.{fits_plan}
-use Rattle.acc_desk.specs.Groups.{Joining, joining_of, CanJoin, CanAllJoin, IsGathering}
+use Rattle.acc_desk.specs.Groups.{gathered, Joining, joining_of, CanJoin, CanAllJoin, IsGathering}
 use Rattle.acc_desk.proofs.Joining.{along, begins_gathering, all_can_move}
 use Rattle.acc_desk.proofs.desk.Desk.gather.Goals as goal
 
@@ -62,7 +62,7 @@ returns-in-Ok-Some-clause-gathering g c =
     let hold = c.in-Ok-Some.hold in
     let count = c.join_others-staged.result.0 in
     let joined = some_of _ _ c.in-Ok-Some.field-0 (used, hold) c.in-Ok-Some.field-0-is c.in-Ok-Some.ensures.ok in
-    let front = subst (λ joinings. IsGathering g.D.Disk g.J.Planned.strict c.args.plan.now c.args.tape.now first.actor first.seat self.slot first.slot first.commands first.gone joinings used hold) (first_taken found pair (sym c.in-Some.ensures.value)) joined in
+    let front = subst (λ joinings. IsGathering g.D.Disk (run_with g.J.Planned.strict c.args.plan.now c.args.tape.now) (state_of first) (gathered self.slot joinings used hold)) (first_taken found pair (sym c.in-Some.ensures.value)) joined in
     let all = c.join_others-staged.ensures.gathering self.slot front in
     let long = length-map found joining_of in
     let few = c.join_others-staged.ensures.count.1 in

@@ -8,9 +8,9 @@ use Rattle.acc_message_code.specs.Weight.{weight_of}
 use Rattle.acc_tape.specs.ItemViews.{actor_of_item}
 use Rattle.acc_tape.specs.Seats.{Turns}
 use Rattle.acc_desk.specs.declared.hold.Hold.{Hold}
-use Rattle.acc_desk.specs.Desks.{no_hold}
+use Rattle.acc_desk.specs.Desks.{desk_with, run_with, no_hold}
 use Rattle.acc_desk.specs.Fits.{fits_plan}
-use Rattle.acc_desk.specs.Groups.{Joining, IsGathering}
+use Rattle.acc_desk.specs.Groups.{gathered, Joining, IsGathering}
 use Rattle.acc_desk.proofs.Puts.{gathering_moves}
 use Rattle.acc_desk.proofs.Joining.{along, asks_now, joins, refused, first_no_room, can_moves}
 use Rattle.acc_desk.proofs.desk.Desk.join_first.Goals as goal
@@ -88,7 +88,7 @@ returns-then-is_err-clause-err g c =
     let held = gathering_moves g.D.Disk g.J.Planned.strict c.args.plan.now c.args.tape.now c.requires.limits self.actor self.commands self.gone self.slot self.slot [] 0 no_hold hold self.seat new q.1 turns c.reserve.ensures.mine h.0 (omega arith) (omega arith) in
     let still = refused g.D.Disk g.J.Planned.strict c.args.plan.now c.args.tape.now c.requires.limits self.actor self.commands self.gone self.slot self.slot [] 0 hold new held c.stage-staged.new.self (when_err c.stage-staged.result (sym c.is_err.ensures.value ∙ c.if-is_err.true) c.stage-staged.ensures.err) c.stage-staged.ensures.strict in
     let later = subst (λ p. Turns actor_of_item weight_of (fits_plan p) new free) (sym c.requires.plan) (some_held hold h.1 c.let_go.ensures.on) in
-    along (λ a slot commands gone. IsGathering g.D.Disk g.J.Planned.strict c.args.plan.now c.args.tape.now a free self.slot slot commands gone [] 0 no_hold) c.let_go.ensures.same.0 c.let_go.ensures.same.1 c.let_go.ensures.same.2 c.let_go.ensures.same.3
+    along (λ a slot commands gone. IsGathering g.D.Disk (run_with g.J.Planned.strict c.args.plan.now c.args.tape.now) (desk_with a free slot commands gone) (gathered self.slot [] 0 no_hold)) c.let_go.ensures.same.0 c.let_go.ensures.same.1 c.let_go.ensures.same.2 c.let_go.ensures.same.3
     (gathering_moves g.D.Disk g.J.Planned.strict c.args.plan.now c.args.tape.now c.requires.limits self.actor self.commands self.gone self.slot c.stage-staged.new.self [] 0 hold no_hold new free still later c.let_go.ensures.mine c.let_go.ensures.seated.held_is (omega arith) (omega arith))
 
 pub returns-clause-ok : goal.returns-clause-ok

@@ -13,8 +13,8 @@ use Rattle.acc_schedule.specs.declared.plan.Step.{Step}
 use Rattle.acc_actors.specs.declared.slot.Slot.{Slot}
 use Rattle.acc_tape.specs.Seats.{TapeName, SeatView}
 use Rattle.acc_desk.specs.declared.hold.Hold.{Hold}
-use Rattle.acc_desk.specs.Desks.{newest}
-use Rattle.acc_desk.specs.Groups.{Joining, events_of, joining_of, CanJoin, CanAllJoin, CanGather, IsGathering}
+use Rattle.acc_desk.specs.Desks.{desk_with, run_with, newest, state_of}
+use Rattle.acc_desk.specs.Groups.{gathered, Joining, events_of, joining_of, CanJoin, CanAllJoin, CanGather, IsGathering}
 use Rattle.acc_desk.proofs.Joining.{along, each_at, another_at}
 use Rattle.acc_desk.proofs.desk.Desk.join_others.Goals as goal
 
@@ -38,10 +38,10 @@ one_more found place pair low is =
 
 module _ {D : Type 0} (port : Ghosts D) (strict_run : Bool) (plan : Content) (tape : TapeName) (a : Actor) (commands : List Step) (gone : ℕ)
     (first slot : Slot D) (found : List (Post × Message)) (place used : ℕ) (held : Hold) (seat : SeatView Item) (pair : Post × Message) where
-  -- the message behind those that are staged can join them
+  -- the message after those that are staged can join them
   can_gather : place < length found → place < held.items → pair ≡ get_or found place pair → CanAllJoin plan (newest seat) a (drop gone commands) (map joining_of found)
-      → IsGathering port strict_run plan tape a seat first slot commands gone (take place (map joining_of found)) used held
-      → CanGather port strict_run plan tape a seat first slot commands gone (take place (map joining_of found)) used held (joining_of pair)
+      → IsGathering port (run_with strict_run plan tape) (desk_with a seat slot commands gone) (gathered first (take place (map joining_of found)) used held)
+      → CanGather port (run_with strict_run plan tape) (desk_with a seat slot commands gone) (gathered first (take place (map joining_of found)) used held) (joining_of pair)
   can_gather low room is all gathering =
       let js = map joining_of found in
       let j = joining_of pair in
@@ -86,7 +86,7 @@ loop-place-preserved g c =
       can = along (λ a seat commands gone. CanAllJoin c.args.plan.now (newest seat) a (drop gone commands) (map joining_of found)) same.0 same.1 same.2 same.3 c.loop-place.invariant.can;
       group = λ first gathering.
           let can = can_gather g.D.Disk g.J.Planned.strict c.args.plan.now c.args.tape.now self.actor self.commands self.gone first self.slot found place c.loop-place.used c.args.hold self.seat pair low c.if-place-hold.false c.index-found-place.is c.loop-place.invariant.can (c.loop-place.invariant.group first gathering) in
-          subst (λ joinings. IsGathering g.D.Disk g.J.Planned.strict c.args.plan.now c.args.tape.now new.actor new.seat first new.slot new.commands new.gone joinings c.in-Ok-Some.more c.args.hold) (sym (one_more found place pair low c.index-found-place.is))
+          subst (λ joinings. IsGathering g.D.Disk (run_with g.J.Planned.strict c.args.plan.now c.args.tape.now) (state_of new) (gathered first joinings c.in-Ok-Some.more c.args.hold)) (sym (one_more found place pair low c.index-found-place.is))
           (some_of _ _ c.in-Ok-Some.field-0 c.in-Ok-Some.more c.in-Ok-Some.field-0-is (c.in-Ok-Some.ensures.ok first (take place (map joining_of found)) can));
     }
 

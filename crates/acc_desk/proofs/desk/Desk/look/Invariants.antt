@@ -1,6 +1,6 @@
 use Rattle.std.proofs.Common.{◌≡◌}
 use mathlib.Core.List.{IsPrefix}
-use Rattle.acc_desk.specs.Desks.{IsSound}
+use Rattle.acc_desk.specs.Desks.{run_with, IsSound, state_of}
 use Rattle.acc_desk.proofs.desk.Desk.look.Given as goal
 
 abbrev pub invariant-loop-place : goal.invariant-loop-place
@@ -8,5 +8,5 @@ invariant-loop-place g l = record {
   same : (l.self.actor ≡ l.initial.self.actor) × (l.self.commands ≡ l.initial.self.commands) × (l.self.gone ≡ l.initial.self.gone);
   mine : l.self.seat.mine ≡ l.initial.self.seat.mine;
   seen : IsPrefix l.initial.self.seat.seen l.self.seat.seen;
-  desk : IsSound g.D.Disk g.J.Planned.strict l.plan l.tape l.self.actor l.self.seat l.self.slot l.self.commands l.self.gone;
+  desk : IsSound g.D.Disk (run_with g.J.Planned.strict l.plan l.tape) (state_of l.self);
 }

@@ -5,7 +5,7 @@ use Rattle.acc_payloads.specs.declared.stops.Unsent.{Unsent}
 use Rattle.acc_schedule_runs.specs.Situations.{Situation}
 use Rattle.acc_schedule_runs.specs.Disks.{Disks}
 use Rattle.acc_actors.specs.Slots.{IsStrictSlot}
-use Rattle.acc_actors.specs.Asked.{AreSteps, IsStaged, HasSettled, HasSettledStrictly}
+use Rattle.acc_actors.specs.Asked.{over_disks, AreSteps, IsStaged, HasSettled, HasSettledStrictly}
 use Rattle.acc_message.specs.Run.{Cluster}
 use Rattle.acc_desk.specs.Groups.{Joining, events_of}
 use Rattle.acc_desk.proofs.Joining.{settle_asks, settled_none, settled_some}
@@ -28,7 +28,7 @@ enter_group-requires-clause-group g c =
     let settled = subst (λ (o : Option (List Unsent)). (s : Situation) (staged : List Event) → IsStaged g.D.Disk c.args.plan.now s self.actor staged self.slot → HasSettled g.D.Disk c.args.plan.now s self.actor staged c.settle.new.self o) c.in-Some.is c.in-Ok.ensures.ok in
     let strictly = subst (λ (o : Option (List Unsent)). (s : Situation) (staged : List Event) (disks : Disks) → IsStaged g.D.Disk c.args.plan.now s self.actor staged self.slot → staged ≢ []
     → IsStrictSlot g.D.Disk c.args.plan.now s disks self.actor self.slot
-    → HasSettledStrictly g.D.Disk c.args.plan.now s disks self.actor staged c.settle.new.self o) c.in-Some.is c.in-Ok.ensures.strict in (
+    → HasSettledStrictly g.D.Disk c.args.plan.now (over_disks s disks) self.actor staged c.settle.new.self o) c.in-Some.is c.in-Ok.ensures.strict in (
       events_of q.1,
       settled_some g.D.Disk g.J.Planned.strict c.args.plan.now c.args.tape.now c.requires.limits self.actor self.commands self.gone q.0 self.slot q.1 q.2 c.args.hold self.seat q.4 c.settle.new.self c.in-Some.unsent settled strictly q.3,
     )
@@ -40,7 +40,7 @@ enter_down-requires-clause-group g c =
     let settled = subst (λ (o : Option (List Unsent)). (s : Situation) (staged : List Event) → IsStaged g.D.Disk c.args.plan.now s self.actor staged self.slot → HasSettled g.D.Disk c.args.plan.now s self.actor staged c.settle.new.self o) c.in-None.is c.in-Ok.ensures.ok in
     let strictly = subst (λ (o : Option (List Unsent)). (s : Situation) (staged : List Event) (disks : Disks) → IsStaged g.D.Disk c.args.plan.now s self.actor staged self.slot → staged ≢ []
     → IsStrictSlot g.D.Disk c.args.plan.now s disks self.actor self.slot
-    → HasSettledStrictly g.D.Disk c.args.plan.now s disks self.actor staged c.settle.new.self o) c.in-None.is c.in-Ok.ensures.strict in (
+    → HasSettledStrictly g.D.Disk c.args.plan.now (over_disks s disks) self.actor staged c.settle.new.self o) c.in-None.is c.in-Ok.ensures.strict in (
       q.0,
       q.1,
       settled_none g.D.Disk g.J.Planned.strict c.args.plan.now c.args.tape.now c.requires.limits self.actor self.commands self.gone q.0 self.slot q.1 q.2 c.args.hold self.seat q.4 c.settle.new.self settled strictly q.3,
@@ -62,7 +62,7 @@ returns-in-Some-clause-longer g c =
     let settled = subst (λ (o : Option (List Unsent)). (s : Situation) (staged : List Event) → IsStaged g.D.Disk c.args.plan.now s self.actor staged self.slot → HasSettled g.D.Disk c.args.plan.now s self.actor staged c.settle.new.self o) c.in-Some.is c.in-Ok.ensures.ok in
     let strictly = subst (λ (o : Option (List Unsent)). (s : Situation) (staged : List Event) (disks : Disks) → IsStaged g.D.Disk c.args.plan.now s self.actor staged self.slot → staged ≢ []
     → IsStrictSlot g.D.Disk c.args.plan.now s disks self.actor self.slot
-    → HasSettledStrictly g.D.Disk c.args.plan.now s disks self.actor staged c.settle.new.self o) c.in-Some.is c.in-Ok.ensures.strict in
+    → HasSettledStrictly g.D.Disk c.args.plan.now (over_disks s disks) self.actor staged c.settle.new.self o) c.in-Some.is c.in-Ok.ensures.strict in
     let desk = settled_some g.D.Disk g.J.Planned.strict c.args.plan.now c.args.tape.now c.requires.limits self.actor self.commands self.gone q.0 self.slot q.1 q.2 c.args.hold self.seat q.4 c.settle.new.self c.in-Some.unsent settled strictly q.3 in
     c.enter_group.ensures.longer (some_given _ _ _ q.1 _ c.in-Some.unsent q.3 desk.entering.steps)
 
@@ -72,7 +72,7 @@ returns-in-Some-clause-entered g c = λ first joinings used some gathering.
     let settled = subst (λ (o : Option (List Unsent)). (s : Situation) (staged : List Event) → IsStaged g.D.Disk c.args.plan.now s self.actor staged self.slot → HasSettled g.D.Disk c.args.plan.now s self.actor staged c.settle.new.self o) c.in-Some.is c.in-Ok.ensures.ok in
     let strictly = subst (λ (o : Option (List Unsent)). (s : Situation) (staged : List Event) (disks : Disks) → IsStaged g.D.Disk c.args.plan.now s self.actor staged self.slot → staged ≢ []
     → IsStrictSlot g.D.Disk c.args.plan.now s disks self.actor self.slot
-    → HasSettledStrictly g.D.Disk c.args.plan.now s disks self.actor staged c.settle.new.self o) c.in-Some.is c.in-Ok.ensures.strict in
+    → HasSettledStrictly g.D.Disk c.args.plan.now (over_disks s disks) self.actor staged c.settle.new.self o) c.in-Some.is c.in-Ok.ensures.strict in
     c.enter_group.ensures.entered (events_of joinings)
     (settled_some g.D.Disk g.J.Planned.strict c.args.plan.now c.args.tape.now c.requires.limits self.actor self.commands self.gone first self.slot joinings used c.args.hold self.seat gathering c.settle.new.self c.in-Some.unsent settled strictly some)
 

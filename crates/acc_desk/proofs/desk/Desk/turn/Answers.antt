@@ -10,7 +10,7 @@ returns-in-Idle-clause-took g c = λ is.
     let mid = c.command.new.self in
     let new = c.message.new.self in
     let idle = c.in_ok-command.ensures in
-    let came = subst (λ so. CameTo c.args.plan.now c.args.tape.now old.actor old.commands so old.seat.mine old.gone mid.seat mid.gone) c.in-Idle.is idle.came in
+    let came = subst (λ so. CameTo c.args.plan.now c.args.tape.now (old.actor, old.commands) so (old.seat.mine, old.gone) mid.seat mid.gone) c.in-Idle.is idle.came in
     let took = c.message.ensures.took is in
     inr (
       idle.waits (ap Ok c.in-Idle.is) (idle.up (ap Ok c.in-Idle.is) took.1),
