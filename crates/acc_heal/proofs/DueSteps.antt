@@ -22,7 +22,7 @@ use Rattle.acc_pasts.proofs.Situations.{whole_alone}
 use Rattle.acc_cluster.specs.declared.cluster.Cluster.{Cluster}
 use Rattle.acc_cluster.specs.Stands.{StandsFor, StandsStrictly}
 use Rattle.acc_cluster.proofs.Next.{EndsHere, EndsStrictlyHere}
-use Rattle.acc_cluster.specs.Steps.{StepsTo, StepsStrictly, IfLimit, EndsIn, EndsStrictlyIn}
+use Rattle.acc_cluster.specs.Steps.{change, StepsTo, StepsStrictly, IfLimit, EndsIn, EndsStrictlyIn}
 use Rattle.acc_delivered.proofs.Asked.{past_length}
 use Rattle.acc_heal_laws.specs.Stages.{due, stage_after}
 use Rattle.acc_heal_laws.specs.Healings.{Standing, Goes, due_at, moving_with, beginning, moving_strictly, beginning_strictly}
@@ -65,7 +65,7 @@ module _ {D : Type 0} (port : Ghosts D) (plan : Content) where
           answers_so_far (cluster_of plan) h.answers other 0 plan.steps (opened []) between
           (fewer (past_length between.own h.at.own (goes_goes plan h.answers (length plan.steps) h.steps (beginning plan between) stand h.goes).grows) agree) h.follows
 
-      pub took : (new : Cluster D) → StepsTo port plan h.answers number step old new h.at
+      pub took : (new : Cluster D) → StepsTo port plan h.answers number step (change old new) h.at
           → (now : Place) × TookDue plan next place now × IsHealingAt false port plan between new now
       took new n =
           let now : Place = place_after plan place n.next.own in
@@ -212,7 +212,7 @@ module _ {D : Type 0} (port : Ghosts D) (plan : Content) where
     abbrev IfMetStrictly : RunError → Type 0
     IfMetStrictly = IfLimit (λ which most. (s : StrictSituation) → StandsStrictly port plan old s → EndsStrictlyHere plan number step new s which most)
 
-    pub one_step_leads : ((s : Situation) (answers : Answers) → StandsFor port plan old s → StepsTo port plan answers number step old new s)
+    pub one_step_leads : ((s : Situation) (answers : Answers) → StandsFor port plan old s → StepsTo port plan answers number step (change old new) s)
         → ((s : StrictSituation) → StandsStrictly port plan old s → StepsStrictly port plan number step new s)
         → Leads port plan old new (IsDue plan number step) (TookDue plan next)
     one_step_leads ok strict false between place is_due h = took law number next step next_is old place is_due between h new (ok h.at h.answers h.stands)

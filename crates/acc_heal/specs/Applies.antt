@@ -1,5 +1,5 @@
 -- The Applys among messages, by the numbers of the messages.
-use Rattle.std.specs.Prelude.{◌≡◌, ℕ, zero, suc, List, map, Option, None, Some}
+use Rattle.std.specs.Prelude.{◌≡◌, ℕ, ◌≤◌, zero, suc, List, length, map, Option, None, Some}
 use Rattle.std.specs.List.{slice_get}
 use Rattle.std.specs.Option.{option_flatten}
 use Rattle.acc_stamp.specs.declared.stamps.TxnId.{TxnId}
@@ -25,3 +25,7 @@ apply_at applies number = option_flatten (slice_get applies number)
 abbrev pub marked : List TxnId → ℕ → Option TxnId
 marked ids zero = None
 marked ids (suc place) = slice_get ids place
+
+-- each mark within the ids before points to the same within the ids after
+abbrev pub KeepsMarks : List TxnId → List TxnId → Type 0
+KeepsMarks before after = (mark : ℕ) → mark ≤ length before → (marked after mark ≡ marked before mark) × (mark ≤ length after)

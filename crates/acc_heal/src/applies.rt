@@ -1,20 +1,21 @@
 //! The Applys among messages.
-ghost use Rattle.std.specs.Prelude.{◌≡◌, [], ◌∷◌, ◌++◌, map, Some, None, IfOk, OnOk};
-ghost use Rattle.acc_heal.specs.Applies.{applied_by, apply_at};
+ghost use Rattle.std.specs.Prelude.{◌≡◌, ◌≤◌, [], ◌∷◌, ◌++◌, map, length, Some, None, IsTrue, IfOk, OnOk};
+ghost use Rattle.acc_heal.specs.Applies.{applied_by, apply_at, marked, KeepsMarks};
 
+use crate::numbers::Numbers;
 use acc_base::OutOfMemory;
 use acc_message::Message;
 use acc_stamp::TxnId;
 use std::alloc::Global;
 use std::marker::Model;
 
-/// Which of some messages are Applys, and of which transactions, by the messages' numbers. Each message takes four bytes, and each Apply the
-/// memory of its id beside.
+/// Which of some messages are Applys, and of which transactions, by the messages' numbers. Each message takes the memory of a small number,
+/// and the Applys of one transaction that follow one another that of its id beside.
 #[derive(Debug, Drop)]
 pub(crate) struct Applies {
     // For each message one more than the place of its id, or 0 where it is no Apply.
-    marks: Vec<u32>,
-    // The ids of the Applys.
+    marks: Numbers,
+    // The ids of the Applys, once for those that follow one another.
     ids: Vec<TxnId>,
 }
 
@@ -26,9 +27,9 @@ impl Model for Applies {
 
     ghost Value = { List (Option TxnId) };
 
-    ghost view = { λ a. map (marked a.ids.items) a.marks.items };
+    ghost view = { λ a. map (marked a.ids.items) a.marks };
 
-    ghost invariant = { λ a. AllByRecursion (λ mark. mark ≤ length a.ids.items) a.marks.items };
+    ghost invariant = { λ a. AllByRecursion (λ mark. mark ≤ length a.ids.items) a.marks };
 }
 
 // More Applys than 32 bits count are more than memory holds.
@@ -41,13 +42,35 @@ fn mark_of(applies: usize) -> Result<u32, OutOfMemory>
     Ok(applies as u32)
 }
 
+// Whether the last of the ids is this one.
+fn is_last(ids: &[TxnId], id: TxnId) -> bool
+    ensures { IsTrue result → marked ids.now (length ids.now) ≡ Some id }
+{
+    match ids.last() {
+        Some(last) => *last == id,
+        None => false,
+    }
+}
+
+// Puts an id at the end, where it isn't the last one, and gives the mark that points to it. Marks point to what they pointed to.
+fn mark_last(ids: &mut Vec<TxnId>, id: TxnId) -> Result<u32, OutOfMemory>
+    ensures kept { KeepsMarks ids.old.items ids.new.items }
+    ensures last { IfOk result (λ mark. mark ≡ length ids.new.items) }
+    ensures points { IfOk result (λ mark. marked ids.new.items mark ≡ Some id) }
+{
+    if !is_last(ids.as_slice(), id) {
+        ids.push(id)?;
+    }
+    mark_of(ids.len())
+}
+
 impl Applies {
     /// Those of no messages.
     pub(crate) fn new(alloc: Global) -> Applies
         ensures { result ≡ [] }
     {
         Applies {
-            marks: Vec::new(alloc),
+            marks: Numbers::new(alloc),
             ids: Vec::new(alloc),
         }
     }
@@ -56,7 +79,7 @@ impl Applies {
     pub(crate) fn get(&self, number: u64) -> Option<TxnId>
         ensures { result ≡ apply_at self.now number }
     {
-        let mark = *self.marks.as_slice().get(number as usize)?;
+        let mark = self.marks.get(number as usize)?;
         if mark == 0 {
             return None;
         }
@@ -88,8 +111,7 @@ impl Applies {
     fn push_apply(&mut self, id: TxnId) -> Result<(), OutOfMemory>
         ensures { OnOk result (self.new ≡ self.old ++ Some id ∷ []) }
     {
-        self.ids.push(id)?;
-        let mark = mark_of(self.ids.as_slice().len())?;
+        let mark = mark_last(&mut self.ids, id)?;
         self.marks.push(mark)?;
         Ok(())
     }

@@ -6,6 +6,7 @@ mod begun;
 mod healing;
 mod lacking;
 pub mod laws;
+mod numbers;
 mod plan;
 mod reopening;
 mod seen;

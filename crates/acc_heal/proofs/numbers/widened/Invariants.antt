@@ -1,0 +1,6 @@
+-- The numbers so far are copied.
+use Rattle.std.proofs.Common.{◌≡◌, take}
+use Rattle.acc_heal.proofs.numbers.widened.Given as goal
+
+abbrev pub invariant-loop-number : goal.invariant-loop-number
+invariant-loop-number l = l.wide.items ≡ take l.number-index l.numbers.items
