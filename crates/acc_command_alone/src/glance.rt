@@ -2,7 +2,7 @@
 ghost use Rattle.std.specs.Prelude.{◌≡◌, ◌≤◌, ◌++◌, [], length, reverse, IfOk, IfErr};
 ghost use Rattle.acc_schedule.specs.Plan.{IsPlan};
 ghost use Rattle.acc_report.specs.Report.{report_text};
-ghost use Rattle.acc_glance.specs.Documents.{IsLooksCause, MeansLooks};
+ghost use Rattle.acc_glance.specs.Documents.{AreInTime, IsLooksCause, MeansLooks};
 ghost use Rattle.acc_glance.specs.Texts.{seens_text};
 ghost use Rattle.acc_command_alone.specs.Streams.{streams_of};
 ghost use Rattle.acc_command_alone.specs.Ends.{document_limit};
@@ -72,6 +72,7 @@ where
 fn read(alloc: Global, bytes: Bytes) -> Result<(Plan, Looks), PlanError>
     ensures accepted { IfOk result (λ said. MeansLooks bytes said.0 said.1) }
     ensures sound { IfOk result (λ said. IsPlan said.0) }
+    ensures in_time { IfOk result (λ said. AreInTime said.0 said.1) }
     ensures refused { IfErr result (IsLooksCause bytes) }
 {
     read_looks(alloc, bytes.as_slice())
@@ -87,7 +88,8 @@ fn report<M: DiskMaker>(
 ) -> Result<Reply, OutOfMemory>
 where
     M::D: Drop,
-    requires { IsPlan plan.now }
+    requires is_plan { IsPlan plan.now }
+    requires in_time { AreInTime plan.now looks.now }
     ensures { IfOk result (λ reply. LooksEnd (OverDisks M.D.Disk (M.strict disks.old) (M.given disks.old) (M.given disks.new)) (SeesOver M.D.Disk (M.strict disks.old) (M.given disks.old) (M.given disks.new)) plan.now looks.now reply.status reply.text) }
 {
     plans_run_safely();

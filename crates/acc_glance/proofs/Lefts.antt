@@ -1,5 +1,5 @@
 -- The first replica that is left, node by node.
-use Rattle.std.proofs.Common.{◌≡◌, ℕ, zero, suc, ◌+◌, ◌-◌, ◌≤◌, Bool, true, false, ◌&&◌, cond, List, [], ◌∷◌, ◌++◌, filter, find, None, Some, refl, sym, ◌∙◌, ap, arith}
+use Rattle.std.proofs.Common.{◌≡◌, ℕ, zero, suc, ◌+◌, ◌-◌, ◌≤◌, ◌<◌, Bool, true, false, ◌&&◌, cond, List, [], ◌∷◌, ◌++◌, filter, find, None, Some, refl, sym, ◌∙◌, ap, arith}
 use Rattle.std.specs.List.{range_with_len}
 use Rattle.std.proofs.lemmas.Bool.{true≢false}
 use Rattle.acc_topology.specs.Sets.{in_set, members}
@@ -34,6 +34,13 @@ module _ (p : ℕ → Bool) where
         by false r is h = refl
         by true true is h = absurd (true≢false h)
         by true false is h = ap (λ b. cond b (Some n) None) is
+
+    -- none of the numbers from the first to the second
+    pub none_to : (m d : ℕ) → find p (below m) ≡ None → ((k : ℕ) → m ≤ k → k < m + d → (in_set set k && p k) ≡ false) → find p (below (m + d)) ≡ None
+    none_to m zero none isnt = ap (λ (k : ℕ). find p (below k)) (let e : m + 0 ≡ m = omega arith in e) ∙ none
+    none_to m (suc d) none isnt =
+        ap (λ (k : ℕ). find p (below k)) (let e : m + suc d ≡ (m + d) + 1 = omega arith in e)
+        ∙ none_more (m + d) (none_to m d none (λ k low high. isnt k low (omega (arith, high)))) (isnt (m + d) (omega arith) (omega arith))
 
     pub here : (n : ℕ) → find p (below n) ≡ None → in_set set n ≡ true → p n ≡ true → find p (below (n + 1)) ≡ Some n
     here n none member is =

@@ -15,3 +15,5 @@ pub mod Moments
 pub mod ReadCells
 pub mod Looked
 pub mod OneSight
+pub mod Fewer
+pub mod Ended

@@ -1,21 +1,24 @@
 -- A document with looks: its rules one after another, and what its bytes give.
-use Rattle.std.proofs.Common.{◌≡◌, ◌⊎◌, ℕ, List, length, Option, None, Result, Ok, Err, IfOk, IfErr, refl, sym, ap, subst, ◌∙◌, inl, inr}
-use Rattle.std.specs.Prelude.{IsSome}
+use Rattle.std.proofs.Common.{◌≡◌, ◌⊎◌, ℕ, ◌≤◌, true, false, List, ◌∷◌, [], length, Option, Some, None, unwrap_or, option_map, Result, Ok, Err, IfOk, IfErr, refl, sym, ap, subst, ◌∙◌, inl, inr}
+use Rattle.std.specs.Prelude.{IsSome, codes}
+use Rattle.std.proofs.lemmas.Bool.{and_parts, leb-true}
 use Rattle.std.proofs.lemmas.Option.{none-some, same_Some}
 use Rattle.serde_json.specs.Data.{Data}
-use Rattle.acc_base.specs.Faults.{◌then◌, each}
-use Rattle.acc_base.proofs.Faults.{both_none}
+use Rattle.acc_base.specs.Faults.{◌then◌, each, must}
+use Rattle.acc_base.proofs.Faults.{both_none, each_all, must_none, then_none}
 use Rattle.acc_schedule.specs.declared.error.PlanKind.{PlanKind}
+use Rattle.acc_schedule.specs.declared.error.PlanKind.TheVariants.{Shape, Limit}
 use Rattle.acc_schedule.specs.declared.error.PlanError.{PlanError}
 use Rattle.acc_schedule.specs.declared.error.PlanError.TheVariants.{Bad, OutOfMemory}
 use Rattle.acc_schedule.specs.Content.{Content}
 use Rattle.acc_schedule.specs.Document.{document_fault, IsNoJson, IsRefused, Reads}
-use Rattle.acc_schedule.specs.Faults.{Fault, Gives, IsFault}
-use Rattle.acc_schedule.specs.Fields.{field, items}
+use Rattle.acc_schedule.specs.Faults.{Fault, Gives, IsFault, bad}
+use Rattle.acc_schedule.specs.Fields.{field, is_from_to, is_number_from_to, is_whole, items, natural, number, object_fault}
+use Rattle.acc_schedule.specs.Paths.{item_path, part_path}
 use Rattle.acc_schedule.proofs.AnswerFacts.{same_json}
 use Rattle.acc_document_fields.proofs.EachFacts.{before, behind}
 use Rattle.acc_glance.specs.declared.looks.Look.{Look}
-use Rattle.acc_glance.specs.Documents.{glances, listed_fault, look_fault, looks_document_fault, looks_in, plan_in, run_in, AreReadLooks, BreaksLooks, IsLooksCause, MeansLooks}
+use Rattle.acc_glance.specs.Documents.{at_fault, glances, key_fault, listed_fault, look_fault, look_of, looks_document_fault, looks_in, plan_in, run_in, table_fault, AreInTime, AreReadLooks, BreaksLooks, IsLooksCause, MeansLooks}
 
 -- ---- the rules one after another
 
@@ -57,6 +60,36 @@ pub looks_cause : (bytes : List ℕ) (d : Data) (r : Result (Content × List Loo
 looks_cause bytes d (Ok said) reads h = tt
 looks_cause bytes d (Err OutOfMemory) reads h = tt
 looks_cause bytes d (Err (Bad kind path detail at)) reads h = inr (record { utf8 = reads.utf8; json = d; reads = reads.reads; first = h })
+
+-- ---- no look begins after the last step
+
+at_most : (steps : ℕ) (d : Data) → is_number_from_to 0 steps d ≡ true → number d ≤ steps
+at_most steps d h = by (natural d) h
+  where
+    by : (n : Option ℕ) → unwrap_or (option_map (is_from_to 0 steps) n) false ≡ true → unwrap_or n 0 ≤ steps
+    by None e = absurd cc
+    by (Some n) e = leb-true n steps (and_parts _ _ e).1
+
+begins_in_time : (steps place : ℕ) (d : Data) → look_fault steps place d ≡ None → number (field (codes "at") d) ≤ steps
+begins_in_time steps place d keeps =
+    let objects = object_fault (codes "at" ∷ codes "table" ∷ codes "key" ∷ []) [] (item_path glances place) d in
+    let x = field (codes "at") d in
+    let path = part_path glances place (codes "at") in
+    let before_key = then_none (objects then at_fault steps place d then table_fault place d) (key_fault place d) keeps in
+    let before_table = then_none (objects then at_fault steps place d) (table_fault place d) before_key.0 in
+    let at_kept = then_none objects (at_fault steps place d) before_table.0 in
+    let bounds = then_none (must (is_whole x) (bad Shape path)) (must (is_number_from_to 0 steps x) (bad Limit path)) at_kept.1 in
+    at_most steps x (must_none (is_number_from_to 0 steps x) (bad Limit path) bounds.1)
+
+pub looks_in_time : (bytes : List ℕ) (r : Result (Content × List Look) PlanError) → IfOk r (λ said. MeansLooks bytes said.0 said.1) → IfOk r (λ said. AreInTime said.0 said.1)
+looks_in_time bytes (Ok said) means =
+    let d = means.json in
+    let steps = length (plan_in d).steps in
+    subst (λ (p : Content). AreInTime p said.1) (sym means.says_plan)
+    (subst (λ (ls : List Look). AreInTime (plan_in d) ls) (sym means.says_looks)
+    (each_all (look_fault steps) look_of (λ (l : Look). l.at ≤ steps) (λ place x keeps. begins_in_time steps place x keeps) (items (field glances d)) 0
+    (then_none (listed_fault d then document_fault (run_in d)) (each_fault steps d) means.keeps_rules).1))
+looks_in_time bytes (Err error) means = tt
 
 -- a document that says a plan and looks isn't refused
 pub says_no_fault : (bytes : List ℕ) (plan : Content) (looks : List Look) (kind : PlanKind) (path : List ℕ) (detail at : ℕ) → MeansLooks bytes plan looks

@@ -10,7 +10,7 @@ use Rattle.acc_schedule_runs.specs.Moves.{Answers}
 use Rattle.acc_schedule_runs.specs.StrictMoves.{StrictSituation}
 use Rattle.acc_cluster.specs.declared.cluster.Cluster.{Cluster}
 use Rattle.acc_cluster.specs.Stands.{StandsFor, StandsStrictly}
-use Rattle.acc_cluster.specs.Steps.{StepsTo, StepsStrictly}
+use Rattle.acc_cluster.specs.Steps.{change, StepsTo, StepsStrictly}
 use Rattle.acc_run.proofs.Taking.{GoOn, GoOnStrictly}
 use Rattle.acc_glance.specs.declared.visits.Visitor.{Visitor}
 use Rattle.acc_glance.specs.UnderWay.{IsUnderWay}
@@ -33,7 +33,7 @@ module _ {D : Type 0} (port : Ghosts D) (plan : Content) where
     same : get_or xs i d ≡ get_or plan.steps i d
     same = ap (λ (l : List Step). get_or l i d) items
 
-    pub next_under_way : (law : GoOn) → ((s : Situation) (answers : Answers) → StandsFor port plan old s → StepsTo port plan answers number (get_or xs i d) old new s)
+    pub next_under_way : (law : GoOn) → ((s : Situation) (answers : Answers) → StandsFor port plan old s → StepsTo port plan answers number (get_or xs i d) (change old new) s)
         → IsUnderWay false port plan old before i → IsUnderWay false port plan new visitors (i + 1)
     next_under_way law steps h =
         stepped port plan i number (get_or xs i d) d short same number_is old new before visitors law h (steps h.now h.answers h.stands)

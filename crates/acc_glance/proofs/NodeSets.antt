@@ -1,7 +1,10 @@
 -- Sets of nodes and lists of nodes.
-use Rattle.std.proofs.Common.{◌≡◌, ℕ, ◌==◌, ◌<◌, Bool, true, false, ◌&&◌, ◌||◌, List, count_by, length, take, get_or, ◌+◌, refl, sym, ◌∙◌, ap}
+use Rattle.std.proofs.Common.{◌≡◌, ℕ, ◌==◌, ◌<◌, Bool, true, false, ◌&&◌, ◌||◌, List, count_by, length, take, get_or, ◌+◌, ◌*◌, ◌^◌, ◌/◌, ◌≤◌, refl, sym, ◌∙◌, ap, subst, arith}
+use Rattle.std.proofs.Math.Nat.{lt-div-mul-add}
 use Rattle.std.proofs.lemmas.Bool.{eqb-true}
 use Rattle.std.proofs.lemmas.List.Folds.{list_any_more}
+use Rattle.std.proofs.lemmas.Nat.{pow_pos}
+use Rattle.std.proofs.lemmas.Nat.Bits.{bit_at_above}
 use Rattle.acc_topology.specs.Sets.{in_set, is_among, members, numbers}
 use Rattle.acc_topology.proofs.Bits.{count_by-same, count_by-filter}
 
@@ -63,3 +66,14 @@ counted set among nodes is =
     twice : (p q : Bool) → (p && (p && q)) ≡ (p && q)
     twice true q = refl
     twice false q = refl
+
+none_times : (b : ℕ) → 0 * b + b ≡ b
+none_times b = omega arith
+
+-- a set whose bits from a place on are none
+pub none_from : (set node n : ℕ) → node ≤ n → set / 2 ^ node ≡ 0 → in_set set n ≡ false
+none_from set node n low none =
+    ap (λ (b : ℕ). b == 1)
+    (bit_at_above set node n
+    (subst (λ (m : ℕ). set < m) (none_times (2 ^ node))
+    (subst (λ (q : ℕ). set < q * 2 ^ node + 2 ^ node) none (lt-div-mul-add {a = set} {b = 2 ^ node} (pow_pos node)))) low)

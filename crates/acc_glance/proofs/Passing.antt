@@ -20,7 +20,7 @@ use Rattle.acc_schedule_runs.proofs.Answered.{fewer}
 use Rattle.acc_schedule_runs.proofs.Reached.{next_adds}
 use Rattle.acc_cluster.specs.declared.cluster.Cluster.{Cluster}
 use Rattle.acc_cluster.specs.Stands.{StandsFor}
-use Rattle.acc_cluster.specs.Steps.{StepsTo, StepsStrictly}
+use Rattle.acc_cluster.specs.Steps.{change, StepsTo, StepsStrictly}
 use Rattle.acc_run.proofs.Taking.{GoOn, GoOnStrictly, place_is}
 use Rattle.acc_glance.specs.declared.visits.Visitor.{Visitor}
 use Rattle.acc_glance.specs.Visits.{IsLed}
@@ -101,7 +101,7 @@ module _ {D : Type 0} (port : Ghosts D) (plan : Content) where
     one_more_step : take count plan.steps ++ step ∷ [] ≡ take (count + 1) plan.steps
     one_more_step = ap (λ (x : Step). take count plan.steps ++ x ∷ []) step_is ∙ sym (take_more plan.steps count d within)
 
-    pub stepped : (law : GoOn) (h : IsUnderWay false port plan old before count) → StepsTo port plan h.answers number step old new h.now
+    pub stepped : (law : GoOn) (h : IsUnderWay false port plan old before count) → StepsTo port plan h.answers number step (change old new) h.now
         → AllByRecursion (IsLed plan (map (found_in false) (h.now ∷ h.moments))) visitors → IsUnderWay false port plan new visitors (count + 1)
     stepped law h n led =
         let adds = next_adds (cluster_of plan) n.other number step h.now n.next n.next_is in

@@ -28,6 +28,12 @@ module _ {X : Type 0} (P Q : X → Type 0) where
   all_changed (x ∷ xs) zero past s = absurd (omega arith)
   all_changed (x ∷ xs) (suc i) past s = (s.0, all_changed xs i (omega arith) s.1)
 
+-- a change that keeps a property
+pub all_set : {X : Type 0} (P : X → Type 0) (xs : List X) (i : ℕ) (v : X) → P v → AllByRecursion P xs → AllByRecursion P (set xs i v)
+all_set P [] i v p all = tt
+all_set P (x ∷ xs) zero v p all = (p, all.1)
+all_set P (x ∷ xs) (suc i) v p all = (all.0, all_set P xs i v p all.1)
+
 -- a change that leaves what is seen of an element
 pub map_kept : {X Y : Type 0} (f : X → Y) (xs : List X) (i : ℕ) (v d : X) → i < length xs → f v ≡ f (get_or xs i d) → map f (set xs i v) ≡ map f xs
 map_kept f [] i v d less is = absurd (omega arith)

@@ -1,5 +1,5 @@
 -- The stores of a plan, as a cluster shows them.
-use Rattle.std.proofs.Common.{◌≡◌, ℕ, zero, suc, ◌<◌, ◌≤◌, ◌==◌, Bool, true, false, not, ◌&&◌, List, [], ◌∷◌, length, get_or, find, cond, Option, Some, None, refl, sym, ◌∙◌, ap, subst, arith}
+use Rattle.std.proofs.Common.{◌≡◌, ℕ, zero, suc, ◌+◌, ◌-◌, ◌<◌, ◌≤◌, ◌==◌, Bool, true, false, not, ◌&&◌, List, [], ◌∷◌, length, get_or, find, cond, Option, Some, None, refl, sym, ◌∙◌, ap, subst, arith}
 use Rattle.std.specs.Prelude.{nat_lt}
 use Rattle.std.specs.List.{list_all}
 use Rattle.std.proofs.lemmas.Bool.Decides.{nat_tests}
@@ -29,7 +29,7 @@ use Rattle.acc_store.specs.Queries.{cell_if_applied}
 use Rattle.acc_actors.specs.Stores.{IsStoreUp, IsStoreOf}
 use Rattle.acc_glance.specs.Stages.{first_left, is_left, is_up, shard_for, store_at}
 use Rattle.acc_glance.specs.Visits.{IsFirst, IsLeftAt, IsStoreAt}
-use Rattle.acc_glance.proofs.Lefts.{below, first_is, none_is}
+use Rattle.acc_glance.proofs.Lefts.{below, first_is, none_is, none_to}
 
 -- ---- which nodes are left
 
@@ -120,25 +120,47 @@ pub set_is : (plan : Content) (key : Key) (shard nodes : ℕ) → shard ≡ shar
     → IsSetOf nodes (shard_for (cluster_of plan) key).replicas
 set_is plan key shard nodes is set = subst (λ (k : ℕ). IsSetOf nodes (shard_at plan.topology k).replicas) is set
 
-pub first_at : (plan : Content) (s : Situation) (key : Key) (after : ℕ) (visited : List ℕ) (shard nodes node found : ℕ) (t : Store) → shard ≡ shard_of_key plan.topology key
-    → members nodes ≡ (shard_at plan.topology shard).replicas → node ≤ 15
+pub first_at : (plan : Content) (s : Situation) (key : Key) (after : ℕ) (visited : List ℕ) (nodes node found : ℕ) (t : Store)
+    → members nodes ≡ (shard_for (cluster_of plan) key).replicas → node ≤ 15
     → find (is_left (cluster_of plan) s key after visited) (below (is_left (cluster_of plan) s key after visited) nodes node) ≡ None
-    → IsLeftAt plan s key after visited node found t × (in_set nodes node ≡ true) → IsFirst plan s key after visited found t
-first_at plan s key after visited shard nodes node found t is listed low none at =
+    → found ≡ node → IsLeftAt plan s key after visited node t × (in_set nodes node ≡ true) → IsFirst plan s key after visited found t
+first_at plan s key after visited nodes node found t listed low none same at =
     let p = is_left (cluster_of plan) s key after visited in
     record {
       left =
-          ap (find p) (sym (replicas_are plan key shard nodes is listed)) ∙ first_is p nodes node low none at.1 at.0.left ∙ ap (λ (n : ℕ). Some n) (sym at.0.same);
-      stands = subst (λ (n : ℕ). IsStoreAt plan s key n t) (sym at.0.same) at.0.stands;
+          ap (find p) (sym listed) ∙ first_is p nodes node low none at.1 at.0.left ∙ ap (λ (n : ℕ). Some n) (sym same);
+      stands = subst (λ (n : ℕ). IsStoreAt plan s key n t) (sym same) at.0.stands;
     }
 
-pub none_at : (plan : Content) (s : Situation) (key : Key) (after : ℕ) (visited : List ℕ) (shard nodes node : ℕ) → shard ≡ shard_of_key plan.topology key
-    → members nodes ≡ (shard_at plan.topology shard).replicas → node ≡ 16
+pub none_at : (plan : Content) (s : Situation) (key : Key) (after : ℕ) (visited : List ℕ) (nodes node : ℕ)
+    → members nodes ≡ (shard_for (cluster_of plan) key).replicas → node ≡ 16
     → find (is_left (cluster_of plan) s key after visited) (below (is_left (cluster_of plan) s key after visited) nodes node) ≡ None
     → first_left (cluster_of plan) s key after visited ≡ None
-none_at plan s key after visited shard nodes node is listed full none =
+none_at plan s key after visited nodes node listed full none =
     let p = is_left (cluster_of plan) s key after visited in
-    ap (find p) (sym (replicas_are plan key shard nodes is listed)) ∙ none_is p nodes node full none
+    ap (find p) (sym listed) ∙ none_is p nodes node full none
+
+-- none of the nodes from the first to the second is left, and none after these
+module _ (plan : Content) (s : Situation) (key : Key) (after : ℕ) (visited : List ℕ) (set : ℕ) where
+  pub none_up_to : (d : ℕ) → d ≤ after + 1
+      → find (is_left (cluster_of plan) s key after visited) (below (is_left (cluster_of plan) s key after visited) set d) ≡ None
+  none_up_to d low =
+      let p = is_left (cluster_of plan) s key after visited in
+      ap (λ (k : ℕ). find p (below p set k)) (whole d) ∙ none_to p set 0 d refl (λ k least less. not_after plan s key after visited set k (omega (arith, less, low)))
+    where
+      whole : (d : ℕ) → d ≡ 0 + d
+      whole d = omega arith
+
+  pub none_further : (node : ℕ) → node ≤ 16 → ((n : ℕ) → node ≤ n → in_set set n ≡ false)
+      → find (is_left (cluster_of plan) s key after visited) (below (is_left (cluster_of plan) s key after visited) set node) ≡ None
+      → find (is_left (cluster_of plan) s key after visited) (below (is_left (cluster_of plan) s key after visited) set 16) ≡ None
+  none_further node low empty none =
+      let p = is_left (cluster_of plan) s key after visited in
+      ap (λ (k : ℕ). find p (below p set k)) (rest node low)
+      ∙ none_to p set node (16 - node) none (λ k least less. not_member set k (p k) (sym (empty k least)))
+    where
+      rest : (n : ℕ) → n ≤ 16 → 16 ≡ n + (16 - n)
+      rest n low = omega (arith, low)
 
 -- what a store tells of itself it tells of its past
 module _ (plan : Content) (s : Situation) (sound : IsSound (cluster_of plan) s) (a : Actor) (node_no : is_node a ≡ false) where

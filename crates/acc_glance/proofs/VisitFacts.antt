@@ -1,5 +1,6 @@
 -- What the parts of a visit give.
-use Rattle.std.proofs.Common.{◌≡◌, ℕ, Bool, true, false, ◌&&◌, List, ◌∷◌, [], ◌++◌, count_by, reverse, cond, Option, Some, None, refl, sym, ◌∙◌, ap, subst}
+use Rattle.std.proofs.Common.{◌≡◌, ℕ, ◌==◌, Bool, true, false, ◌&&◌, List, ◌∷◌, [], ◌++◌, count_by, reverse, cond, Option, Some, None, refl, sym, ◌∙◌, ap, subst, arith}
+use Rattle.std.proofs.lemmas.Bool.{true≢false}
 use Rattle.std.specs.Prelude.{nat_le, length}
 use Rattle.std.proofs.lemmas.List.{length-reverse}
 use Rattle.acc_base.specs.Faults.{or_else}
@@ -15,7 +16,7 @@ use Rattle.acc_value.specs.declared.key.Key.{Key}
 use Rattle.acc_value.specs.declared.value.Value.{Value}
 use Rattle.acc_message.specs.declared.item.Item.{Item}
 use Rattle.acc_message.specs.declared.message.Message.{Message}
-use Rattle.acc_message.specs.Run.{taken_of}
+use Rattle.acc_message.specs.Run.{Cluster, taken_of}
 use Rattle.acc_message.specs.StoreRules.{replay}
 use Rattle.acc_message.specs.Taken.{Taken}
 use Rattle.acc_pasts.specs.Stopped.{IsSound}
@@ -30,7 +31,7 @@ use Rattle.acc_glance.specs.declared.stages.Course.{Course}
 use Rattle.acc_glance.specs.declared.stages.Stage.{Stage}
 use Rattle.acc_glance.specs.declared.stages.Stage.TheVariants.{Waiting, Visiting, Read, Open}
 use Rattle.acc_glance.specs.Stages.{after_reading, asked_at, begun_at, cell_at, first_left, has_asked, moved, next_to_ask, next_to_read, read_at, shown_at, stage_of, store_at, visited, writers_at}
-use Rattle.acc_glance.specs.Visits.{is_due, IsFirst, IsLed, IsNextToRead, IsStoreAt, IsVisitOf}
+use Rattle.acc_glance.specs.Visits.{is_due, IsFirst, IsLed, IsNextToRead, IsStoreAt, IsVisitOf, ReadsAfterAsking}
 use Rattle.acc_glance.specs.declared.visits.Visitor.{Visitor}
 use Rattle.acc_glance.proofs.NodeSets.{counted}
 use Rattle.acc_glance.proofs.StoreFacts.{replayed}
@@ -116,6 +117,65 @@ pub shown_none : (plan : Content) (s : Situation) (key : Key) (over : Bool) (cou
     → Visiting passed ≡ read_at (cluster_of plan) s key over course (next_to_read (cluster_of plan) s key course)
 shown_none plan s key over course passed node due told passed_is =
     ap (λ (c : Course). Visiting c) passed_is ∙ ap (shown_at s over course node) told ∙ ap (read_at (cluster_of plan) s key over course) (sym due)
+
+-- before the last step is taken only the node visited last changes
+pub passed_before : (plan : Content) (s : Situation) (look : Look) (over : Bool) (number : ℕ) (course : Course) (node : ℕ) → over ≡ false
+    → true ≡ has_asked (cluster_of plan) look.key course → next_to_read (cluster_of plan) s look.key course ≡ Some node
+    → None ≡ cell_at (cluster_of plan) s look.key course.told node
+    → Visiting (record { from = course.from; asked = course.asked; told = course.told; last = node; late = course.late })
+    ≡ moved (cluster_of plan) look over number s (Visiting course)
+passed_before plan s look over number course node before asked due told =
+    shown_none plan s look.key over course (record { from = course.from; asked = course.asked; told = course.told; last = node; late = course.late }) node due told
+    (ap (λ b. record { from = course.from; asked = course.asked; told = course.told; last = node; late = cond b (course.late ++ node ∷ []) course.late })
+    (sym before)) ∙ reads plan s look.key over course asked
+
+-- ---- the second phase comes after the first
+
+module _ (cluster : Cluster) (s : Situation) (key : Key) (over : Bool) where
+  stays_so : (b : Bool) (course : Course) → ReadsAfterAsking cluster key (Visiting course) → ReadsAfterAsking cluster key (cond b (Open course.from) (Visiting course))
+  stays_so true course so = tt
+  stays_so false course so = so
+
+  reading_so : (course : Course) (next : Option ℕ) → has_asked cluster key course ≡ true → ReadsAfterAsking cluster key (read_at cluster s key over course next)
+  reading_so course None is = stays_so over course (λ low. is)
+  reading_so course (Some node) is = by (cell_at cluster s key course.told node)
+    where
+      by : (cell : Option (Option Value)) → ReadsAfterAsking cluster key (shown_at s over course node cell)
+      by None = λ low. is
+      by (Some cell) = tt
+
+  asking_so : (course : Course) (next : Option ℕ) → ReadsAfterAsking cluster key (Visiting course) → has_asked cluster key course ≡ false
+      → ReadsAfterAsking cluster key (asked_at cluster s key over course next)
+  asking_so course None so isnt = stays_so over course so
+  asking_so course (Some node) so isnt = λ low. absurd (true≢false (sym (so low) ∙ isnt))
+
+  visited_so : (course : Course) → ReadsAfterAsking cluster key (Visiting course) → ReadsAfterAsking cluster key (visited cluster s key over course)
+  visited_so course so = by (has_asked cluster key course) refl
+    where
+      by : (b : Bool) → has_asked cluster key course ≡ b
+          → ReadsAfterAsking cluster key (cond b (read_at cluster s key over course (next_to_read cluster s key course)) (asked_at cluster s key over course (next_to_ask cluster s key course)))
+      by true is = reading_so course (next_to_read cluster s key course) is
+      by false isnt = asking_so course (next_to_ask cluster s key course) so isnt
+
+moved_so : (cluster : Cluster) (look : Look) (over : Bool) (number : ℕ) (s : Situation) (stage : Stage) → ReadsAfterAsking cluster look.key stage
+    → ReadsAfterAsking cluster look.key (moved cluster look over number s stage)
+moved_so cluster look over number s Waiting so = by (number == look.at)
+  where
+    by : (b : Bool) → ReadsAfterAsking cluster look.key (cond b (visited cluster s look.key over (begun_at (length s.own))) Waiting)
+    by true = visited_so cluster s look.key over (begun_at (length s.own)) (λ low. absurd (omega (arith, low)))
+    by false = tt
+moved_so cluster look over number s (Visiting course) so = visited_so cluster s look.key over course so
+moved_so cluster look over number s (Read from to cell) so = tt
+moved_so cluster look over number s (Open from) so = tt
+
+pub stage_so : (cluster : Cluster) (look : Look) (steps : ℕ) (moments : List Situation) → ReadsAfterAsking cluster look.key (stage_of cluster look steps moments)
+stage_so cluster look steps [] = tt
+stage_so cluster look steps (s ∷ earlier) =
+    moved_so cluster look (nat_le steps (length earlier)) (length earlier) s (stage_of cluster look steps earlier) (stage_so cluster look steps earlier)
+
+pub led_so : (plan : Content) (moments : List Situation) (visitor : Visitor) → IsLed plan moments visitor → ReadsAfterAsking (cluster_of plan) visitor.look.key visitor.stage
+led_so plan moments visitor led =
+    subst (ReadsAfterAsking (cluster_of plan) visitor.look.key) (sym led) (stage_so (cluster_of plan) visitor.look (length plan.steps) moments)
 
 -- ---- the second phase goes round
 

@@ -1,8 +1,10 @@
 -- Documents with looks: that of a run with one more field.
 --     looks_document_fault d      the first rule that the data of one breaks
 --     MeansLooks bytes plan looks      the bytes are such a document that breaks no rule, and this is what it says
+--     AreInTime plan looks      each look begins before a step of the plan or after the last one
 --     IsLooksCause bytes error      why bytes are refused so
-use Rattle.std.specs.Prelude.{◌≡◌, ◌⊎◌, ℕ, List, [], ◌∷◌, length, map, Some, None, Result, Ok, Err, IsUtf8, codes, is_some}
+use Rattle.std.specs.Prelude.{◌≡◌, ◌≤◌, ◌⊎◌, ℕ, List, [], ◌∷◌, length, map, Some, None, Result, Ok, Err, IsUtf8, codes, is_some}
+use Rattle.std.specs.List.{AllByRecursion}
 use Rattle.serde_json.specs.Data.{Data}
 use Rattle.serde_json.specs.Find.{get}
 use Rattle.serde_json.specs.Read.{read}
@@ -80,6 +82,10 @@ look_of d = record { at = number (field (codes "at") d); key = record { table = 
 
 abbrev pub looks_in : Data → List Look
 looks_in d = map look_of (items (field glances d))
+
+-- each of these looks begins in the moment before a step of the plan, or in the first one after the last step
+abbrev pub AreInTime : Content → List Look → Type 0
+AreInTime plan looks = AllByRecursion (λ look. look.at ≤ length plan.steps) looks
 
 -- ---- what bytes say
 

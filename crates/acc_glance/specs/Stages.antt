@@ -3,9 +3,10 @@
 -- replica, by node number, that it has not visited; each tells which writers of the key it knows, and the visit that makes a majority is the
 -- last. In its second phase it visits the replicas going round, from after the one visited last, and the first that has applied all of these
 -- writers shows the cell. After the last step each phase visits a replica at most once; a look that has no visit left there stays open.
+--     has_ended stage      a look that stands so has no visit left
 --     moved cluster look over number s stage      where a look stands after a moment
 --     stage_of cluster look steps moments      where it stands after these moments
-use Rattle.std.specs.Prelude.{ℕ, ◌==◌, nat_lt, nat_le, cond, Bool, not, ◌&&◌, List, [], ◌∷◌, ◌++◌, length, find, Option, Some, None}
+use Rattle.std.specs.Prelude.{ℕ, ◌==◌, nat_lt, nat_le, cond, Bool, not, true, false, ◌&&◌, List, [], ◌∷◌, ◌++◌, length, find, Option, Some, None}
 use Rattle.acc_base.specs.Faults.{or_else}
 use Rattle.acc_stamp.specs.declared.stamps.TxnId.{TxnId}
 use Rattle.acc_stamp.specs.declared.actors.Actor.{Actor}
@@ -128,3 +129,12 @@ abbrev pub stage_of : Cluster → Look → ℕ → List Situation → Stage
 stage_of cluster look steps [] = Waiting
 stage_of cluster look steps (s ∷ earlier) =
     moved cluster look (nat_le steps (length earlier)) (length earlier) s (stage_of cluster look steps earlier)
+
+-- ---- the end
+
+-- the look has no visit left
+abbrev pub has_ended : Stage → Bool
+has_ended Waiting = false
+has_ended (Visiting course) = false
+has_ended (Read from to cell) = true
+has_ended (Open from) = true

@@ -10,7 +10,9 @@ ghost use Rattle.acc_cluster.specs.Stands.{StandsFor, StandsStrictly};
 ghost use Rattle.acc_cluster.specs.Limits.{HasEntered};
 ghost use Rattle.acc_cluster.specs.Steps.{IfLimit};
 ghost use Rattle.acc_run.specs.Taken.{IsStopped};
-ghost use Rattle.acc_glance.specs.Visits.{IsLed};
+ghost use Rattle.acc_glance.specs.Documents.{AreInTime};
+ghost use Rattle.acc_glance.specs.Stages.{has_ended};
+ghost use Rattle.acc_glance.specs.Visits.{HasReplicas, IsLed};
 ghost use Rattle.acc_glance.specs.Runs.{HasLooked};
 ghost use Rattle.acc_glance.specs.UnderWay.{IsUnderWay};
 
@@ -43,6 +45,7 @@ pub fn glance<D: Rig + Drop>(
     cluster: &mut Cluster<D>,
 ) -> Result<Seens, RunError>
     requires is_plan { IsPlan plan.now }
+    requires in_time { AreInTime plan.now looks.now }
     requires stands { StandsFor D.Disk plan.now cluster.old (opened_behind []) }
 
     ensures ok { IfOk result (λ seens. HasLooked false D.Disk plan.now looks.now cluster.new seens) }
@@ -53,7 +56,7 @@ pub fn glance<D: Rig + Drop>(
     ensures strict_limit { StandsStrictly D.Disk plan.now cluster.old (opened_strictly [])
         → IfErr result (IfLimit (λ which most. (items : List Item) × StrictLimitEnds plan.now items which most × HasEntered cluster.new items)) }
 {
-    let mut visitors = visitors(alloc, looks)?;
+    let mut visitors = visitors(alloc, plan, looks)?;
     take_steps(alloc, plan, cluster, &mut visitors)?;
     finish_visits(alloc, plan, cluster, &mut visitors)?;
     let mut findings = findings(alloc, visitors)?;
@@ -72,9 +75,11 @@ fn take_steps<D: Rig + Drop>(
 ) -> Result<(), RunError>
     requires is_plan { IsPlan plan.now }
     requires stands { StandsFor D.Disk plan.now cluster.old (opened_behind []) }
+    requires replicas { AllByRecursion (HasReplicas plan.now) visitors.old.items }
     requires begins { AllByRecursion (IsLed plan.now []) visitors.old.items }
 
     ensures looks { OnOk result (map (λ v. v.look) visitors.new.items ≡ map (λ v. v.look) visitors.old.items) }
+    ensures replicas { OnOk result (AllByRecursion (HasReplicas plan.now) visitors.new.items) }
     ensures ok { OnOk result (IsUnderWay false D.Disk plan.now cluster.new visitors.new.items (length plan.now.steps)) }
     ensures limit { IfErr result (IfLimit (λ which most. (items : List Item) × IsStopped D.Disk plan.now cluster.new items which most)) }
 
@@ -101,7 +106,7 @@ fn take_steps<D: Rig + Drop>(
     Ok(())
 }
 
-// Makes the visits of the moments after the last step.
+// Makes the visits of the moments after the last step, until no look has one left.
 fn finish_visits<D: Rig + Drop>(
     alloc: Global,
     plan: &Plan,
@@ -109,9 +114,13 @@ fn finish_visits<D: Rig + Drop>(
     visitors: &mut Vec<Visitor>,
 ) -> Result<(), OutOfMemory>
     requires is_plan { IsPlan plan.now }
+    requires in_time { AreInTime plan.now (map (λ v. v.look) visitors.old.items) }
+    requires replicas { AllByRecursion (HasReplicas plan.now) visitors.old.items }
     ensures looks { OnOk result (map (λ v. v.look) visitors.new.items ≡ map (λ v. v.look) visitors.old.items) }
     ensures ok { OnOk result ((strictly : Bool) → IsUnderWay strictly D.Disk plan.now cluster.now visitors.old.items (length plan.now.steps)
         → (count : ℕ) × (length plan.now.steps ≤ count) × IsUnderWay strictly D.Disk plan.now cluster.now visitors.new.items count) }
+    ensures ended { OnOk result (IsUnderWay false D.Disk plan.now cluster.now visitors.old.items (length plan.now.steps)
+        → AllByRecursion (λ v. has_ended v.stage ≡ true) visitors.new.items) }
 {
     let steps = plan.steps.len() as u32;
     for more in 0..MOST_MOMENTS {

@@ -9,7 +9,7 @@ ghost use Rattle.acc_schedule.specs.Faults.{Gives};
 ghost use Rattle.acc_schedule.specs.Fields.{field, items as items_of};
 ghost use Rattle.acc_schedule.specs.Plan.{IsPlan};
 ghost use Rattle.acc_glance.specs.declared.looks.Look.{Look as ALook};
-ghost use Rattle.acc_glance.specs.Documents.{glances, key_fault, key_of, listed_fault, look_fault, look_of, looks_document_fault, looks_in as looks_said, plan_in, table_fault, table_of, AreReadLooks, IsLooksCause, MeansLooks};
+ghost use Rattle.acc_glance.specs.Documents.{glances, key_fault, key_of, listed_fault, look_fault, look_of, looks_document_fault, looks_in as looks_said, plan_in, table_fault, table_of, AreInTime, AreReadLooks, IsLooksCause, MeansLooks};
 
 use acc_base::{InlineText, Sequence};
 use acc_document_fields::{Part, list, number, object, text, wrong};
@@ -43,6 +43,7 @@ pub fn read_looks(alloc: Global, bytes: &[u8]) -> Result<(Plan, Looks), PlanErro
     // What is answered, and what the answer says of the bytes.
     ensures accepted { IfOk result (λ said. MeansLooks bytes.now said.0 said.1) }
     ensures sound { IfOk result (λ said. IsPlan said.0) }
+    ensures in_time { IfOk result (λ said. AreInTime said.0 said.1) }
     ensures refused { IfErr result (IsLooksCause bytes.now) }
 
     // What all bytes give, unless memory runs out.

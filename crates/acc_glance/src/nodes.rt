@@ -1,5 +1,5 @@
 //! Lists of nodes.
-ghost use Rattle.std.specs.Prelude.{◌≡◌, ◌==◌, ◌&&◌, ◌||◌, ℕ};
+ghost use Rattle.std.specs.Prelude.{◌≡◌, ◌==◌, ◌&&◌, ◌||◌, ◌≤◌, ℕ, true, false};
 ghost use Rattle.acc_topology.specs.Sets.{in_set, is_among};
 
 use acc_topology::NodeSet;
@@ -32,4 +32,12 @@ pub(crate) fn is_one_of(nodes: &[u32], node: u32) -> bool
     ensures { result ≡ is_among nodes.now node }
 {
     nodes.iter().any(|other| *other == node)
+}
+
+/// Whether the set has no node from this one on.
+pub(crate) fn has_none_from(set: NodeSet, node: u32) -> bool
+    requires { node ≤ 15 }
+    ensures { result ≡ true → (n : ℕ) → node ≤ n → in_set set n ≡ false }
+{
+    set >> node == 0
 }

@@ -7,6 +7,7 @@ ghost use Rattle.acc_schedule.specs.Plan.{IsPlan};
 ghost use Rattle.acc_schedule_runs.specs.Limits.{IsWithin};
 ghost use Rattle.acc_schedule_runs.specs.StrictFronts.{StrictLimitEnds};
 ghost use Rattle.acc_run.specs.Given.{HasStopped};
+ghost use Rattle.acc_glance.specs.Documents.{AreInTime};
 ghost use Rattle.acc_glance.specs.Runs.{AreSeenStrictly, HasRunWithLooks};
 
 use crate::looking::glance;
@@ -32,6 +33,7 @@ pub fn glance_plan<M: DiskMaker>(
 where
     M::D: Drop,
     requires is_plan { IsPlan plan.now }
+    requires in_time { AreInTime plan.now looks.now }
 
     // Whatever the disks answered, the items are those of the schedule with these answers, and within the limits; the looks have seen what
     // stood there; and each disk keeps its actor where these answers led, after a limit too.

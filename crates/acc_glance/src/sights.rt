@@ -1,5 +1,5 @@
 //! The least moments that show what looks have read.
-ghost use Rattle.std.specs.Prelude.{◌≡◌, ℕ, ◌+◌, ◌<◌, ◌≤◌, List, None, Some, length, map, max, reverse, IfOk, OnOk};
+ghost use Rattle.std.specs.Prelude.{◌≡◌, true, ℕ, ◌+◌, ◌<◌, ◌≤◌, List, None, Some, length, map, max, reverse, IfOk, OnOk};
 ghost use Rattle.std.specs.List.{AllByRecursion};
 ghost use Rattle.std.specs.Option.{option_eq};
 ghost use Rattle.acc_value.specs.declared.key.Key.{Key as AKey};
@@ -9,6 +9,7 @@ ghost use Rattle.acc_message.specs.declared.item.Item.{Item};
 ghost use Rattle.acc_message.specs.Run.{Cluster};
 ghost use Rattle.acc_schedule_runs.specs.Schedules.{cluster_of};
 ghost use Rattle.acc_glance.specs.Seen.{EndsAs};
+ghost use Rattle.acc_glance.specs.Stages.{has_ended};
 ghost use Rattle.acc_glance.specs.Sights.{AreEnded, HasMoment, IsSettled, SettledBelow, ShowsFrom, StartsAfter};
 
 use crate::looks::Look;
@@ -183,9 +184,10 @@ fn greater(one: u64, other: u64) -> u64
     if one < other { other } else { one }
 }
 
-/// What each look has seen.
+/// What each look has seen. Each has ended.
 pub(crate) fn seens(alloc: Global, findings: &[Finding]) -> Result<Seens, OutOfMemory>
-    requires { AllByRecursion HasMoment findings.now }
+    requires moments { AllByRecursion HasMoment findings.now }
+    requires ended { AllByRecursion (λ finding. has_ended finding.stage ≡ true) findings.now }
     ensures { IfOk result (λ seens. (cluster : Cluster) (items : List Item) (next : ℕ) → AllByRecursion (IsSettled cluster items next) findings.now
         → AreEnded cluster items findings.now seens) }
 {
@@ -198,7 +200,8 @@ pub(crate) fn seens(alloc: Global, findings: &[Finding]) -> Result<Seens, OutOfM
 
 // What a look has seen.
 fn seen_by(finding: &Finding) -> Result<Seen, OutOfMemory>
-    requires { HasMoment finding.now }
+    requires moment { HasMoment finding.now }
+    requires ended { has_ended finding.now.stage ≡ true }
     ensures { IfOk result (λ seen. (cluster : Cluster) (items : List Item) (next : ℕ) → IsSettled cluster items next finding.now
         → EndsAs cluster items finding.now.look.key finding.now.stage seen) }
 {
@@ -208,8 +211,8 @@ fn seen_by(finding: &Finding) -> Result<Seen, OutOfMemory>
             end: None,
         }),
         Stage::Read { from, to, cell } => seen_at(*from, *to, cell, finding.at),
-        Stage::Waiting => Err(OutOfMemory),
-        Stage::Visiting(_) => Err(OutOfMemory),
+        Stage::Waiting => unreachable!(),
+        Stage::Visiting(_) => unreachable!(),
     }
 }
 

@@ -1,24 +1,24 @@
 //! The visits of looks, moment by moment.
-ghost use Rattle.std.specs.Prelude.{◌≡◌, List, ◌∷◌, ◌++◌, [], length, map, nat_le, IfOk, IfSome, OnOk, None};
-ghost use Rattle.std.specs.List.{AllByRecursion};
+ghost use Rattle.std.specs.Prelude.{◌≡◌, List, ◌∷◌, ◌++◌, [], length, map, nat_le, ℕ, true, false, IfOk, IfSome, OnOk, None};
+ghost use Rattle.std.specs.List.{AllByRecursion, list_all};
 ghost use Rattle.acc_stamp.specs.Rising.{ids_union};
 ghost use Rattle.acc_schedule.specs.Content.{Content};
 ghost use Rattle.acc_schedule_runs.specs.Schedules.{cluster_of};
 ghost use Rattle.acc_schedule_runs.specs.Situations.{Situation};
 ghost use Rattle.acc_cluster.specs.Stands.{StandsFor};
-ghost use Rattle.acc_glance.specs.Stages.{after_reading, asked_at, has_asked as has_asked_all, moved, next_to_ask as due_to_ask, next_to_read as due_to_read, read_at as due_read, unvisited as left_unvisited, visited};
+ghost use Rattle.acc_glance.specs.Stages.{after_reading, asked_at, has_asked as has_asked_all, has_ended, moved, next_to_ask as due_to_ask, next_to_read as due_to_read, read_at as due_read, unvisited as left_unvisited, visited};
 ghost use Rattle.acc_stamp.specs.Actor.{shard_of};
 ghost use Rattle.acc_topology.specs.Layout.{Layout};
 ghost use Rattle.acc_message.specs.declared.message.Message.{Message};
 ghost use Rattle.acc_message.specs.StoreRules.{replay};
 ghost use Rattle.acc_store.specs.Queries.{cell_if_applied};
 ghost use Rattle.acc_store.specs.Stands.{actor_of, StandsFor as StoreStands};
-ghost use Rattle.acc_glance.specs.Visits.{is_due as is_due_in, IsLed, IsNextToRead, IsVisitOf};
+ghost use Rattle.acc_glance.specs.Visits.{is_due as is_due_in, AreReplicasOf, HasReplicas, IsLed, IsNextToRead, IsVisitOf, ReadsAfterAsking};
 
 use crate::looks::{Look, Looks};
 use crate::nodes::set_of;
 use crate::stages::{Course, Stage};
-use crate::stores::{Place, first_left, read};
+use crate::stores::{Place, Reached, Replicas, first_left, read, replicas_of};
 use acc_base::OutOfMemory;
 use acc_cluster::Cluster;
 use acc_index::rising;
@@ -33,9 +33,10 @@ use std::mem;
 #[derive(Drop)]
 pub(crate) struct Visitor {
     pub(crate) look: Look,
+    /// Those of the look's key.
+    pub(crate) replicas: Replicas,
     pub(crate) stage: Stage,
-    /// Of each node, up to which place among the told writers its store was found to have applied them.
-    pub(crate) places: Vec<usize>,
+    pub(crate) reached: Reached,
 }
 
 /// A moment: that before the step with its number, or one after the last step.
@@ -46,28 +47,37 @@ pub(crate) struct Moment {
 }
 
 /// The looks, before they begin.
-pub(crate) fn visitors(alloc: Global, looks: &Looks) -> Result<Vec<Visitor>, OutOfMemory>
+pub(crate) fn visitors(
+    alloc: Global,
+    plan: &Plan,
+    looks: &Looks,
+) -> Result<Vec<Visitor>, OutOfMemory>
     ensures looks { IfOk result (λ visitors. map (λ v. v.look) visitors.items ≡ looks.now) }
-    ensures led { IfOk result (λ visitors. (plan : Content) → AllByRecursion (IsLed plan []) visitors.items) }
+    ensures replicas { IfOk result (λ visitors. AllByRecursion (HasReplicas plan.now) visitors.items) }
+    ensures led { IfOk result (λ visitors. AllByRecursion (IsLed plan.now []) visitors.items) }
 {
     let mut visitors = Vec::new(alloc);
     for look in looks.as_slice() {
-        visitors.push(begun_by(alloc, look)?)?;
+        visitors.push(begun_by(alloc, plan, look)?)?;
     }
     Ok(visitors)
 }
 
-fn begun_by(alloc: Global, look: &Look) -> Result<Visitor, OutOfMemory>
+fn begun_by(alloc: Global, plan: &Plan, look: &Look) -> Result<Visitor, OutOfMemory>
     ensures look { IfOk result (λ visitor. visitor.look ≡ look.now) }
-    ensures led { IfOk result (λ visitor. (plan : Content) → IsLed plan [] visitor) }
+    ensures replicas { IfOk result (λ visitor. HasReplicas plan.now visitor) }
+    ensures led { IfOk result (λ visitor. IsLed plan.now [] visitor) }
 {
+    let key = look.key.copy()?;
+    let replicas = replicas_of(plan, &key);
     Ok(Visitor {
-        look: Look {
-            at: look.at,
-            key: look.key.copy()?,
-        },
+        look: Look { at: look.at, key },
+        replicas,
         stage: Stage::Waiting,
-        places: vec![in alloc; 0; 16]?,
+        reached: Reached {
+            places: vec![in alloc; 0; 16]?,
+            one: Ids::new(alloc),
+        },
     })
 }
 
@@ -79,21 +89,30 @@ pub(crate) fn visit_all<D: Rig + Drop>(
     moment: Moment,
     visitors: &mut Vec<Visitor>,
 ) -> Result<(), OutOfMemory>
+    requires replicas { AllByRecursion (HasReplicas plan.now) visitors.old.items }
     ensures looks { OnOk result (map (λ v. v.look) visitors.new.items ≡ map (λ v. v.look) visitors.old.items) }
+    ensures replicas { OnOk result (AllByRecursion (HasReplicas plan.now) visitors.new.items) }
     ensures led { OnOk result ((s : Situation) (moments : List Situation) → StandsFor D.Disk plan.now cluster.now s
         → moment.number ≡ length moments → moment.over ≡ nat_le (length plan.now.steps) (length moments)
         → AllByRecursion (IsLed plan.now moments) visitors.old.items → AllByRecursion (IsLed plan.now (s ∷ moments)) visitors.new.items) }
 {
-    let mut one = Ids::new(alloc);
     for place in 0..visitors.len() {
-        advance(alloc, plan, cluster, moment, &mut visitors[place], &mut one)?;
+        advance(alloc, plan, cluster, moment, &mut visitors[place])?;
     }
     Ok(())
 }
 
 /// Whether each look has ended.
-pub(crate) fn are_over(visitors: &[Visitor]) -> bool {
-    visitors.iter().all(|visitor| matches!(&visitor.stage, Stage::Read { .. } | Stage::Open { .. }))
+pub(crate) fn are_over(visitors: &[Visitor]) -> bool
+    ensures { result ≡ list_all (λ visitor. has_ended visitor.stage) visitors.now }
+{
+    visitors.iter().all(|visitor| is_over(&visitor.stage))
+}
+
+fn is_over(stage: &Stage) -> bool
+    ensures { result ≡ has_ended stage.now }
+{
+    matches!(stage, Stage::Read { .. } | Stage::Open { .. })
 }
 
 // Whether the look has a visit to make in this moment, or may have.
@@ -115,13 +134,27 @@ fn advance<D: Rig + Drop>(
     cluster: &Cluster<D>,
     moment: Moment,
     visitor: &mut Visitor,
-    one: &mut Ids,
 ) -> Result<(), OutOfMemory>
+    requires replicas { HasReplicas plan.now visitor.old }
     ensures look { OnOk result (visitor.new.look ≡ visitor.old.look) }
+    ensures replicas { OnOk result (HasReplicas plan.now visitor.new) }
     ensures stage { OnOk result ((s : Situation) → StandsFor D.Disk plan.now cluster.now s
+        → ReadsAfterAsking (cluster_of plan.now) visitor.old.look.key visitor.old.stage
         → visitor.new.stage ≡ moved (cluster_of plan.now) visitor.old.look moment.over moment.number s visitor.old.stage) }
 {
     if !is_due(visitor, moment) {
+        return Ok(());
+    }
+    let passed = pass_by(
+        plan,
+        cluster,
+        moment.over,
+        &visitor.look,
+        visitor.replicas,
+        &mut visitor.stage,
+        &mut visitor.reached,
+    )?;
+    if passed {
         return Ok(());
     }
     let stage = mem::replace(&mut visitor.stage, Stage::Waiting);
@@ -131,12 +164,48 @@ fn advance<D: Rig + Drop>(
         cluster,
         moment.over,
         &visitor.look.key,
+        visitor.replicas,
         course,
-        &mut visitor.places,
-        one,
+        &mut visitor.reached,
     )?;
     visitor.stage = next;
     Ok(())
+}
+
+// A visit in vain of the second phase, before the last step is taken, changes the node visited last and nothing else. Whether the look made
+// one; where it didn't, nothing has changed. That of the first visit of the phase is made elsewhere: from then on the node visited last
+// tells that a majority was asked.
+fn pass_by<D: Rig + Drop>(
+    plan: &Plan,
+    cluster: &Cluster<D>,
+    over: bool,
+    look: &Look,
+    replicas: Replicas,
+    stage: &mut Stage,
+    reached: &mut Reached,
+) -> Result<bool, OutOfMemory>
+    requires replicas { AreReplicasOf plan.now look.now.key replicas }
+    ensures passed { IfOk result (λ passed. passed ≡ true → (s : Situation) (number : ℕ) → StandsFor D.Disk plan.now cluster.now s
+        → ReadsAfterAsking (cluster_of plan.now) look.now.key stage.old → stage.new ≡ moved (cluster_of plan.now) look.now over number s stage.old) }
+    ensures kept { IfOk result (λ passed. passed ≡ false → stage.new ≡ stage.old) }
+{
+    if over {
+        return Ok(false);
+    }
+    let Stage::Visiting(course) = stage else {
+        return Ok(false);
+    };
+    if course.last == 0 {
+        return Ok(false);
+    }
+    let Some(place) = next_to_read(plan, cluster, &look.key, replicas, course) else {
+        return Ok(false);
+    };
+    let None = read_at(&place, &look.key, &course.told, reached)? else {
+        return Ok(false);
+    };
+    course.last = place.node;
+    Ok(true)
 }
 
 // The visits so far of a look that makes one: none where it begins.
@@ -157,17 +226,18 @@ fn visit<D: Rig + Drop>(
     cluster: &Cluster<D>,
     over: bool,
     key: &Key,
+    replicas: Replicas,
     course: Course,
-    places: &mut Vec<usize>,
-    one: &mut Ids,
+    reached: &mut Reached,
 ) -> Result<Stage, OutOfMemory>
+    requires replicas { AreReplicasOf plan.now key.now replicas }
     ensures { IfOk result (λ stage. (s : Situation) → StandsFor D.Disk plan.now cluster.now s
         → stage ≡ visited (cluster_of plan.now) s key.now over course) }
 {
     if has_asked(plan, key, &course) {
-        read_next(plan, cluster, over, key, course, places, one)
+        read_next(plan, cluster, over, key, replicas, course, reached)
     } else {
-        ask_next(plan, cluster, over, key, course)
+        ask_next(plan, cluster, over, key, replicas, course)
     }
 }
 
@@ -187,12 +257,14 @@ fn ask_next<D: Rig + Drop>(
     cluster: &Cluster<D>,
     over: bool,
     key: &Key,
+    replicas: Replicas,
     course: Course,
 ) -> Result<Stage, OutOfMemory>
+    requires replicas { AreReplicasOf plan.now key.now replicas }
     ensures { IfOk result (λ stage. (s : Situation) → StandsFor D.Disk plan.now cluster.now s
         → stage ≡ asked_at (cluster_of plan.now) s key.now over course (due_to_ask (cluster_of plan.now) s key.now course)) }
 {
-    let Some(place) = first_left(plan, cluster, key, 0, course.asked.as_slice()) else {
+    let Some(place) = first_left(plan, cluster, key, replicas, 0, course.asked.as_slice()) else {
         return Ok(unvisited(over, course));
     };
     let writers = place.store.known_writers(key)?;
@@ -223,17 +295,18 @@ fn read_next<D: Rig + Drop>(
     cluster: &Cluster<D>,
     over: bool,
     key: &Key,
+    replicas: Replicas,
     course: Course,
-    places: &mut Vec<usize>,
-    one: &mut Ids,
+    reached: &mut Reached,
 ) -> Result<Stage, OutOfMemory>
+    requires replicas { AreReplicasOf plan.now key.now replicas }
     ensures { IfOk result (λ stage. (s : Situation) → StandsFor D.Disk plan.now cluster.now s
         → stage ≡ due_read (cluster_of plan.now) s key.now over course (due_to_read (cluster_of plan.now) s key.now course)) }
 {
-    let Some(place) = next_to_read(plan, cluster, key, &course) else {
+    let Some(place) = next_to_read(plan, cluster, key, replicas, &course) else {
         return Ok(unvisited(over, course));
     };
-    match read_at(&place, key, &course.told, places, one)? {
+    match read_at(&place, key, &course.told, reached)? {
         Some(cell) => Ok(Stage::Read {
             from: course.from,
             to: cluster.items().len() as u64,
@@ -248,17 +321,19 @@ fn next_to_read<'c, D: Rig + Drop>(
     plan: &Plan,
     cluster: &'c Cluster<D>,
     key: &Key,
+    replicas: Replicas,
     course: &Course,
 ) -> Option<Place<'c>>
+    requires replicas { AreReplicasOf plan.now key.now replicas }
     ensures some { IfSome result (λ place. (s : Situation) → StandsFor D.Disk plan.now cluster.now s
         → IsNextToRead plan.now s key.now course.now place.node place.store.now) }
     ensures none { result ≡ None → (s : Situation) → StandsFor D.Disk plan.now cluster.now s
         → due_to_read (cluster_of plan.now) s key.now course.now ≡ None }
 {
     let late = course.late.as_slice();
-    match first_left(plan, cluster, key, course.last, late) {
+    match first_left(plan, cluster, key, replicas, course.last, late) {
         Some(place) => Some(place),
-        None => first_left(plan, cluster, key, 0, late),
+        None => first_left(plan, cluster, key, replicas, 0, late),
     }
 }
 
@@ -267,14 +342,13 @@ fn read_at(
     place: &Place<'_>,
     key: &Key,
     told: &Ids,
-    places: &mut Vec<usize>,
-    one: &mut Ids,
+    reached: &mut Reached,
 ) -> Result<Option<Option<Value>>, OutOfMemory>
     ensures { IfOk result (λ cell. (layout : Layout) (messages : List Message) → StoreStands layout place.now.store.now (replay layout (actor_of place.now.store.now) messages)
         → cell ≡ cell_if_applied layout (shard_of (actor_of place.now.store.now)) (replay layout (actor_of place.now.store.now) messages) told.now key.now) }
 {
-    match places.get_mut(place.node as usize) {
-        Some(reached) => read(place.store, key, told, reached, one),
+    match reached.places.get_mut(place.node as usize) {
+        Some(applied) => read(place.store, key, told, applied, &mut reached.one),
         None => Err(OutOfMemory),
     }
 }

@@ -18,10 +18,10 @@ returns-in_ok-text-in-Ok g c =
     let ran = ran_alone g.M.D.Disk plan looks items seens before after c.in-Ok.ensures.ran in
     reported_looks (OverDisks g.M.D.Disk strict before after) (SeesOver g.M.D.Disk strict before after) plan looks items seens c.in_ok-text-in-Ok.text
     (record {
-      run = c.plans_run_safely.ensures.run plan ran.answers items c.requires ran.obeys;
-      agreement = c.plans_run_safely.ensures.agreement plan ran.answers items c.requires ran.obeys;
-      coverage = c.plans_run_safely.ensures.coverage plan ran.answers items c.requires ran.obeys;
-      serial = c.plans_run_safely.ensures.serial plan ran.answers items c.requires ran.obeys;
+      run = c.plans_run_safely.ensures.run plan ran.answers items c.requires.is_plan ran.obeys;
+      agreement = c.plans_run_safely.ensures.agreement plan ran.answers items c.requires.is_plan ran.obeys;
+      coverage = c.plans_run_safely.ensures.coverage plan ran.answers items c.requires.is_plan ran.obeys;
+      serial = c.plans_run_safely.ensures.serial plan ran.answers items c.requires.is_plan ran.obeys;
     })
     c.in-Ok.ensures.within
     (record { ran = ran; strictly = λ is. obeys_alone plan looks items seens (c.in-Ok.ensures.strict is) })

@@ -16,6 +16,7 @@ loop-step-init g c =
       taken = none_taken g.D.Disk c.args.plan.now c.args.cluster.now c.requires.stands;
       strictly = λ stands. none_taken_strictly g.D.Disk c.args.plan.now c.args.cluster.now stands;
       looks = refl;
+      replicas = c.requires.replicas;
       under_way = begins_under_way g.D.Disk c.args.plan.now false c.args.cluster.now c.args.visitors.now.items c.requires.stands c.requires.begins;
       strictly_under_way = λ stands. begins_under_way g.D.Disk c.args.plan.now true c.args.cluster.now c.args.visitors.now.items stands c.requires.begins;
       items = items;
@@ -71,6 +72,7 @@ loop-step-preserved g c =
           (take i xs) (get_or xs i (Begin 0)) c.loop-step.number (place_is xs i c.loop-step.number c.loop-step.invariant.number c.loop-step-test.true)
           c.loop-step.cluster c.step.new.self (c.loop-step.invariant.strictly stands) c.in_ok-step.ensures.strict);
       looks = c.in_ok-visit_all.ensures.looks ∙ c.loop-step.invariant.looks;
+      replicas = c.in_ok-visit_all.ensures.replicas;
       under_way =
           next_under_way g.D.Disk plan xs i (Begin 0) c.loop-step.number c.loop-step.invariant.items c.loop-step-test.true c.loop-step.invariant.number c.loop-step.cluster
           c.step.new.self c.loop-step.visitors.items c.visit_all.new.visitors.items c.in_ok-visit_all.ensures.led law c.in_ok-step.ensures.ok c.loop-step.invariant.under_way;

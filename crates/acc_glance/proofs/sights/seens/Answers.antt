@@ -1,12 +1,19 @@
-use Rattle.std.proofs.Common.{take, sym, subst}
+use Rattle.std.proofs.Common.{◌≡◌, true, take, sym, subst}
 use Rattle.std.proofs.lemmas.List.{take_all}
+use Rattle.acc_glance.specs.declared.sights.Finding.{Finding}
+use Rattle.acc_glance.specs.Stages.{has_ended}
 use Rattle.acc_glance.specs.Sights.{AreEnded, HasMoment, IsSettled}
 use Rattle.acc_glance.proofs.SightFacts.{ended_more, each_in}
 use Rattle.acc_glance.proofs.sights.seens.Goals as goal
 
-pub seen_by-requires : goal.seen_by-requires
-seen_by-requires c =
-    each_in HasMoment c.args.findings.now c.loop-finding.finding-index c.finding-item.result c.loop-finding-test.true c.finding-item.is c.requires
+pub seen_by-requires-clause-moment : goal.seen_by-requires-clause-moment
+seen_by-requires-clause-moment c =
+    each_in HasMoment c.args.findings.now c.loop-finding.finding-index c.finding-item.result c.loop-finding-test.true c.finding-item.is c.requires.moments
+
+pub seen_by-requires-clause-ended : goal.seen_by-requires-clause-ended
+seen_by-requires-clause-ended c =
+    each_in (λ (f : Finding). has_ended f.stage ≡ true) c.args.findings.now c.loop-finding.finding-index c.finding-item.result c.loop-finding-test.true c.finding-item.is
+    c.requires.ended
 
 pub loop-finding-preserved : goal.loop-finding-preserved
 loop-finding-preserved c = λ cluster items next all.
