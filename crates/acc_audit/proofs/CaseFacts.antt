@@ -1,7 +1,7 @@
 -- The transactions of a case, one after another, and why a case is refused.
-use Rattle.std.proofs.Common.{◌≡◌, ℕ, ◌+◌, ◌<◌, ◌≤◌, List, [], ◌∷◌, ◌++◌, append_assoc, length, take, map, get_or, codes, Option, None, Some, Result, Ok, Err, IfOk, IfErr, refl, sym, ap, subst, ◌∙◌, inl, inr, arith}
+use Rattle.std.proofs.Common.{◌≡◌, ℕ, ◌+◌, ◌<◌, ◌≤◌, List, [], ◌∷◌, ◌++◌, append_assoc, length, length-append, take, map, get_or, codes, Option, None, Some, Result, Ok, Err, IfOk, IfErr, refl, sym, ap, subst, ◌∙◌, inl, inr, arith}
 use Rattle.std.specs.Prelude.{IsSome}
-use Rattle.std.proofs.lemmas.List.{take-map, length-map}
+use Rattle.std.proofs.lemmas.List.{get_or_at, take-map, length-map}
 use Rattle.std.proofs.lemmas.Option.{none-some, same_Some}
 use Rattle.serde_json.specs.Data.{Data}
 use Rattle.serde_json.specs.View.{view}
@@ -77,6 +77,23 @@ transactions_read first version vs ds i names bodies holds are all long =
       n.1 ∙ ap (map name_of) are,
       b.1 ∙ ap (map (body_of version)) are,
     )
+
+-- ---- transactions that are taken out of their list
+
+pub taken_more : (before : List Value) (v : Value) (left after vs : List Value) → before ++ left ≡ vs → left ≡ v ∷ after → (before ++ v ∷ []) ++ after ≡ vs
+taken_more before v left after vs is next = append_assoc before (v ∷ []) after ∙ ap (λ l. before ++ l) (sym next) ∙ is
+
+pub taken_within : (before : List Value) (v : Value) (left after vs : List Value) (i : ℕ) → before ++ left ≡ vs → left ≡ v ∷ after → i ≡ length before → i < length vs
+taken_within before v left after vs i is next at =
+    omega (arith, ap length is, ap length next, length-append before left, at)
+
+pub taken_at : (before : List Value) (v : Value) (left after vs : List Value) (i : ℕ) → before ++ left ≡ vs → left ≡ v ∷ after → i ≡ length before → v ≡ get_or vs i v
+taken_at before v left after vs i is next at =
+    let split : before ++ v ∷ after ≡ vs = ap (λ l. before ++ l) (sym next) ∙ is in
+    sym (get_or_at before v after v i (sym at)) ∙ ap (λ (l : List Value). get_or l i v) split
+
+pub taken_all : (before left vs : List Value) (i : ℕ) → before ++ left ≡ vs → length left ≡ 0 → i ≡ length before → length vs ≤ i
+taken_all before left vs i is none at = omega (arith, ap length is, length-append before left, none, at)
 
 -- ---- a case
 

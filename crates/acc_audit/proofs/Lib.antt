@@ -9,6 +9,7 @@ mod MarkFacts
 mod MissedFacts
 mod NumberFacts
 mod OutcomeFacts
+mod RootFacts
 mod RuleFacts
 mod StepFacts
 mod TableFacts

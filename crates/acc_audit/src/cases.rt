@@ -1,16 +1,20 @@
 //! Reads a case.
-ghost use Rattle.std.specs.Prelude.{◌≡◌, ℕ, List, [], ◌∷◌, ◌++◌, length, IfOk};
+ghost use Rattle.std.specs.Prelude.{◌≡◌, ◌≤◌, ℕ, List, [], ◌∷◌, ◌++◌, codes, length, map, IfOk};
 ghost use Rattle.serde_json.specs.View.{view};
 ghost use Rattle.acc_txn.specs.declared.parts.BodyParts.{BodyParts};
 ghost use Rattle.acc_report_line.specs.declared.line.Line.{Line};
 ghost use Rattle.acc_schedule.specs.declared.error.PlanError.{PlanError};
 ghost use Rattle.acc_schedule.specs.Document.{IsRefused};
 ghost use Rattle.acc_schedule.specs.Faults.{Gives};
+ghost use Rattle.acc_schedule.specs.Fields.{field, items, list_fault};
+ghost use Rattle.acc_schedule.specs.Paths.{field_path};
 ghost use Rattle.acc_schedule.specs.Transactions.{bodies_of, body_of, name_of, names_of};
 ghost use Rattle.acc_audit.specs.Cases.{case_fault, report_of, transaction_fault, transactions_fault, txns, version_of, GivesCase, GivesLines, IsCauseIn, IsReadCase, SaysCase};
 
 use acc_base::Sequence;
-use acc_document_fields::{NameTable, Part, body, detailed, list, name, object, text, version};
+use acc_document_fields::{
+    NameTable, Part, body, detailed, into_elements, name, object, text, version, wrong,
+};
 use acc_report_reader::{PlacedLines, ReportError, read_report};
 use acc_schedule::{Bodies, PlanError, PlanKind};
 use acc_txn::Body;
@@ -35,21 +39,23 @@ pub struct Case<'r> {
 ///
 /// A case that breaks a rule is refused with the first that it breaks, in the order of `docs/AUDIT.md`. Of a report with a line
 /// that has no form, the path of the fault is `/report`, its detail 1 and its place the number of that line, counted from 1.
-pub fn read_case(alloc: Global, root: &Value) -> Result<Case<'_>, PlanError>
+///
+/// The transactions are taken out of the object, and the data of each are let go once it is read.
+pub fn read_case(alloc: Global, root: &mut Value) -> Result<Case<'_>, PlanError>
     // What is answered, and what the answer says of the data.
-    ensures gives { GivesCase (view root.now) result }
+    ensures gives { GivesCase (view root.old) result }
     ensures as_many { IfOk result (λ said. length said.bodies ≡ length said.names) }
 
     // What all data give, unless memory runs out.
-    ensures read { (names : List (List ℕ)) (bodies : List BodyParts) (lines : List Line) → SaysCase (view root.now) names bodies lines → IsReadCase names bodies lines result }
-    ensures refuses { (error : PlanError) → IsCauseIn (view root.now) error → IsRefused error result }
+    ensures read { (names : List (List ℕ)) (bodies : List BodyParts) (lines : List Line) → SaysCase (view root.old) names bodies lines → IsReadCase names bodies lines result }
+    ensures refuses { (error : PlanError) → IsCauseIn (view root.old) error → IsRefused error result }
 {
     case_in(alloc, root)
 }
 
 #[tactic(auto, using(crate::proofs::CaseFacts::refused, crate::proofs::CaseFacts::unread))]
-fn case_in(alloc: Global, root: &Value) -> Result<Case<'_>, PlanError>
-    ensures { GivesCase (view root.now) result }
+fn case_in(alloc: Global, root: &mut Value) -> Result<Case<'_>, PlanError>
+    ensures { GivesCase (view root.old) result }
 {
     let Parts {
         names,
@@ -80,14 +86,15 @@ struct Transactions {
 }
 
 #[tactic(auto, using(crate::proofs::CaseFacts::transactions_fail, crate::proofs::CaseFacts::report_fails, crate::proofs::CaseFacts::keeps_all))]
-fn parts_in(alloc: Global, root: &Value) -> Result<Parts<'_>, PlanError>
-    ensures { Gives (case_fault (view root.now))
-        (λ parts. (parts.names ≡ names_of (txns (view root.now))) × (parts.bodies ≡ bodies_of (version_of (view root.now)) (txns (view root.now)))
-        × (parts.report.now ≡ report_of (view root.now))) result }
+fn parts_in(alloc: Global, root: &mut Value) -> Result<Parts<'_>, PlanError>
+    ensures { Gives (case_fault (view root.old))
+        (λ parts. (parts.names ≡ names_of (txns (view root.old))) × (parts.bodies ≡ bodies_of (version_of (view root.old)) (txns (view root.old)))
+        × (parts.report.now ≡ report_of (view root.old))) result }
 {
     object(alloc, root, &["report", "txns", "version"], &[], &[])?;
     let version = version(alloc, root)?;
-    let Transactions { names, bodies } = transactions_in(alloc, root, version)?;
+    let txns = taken(root);
+    let Transactions { names, bodies } = transactions_in(alloc, txns, version)?;
     let report = text(alloc, root, "report", &[Part::Field("report")])?;
     Ok(Parts {
         names,
@@ -96,26 +103,61 @@ fn parts_in(alloc: Global, root: &Value) -> Result<Parts<'_>, PlanError>
     })
 }
 
-fn transactions_in(alloc: Global, root: &Value, version: u8) -> Result<Transactions, PlanError>
-    ensures { Gives (transactions_fault version (txns (view root.now)))
-        (λ all. (all.names ≡ names_of (txns (view root.now))) × (all.bodies ≡ bodies_of version (txns (view root.now)))) result }
+// The transactions, which are taken out of the root.
+fn taken(root: &mut Value) -> Value
+    ensures txns { view result ≡ txns (view root.old) }
+    ensures report { field (codes "report") (view root.new) ≡ field (codes "report") (view root.old) }
 {
-    let items = list(
-        alloc,
-        root,
-        "txns",
-        MOST_TRANSACTIONS,
-        &[Part::Field("txns")],
-    )?;
+    let (others, txns) = set_apart(root.take());
+    *root = others;
+    txns
+}
+
+// The root without its transactions, and these.
+fn set_apart(root: Value) -> (Value, Value)
+    ensures report { field (codes "report") (view result.0) ≡ field (codes "report") (view root) }
+    ensures txns { view result.1 ≡ txns (view root) }
+{
+    match root {
+        Value::Object(mut fields) => {
+            let txns = fields.remove("txns").unwrap_or(Value::Null);
+            (Value::Object(fields), txns)
+        }
+        other => (other, Value::Null),
+    }
+}
+
+// The transactions, each of which is let go once it is read.
+fn transactions_in(alloc: Global, txns: Value, version: u8) -> Result<Transactions, PlanError>
+    ensures { Gives (transactions_fault version (view txns))
+        (λ all. (all.names ≡ names_of (view txns)) × (all.bodies ≡ bodies_of version (view txns))) result }
+{
+    let items = items_in(alloc, txns)?;
     let mut all = Transactions {
         names: NameTable::new(alloc),
         bodies: Sequence::new(alloc),
     };
-    for (place, item) in items.iter().enumerate() {
-        let body = transaction(alloc, item, place, version, &mut all.names)?;
+    let mut place = 0;
+    for item in items {
+        let body = transaction(alloc, &item, place, version, &mut all.names)?;
         all.bodies.push(body)?;
+        place += 1;
     }
     Ok(all)
+}
+
+// The elements of the list of transactions, of which there are not too many.
+fn items_in(alloc: Global, txns: Value) -> Result<Vec<Value>, PlanError>
+    ensures { Gives (list_fault 10000 (field_path (codes "txns")) (view txns))
+        (λ list. (map view list.items ≡ items (view txns)) × (length list.items ≤ 10000)) result }
+{
+    let Some(items) = into_elements(txns) else {
+        return Err(wrong(alloc, PlanKind::Shape, &[Part::Field("txns")]));
+    };
+    if items.len() > MOST_TRANSACTIONS {
+        return Err(wrong(alloc, PlanKind::Limit, &[Part::Field("txns")]));
+    }
+    Ok(items)
 }
 
 // The body of a transaction, whose name is added to those before it.

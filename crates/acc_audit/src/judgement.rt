@@ -39,17 +39,17 @@ pub fn judge_case(
     ensures judged { IfOk result (IsDueOn bytes.now) }
     ensures refused { IfErr result (IsCaseCause bytes.now) }
 {
-    let root = read_json(alloc, bytes)?;
-    let judgement = judge(alloc, &root, remains);
+    let mut root = read_json(alloc, bytes)?;
+    let judgement = judge(alloc, &mut root, remains);
     remains.root = Some(root);
     judgement
 }
 
 // What is said of the case that the JSON says.
 #[tactic(auto, using(crate::proofs::CaseFacts::due_in))]
-fn judge(alloc: Global, root: &Value, remains: &mut Remains) -> Result<Judgement, PlanError>
-    ensures judged { IfOk result (IsDueIn (view root.now)) }
-    ensures refused { IfErr result (IsCauseIn (view root.now)) }
+fn judge(alloc: Global, root: &mut Value, remains: &mut Remains) -> Result<Judgement, PlanError>
+    ensures judged { IfOk result (IsDueIn (view root.old)) }
+    ensures refused { IfErr result (IsCauseIn (view root.old)) }
 {
     let Case {
         names,

@@ -6,7 +6,7 @@ use Rattle.std.specs.Cmp.{eq_by_cmp_equiv}
 use Rattle.std.specs.Cmp.Lexicographic.{slice_cmp, nat_list_cmp_total}
 use Rattle.std.specs.List.{list_any, position_or_len}
 use Rattle.std.specs.Map.{lookup, AreApart, IsKeyTest, KeepsOthers}
-use Rattle.std.specs.Ordering.{eq_by_cmp, is_eq, nat_cmp}
+use Rattle.std.specs.Ordering.{is_eq, nat_cmp}
 use Rattle.std.specs.Str.{bytes_eq}
 use Rattle.std.proofs.lemmas.Bool.{cases_Bool, cases_lt, cond-true, cond-false, true≢false, false_from_ne_true}
 use Rattle.std.proofs.lemmas.Bool.Decides.{nat_tests}
@@ -46,6 +46,16 @@ place_after name old new w h other =
     (λ key. apart name other key.items no) ∙ sym (cond-false (bytes_eq name other) w (place_in old other) no))
     (cases_Bool (bytes_eq name other))
 
+-- a place that is put back is as before
+pub as_before : (name : List ℕ) (before : ℕ) (w : Option ℕ) (old between new : List ℕ → Option ℕ) → old name ≡ Some before
+    → ((other : List ℕ) → between other ≡ cond (bytes_eq name other) w (old other)) → ((other : List ℕ) → new other ≡ cond (bytes_eq name other) (Some before) (between other))
+    → (other : List ℕ) → new other ≡ old other
+as_before name before w old between new was first second other =
+    second other ∙ (λ i. cond (bytes_eq name other) (Some before) (first other i)) ∙ (elim (bytes_eq name other) as (λ b. bytes_eq name other ≡ b → cond b (Some before) (cond b w (old other)) ≡ old other) [
+      | true ↦ λ yes. sym (subst (λ (n : List ℕ). old n ≡ Some before) ((bytes_eq-Decides name other).0 yes) was)
+      | false ↦ λ no. refl
+    ] refl)
+
 -- ---- the place of a name
 
 not_below : (a b : ℕ) → cond (ltb a b) (Some a) None ≡ None → b ≤ a
@@ -68,6 +78,14 @@ known_is names name =
           let fails = fails_before_first (bytes_eq name) names any.0 any.1 (omega (arith, far, any.2)) in
           true≢false (sym any.4 ∙ ap (bytes_eq name) (sym any.3) ∙ fails))
     ] refl
+
+-- a name that has no place is new
+pub fresh_is : (names : List (List ℕ)) (name : List ℕ) (fresh : Bool) → fresh ≡ not (is_some (position (bytes_eq name) names)) → fresh ≡ true → list_any (bytes_eq name) names ≡ false
+fresh_is names name fresh is new = known_is names name ∙ absent (is_some (position (bytes_eq name) names)) (sym is ∙ new)
+  where
+    absent : (b : Bool) → not b ≡ true → b ≡ false
+    absent true e = sym e
+    absent false e = refl
 
 no_place : (o : Option ℕ) → false ≡ is_some o → o ≡ None
 no_place None e = refl

@@ -1,5 +1,5 @@
 //! Names, found by their bytes or by their order, so that no choice of names makes a look-up slow.
-ghost use Rattle.std.specs.Prelude.{◌≡◌, [], ◌∷◌, ◌++◌, length, not, position, IfOk, IfSome, IsTrue, OnOk, OnErr, ℕ, List, if◌then◌else◌, Some};
+ghost use Rattle.std.specs.Prelude.{◌≡◌, [], ◌∷◌, ◌++◌, length, not, position, IfOk, IfSome, IsTrue, IsSome, OnErr, ℕ, List, if◌then◌else◌, Some, is_some, false};
 ghost use Rattle.std.specs.List.{list_any};
 ghost use Rattle.std.specs.Str.{bytes_eq};
 ghost use Rattle.acc_document_fields.specs.Names.{place_in, AreOnce};
@@ -48,15 +48,16 @@ impl NameTable {
             ≡ (if added then self.old ++ name.now ∷ [] else self.old)) }
         ensures err { OnErr result (self.new ≡ self.old) }
     {
-        if self.places.contains_key(name) {
-            return Ok(false);
-        }
         let place = self.names.len();
         self.names.push(InlineText::from_slice(alloc, name)?)?;
         match enter(&mut self.places, alloc, name, place) {
-            Ok(()) => {
+            Ok(true) => {
                 self.guesses.add(name, place);
                 Ok(true)
+            }
+            Ok(false) => {
+                self.names.truncate(place);
+                Ok(false)
             }
             Err(OutOfMemory) => {
                 self.names.truncate(place);
@@ -116,16 +117,34 @@ impl NameTable {
     }
 }
 
-// Notes the place of a name. Without memory for it the places are as before.
+// Notes the place of a name, and answers whether it is new. A name that has a place keeps it, and without memory the places are
+// as before.
 fn enter(
     places: &mut BTreeMap<Vec<u8>, usize>,
     alloc: Global,
     name: &[u8],
     place: usize,
-) -> Result<(), OutOfMemory>
-    ensures ok { OnOk result ((other : List ℕ) → place_in places.new other ≡ (if bytes_eq name.now other then Some place else place_in places.old other)) }
+) -> Result<bool, OutOfMemory>
+    ensures fresh { IfOk result (λ fresh. fresh ≡ not (is_some (place_in places.old name.now))) }
+    ensures added { IfOk result (λ fresh. IsTrue fresh → (other : List ℕ) → place_in places.new other ≡ (if bytes_eq name.now other then Some place else place_in places.old other)) }
+    ensures known { IfOk result (λ fresh. fresh ≡ false → (other : List ℕ) → place_in places.new other ≡ place_in places.old other) }
     ensures err { OnErr result ((other : List ℕ) → place_in places.new other ≡ place_in places.old other) }
 {
-    places.insert(Vec::from_slice(alloc, name)?, place)?;
-    Ok(())
+    match places.insert(Vec::from_slice(alloc, name)?, place)? {
+        None => Ok(true),
+        Some(before) => {
+            put_back(places, name, before);
+            Ok(false)
+        }
+    }
+}
+
+// Gives another place to a name that has one.
+fn put_back(places: &mut BTreeMap<Vec<u8>, usize>, name: &[u8], place: usize)
+    requires { IsSome (place_in places.old name.now) }
+    ensures { (other : List ℕ) → place_in places.new other ≡ (if bytes_eq name.now other then Some place else place_in places.old other) }
+{
+    if let Some(found) = places.get_mut(name) {
+        *found = place;
+    }
 }

@@ -2,6 +2,7 @@ pub mod Cutting
 pub mod Digits
 pub mod Failing
 pub mod Feeds
+pub mod Found
 pub mod LinesExact
 pub mod LinesRead
 pub mod LinesSaid

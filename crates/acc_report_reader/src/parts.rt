@@ -5,6 +5,7 @@ ghost use Rattle.acc_report_reader.specs.Gives.{Gives};
 ghost use Rattle.acc_report_reader.specs.Fields.{parts_at, behind_word, piece_at};
 
 use crate::refusal::Refusal;
+use memchr::memchr;
 
 /// What stands before the first such byte, and what behind it.
 pub(crate) fn parts(bytes: &[u8], at: u8) -> Option<(&[u8], &[u8])>
@@ -16,6 +17,16 @@ pub(crate) fn parts(bytes: &[u8], at: u8) -> Option<(&[u8], &[u8])>
         }
     }
     None
+}
+
+/// What stands before the first line feed, and what behind it.
+pub(crate) fn first_line(bytes: &[u8]) -> Option<(&[u8], &[u8])>
+    ensures { option_map (λ p. (p.0.now, p.1.now)) result ≡ parts_at 10 bytes.now }
+{
+    match memchr(b'\n', bytes) {
+        Some(place) => Some((&bytes[..place], &bytes[place + 1..])),
+        None => None,
+    }
 }
 
 /// The parts before and behind a byte that has to be there.

@@ -5,10 +5,14 @@ ghost use Rattle.acc_report_reader.specs.Report.{Reads, Says};
 
 use crate::error::ReportError;
 use crate::lines::line;
-use crate::parts::parts;
+use crate::parts::first_line;
 use crate::placed::{PlacedLine, PlacedLines};
 use crate::refusal::Refusal;
 use std::alloc::Global;
+
+/// How long lines are, or longer: room is asked for at once for as many as the bytes would have, so that lines that are read
+/// needn't move.
+const COMMON_LENGTH: usize = 32;
 
 /// The lines that these bytes are the text of, each with its line feed. A report is read by its lines alone, which may stand in
 /// any order and number. The first line that has no form, or no line feed behind it, is refused.
@@ -16,8 +20,9 @@ pub fn read_report(alloc: Global, bytes: &[u8]) -> Result<PlacedLines<'_>, Repor
     ensures { Reads result bytes.now }
 {
     let mut lines = PlacedLines::new(alloc);
+    lines.reserve(bytes.len() / COMMON_LENGTH)?;
     let mut rest = bytes;
-    while let Some((first, others)) = parts(rest, b'\n') {
+    while let Some((first, others)) = first_line(rest) {
         let number = lines.len() as u64 + 1;
         lines.push(numbered(alloc, first, number)?)?;
         rest = others;

@@ -9,8 +9,8 @@ use Rattle.acc_report_reader.proofs.report.read_report.Goals as goal
 pub returns-in_err-numbered : goal.returns-in_err-numbered
 returns-in_err-numbered c =
     let cut : Some (c.in-Some.first.now, c.in-Some.others.now) ≡ parts_at 10 c.loop-first.rest.now = c.in-Some.ensures in
-    fault_read c.from_residual.result c.args.bytes.now c.loop-first.rest.now c.in-Some.first.now c.in-Some.others.now c.loop-first.lines (c.len.result + 1)
-    c.in_err-numbered.field-0.0 c.from_residual.ensures.1 c.loop-first.invariant cut c.in_err-numbered.ensures (ap (λ n. n + 1) c.len.ensures)
+    fault_read c.from_residual-in_err-numbered.result c.args.bytes.now c.loop-first.rest.now c.in-Some.first.now c.in-Some.others.now c.loop-first.lines (c.len.result + 1)
+    c.in_err-numbered.field-0.0 c.from_residual-in_err-numbered.ensures.1 c.loop-first.invariant cut c.in_err-numbered.ensures (ap (λ n. n + 1) c.len.ensures)
 
 pub loop-first-smaller : goal.loop-first-smaller
 loop-first-smaller c =
