@@ -192,7 +192,7 @@ module _ (shard : ℕ) (history : List Taken) (before : List TxnId) where
       inr (or_cases (id_eq s.id y) (stands y rest) h))
       (covers y theirs e opened outcome)
 
-  -- what a change opens is among the opened ones, whatever stands behind it
+  -- what a change opens is among the opened ones, whatever stands after it
   opened_first : (c : Change) (changes : List Change) → c.opens ≡ true → id_among c.id (opened_by (filter is_change (c ∷ changes))) ≡ true
   opened_first c changes opens =
       subst (λ list. id_among c.id (opened_by list) ≡ true)

@@ -44,7 +44,7 @@ applied_stays shard step past x h =
     and_from (is_opened shard (step ∷ past) x) (is_some (kept_outcome (step ∷ past) x)) (opened_stays shard step past x parts.0)
     (some_stays (kept_outcome past x) (outcome_in x step.message) parts.1)
 
--- ---- an opened transaction has its dependencies behind it
+-- ---- an opened transaction has its dependencies after it
 
 pub record Held (shard : ℕ) (history : List Taken) (x : TxnId) : Type 0 where
   pub settled : Settled
@@ -330,7 +330,7 @@ module _ (shard : ℕ) (step : Taken) (past : List Taken) where
   done_more : (done : List Change) (c : Change) (y : TxnId) → AppliedBy shard past done y → AppliedBy shard past (done ++ c ∷ []) y
   done_more done c y h = ⊎_elim inl (λ applies. inr (applies_more y done c applies)) h
 
-  -- what is applied by then, behind a turn with a change
+  -- what is applied by then, after a turn with a change
   done_changed : (done : List Change) (applied : List TxnId) (s : Standing) (b : Bool) → (turn applied s).is_applied ≡ b → Done done applied
       → Done (done ++ (turn applied s).change ∷ []) (with_applied b s.id applied)
   done_changed done applied s false is h y there = done_more done (turn applied s).change y (h y there)
@@ -343,7 +343,7 @@ module _ (shard : ℕ) (step : Taken) (past : List Taken) where
       (λ rest. done_more done (turn applied s).change y (h y rest))
       (or_cases (id_eq s.id y) (id_among y applied) there)
 
-  -- and behind one without
+  -- and after one without
   done_unchanged : (done : List Change) (applied : List TxnId) (s : Standing) (b : Bool) → (turn applied s).is_applied ≡ b → is_change (turn applied s).change ≡ false
       → Done done applied → Done done (with_applied b s.id applied)
   done_unchanged done applied s false is none h y there = h y there

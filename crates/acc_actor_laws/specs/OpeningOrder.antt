@@ -21,7 +21,7 @@ applies_in x changes = list_any (λ (c : Change). id_eq c.id x && c.applies) cha
 abbrev pub AppliedBy : ℕ → List Taken → List Change → TxnId → Type 0
 AppliedBy shard past done y = (is_applied shard past y ≡ true) ⊎ (applies_in y done ≡ true)
 
--- The change is due behind these: its transaction is stable, and every dependency of it in this shard is stable and, where its
+-- The change is due after these: its transaction is stable, and every dependency of it in this shard is stable and, where its
 -- timestamp is smaller, applied.
 pub record IsDue (shard : ℕ) (step : Taken) (past : List Taken) (done : List Change) (c : Change) : Type 0 where
   pub settled : Settled
@@ -31,7 +31,7 @@ pub record IsDue (shard : ℕ) (step : Taken) (past : List Taken) (done : List C
       (y : TxnId) (theirs : Settled) → IsTrue (id_among y (of_shard settled.deps shard)) → stable_of (step ∷ past) y ≡ Some theirs
       → IsTrue (comes_first settled.t theirs) → AppliedBy shard past done y
 
--- each change is due behind those in front of it
+-- each change is due after those in front of it
 abbrev pub EachDue : ℕ → Taken → List Taken → List Change → List Change → Type 0
 EachDue shard step past done [] = Unit {0}
 EachDue shard step past done (c ∷ rest) = IsDue shard step past done c × EachDue shard step past (done ++ c ∷ []) rest

@@ -128,7 +128,7 @@ module _ (cluster : Cluster) (s : Situation) (sound : IsSound cluster s) where
       apart_item cluster between (entry_of cluster between a (Restart kept) false) b apart goes
       (entry_stands cluster (whole between) a (Restart kept) Restarts (restart_may cluster (whole between) a kept) false)
 
-  -- behind steps that come back
+  -- after steps that come back
   kept_apart : (a b : Actor) (kept : List Event) (s : Situation) → same_actor a b ≡ false → CanAllGoOn cluster s a kept → GoesOn cluster s b
       → IsApart cluster s (with_kept cluster s a kept) b × GoesOn cluster (with_kept cluster s a kept) b
   kept_apart a b [] s apart can goes = (apart_itself cluster s b, goes)

@@ -35,7 +35,7 @@ use Rattle.acc_actors.proofs.Few.{steps_up}
 use Rattle.acc_actors.proofs.Takes.{NumbersAlone}
 use Rattle.acc_actors.proofs.Groups.{stages_more, takes_more, weighs_more, weight_is, stops_some, settles, settles_strictly}
 
--- behind nothing
+-- after nothing
 pub asked_alone : {D : Type 0} (port : Ghosts D) (plan : Content) (s : Situation) (a : Actor) (number : ℕ) (m : Message) (slot : Slot D)
     → IsAskedBehind port plan s [] (step_by a (TakesMessage number) (Takes m)) slot → IsAsked port plan s (step_by a (TakesMessage number) (Takes m)) slot
 asked_alone port plan s a number m slot asked =

@@ -1,4 +1,4 @@
--- Messages that a store takes as a group: what is staged behind its past, and what settling it comes to.
+-- Messages that a store takes as a group: what is staged after its past, and what settling it comes to.
 use Rattle.std.proofs.Common.{◌≡◌, ◌≢◌, ℕ, ◌+◌, ◌<◌, ◌≤◌, ◌^◌, true, false, not, List, [], ◌∷◌, ◌++◌, length, Option, None, Some, IfSome, is_none, refl, sym, ◌∙◌, ap, subst, arith}
 use Rattle.std.proofs.lemmas.List.{append_assoc, append-nil}
 use Rattle.std.proofs.lemmas.Bool.{true≢false}
@@ -76,7 +76,7 @@ module _ (cluster : Cluster) (a : Actor) (kind : is_node a ≡ false) where
     all_each events (entered cluster s a event false) (each_on s (entry_of cluster s a event false) events each.1),
   )
 
-  -- ---- behind all of them
+  -- ---- after all of them
 
   abbrev all : Situation → List Event → Situation
   all s events = entered_all cluster s a events false

@@ -76,7 +76,7 @@ stops_same cluster a (event ∷ events) s dropped stopped lost =
     ap (λ stops. stop_by event (act_of cluster (whole s) (event_in s event)) (payload_for cluster (whole s) a (event_in s event)) ++ stops)
     (stops_same cluster a events (entered cluster s a event lost) dropped stopped lost)
 
--- what each event takes behind these items
+-- what each event takes after these items
 abbrev pub AreKnown : Cluster → Situation → List Item → List Event → Type 0
 AreKnown cluster s items events = AllByRecursion (λ (event : Event). (act : Act) × (act_of cluster (whole s) (event_in s event) ≡ Some act) × (act_of cluster items (event_in s event) ≡ Some act)) events
 

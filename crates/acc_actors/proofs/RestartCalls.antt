@@ -1,4 +1,4 @@
--- From what the restarts of actors ensure to what their slots are behind them.
+-- From what the restarts of actors ensure to what their slots are after them.
 use Rattle.std.proofs.Common.{◌≡◌, ℕ, ◌≤◌, not, Option, None, Result, Ok, Err, IfOk, ap, subst}
 use Rattle.acc_base.specs.declared.memory.OutOfMemory.{OutOfMemory}
 use Rattle.acc_stamp.specs.declared.actors.Actor.{Actor}

@@ -39,9 +39,9 @@ use Rattle.acc_actors.specs.Pasts.{first_of, stops_in, stops_at, store_stops, no
 use Rattle.acc_actors.specs.Asked.{AreSteps, AreKeptSteps}
 use Rattle.acc_actors.proofs.Pasts.{past_of, same_past, stop_of, stops_known, one_payload}
 
--- ---- steps that may be entered one behind another
+-- ---- steps that may be entered one after another
 
--- each of them may be taken behind those before it, and is journalled
+-- each of them may be taken after those before it, and is journalled
 abbrev pub AllMay : Cluster → Situation → Actor → List Event → Bool → Type 0
 AllMay cluster s a [] lost = Unit {0}
 AllMay cluster s a (event ∷ events) lost =
@@ -233,7 +233,7 @@ pub kept_steps : (cluster : Cluster) (s : Situation) (a : Actor) (kept : List Un
 kept_steps cluster s a [] h = tt
 kept_steps cluster s a (unsent ∷ others) h = h
 
--- ---- behind the restart
+-- ---- after the restart
 
 module _ (cluster : Cluster) (s : Situation) (a : Actor) where
   none_after : (kept : List Event) → stops_at cluster (reopened cluster s a kept) a ≡ []

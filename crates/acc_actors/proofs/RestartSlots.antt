@@ -1,4 +1,4 @@
--- What an actor in its slot is behind a restart.
+-- What an actor in its slot is after a restart.
 use Rattle.std.proofs.Common.{◌≡◌, ℕ, ◌≤◌, true, not, List, [], ◌∷◌, None, refl, sym, ◌∙◌, subst}
 use Rattle.acc_stamp.specs.declared.actors.Actor.{Actor}
 use Rattle.acc_stamp.specs.Actor.{node_of}

@@ -32,7 +32,7 @@ use Rattle.acc_actors.specs.Asked.{step_by, IsAsked, MayAsk}
 use Rattle.acc_actors.proofs.Few.{less_than, few_whole}
 
 module _ {D : Type 0} (port : Ghosts D) (plan : Content) (a : Actor) (slot : Slot D) (layout : Layout) (layout_is : layout ≡ plan.topology) where
-  -- what is asked of the actor may be done behind all that was entered
+  -- what is asked of the actor may be done after all that was entered
   may_do : (s : Situation) (event : Event) (act : Act) (x : Slot D) → IsAsked port plan s (step_by a event act) x → MayDo (cluster_of plan) (whole s) a act
   may_do s event act x asked = record { event = event_in s event; act_is = asked.may.act_is; place = asked.may.place }
 

@@ -35,7 +35,7 @@ use Rattle.acc_schedule_runs.specs.Limits.{most_items}
 use Rattle.acc_actors.specs.Slots.{SlotStages, SlotStands, IsStrictSlot, faults_in}
 use Rattle.acc_actors.specs.declared.slot.Slot.{Slot}
 
--- room for counting as many items as a run may have behind the earlier run
+-- room for counting as many items as a run may have after the earlier run
 abbrev pub HasRoom : Situation → Type 0
 HasRoom s = length s.earlier + most_items < 2 ^ 31
 
@@ -96,7 +96,7 @@ Weighs port plan step slot weight =
 
 -- ---- groups
 
--- These are the steps by the events, in their order, each with what the rules say that it gives behind the entries of those before it.
+-- These are the steps by the events, in their order, each with what the rules say that it gives after the entries of those before it.
 abbrev pub AreSteps : Cluster → Situation → Actor → List Event → Bool → List Unsent → Type 0
 AreSteps cluster s a [] lost [] = Unit {0}
 AreSteps cluster s a [] lost (unsent ∷ others) = ⊥
@@ -115,7 +115,7 @@ abbrev pub MayTakeEach : Cluster → Situation → Actor → List Event → Type
 MayTakeEach cluster s a events =
     AllByRecursion (λ (event : Event). (act : Act) × MayTake cluster (whole s) a (event_in s event) act × (is_journalled a event ≡ true)) events
 
--- the actor in the slot is up, and has taken these events behind its past, in memory alone
+-- the actor in the slot is up, and has taken these events after its past, in memory alone
 pub record IsStaged {D : Type 0} (port : Ghosts D) (plan : Content) (s : Situation) (a : Actor) (staged : List Event) (slot : Slot D) : Type 0 where
   pub sound : IsSound (cluster_of plan) s
   pub few : IsFewBehind s staged
@@ -123,7 +123,7 @@ pub record IsStaged {D : Type 0} (port : Ghosts D) (plan : Content) (s : Situati
   pub up : is_down a (whole s) ≡ false
   pub each : MayTakeEach (cluster_of plan) s a staged
 
--- behind these events it may take one more
+-- after these events it may take one more
 pub record IsAskedBehind {D : Type 0} (port : Ghosts D) (plan : Content) (s : Situation) (staged : List Event) (step : ActorStep) (slot : Slot D) : Type 0 where
   pub behind : IsStaged port plan s step.actor staged slot
   pub may : MayTake (cluster_of plan) (whole s) step.actor (event_in s step.event) step.act
@@ -131,13 +131,13 @@ pub record IsAskedBehind {D : Type 0} (port : Ghosts D) (plan : Content) (s : Si
 abbrev pub MayAskBehind : {D : Type 0} → Ghosts D → Content → ActorStep → Slot D → Type 0
 MayAskBehind port plan step slot = (s : Situation) × (staged : List Event) × IsAskedBehind port plan s staged step slot
 
--- so many bytes of encoded messages would go out for it, behind what is staged
+-- so many bytes of encoded messages would go out for it, after what is staged
 abbrev pub WeighsBehind : {D : Type 0} → Ghosts D → Content → ActorStep → Slot D → ℕ → Type 0
 WeighsBehind port plan step slot weight =
     (s : Situation) (staged : List Event) → IsAskedBehind port plan s staged step slot
     → weight ≡ weight_of (entry_of (cluster_of plan) (entered_all (cluster_of plan) s step.actor staged false) step.actor step.event false)
 
--- what a group gives is what the rules say of each event, behind the entries of those before it
+-- what a group gives is what the rules say of each event, after the entries of those before it
 abbrev pub AreGiven : Cluster → Situation → Actor → List Event → Option (List Unsent) → Type 0
 AreGiven cluster s a staged None = Unit {0}
 AreGiven cluster s a staged (Some given) = AreSteps cluster s a staged false given

@@ -1,4 +1,4 @@
--- What an actor is that was opened, behind an earlier run.
+-- What an actor is that was opened, after an earlier run.
 use Rattle.std.specs.Prelude.{◌≡◌, List, None, IsTrue}
 use Rattle.acc_stamp.specs.Actor.{actor_of}
 use Rattle.acc_ports.specs.declared.disk.Disk.{Ghosts}

@@ -24,7 +24,7 @@ abbrev pub stop_by : Event → Option Act → List (List ℕ) → List (Stop Act
 stop_by event None payloads = []
 stop_by event (Some act) payloads = record { event = event; act = act; payload = first_of payloads } ∷ []
 
--- by the whole past, each behind the entries of those before it
+-- by the whole past, each after the entries of those before it
 abbrev pub stops_in : Cluster → Situation → Actor → List Event → Bool → List (Stop Act)
 stops_in cluster s a [] lost = []
 stops_in cluster s a (event ∷ events) lost =

@@ -1,5 +1,5 @@
 -- When the actor at a number stands for a situation.
---     SlotStages      for its past, with these steps staged behind it, and its disk has counted its downs
+--     SlotStages      for its past, with these steps staged after it, and its disk has counted its downs
 --     SlotStands      the same with nothing staged
 --     IsStrictSlot      its disk is strict, and what is armed there is known
 use Rattle.std.specs.Prelude.{◌≡◌, ℕ, ◌≤◌, true, false, List, [], ◌∷◌}
@@ -40,7 +40,7 @@ pub record NodeStands {D : Type 0} (port : Ghosts D) (plan : Content) (s : Situa
 abbrev pub store_name : Content → Actor → StoreName
 store_name plan a = record { actor = a; version = plan.version }
 
--- it has taken the messages of the events behind its past, in memory alone
+-- it has taken the messages of the events after its past, in memory alone
 pub record StoreStages {D : Type 0} (port : Ghosts D) (plan : Content) (s : Situation) (a : Actor) (staged : List Event) (t : StoreActor D) : Type 0 where
   pub kind : is_node a ≡ false
   pub stands : store.IsStaging port plan.topology (store_name plan a) (store_past (cluster_of plan) s a) (store_stops (stops_in (cluster_of plan) s a staged false)) t

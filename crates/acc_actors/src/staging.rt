@@ -19,7 +19,7 @@ impl<D: Rig> Slot<D> {
     ghost use Rattle.acc_actors.specs.Slots.{SlotStages, IsStrictSlot, IsPreparedIn, faults_in};
     ghost use Rattle.acc_actors.specs.Asked.{step_by, IsAskedBehind, MayAskBehind, WeighsBehind, IsStaged, HasAnsweredAll};
 
-    /// Plans the step of the store that takes the message with this number, behind those that are staged, and tells how many bytes of
+    /// Plans the step of the store that takes the message with this number, after those that are staged, and tells how many bytes of
     /// encoded messages it sends. It can be staged as long as the store takes no other. It makes no call of a disk.
     pub fn prepare(
         &self,
@@ -45,7 +45,7 @@ impl<D: Rig> Slot<D> {
         }
     }
 
-    /// The store takes the message with this number as it was planned, behind those that are staged. It is in no image of the disk before
+    /// The store takes the message with this number as it was planned, after those that are staged. It is in no image of the disk before
     /// `settle`, which gives what the store sends for it. After an error all is as before. It makes no call of the disk.
     pub fn stage(
         &mut self,

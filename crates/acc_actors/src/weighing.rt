@@ -53,7 +53,7 @@ impl<D: Rig> Slot<D> {
         }
     }
 
-    /// The same of the message with this number, behind those that are staged.
+    /// The same of the message with this number, after those that are staged.
     pub fn weigh_take(
         &self,
         plan: &Plan,

@@ -52,7 +52,7 @@ walk_ends number t marks mark (e ∷ es) (suc i) d rise within far none =
     let nones = both_false (is_lacking number t marks mark e) (list_any (is_lacking number t marks mark) (take i es)) none in
     ap (λ b. b || list_any (is_lacking number t marks mark) es) nones.0 ∙ walk_ends number t marks mark es i d parts.1 (omega arith) far nones.1
 
--- an entry that none of them is above may stand behind them
+-- an entry that none of them is above may stand after them
 pub rises-push : (entries : List (Stamp × ℕ)) (e : Stamp × ℕ) → rises entries ≡ true → list_any (λ other. stamp_lt e.0 other.0) entries ≡ false → rises (entries ++ e ∷ []) ≡ true
 rises-push [] e rise none = refl
 rises-push (x ∷ xs) e rise none =

@@ -1,4 +1,4 @@
--- The transactions that use a key, behind the least timestamp that is decided for each.
+-- The transactions that use a key, after the least timestamp that is decided for each.
 use Rattle.std.specs.Prelude.{◌≡◌, ℕ, ◌<◌, ◌==◌, nat_le, Bool, true, false, not, ◌&&◌, ◌||◌, IsTrue, List, [], ◌∷◌, length, map, Option, Some, None, Vec, is_some, slice_get, slice_index_or}
 use Rattle.std.specs.Borrow.{Bor}
 use Rattle.std.specs.Global.{Global}

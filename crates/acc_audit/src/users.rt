@@ -11,7 +11,7 @@ use acc_value::Key;
 use std::alloc::Global;
 use std::collections::BTreeMap;
 
-/// A transaction by its number, behind the least timestamp that a line decides for it.
+/// A transaction by its number, after the least timestamp that a line decides for it.
 pub(crate) type Entry = (Stamp, usize);
 
 /// The transactions that use a key, and those of them that write it, each rising by timestamp.

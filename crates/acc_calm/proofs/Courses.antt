@@ -91,7 +91,7 @@ took_cases deed past m t = by t.deed t.past (deed ∷ past) t.at t.act_is refl
     by d p deeds (Back e f rest others there) act_is is =
         inr (record { deed = e; past = rest; at = subst (λ k. StandsAt e rest k) (rest_same is) there; act_is = act_is })
 
--- what stood behind a step of these is a past of what stands behind the newest
+-- what stood after a step of these is a past of what stands after the newest
 behind_first : (d : Deed) (p : List Deed) (deed : Deed) (past : List Deed) → StandsAt d p (deed ∷ past) → IsPast p past
 behind_first d p deed past at = by d p (deed ∷ past) at refl
   where
@@ -125,7 +125,7 @@ module _ (cluster : Cluster) (items : List Item) (h : EachStands cluster items) 
         let n = node_step cluster home items h deed past at in
         Sending-past n.earlier items m (past_of (Step n.entry) n.earlier items n.at) (taken_was_sent cluster home items deed past m n act_is).sending
 
-    -- an answer was taken only behind a step that brought the attempt to its phase
+    -- an answer was taken only after a step that brought the attempt to its phase
     was_reached : (m : Message) (deed : Deed) (past : List Deed) → StandsAt deed past all → deed.act ≡ Takes m → id_of m ≡ x → is_answering m ≡ true
         → ReachedIn cluster home x (answer_rank m) past
     was_reached m deed past at act_is about answering =

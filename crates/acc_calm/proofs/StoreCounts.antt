@@ -116,7 +116,7 @@ release_length layout own now (c ∷ changes) cells =
 
 -- ---- what is opened is new, each once
 
--- none of the first is among those behind it
+-- none of the first is among those after it
 abbrev AreNew : List TxnId → List TxnId → Type 0
 AreNew [] before = Unit {0}
 AreNew (x ∷ ids) before = (id_among x (ids ++ before) ≡ false) × AreNew ids before

@@ -81,7 +81,7 @@ grants_request x (Commit from to id ballot body t deps) sent h = refl
 grants_request x (Recover from to id ballot body) sent h = refl
 grants_request x m sent h = absurd (true≢false (sym h))
 
--- ---- the Stable behind a ballot that waits
+-- ---- the Stable after a ballot that waits
 
 pub record AskedWith (x : TxnId) (b : Ballot) (history : List Taken) : Type 0 where
   pub step : Taken
@@ -127,7 +127,7 @@ asked_with x b (step ∷ past) h =
     (λ now. record { step = step; past = past; at = Here step past; from = now.0; to = now.1; body = now.2; t = now.3; deps = now.4; message_is = now.5 })
     (asked_now x b step.message (stable_ballots past x) h)
 
--- the Stable behind an opening: the step that takes it, or an older one
+-- the Stable after an opening: the step that takes it, or an older one
 same_asked : (x : TxnId) (b : Ballot) (step : Taken) (past : List Taken) → AskedWith x b (taking step.message past) → AskedWith x b (step ∷ past)
 same_asked x b step past k = by k.step k.past k.at k.message_is
   where

@@ -139,7 +139,7 @@ pair_field front =
 
 -- ---- lists of cells
 
--- a list behind rising pairs rises with them exactly where each pair is behind those before it
+-- a list after rising pairs rises with them exactly where each pair is after those before it
 pairs_to : (front xs : List (Key × Option Value)) → IsRising front → EachFits FitsPair front xs → AllByRecursion (λ p. IsShortKey p.0) xs × AllByRecursion (λ p. IsCell p.1) xs × IsRising (front ++ xs)
 pairs_to front [] rises h = (tt, tt, subst (λ (ps : List (Key × Option Value)). IsRising ps) (sym (append-nil front)) rises)
 pairs_to front (x ∷ xs) rises h =
@@ -202,7 +202,7 @@ number-verdict_of (suc (suc (suc (suc n)))) h = absurd (omega (arith, h.1))
 abbrev outcome_made : ℕ → List (Option Value) → List (Key × Option Value) → Outcome
 outcome_made verdict values writes = record { reply = record { verdict = verdict_of verdict; values = values }; writes = writes }
 
--- what is left behind the verdict
+-- what is left after the verdict
 abbrev outcome_tail : Outcome → List ℕ
 outcome_tail o = listed cell_bytes o.reply.values ++ cells_bytes o.writes
 

@@ -1,4 +1,4 @@
--- Kinds of field that are made of others: a field behind another one, one that passes a test, and lists.
+-- Kinds of field that are made of others: a field after another one, one that passes a test, and lists.
 use Rattle.std.proofs.Common.{◌≡◌, ℕ, zero, suc, ◌+◌, ◌^◌, ◌<◌, ◌≤◌, Bool, true, false, cond, ◌&&◌, List, [], ◌∷◌, ◌++◌, length, append_assoc, Ok, Err, refl, sym, ap, subst, ◌∙◌, IsTrue, arith}
 use Rattle.std.specs.Prelude.{nat_le}
 use Rattle.std.specs.Cmp.{first_so, second_so}
@@ -16,7 +16,7 @@ use Rattle.acc_wire.proofs.Chains.{step_takes, step_again, Passes-split}
 use Rattle.acc_code.specs.Spelling.{listed}
 use Rattle.acc_code.specs.Reading.{passing, between_at, each_at, listed_at}
 
--- a field of C is one of A and, behind it, what is left of C
+-- a field of C is one of A and, after it, what is left of C
 pub record IsThen {A C : Type 0} (FitsA : A → Type 0) (a_bytes : A → List ℕ) (FitsK : A → C → Type 0) (k_bytes : A → C → List ℕ) (FitsC : C → Type 0) (c_bytes : C → List ℕ) : Type 0 where
   pub fits : (x : A) (c : C) → FitsA x → FitsK x c → FitsC c
   pub bytes : (x : A) (c : C) → FitsK x c → c_bytes c ≡ a_bytes x ++ k_bytes x c
@@ -41,7 +41,7 @@ module _ {A C : Type 0} {FitsA : A → Type 0} {a_bytes : A → List ℕ} {FitsK
   pub then_field : IsField FitsC c_bytes (λ u. at u >>= λ x. k x.0 x.1)
   then_field = record { takes = then_takes; again = then_again }
 
--- nothing more stands behind
+-- nothing more stands after
 pub done_field : {C : Type 0} (made : C) → IsField (λ c. c ≡ made) (λ _. []) (λ u. Ok (made, u))
 done_field {C} made = record {
   takes = λ before after c bytes e.
@@ -96,7 +96,7 @@ between_field least most lt =
 
 -- ---- lists
 
--- each fits behind those before it
+-- each fits after those before it
 abbrev pub EachFits : {A : Type 0} → (List A → A → Type 0) → List A → List A → Type 0
 EachFits Fits front [] = Unit {0}
 EachFits Fits front (x ∷ xs) = Fits front x × EachFits Fits (front ++ x ∷ []) xs
@@ -154,7 +154,7 @@ made_field {A} {C} {FitsA} {a_bytes} make c_bytes spelled field =
     } in
     then_field field (λ x fits. same_field (done_field (make x)) (record { to = λ c e. (fits, e); from = λ c h. h.1; bytes_are = λ c h. refl })) then
 
--- a field behind which a value is made of another one
+-- a field after which a value is made of another one
 module _ {A B C : Type 0} {FitsA : A → Type 0} {a_bytes : A → List ℕ} {FitsB : A → B → Type 0} {b_bytes : B → List ℕ} {at : Unread → Read A} {behind : A → Unread → Read B} (make : A → B → C) (c_bytes : C → List ℕ) (spelled : (x : A) (y : B) → FitsA x → FitsB x y → c_bytes (make x y) ≡ a_bytes x ++ b_bytes y) (field : IsField FitsA a_bytes at) (next : (x : A) → FitsA x → IsField (FitsB x) b_bytes (behind x)) where
   abbrev two_at : Unread → Read C
   two_at u = at u >>= λ x. behind x.0 x.1 >>= λ y. Ok (make x.0 y.0, y.1)
@@ -183,7 +183,7 @@ module _ {A B C : Type 0} {FitsA : A → Type 0} {a_bytes : A → List ℕ} {Fit
   pub made_of_two : IsField FitsTwo c_bytes two_at
   made_of_two = record { takes = two_takes; again = two_again }
 
--- a value behind a number that tells which kind it is
+-- a value after a number that tells which kind it is
 pub tagged_field : {C : Type 0} {Fits : C → Type 0} {k : ℕ → Unread → Read C} (least most : ℕ) (tag : C → ℕ) (tail : C → List ℕ) → most < 256 → ((c : C) → Fits c → (least ≤ tag c) × (tag c ≤ most)) → ((n : ℕ) → (least ≤ n) × (n ≤ most) → IsField (λ c. Fits c × (tag c ≡ n)) tail (k n)) → IsField Fits (λ c. u8_bytes (tag c) ++ tail c) (λ u. between_at least most u >>= λ n. k n.0 n.1)
 tagged_field {C} {Fits} least most tag tail lt within rest =
     let then : IsThen (λ n. (least ≤ n) × (n ≤ most)) u8_bytes (λ n c. Fits c × (tag c ≡ n)) (λ n c. tail c) Fits (λ c. u8_bytes (tag c) ++ tail c) = record {

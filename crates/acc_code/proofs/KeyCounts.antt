@@ -28,7 +28,7 @@ so_far_rise lets select updates =
     rising true (read_uses lets select) (map updated_key updates)
     (rising false (let_uses lets) (selected_keys select) (rising false [] (map (λ l. l.key) lets) refl))
 
--- one key more, among those behind it
+-- one key more, among those after it
 found_step : (here behind v : Bool) (old : Option Bool) → (behind || is_some (cond here (Some v) old)) ≡ ((here || behind) || is_some old)
 found_step true true v old = refl
 found_step true false v old = refl

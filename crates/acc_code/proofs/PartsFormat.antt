@@ -69,7 +69,7 @@ behind_lets lets =
 abbrev FitTogether : BodyParts → Type 0
 FitTogether c = FitLets c.lets × FitsSelect c.lets c.select × FitConditions (length c.lets) c.guards × FitUpdates c.lets c.select c.guards c.updates
 
--- the four parts are spelled one behind the other
+-- the four parts are spelled one after the other
 grouped : (a b c d : List ℕ) → a ++ (b ++ (c ++ d)) ≡ ((a ++ b) ++ c) ++ d
 grouped a b c d = sym (append_assoc a b (c ++ d)) ∙ sym (append_assoc (a ++ b) c d)
 

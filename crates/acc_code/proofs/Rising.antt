@@ -1,4 +1,4 @@
--- Pairs that rise by key, with one more behind them.
+-- Pairs that rise by key, with one more after them.
 use Rattle.std.proofs.Common.{◌≡◌, suc, ◌-◌, Bool, true, false, ◌&&◌, List, [], ◌∷◌, ◌++◌, length, Some, refl, sym, ap, ◌∙◌, IsTrue, slice_get, arith}
 use Rattle.std.specs.Cmp.{first_so, second_so}
 use Rattle.std.specs.List.{list_all}
@@ -25,7 +25,7 @@ module _ {V : Type 0} where
       ap (λ (q : Key × V). key_lt a q.0) (sym same) ∙ first_so (key_lt a p.0) true below
   below_last a p (q ∷ pairs) last below e = below_last a q pairs last (second_so (key_lt a p.0) _ below) e
 
-  -- a key is behind them all where it is behind the last
+  -- a key is after them all where it is after the last
   pub behind_last : (p : Key × V) (pairs : List (Key × V)) (last : Key × V) (key : Key) → IsRising (p ∷ pairs) → slice_get (p ∷ pairs) (length pairs) ≡ Some last → list_all (λ q. key_lt q.0 key) (p ∷ pairs) ≡ key_lt last.0 key
   behind_last p [] last key rises e =
       let same : p ≡ last = cc in

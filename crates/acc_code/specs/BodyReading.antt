@@ -70,7 +70,7 @@ lets_at u = listed_at 0 16 let_at u
 unfoldable pub let_number_at : ℕ → Unread → Read ℕ
 let_number_at lets u = passing (λ name. nat_lt name lets) u8_at u
 
--- what stands behind the first byte of a select
+-- what stands after the first byte of a select
 abbrev pub select_behind : List Let → ℕ → Unread → Read Select
 select_behind lets zero u = Ok (Nothing, u)
 select_behind lets (suc zero) u = do
@@ -154,25 +154,25 @@ conditions_at lets u = listed_at 0 16 (λ _. condition_at lets) u
 
 -- ---- updates
 
--- what stands behind the key of an update, which sets it or else deletes it
+-- what stands after the key of an update, which sets it or else deletes it
 abbrev pub update_with : ℕ → Key → Bool → Unread → Read Update
 update_with lets key true u = do
   value ← sum_at lets u
   Ok (Set key value.0, value.1)
 update_with lets key false u = Ok (Delete key, u)
 
--- an update behind these uses of keys
+-- an update after these uses of keys
 unfoldable pub update_at : ℕ → List (Key × Bool) → Unread → Read Update
 update_at lets uses u = do
   number ← between_at 1 2 u
   key ← use_at uses true number.1
   update_with lets key.0 (number.0 == 1) key.1
 
--- an update behind others, where the LETs and the select use these keys
+-- an update after others, where the LETs and the select use these keys
 abbrev pub next_update_at : ℕ → List (Key × Bool) → List Update → Unread → Read Update
 next_update_at lets uses front u = update_at lets (with_keys true uses (map updated_key front)) u
 
--- behind a condition stands an update
+-- after a condition stands an update
 abbrev pub least_updates : List Condition → ℕ
 least_updates [] = 0
 least_updates (_ ∷ _) = 1

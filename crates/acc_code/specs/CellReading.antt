@@ -16,7 +16,7 @@ use Rattle.acc_code.specs.Reading.{passing, between_at, listed_at}
 unfoldable pub text_value_at : Unread → Read (List ℕ)
 text_value_at u = passing is_text_value text_at u
 
--- what stands behind the first byte of a cell
+-- what stands after the first byte of a cell
 abbrev pub cell_behind : ℕ → Unread → Read (Option Value)
 cell_behind zero u = Ok (None, u)
 cell_behind (suc zero) u = do

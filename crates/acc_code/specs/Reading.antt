@@ -1,5 +1,5 @@
 -- Reading a format of several fields, from left to right, up to the first fault. A field is a value and what is left
--- behind it; what its format forbids is out of range, at the field's first byte.
+-- after it; what its format forbids is out of range, at the field's first byte.
 use Rattle.std.specs.Prelude.{◌≡◌, ℕ, zero, suc, Bool, ◌&&◌, List, [], ◌∷◌, ◌++◌, Result, Ok, Err, nat_le, if◌then◌else◌}
 use Rattle.acc_wire.specs.declared.error.WireKind.TheVariants.{Range}
 use Rattle.acc_wire.specs.Reading.{Unread, Read, ◌>>=◌, fault_at, u8_at}

@@ -41,7 +41,7 @@ fn test_for_null(number: u8, name: u8) -> Condition
     }
 }
 
-/// What stands behind the number of a condition.
+/// What stands after the number of a condition.
 fn take_condition_behind(
     alloc: Global,
     reader: &mut Reader<'_>,

@@ -97,7 +97,7 @@ fn is_used(lets: &[Let], select: &Select, updates: &[Update], key: &Key) -> bool
     is_bound(lets, key) || is_selected(select, key) || is_updated(updates, key)
 }
 
-/// A key of a body behind LETs, a select and updates, which have so many different keys. It joins their count.
+/// A key of a body after LETs, a select and updates, which have so many different keys. It joins their count.
 #[tactic(auto, unfolding(crate::specs::BodyReading::use_at))]
 pub(crate) fn take_use(
     alloc: Global,

@@ -20,7 +20,7 @@ const SET: u8 = 1;
 /// The number of an update that deletes its key.
 const DELETE: u8 = 2;
 
-/// What stands behind the key of an update.
+/// What stands after the key of an update.
 fn take_update_with(
     alloc: Global,
     reader: &mut Reader<'_>,
@@ -39,7 +39,7 @@ fn take_update_with(
     }
 }
 
-/// An update behind LETs, a select and other updates. Its key joins the count of their different keys.
+/// An update after LETs, a select and other updates. Its key joins the count of their different keys.
 #[tactic(auto, unfolding(crate::specs::BodyReading::update_at))]
 fn take_update(
     alloc: Global,

@@ -21,7 +21,7 @@ pub record ServesOver {D : Type 0} (port : Ghosts D) (strict : Bool) (before aft
   pub back : GivesBackFreely port plan items before after
   pub stayed : IsTrue strict → NobodyIsDown items
 
--- All actors side by side, over these disks. A limit ends a free run behind the items, and the disks came back, each keeping its actor there
+-- All actors side by side, over these disks. A limit ends a free run after the items, and the disks came back, each keeping its actor there
 -- or a move ahead.
 abbrev pub OverThreads : {D : Type 0} → Ghosts D → Bool → List (ℕ × D) → List (ℕ × D) → Over
 OverThreads port strict before after =

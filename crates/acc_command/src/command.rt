@@ -19,8 +19,8 @@ use std::thread::Threads;
 /// and of what was done after it to finish what it left open, `free` that of what its actors did side by side on so many threads, `check`
 /// a line of what it has, and a document that is refused gets the line of its refusal. `glance` takes a document with looks in the same
 /// way, and writes what `run` would write and a line of what each look has seen. `audit` takes a case, and writes whether its report keeps
-/// the rules of `docs/AUDIT.md`. A run past a limit gets the line of this limit and nothing else; `run` and `glance` have given their disks
-/// back then too, and those of `heal` and `free` may be gone. After any other run all of them have given their disks back. `gen`
+/// the rules of `docs/AUDIT.md`. A run past a limit gets the line of this limit and nothing else; `run`, `glance` and `free` have given
+/// their disks back then too, and those of `heal` may be gone. After any other run all of them have given their disks back. `gen`
 /// reads nothing and writes the document of its two numbers. Other words get the usage line, and nothing is read. Each step or restart that
 /// an actor takes on a thread of `free` comes through `gate`; what is left once the threads are done doesn't. What a run needs no longer
 /// goes to `remains`, so that a program which ends here need not free it.

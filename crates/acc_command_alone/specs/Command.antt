@@ -29,7 +29,7 @@ use Rattle.acc_command_alone.specs.declared.status.Status.TheVariants.{Done, No,
 
 -- ---- what a run is over
 
--- What else is known of the items of a run, which stand with the newest first, and of those behind which a limit ends one.
+-- What else is known of the items of a run, which stand with the newest first, and of those after which a limit ends one.
 pub record Over : Type 1 where
   pub Items : Content → List Item → Type 0
   pub Limits : Content → List Item → Which → ℕ → Type 0
@@ -40,7 +40,7 @@ pub record RunsOver {D : Type 0} (port : Ghosts D) (strict : Bool) (before after
   pub ran : HasRun port plan items before after
   pub strictly : IsTrue strict → ObeysStrictly plan items
 
--- The schedule, step by step, over these disks. A limit ends its run behind the items with some answers of the disks, which came back, each
+-- The schedule, step by step, over these disks. A limit ends its run after the items with some answers of the disks, which came back, each
 -- keeping its actor where these answers led, and over strict disks it alone does.
 abbrev pub OverDisks : {D : Type 0} → Ghosts D → Bool → List (ℕ × D) → List (ℕ × D) → Over
 OverDisks port strict before after =

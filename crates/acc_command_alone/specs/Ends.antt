@@ -48,7 +48,7 @@ Says status text result old new =
 
 -- ---- what is read
 
--- What is left of the source: all behind the byte past the limit, which is nothing where the document was read whole; with a fault of
+-- What is left of the source: all after the byte past the limit, which is nothing where the document was read whole; with a fault of
 -- the source or want of memory no less than that.
 abbrev pub Leaves : Status → Option (List ℕ) → Option (List ℕ) → Type 0
 Leaves Done old new = (new ≡ none_left old) × (new ≡ without_first (document_limit + 1) old)

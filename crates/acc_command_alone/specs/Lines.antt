@@ -8,7 +8,7 @@ use Rattle.acc_schedule.specs.declared.error.PlanError.{PlanError}
 use Rattle.acc_schedule.specs.declared.error.PlanError.TheVariants.{Bad, OutOfMemory}
 use Rattle.acc_schedule.specs.Content.{Content as Plan}
 
--- a text with a line feed behind it
+-- a text with a line feed after it
 abbrev pub line : List ℕ → List ℕ
 line text = text ++ 10 ∷ []
 
@@ -46,7 +46,7 @@ number_of Report = 10
 abbrev pub place_text : ℕ → ℕ → List ℕ
 place_text detail at = codes " " ++ decimal detail ++ codes " at " ++ decimal at
 
--- what stands behind the path
+-- what stands after the path
 abbrev pub detail_text : PlanKind → ℕ → ℕ → List ℕ
 detail_text Topology detail at = codes " " ++ decimal detail
 detail_text Text detail at = place_text detail at

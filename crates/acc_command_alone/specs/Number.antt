@@ -2,7 +2,7 @@
 use Rattle.std.specs.Prelude.{◌≡◌, ◌≤◌, ℕ, List, Option, Some, None}
 use Rattle.std.specs.Str.Parse.{digits_value, without_leading_plus, IsNumeral}
 
--- the number that the digits behind a plus sign or without one give
+-- the number that the digits after a plus sign or without one give
 abbrev pub value_of : List ℕ → ℕ
 value_of word = digits_value 10 (without_leading_plus word)
 

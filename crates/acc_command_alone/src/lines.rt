@@ -89,7 +89,7 @@ fn number(kind: PlanKind) -> u64
     kind as u64
 }
 
-// What stands behind the path.
+// What stands after the path.
 fn push_detail(text: &mut Vec<u8>, kind: PlanKind, detail: u32, at: u64) -> Result<(), OutOfMemory>
     ensures { OnOk result (text.new.items ≡ text.old.items ++ detail_text kind detail at) }
 {

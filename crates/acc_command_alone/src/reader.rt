@@ -20,7 +20,7 @@ pub(crate) fn number(
     ensures { IfOk result (IsNumberOf least most word.now) }
 {
     let reader = reader_of(alloc, least, most)?;
-    // Behind `--` a word is a value, whatever it looks like.
+    // After `--` a word is a value, whatever it looks like.
     let words = ["--", word];
     match reader.try_get_matches_from(&words) {
         Ok(matches) => Ok(matches.get_one::<u64>("number")),

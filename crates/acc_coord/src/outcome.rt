@@ -42,7 +42,7 @@ impl Coord {
         Ok(())
     }
 
-    // Tells the outcome to all stores, and ends. There is room for the node's reply behind the note.
+    // Tells the outcome to all stores, and ends. There is room for the node's reply after the note.
     fn finish(&self, settled: &Settled, outcome: &SharedOutcome) -> Result<Step, OutOfMemory>
         ensures { IfOk result (λ step. (layout : Layout) (answers : List Letter) → IsPlaced layout self.now →
             Follows layout self.now answers step (finish layout (own_of self.now) self.now.id (attempt_in self.now answers) settled.now outcome.now)) }

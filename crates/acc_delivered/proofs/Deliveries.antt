@@ -1,4 +1,4 @@
--- A message that the later items sent is taken behind it, in one of them, where it goes to.
+-- A message that the later items sent is taken after it, in one of them, where it goes to.
 use Rattle.std.proofs.Common.{◌≡◌, ℕ, suc, ◌+◌, ◌<◌, ◌≤◌, true, List, [], ◌∷◌, ◌++◌, length, Some, refl, sym, ◌∙◌, ap, subst, arith, ◌⊎◌, inl, inr, ⊎_elim}
 use Rattle.std.specs.List.{slice_get}
 use Rattle.std.proofs.lemmas.List.{length-append}
@@ -78,7 +78,7 @@ numbered_at items earlier e m at there =
 
 -- ---- who takes it
 
--- an entry of the items takes the message where it goes to, behind these items
+-- an entry of the items takes the message where it goes to, after these items
 pub record TakenBehind (cluster : Cluster) (behind items : List Item) (m : Message) : Type 0 where
   pub entry : Entry
   pub before : List Item

@@ -109,7 +109,7 @@ module _ (cluster : Cluster) (base since : List Item) (e : Entry) (x : TxnId) (b
   pub of_node : is_node node ≡ true
   of_node = is_of_node cluster base since e x b standing recover
 
-  -- a message of the attempt that an entry sent is taken behind it
+  -- a message of the attempt that an entry sent is taken after it
   pub delivered : (m : Message) → id_of m ≡ x → ballot_of m ≡ b → (s : Sending its_items m) → TakenBehind cluster (Step s.entry ∷ s.earlier) its_items m
   delivered m about of_ballot s =
       taken_behind cluster base its_later standing.stands all s.earlier s.entry m s.at (sent_later cluster base since e x b standing recover m about of_ballot s) s.sent
@@ -148,7 +148,7 @@ module _ (cluster : Cluster) (base since : List Item) (e : Entry) (x : TxnId) (b
         delivered (asks_of store) (request_about own x at.ballot at.body at.phase store) (request_ballot own x at.ballot at.body at.phase store ∙ at_ballot)
         (asking_sends store there)
 
-    -- what a store answers behind the request is known
+    -- what a store answers after the request is known
     pub answer_known : (front : List Item) → deeds_of cluster node front ≡ course.deed ∷ course.before → (t : Entry) (before : List Item) → StandsAt (Step t) before its_items
         → IsPast front before → (s : Message) → IsIn s t.emitted.out → id_of s ≡ x → ballot_of s ≡ b → to_of s ≡ home_of x b → Knows cluster.layout at s
     answer_known front front_is t before t_at newer s there about of_ballot to_is =

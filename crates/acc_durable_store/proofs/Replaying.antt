@@ -158,7 +158,7 @@ module _ {E : Type 0} (layout : Layout) (version : ℕ) (own : Actor) (old new :
 
 -- ---- all of them
 
--- these payloads are entered, and behind them stands the next gate
+-- these payloads are entered, and after them stands the next gate
 pub record EnteredSoFar (layout : Layout) (version : ℕ) (own : Actor) (payloads : List (List ℕ)) (r : Replayed) (gate : ℕ) : Type 0 where
   pub replayed : IsReplayOf layout version own payloads r
   pub gate_is : gate ≡ 1 + length (records payloads)

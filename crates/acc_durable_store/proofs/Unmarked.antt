@@ -25,7 +25,7 @@ is_message m fits = not_equal (bytes_eq (message_bytes m) mark_bytes) (λ e. no_
 one_kept : (payload : List ℕ) → bytes_eq payload mark_bytes ≡ false → length (without_marks (payload ∷ [])) ≡ 1
 one_kept payload e = ap (λ (b : Bool). length (cond (not b) (payload ∷ []) [])) e
 
--- behind others
+-- after others
 kept_with : (before more : List (List ℕ)) → length (without_marks (before ++ more)) ≡ length (without_marks before) + length (without_marks more)
 kept_with before more = ap length (filter-append is_other before more) ∙ length-append (without_marks before) (without_marks more)
 

@@ -116,7 +116,7 @@ OfEachStaging port layout actor P =
 
 -- ---- what calls need
 
--- it may take the message behind what is staged
+-- it may take the message after what is staged
 pub record MayTake {D : Type 0} (port : Ghosts D) (layout : Layout) (actor : StoreActor D) (staged : List (Stop Message)) (m : Message) : Type 0 where
   pub name : StoreName
   pub past : Past Message
@@ -145,7 +145,7 @@ pub record Steps {D : Type 0} (port : Ghosts D) (layout : Layout) (name : StoreN
   pub emits : IfSome given (λ emitted. emitted ≡ emits_next layout name.actor past stop.act)
   pub stands : StandsFor port layout name (after_step given past stop) new
 
--- What is given is all that was staged, in its order, each with what the rules say behind those before it; the actor has then taken all
+-- What is given is all that was staged, in its order, each with what the rules say after those before it; the actor has then taken all
 -- of it, or a fault has stopped all of it.
 pub record Settles {D : Type 0} (port : Ghosts D) (layout : Layout) (name : StoreName) (past : Past Message) (staged : List (Stop Message)) (new : StoreActor D) (given : Option (List Unsent)) : Type 0 where
   pub emits : IfSome given (IsUnsent (emits_next layout name.actor) past staged)

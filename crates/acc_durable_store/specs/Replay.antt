@@ -26,7 +26,7 @@ pub record IsReplayOf (layout : Layout) (version : ℕ) (own : Actor) (payloads 
 abbrev pub IsReplay : Layout → ℕ → Actor → Replayed → Type 0
 IsReplay layout version own r = (payloads : List (List ℕ)) × IsReplayOf layout version own payloads r
 
--- nothing that may stand behind these is spelled so
+-- nothing that may stand after these is spelled so
 abbrev pub IsBad : Layout → ℕ → Actor → List StorePayload → List ℕ → Type 0
 IsBad layout version own before payload = (p : StorePayload) → payload ≡ store_bytes p → StoreMay layout version own before p → ⊥
 

@@ -97,7 +97,7 @@ impl<D: Rig> StoreActor<D> {
         }
     }
 
-    /// Plans the step that takes a message behind what is staged. It can be weighed and staged as long as the store takes no other. It
+    /// Plans the step that takes a message after what is staged. It can be weighed and staged as long as the store takes no other. It
     /// makes no call of the disk.
     pub fn prepare(&self, topology: &Topology, m: &Message) -> Result<Prepared, OutOfMemory>
         requires up { is_down self.now ≡ false }
@@ -110,7 +110,7 @@ impl<D: Rig> StoreActor<D> {
         store.prepare(topology, m)
     }
 
-    /// Takes the message that has this number as it was planned, behind what is staged. It isn't on the disk before `settle`, which gives
+    /// Takes the message that has this number as it was planned, after what is staged. It isn't on the disk before `settle`, which gives
     /// what the store sends for it. After an error all is as before. It makes no call of the disk.
     #[inline(always)]
     pub fn stage(

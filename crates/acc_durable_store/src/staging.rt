@@ -59,7 +59,7 @@ impl<D: Disk> StagedJournal<D> {
         Ok(())
     }
 
-    /// Takes back what was staged behind the first payloads of the group.
+    /// Takes back what was staged after the first payloads of the group.
     pub(crate) fn cancel(&mut self, kept: usize)
         ensures { self.new ≡ record self.old { group = take kept self.old.group } }
     {

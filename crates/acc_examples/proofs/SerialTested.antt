@@ -179,7 +179,7 @@ in_place-sound notes h before after x reply split unanswered =
         not_true true m = absurd (true≢false (sym m))
         not_true false m = refl
 
--- behind other notes
+-- after other notes
 abbrev InPlaceBehind : List Note → List Note → Type 0
 InPlaceBehind first notes =
     (before after : List Note) (x : TxnId) (reply : Reply) → notes ≡ before ++ OutcomeNote x reply ∷ after

@@ -23,7 +23,7 @@ sent_after layout own past (m ∷ ms) =
 abbrev pub sent_by : Layout → Actor → List Message → List (List Message)
 sent_by layout own messages = sent_after layout own [] messages
 
--- the waiters of a transaction at a store, before each of these messages and behind the last
+-- the waiters of a transaction at a store, before each of these messages and after the last
 abbrev pub waiting_after : Layout → Actor → TxnId → List Taken → List Message → List (List Ballot)
 waiting_after layout own x past [] = waiters_of (shard_of own) past x ∷ []
 waiting_after layout own x past (m ∷ ms) =

@@ -28,7 +28,7 @@ asks =
     Begin 0 ∷ Begin 1 ∷ Deliver 3 ∷ Deliver 0 ∷ Deliver 1 ∷ Deliver 7 ∷ Deliver 8 ∷ Deliver 4 ∷ Deliver 9
     ∷ Recover 1 3 ∷ Deliver 14 ∷ Deliver 15 ∷ Deliver 17 ∷ Deliver 18 ∷ []
 
--- the next asks, and those behind a drain
+-- the next asks, and those after a drain
 abbrev pub more_asks : List Ask
 more_asks = Restart (actor_of 1 0) ∷ Recover 0 2 ∷ []
 

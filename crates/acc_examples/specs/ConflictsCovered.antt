@@ -42,7 +42,7 @@ first_of_both = id 6 64
 abbrev pub second_of_both : TxnId
 second_of_both = id 7 64
 
--- these items, behind the begins
+-- these items, after the begins
 abbrev pub behind_begins : List Item → List Item
 behind_begins items =
     items

@@ -17,7 +17,7 @@ agreeing =
     ∷ (noting (Decide a (stamp 2 65) Adopted (deps_in 1 (b ∷ [])) ∷ []) ∷ decided b (stamp 1 128) [] ∷ noting (Decide a (stamp 2 65) Slow [] ∷ []) ∷ [])
     ∷ []
 
--- one transaction at two timestamps, of another h or of another origin, in one step or behind another decision; two
+-- one transaction at two timestamps, of another h or of another origin, in one step or after another decision; two
 -- transactions at one timestamp, side by side or not
 abbrev pub disagreeing : List (List Item)
 disagreeing =

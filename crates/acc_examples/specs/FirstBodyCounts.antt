@@ -56,6 +56,6 @@ answers =
     ∷ (ReadOk (store_at 1) (node_at 1) d zero (Values ((key x, None) ∷ [])) ∷ [])
     ∷ []
 
--- the store behind the first two messages
+-- the store after the first two messages
 abbrev pub behind_two : List Taken
 behind_two = replay three (store_at 1) (heard_of_y ∷ heard_of_x ∷ [])

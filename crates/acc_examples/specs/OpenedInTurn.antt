@@ -1,6 +1,6 @@
 -- Of three transactions on one key, b waits for a and c for both. Applying a opens b for its two waiters, in the order of their
 -- ballots, and then c, each with the cells of its turn. A Stable that comes after its transaction was opened doesn't wait: it
--- gets the cells of that moment, and later, behind the Apply, the outcome.
+-- gets the cells of that moment, and later, after the Apply, the outcome.
 use Rattle.std.specs.Prelude.{List, [], ◌∷◌}
 use Rattle.acc_stamp.specs.declared.stamps.Ballot.{Ballot}
 use Rattle.acc_txn.specs.declared.parts.BodyParts.{BodyParts}
@@ -49,7 +49,7 @@ answers =
     ∷ (ReadOk (store_at 1) (node_at 1) b (ballot 2 64) (Known exchanged) ∷ [])
     ∷ []
 
--- the waiters of b, before each message and behind the last
+-- the waiters of b, before each message and after the last
 abbrev pub waiting : List (List Ballot)
 waiting =
     []

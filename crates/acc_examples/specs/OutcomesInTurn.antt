@@ -29,7 +29,7 @@ abbrev pub six_read : Reply
 six_read = ok (number_cell 6 ∷ [])
 
 -- No outcome. A write and a read, in either order. Each read sees the last write before it. A second outcome that equals the
--- first, at a place where another would be due. A reply in the step of its outcome or behind it, or none.
+-- first, at a place where another would be due. A reply in the step of its outcome or after it, or none.
 abbrev pub serial_ones : List (List Item)
 serial_ones =
     (begun 2 c ∷ begun 0 a ∷ [])
@@ -41,7 +41,7 @@ serial_ones =
     ∷ (finished c nothing_read ∷ answered c nothing_read ∷ finished c nothing_read ∷ begun 2 c ∷ [])
     ∷ []
 
--- A read misses the write before it; sees one behind it; sees one that was overwritten. A second outcome differs, also where
+-- A read misses the write before it; sees one after it; sees one that was overwritten. A second outcome differs, also where
 -- it would be due there. A reply differs; comes without an outcome; comes before it, also in one step. An outcome comes
 -- before its begin, or without one, so that it has no body.
 abbrev pub not_serial_ones : List (List Item)

@@ -24,7 +24,7 @@ pub fn conflicts_covered()
     ensures fails { HoldsOfNone (Coverage conflicts_covered_row.cluster) conflicts_covered_row.uncovered }
 {}
 
-/// The first outcomes are those of one serial map, each behind its begin and not behind its reply; all others equal them.
+/// The first outcomes are those of one serial map, each after its begin and not after its reply; all others equal them.
 pub fn outcomes_in_turn()
     ensures holds { HoldsOfEach (SerialOutcomes outcomes_in_turn_row.cluster) outcomes_in_turn_row.serial_ones }
     ensures fails { HoldsOfNone (SerialOutcomes outcomes_in_turn_row.cluster) outcomes_in_turn_row.not_serial_ones }

@@ -79,7 +79,7 @@ abbrev pub is_vote : Option Stamp → Stamp → Bool
 is_vote None t = false
 is_vote (Some vote) t = stamp_eq vote t
 
--- the record shows it: as the vote, or behind what is decided
+-- the record shows it: as the vote, or after what is decided
 abbrev pub shows : Option Record → Stamp → Bool
 shows None t = false
 shows (Some r) t = is_vote r.vote t || is_below_settled t r.stable
@@ -92,7 +92,7 @@ time_of _ = None
 -- ---- the planned step
 
 -- The step opens and applies what the rules of a plan give for the shelf with its own record, and sends and writes what this releases,
--- behind these messages.
+-- after these messages.
 pub record IsReadyBehind (layout : Layout) (shelf : Shelf) (first : List Message) (step : StepParts) : Type 0 where
   pub planned : IsPlanned (shard_of shelf.actor) shelf.records step.own shelf.waits step.plan
   pub released : Released

@@ -9,7 +9,7 @@ use acc_deps::Settled;
 use acc_record::Record;
 use acc_stamp::Stamp;
 
-/// Whether a record shows a timestamp: as the vote, or behind the timestamp that is decided. Mostly it does, since a fast decision
+/// Whether a record shows a timestamp: as the vote, or after the timestamp that is decided. Mostly it does, since a fast decision
 /// is what was voted.
 pub(crate) fn is_shown(there: Option<&Record>, t: Stamp) -> bool
     ensures { result ≡ shows (option_copied there.entry) t }

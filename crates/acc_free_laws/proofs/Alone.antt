@@ -1,4 +1,4 @@
--- What a cluster that was opened behind nothing enters stands as it is among its items.
+-- What a cluster that was opened after nothing enters stands as it is among its items.
 use Rattle.std.proofs.Common.{◌≡◌, ◌+◌, Bool, false, List, [], ◌∷◌, length, refl, ◌∙◌, ap, subst, arith}
 use Rattle.acc_stamp.specs.declared.actors.Actor.{Actor}
 use Rattle.acc_message.specs.declared.entry.Emitted.{Emitted}
@@ -45,7 +45,7 @@ module _ (cluster : Cluster) (s : Situation) (first : s.earlier ≡ []) where
       (ap (λ e. emits_if cluster (whole s) a (act_of cluster (whole s) e)) (event_is s first event)
       ∙ ap (λ items. emitted_for cluster items a event) (whole_alone s first))
 
--- ---- opened behind nothing
+-- ---- opened after nothing
 
 pub alone_whole : (items : List Item) (stopped : List Stopped) → whole (alone items stopped) ≡ items
 alone_whole items stopped = joined_alone items

@@ -65,7 +65,7 @@ calm_events (StepItem e ∷ earlier) quiet =
 calm_events (Skipped step cause ∷ earlier) quiet = calm_events earlier quiet
 calm_events (Down actor ∷ earlier) quiet = absurd (true≢false (sym quiet))
 
--- none is owed behind an entry that is no restart
+-- none is owed after an entry that is no restart
 none_owed : (a : Actor) (e : Entry) (earlier : List Item) → is_calm_event e.event ≡ true → lost_fit a 0 (StepItem e ∷ earlier) ≡ true
     → (not (same_actor e.actor a) || beq e.lost (nat_lt 0 0)) ≡ true × (lost_fit a 0 earlier ≡ true)
 none_owed a e earlier calm fits =

@@ -38,7 +38,7 @@ module _ (cluster : Cluster) (seen others : List Item) (a : Actor) (apart : AreO
         ends = other.ends ∙ sym one.ends;
       }
 
-  -- the steps that a fault stopped, each behind those before it
+  -- the steps that a fault stopped, each after those before it
   pub stops_between : (events : List Event) (lost : Bool) → AllByRecursion (λ (event : Event). (act : Act) × MayTake cluster seen a event act) events
       → AreSameSteps cluster (Down a ∷ seen) (Down a ∷ others ++ seen) a events lost
   stops_between events lost may =

@@ -185,7 +185,7 @@ module _ (cluster : Cluster) (seen others : List Item) (a : Actor) (event : Even
   pub entering_over : (lost : Bool) → entering cluster (others ++ seen) a event lost ≡ entering cluster seen a event lost
   entering_over lost = ap (λ (m : Emitted). Step (record { actor = a; event = event; emitted = m; lost = lost })) emitted_over
 
--- those of more events, each behind those before it
+-- those of more events, each after those before it
 pub all_over : (cluster : Cluster) (seen others : List Item) (a : Actor) (events : List Event) (lost : Bool) → AreOthers a others
     → AllByRecursion (λ (event : Event). (act : Act) × MayTake cluster seen a event act) events → AreSameSteps cluster seen (others ++ seen) a events lost
 all_over cluster seen others a events lost apart may =

@@ -63,7 +63,7 @@ still_over cluster seen [] a event none stands can_go = can_go
 still_over cluster seen (item ∷ others) a event none stands can_go =
     still cluster (others ++ seen) item a event stands.0 none.0 (still_over cluster seen others a event none.1 stands.1 can_go)
 
--- the steps of an actor that were stopped can still be entered, behind these items, and took no message that was taken
+-- the steps of an actor that were stopped can still be entered, after these items, and took no message that was taken
 abbrev StillStand : Cluster → List Item → Actor → List Event → Type 0
 StillStand cluster items a events =
     AllByRecursion (CanGoOn cluster items a) events × AllByRecursion (IsUntaken items) events × AreDifferent events × (length events ≤ 16)

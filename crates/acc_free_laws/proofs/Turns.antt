@@ -1,4 +1,4 @@
--- A whole turn of an actor: it stepped by what it had seen, and then its item came behind others' items.
+-- A whole turn of an actor: it stepped by what it had seen, and then its item came after others' items.
 use Rattle.std.proofs.Common.{◌≡◌, ◌≤◌, true, false, List, [], ◌∷◌, ◌++◌, length, Contains, refl, sym, ◌∙◌, ap, subst}
 use Rattle.std.specs.List.{AllByRecursion}
 use Rattle.std.proofs.lemmas.Bool.{true≢false}

@@ -52,7 +52,7 @@ abbrev pub TakenOnce : List Item → Type 0
 TakenOnce [] = Unit {0}
 TakenOnce (item ∷ earlier) = IsUntakenBefore earlier item × TakenOnce earlier
 
--- a lost entry stands behind a down of its actor, with nothing but lost entries of it between
+-- a lost entry stands after a down of its actor, with nothing but lost entries of it between
 abbrev pub IsBehindDown : List Item → Item → Type 0
 IsBehindDown earlier (Step e) = e.lost ≡ true → is_down e.actor earlier ≡ true
 IsBehindDown earlier _ = Unit {0}
@@ -89,6 +89,6 @@ pub record IsFreeRun (plan : Content) (items : List Item) : Type 0 where
   pub journalled : AllByRecursion IsJournalledIfLost items
   pub kept : AllByRecursion KeepsSixteen items
 
--- a cluster that was opened behind nothing, with these items and these stopped steps
+-- a cluster that was opened after nothing, with these items and these stopped steps
 abbrev pub alone : List Item → List Stopped → Situation
 alone items stopped = record { earlier = []; own = items; dropped = []; stopped = stopped }

@@ -1,4 +1,4 @@
--- When the items of actors that step freely are complete: every command had its turn but those behind a recover of what isn't begun,
+-- When the items of actors that step freely are complete: every command had its turn but those after a recover of what isn't begun,
 -- and every message is taken but those of actors that are down.
 use Rattle.std.specs.Prelude.{◌≡◌, Bool, true, false, not, IsTrue, List, [], ◌++◌, reverse, Contains, Option}
 use Rattle.std.specs.List.{list_all}

@@ -18,7 +18,7 @@ use Rattle.acc_free_laws.specs.Commands.{commands_of, is_event_of, is_message}
 use Rattle.acc_free_laws.specs.Turns.{Went}
 use Rattle.acc_free_laws.specs.FreeRun.{IsUntaken, IsFreeRun}
 
--- The cluster was opened behind nothing and dropped nothing, its items are a free run, and the steps that were stopped can still be
+-- The cluster was opened after nothing and dropped nothing, its items are a free run, and the steps that were stopped can still be
 -- entered and took no message that was taken. Of each actor they are those of one append, sixteen at most.
 pub record IsServing (plan : Content) (s : Situation) : Type 0 where
   pub earlier : s.earlier ≡ []
@@ -28,7 +28,7 @@ pub record IsServing (plan : Content) (s : Situation) : Type 0 where
   pub untaken : (a : Actor) → AllByRecursion (IsUntaken s.own) (stopped_at a s.stopped)
   pub few : (a : Actor) → length (stopped_at a s.stopped) ≤ 16
 
--- behind the items the actor may take the event, whose step a fault can stop, and its message wasn't taken
+-- after the items the actor may take the event, whose step a fault can stop, and its message wasn't taken
 pub record MayStop (cluster : Cluster) (items : List Item) (a : Actor) (event : Event) : Type 0 where
   pub act : Act
   pub may : MayTake cluster items a event act

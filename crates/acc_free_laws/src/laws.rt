@@ -68,7 +68,7 @@ pub fn others_change_no_step()
         AreSameSteps cluster seen (others ++ seen) a events lost }
 {}
 
-/// What an actor makes by the items that it has seen fits behind these and any further items of others, be it an entry or a down.
+/// What an actor makes by the items that it has seen fits after these and any further items of others, be it an entry or a down.
 pub fn turns_stay_fitting()
     ensures entry { (plan : Content) (seen others : List Item) (a : Actor) (event : Event) (act : Act) → Contains (actors plan.topology) a →
         AreOthers a others → MayTake (cluster_of plan) seen a event act → is_plain_event event ≡ true → kept_of event ≡ 0 →
@@ -112,7 +112,7 @@ pub fn turns_go_by()
     plans_have_few_bodies();
 }
 
-/// What entering something makes of a cluster that was opened behind nothing.
+/// What entering something makes of a cluster that was opened after nothing.
 pub fn alone_are_entered()
     ensures whole { (items : List Item) (stopped : List Stopped) → whole (alone items stopped) ≡ items }
     ensures event { (items : List Item) (stopped : List Stopped) (event : Event) → event_in (alone items stopped) event ≡ event }

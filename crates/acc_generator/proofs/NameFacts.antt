@@ -57,7 +57,7 @@ name_new number few = ap not (none_before 0 number number (omega arith) few)
 -- ---- their places
 
 module _ {X : Type 0} (test : X → Bool) (f : ℕ → X) (number : ℕ) (here : test (f number) ≡ true) (not_before : (j : ℕ) → j < number → test (f j) ≡ false) where
-  -- the place behind this one, where the number stands further on
+  -- the place after this one, where the number stands further on
   further : (a : ℕ) (behind : List X) → a ≤ number → (a < number → prefix_len (λ x. not (test x)) behind ≡ number - (a + 1)) → prefix_len (λ x. not (test x)) (f a ∷ behind) ≡ number - a
   further a behind le there = go (cases_eq a number)
     where

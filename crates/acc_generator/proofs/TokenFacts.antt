@@ -17,7 +17,7 @@ items_listed (d ∷ ds) = ap (λ ts. data_tokens d ++ ts) (items_listed ds) ∙ 
 pub list_listed : (ds : List Data) → data_tokens (list ds) ≡ begin_array ∷ (flat_map data_tokens ds ++ end_array ∷ [])
 list_listed ds = ap (λ ts. begin_array ∷ ts) (items_listed ds)
 
--- a bracket, what stands behind it, one part more and the other bracket
+-- a bracket, what stands after it, one part more and the other bracket
 pub closed : (before opened filled end : List Token) (ds : List Data) → opened ≡ before ++ begin_array ∷ [] → filled ≡ opened ++ flat_map data_tokens ds →
     end ≡ filled ++ end_array ∷ [] → end ≡ before ++ data_tokens (list ds)
 closed before opened filled end ds o f c =
@@ -39,6 +39,6 @@ pub grown_by_one : (start filled more : List Token) (ds : List Data) (d : Data) 
     all ≡ ds ++ d ∷ [] → more ≡ start ++ flat_map data_tokens all
 grown_by_one start filled more ds d all f m a = grown start filled more ds (d ∷ []) all f (m ∙ ap (λ ts. filled ++ ts) (sym (append-nil (data_tokens d)))) a
 
--- some tokens, and more behind them
+-- some tokens, and more after them
 pub more : (start first second : List Token) {middle end : List Token} → middle ≡ start ++ first → end ≡ middle ++ second → end ≡ start ++ (first ++ second)
 more start first second f s = s ∙ ap (λ ts. ts ++ second) f ∙ append_assoc start first second

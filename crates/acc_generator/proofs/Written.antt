@@ -1,4 +1,4 @@
--- JSON data without floats that is written as compact text, with a line feed behind it, is read as the same data.
+-- JSON data without floats that is written as compact text, with a line feed after it, is read as the same data.
 use Rattle.std.proofs.Common.{◌≡◌, ℕ, zero, suc, ◌+◌, ◌<◌, ◌≤◌, ◌^◌, Bool, true, false, ◌||◌, List, [], ◌∷◌, ◌++◌, Some, option_map, option_and_then, map, IsUtf8, refl, sym, ap, ◌∙◌, arith, append-nil}
 use Rattle.std.specs.List.{range_with_len}
 use Rattle.std.proofs.lemmas.Str.{IsUtf8-append, IsUtf8-from_ascii}

@@ -26,7 +26,7 @@ text_from state number =
     if nat_lt number 64 then first_text number
     else later_text (draw_after state 0 % 64) (draw_after state 1 % 64) (draw_after state 2 % 100)
 
--- the state behind these draws
+-- the state after these draws
 unfoldable pub state_behind : ℕ → ℕ → ℕ
 state_behind state number = if nat_lt number 64 then state else state_after state 3
 

@@ -1,4 +1,4 @@
--- The tokens of data, and what a writer has behind some of them.
+-- The tokens of data, and what a writer has after some of them.
 use Rattle.std.specs.Prelude.{◌≡◌, List, ◌++◌, flat_map}
 use Rattle.json.specs.Token.{Token}
 use Rattle.json.specs.Tree.{json_tokens}
@@ -14,6 +14,6 @@ data_tokens d = json_tokens (outline d)
 abbrev pub Adds : Written → Data → Written → Type 0
 Adds old d new = (new.before ≡ old.before) × (new.tokens ≡ old.tokens ++ data_tokens d)
 
--- those of each of the data, one behind another
+-- those of each of the data, one after another
 abbrev pub AddsAll : Written → List Data → Written → Type 0
 AddsAll old ds new = (new.before ≡ old.before) × (new.tokens ≡ old.tokens ++ flat_map data_tokens ds)

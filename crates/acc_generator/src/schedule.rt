@@ -7,7 +7,7 @@ use crate::names::set_name;
 use json::Writer;
 use std::alloc::{AllocError, Global};
 
-/// Begins so many transactions, with a drain behind each sixteen of them and one more at the end.
+/// Begins so many transactions, with a drain after each sixteen of them and one more at the end.
 pub(crate) fn write_schedule(alloc: Global, out: &mut Writer, count: u32) -> Result<(), AllocError>
     ensures { OnOk result (Adds out.old (list (schedule_data count)) out.new) }
 {

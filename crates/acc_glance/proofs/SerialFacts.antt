@@ -35,7 +35,7 @@ none_before : (x : TxnId) (b : Bool) → (b || false) ≡ b
 none_before x true = refl
 none_before x false = refl
 
--- the first ones behind those that were seen, with one more at the end
+-- the first ones after those that were seen, with one more at the end
 firsts_push : (seen answers : List Answered) (a : Answered)
     → firsts_after seen (answers ++ a ∷ []) ≡ firsts_after seen answers ++ cond (is_answered a.id answers || is_answered a.id seen) [] (a ∷ [])
 firsts_push seen [] a = refl

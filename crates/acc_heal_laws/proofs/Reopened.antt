@@ -1,4 +1,4 @@
--- The reopening of a healing in which nobody goes down: behind it and its drain all actors are up, and each message is through.
+-- The reopening of a healing in which nobody goes down: after it and its drain all actors are up, and each message is through.
 use Rattle.std.proofs.Common.{◌≡◌, ℕ, ◌+◌, ◌<◌, Bool, true, false, not, ◌&&◌, ◌||◌, cond, List, [], ◌∷◌, ◌++◌, length, Option, None, Some, refl, sym, ◌∙◌, ap, subst, arith, ◌⊎◌, inl, inr, ⊎_elim}
 use Rattle.std.specs.List.{filter_map, cons_option}
 use Rattle.std.specs.Prelude.{nat_lt, Contains, if◌then◌else◌}

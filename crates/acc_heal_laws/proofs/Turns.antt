@@ -70,7 +70,7 @@ module _ (cluster : Cluster) (items : List Item) (standing : IsStanding cluster 
   stands_past : (base : List Item) → IsPast base items → IsStanding cluster base
   stands_past base within = record { valid = standing.valid; stands = EachStands-past cluster base items within standing.stands }
 
-  -- behind the base, where these turns are left, the later items take what they send, disturb the attempts of these transactions alone, and
+  -- after the base, where these turns are left, the later items take what they send, disturb the attempts of these transactions alone, and
   -- end and block none of others; and they begin nothing
   record Tail (ids : List TxnId) (base : List Item) : Type 0 where
     pub later : List Item
@@ -248,7 +248,7 @@ module _ (cluster : Cluster) (items : List Item) (standing : IsStanding cluster 
     on_items : (now : List Item) → IsPast now items → (x : TxnId) → was_begun x now ≡ true → IsStableEverywhere cluster now x → IsStableEverywhere cluster items x
     on_items now within x begun stable = stable_on now items within x (stable_later now items within (Whole items) x begun stable)
 
-    -- behind a round each older transaction was stable before it
+    -- after a round each older transaction was stable before it
     not_blocked : (x : TxnId) (b : Ballot) (base first : List Item) (ids : List TxnId) → IsPast (first ++ base) items → IsRound (home_node x) x b base first
         → IsRisingBy id_lt (x ∷ ids) → StableBefore (x ∷ ids) base → is_blocked x b (first ++ base) ≡ false
     not_blocked x b base first ids within round rising stable =
@@ -258,14 +258,14 @@ module _ (cluster : Cluster) (items : List Item) (standing : IsStanding cluster 
         let before = begun_or y first base begun ((starts_one (home_node x) x b base first stands round).begins_none y) in
         stable_later base (first ++ base) (append_is_past first base) within y before (stable y before (had_turn x y ids rising older)))
 
-    -- what was stable before a round is so behind it
+    -- what was stable before a round is so after it
     stable_behind : (x : TxnId) (b : Ballot) (base first : List Item) (ids : List TxnId) → IsPast (first ++ base) items → IsRound (home_node x) x b base first
         → StableBefore ids base → StableBefore ids (first ++ base)
     stable_behind x b base first ids within round stable y begun none =
         let before = begun_or y first base begun ((starts_one (home_node x) x b base first (stands_past (first ++ base) within) round).begins_none y) in
         stable_on base (first ++ base) (append_is_past first base) y (stable_later base (first ++ base) (append_is_past first base) within y before (stable y before none))
 
-    -- a recover behind the base is one of the round, or one of the tail's
+    -- a recover after the base is one of the round, or one of the tail's
     recovered_in : (x : TxnId) (b : Ballot) (base first later : List Item) → IsStanding cluster (first ++ base) → IsRound (home_node x) x b base first → AttemptIn x
         → ((y : TxnId) → list_any (is_recover_of y) later ≡ true → AttemptIn y) → (y : TxnId) → list_any (is_recover_of y) (later ++ first) ≡ true → AttemptIn y
     recovered_in x b base first later stands round mine others y h =

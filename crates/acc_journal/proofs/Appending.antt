@@ -23,7 +23,7 @@ module _ (content : List ℕ) (before : List (List ℕ)) (place : ℕ) (has : Ha
   split : content ≡ (front ++ has.reads.gate ∷ []) ++ has.reads.behind
   split = has.reads.spelled ∙ sym (append_assoc front (has.reads.gate ∷ []) has.reads.behind)
 
-  -- the bytes once the records stand behind the closed gate
+  -- the bytes once the records stand after the closed gate
   abbrev pub staged : List ℕ
   staged = front ++ has.reads.gate ∷ (bytes ++ drop (length bytes) has.reads.behind)
 

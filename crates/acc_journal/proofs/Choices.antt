@@ -61,7 +61,7 @@ after_two calls le =
     let more : (calls - 1 == 0) ≡ false = grind (arith, nat_tests) in
     rw some (rw more (ap Some (omega arith)))
 
--- Behind two calls so many still pass.
+-- After two calls so many still pass.
 pub two_calls : (armed : Option ℕ) (passed : ℕ) → after_call (after_call armed) ≡ Some passed → armed ≡ Some (passed + 2)
 two_calls None passed is = absurd (cc is)
 two_calls (Some zero) passed is = absurd (cc is)
@@ -87,7 +87,7 @@ module _ (content : List ℕ) (before : List (List ℕ)) (place : ℕ) (has : Ha
   abbrev tail : List ℕ
   tail = bytes ++ drop (length bytes) has.reads.behind
 
-  -- a crash that fills what was written behind the gate
+  -- a crash that fills what was written after the gate
   filled_behind : (choice : ℕ) (left : List ℕ) → IsFilled choice ((place + 1, length bytes) ∷ []) laid left → Reads left before
   filled_behind choice left filled =
       let torn = filled_torn choice (place + 1) (length bytes) laid left filled in
@@ -126,7 +126,7 @@ module _ (content : List ℕ) (before : List (List ℕ)) (place : ℕ) (has : Ha
     | of_byte other filled ↦ filled_gate choice has.reads.gate left other filled
   ]
 
-  -- The write behind the gate failed, or the sync behind it.
+  -- The write after the gate failed, or the sync after it.
   pub first_failed : (old new : DiskState) → old.content ≡ content → FailedHalfWay (place + 1) bytes old new → (choice : ℕ) (left : List ℕ) → CrashLeaves choice new left → Reads left (left_by_choice old.armed choice before group)
   first_failed old new is failed choice left by =
       let synced_by : LeftByChoice choice new.content content ((place + 1, length bytes) ∷ []) left =
@@ -150,7 +150,7 @@ module _ (content : List ℕ) (before : List (List ℕ)) (place : ℕ) (has : Ha
           rw test (filled_gate choice 1 left other (subst (λ (n : List ℕ). IsFilled choice ((place, 1) ∷ []) n left) is_written filled))
     ]
 
-    -- The write to the gate failed, or the sync behind it.
+    -- The write to the gate failed, or the sync after it.
     pub second_failed : (armed : Option ℕ) (mid new : DiskState) → mid.armed ≡ after_calls 2 armed → mid.content ≡ laid → FailedHalfWay place (1 ∷ []) mid new → (choice : ℕ) (left : List ℕ) → CrashLeaves choice new left → Reads left (left_by_choice armed choice before group)
     second_failed armed mid new counts is_laid failed choice left by =
         let synced_by : LeftByChoice choice new.content laid ((place, 1) ∷ []) left =

@@ -1,4 +1,4 @@
--- Writes and crashes at a gate and behind it.
+-- Writes and crashes at a gate and after it.
 use Rattle.std.proofs.Common.{◌≡◌, inl, inr, ℕ, ◌+◌, ◌<◌, ◌≤◌, List, ◌∷◌, ◌++◌, length, get_or, take, drop, sym, ◌∙◌, ap, arith, append_assoc, length-append, length-take, length-drop, take-append-drop}
 use Rattle.std.proofs.lemmas.List.{take_at, drop_more, get_or-take, get_or-drop}
 use Rattle.std.proofs.lemmas.Grind.{same_number_lists}
@@ -18,13 +18,13 @@ same_end n xs ys long same =
     (λ k lt. get_or-drop n xs k 0 ∙ same (n + k) (omega arith) (omega (arith, lt, length-drop {A = ℕ})) ∙ sym (get_or-drop n ys k 0))
 
 module _ (front : List ℕ) (at : ℕ) (long : length front ≡ at) where
-  -- bytes written behind a front
+  -- bytes written after a front
   pub written_at : (behind bytes : List ℕ) → overwritten at bytes (front ++ behind) ≡ front ++ (bytes ++ drop (length bytes) behind)
   written_at behind bytes =
       ap (λ (l : List ℕ). l ++ bytes ++ drop (at + length bytes) (front ++ behind)) (take_at front behind at long)
       ∙ ap (λ (l : List ℕ). front ++ bytes ++ l) (ap (λ (n : ℕ). drop (n + length bytes) (front ++ behind)) (sym long) ∙ drop-append-add front behind (length bytes)) ∙ append_assoc front bytes (drop (length bytes) behind)
 
-  -- A crash during a write behind a front leaves the front.
+  -- A crash during a write after a front leaves the front.
   pub torn_at : (behind image : List ℕ) (count : ℕ) → Torn at count (front ++ behind) image → (rest : List ℕ) × (image ≡ front ++ rest)
   torn_at behind image count torn =
       let enough : at ≤ length image = omega (arith, torn.no_shorter, length-append front behind) in

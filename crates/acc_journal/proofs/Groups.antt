@@ -25,7 +25,7 @@ pub lengths_left : (i : ℕ) (payloads : List (List ℕ)) (payload : List ℕ) �
 lengths_left i payloads payload inside is =
     ap (λ (ps : List (List ℕ)). sum_by length ps) (drop_more payloads i payload inside) ∙ sum_by-cons length (get_or payloads i payload) (drop (i + 1) payloads) ∙ ap (λ (p : List ℕ). length p + sum_by length (drop (i + 1) payloads)) (sym is)
 
--- all of a buffer behind its first byte
+-- all of a buffer after its first byte
 behind_first : (buffer : List ℕ) → take (length buffer - 1) (drop 1 buffer) ≡ drop 1 buffer
 behind_first buffer = take_all (length buffer - 1) (drop 1 buffer) (omega (arith, length-drop 1 buffer))
 
@@ -46,7 +46,7 @@ pub nothing : (payload : List ℕ) → length payload ≡ 0 → payload ≡ []
 nothing [] none = refl
 nothing (byte ∷ payload) none = absurd (omega arith)
 
--- An empty payload has five bytes behind its gate.
+-- An empty payload has five bytes after its gate.
 pub empty_is_group : IsGroup ([] ∷ []) (0 ∷ 0 ∷ 0 ∷ 0 ∷ 0 ∷ [])
 unfolding u32_bytes
 empty_is_group = record { short = (lit< tt, tt); spelled = refl }

@@ -62,7 +62,7 @@ pub payloads_are : (bytes : List ℕ) (payloads : List (List ℕ)) → Reads byt
 payloads_are bytes payloads reads =
     ap payloads_of reads.spelled ∙ read_again (length (1 ∷ (records payloads ++ reads.gate ∷ reads.behind))) payloads reads.gate reads.behind reads.closed reads.short (omega arith)
 
--- A closed gate behind some records is read so, whatever follows it.
+-- A closed gate after some records is read so, whatever follows it.
 pub reads_closed : (payloads : List (List ℕ)) (gate : ℕ) (behind image : List ℕ) → gate ≢ 1 → AreShort payloads → image ≡ (1 ∷ records payloads) ++ gate ∷ behind → Reads image payloads
 reads_closed payloads gate behind image closed short is = record { gate = gate; behind = behind; closed = closed; short = short; spelled = is }
 

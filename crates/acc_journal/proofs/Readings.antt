@@ -19,7 +19,7 @@ one_more_long payloads later payload is =
     let recorded : records later ≡ records payloads ++ 1 ∷ sized payload = ap records is ∙ records-append payloads (payload ∷ []) ∙ ap (λ (l : List ℕ). records payloads ++ 1 ∷ l) (append-nil (sized payload)) in
     omega (arith, ap length recorded, length-append (records payloads) (1 ∷ sized payload), length-append (u32_bytes (length payload)) payload, length-u32 (length payload))
 
--- what is left behind the length of a payload
+-- what is left after the length of a payload
 abbrev pub behind_length : Unread → List ℕ → ℕ → List ℕ → Unread
 behind_length start payload gate behind = record { bytes = payload ++ gate ∷ behind; place = start.place + length (u32_bytes (length payload)) }
 

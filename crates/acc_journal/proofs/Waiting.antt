@@ -56,7 +56,7 @@ first_bytes n bytes payloads are =
 pub first_are : (n : ℕ) (bytes new : List ℕ) (payloads : List (List ℕ)) → AreRecords bytes payloads → new ≡ take (length (records (take n payloads))) bytes → AreRecords new (take n payloads)
 first_are n bytes new payloads are is = record { short = AreShort-take n payloads are.short; spelled = is ∙ first_bytes n bytes payloads are }
 
--- the next record behind the first
+-- the next record after the first
 pub next_bytes : (i : ℕ) (bytes : List ℕ) (payloads : List (List ℕ)) → i < length payloads → AreRecords bytes payloads → drop (length (records (take i payloads)) + 1) bytes ≡ sized (get_or payloads i []) ++ records (drop (i + 1) payloads)
 next_bytes i bytes payloads inside are =
     let front = records (take i payloads) in
@@ -84,7 +84,7 @@ pub tells : (payload rest : List ℕ) → length payload < 2 ^ 32 → big_number
 unfolding u32_bytes
 tells payload rest short = ap (λ (l : List ℕ). big_number 4 l) (append_assoc (u32_bytes (length payload)) payload rest) ∙ big_number-reads_back 4 (length payload) (payload ++ rest) short
 
--- what is read behind the gate at a place, and the room that the record takes
+-- what is read after the gate at a place, and the room that the record takes
 pub next_size : (i place : ℕ) (bytes : List ℕ) (payloads : List (List ℕ)) → i < length payloads → AreRecords bytes payloads → place ≡ length (records (take i payloads)) → big_number 4 (take (length bytes - (place + 1)) (drop (place + 1) bytes)) ≡ length (get_or payloads i [])
 next_size i place bytes payloads inside are is =
     let all : take (length bytes - (place + 1)) (drop (place + 1) bytes) ≡ drop (place + 1) bytes = take_all (length bytes - (place + 1)) (drop (place + 1) bytes) (omega (arith, length-drop (place + 1) bytes)) in
@@ -94,7 +94,7 @@ next_size i place bytes payloads inside are is =
 pub next_room : (i place : ℕ) (bytes : List ℕ) (payloads : List (List ℕ)) → i < length payloads → AreRecords bytes payloads → place ≡ length (records (take i payloads)) → place + 5 + length (get_or payloads i []) ≤ length bytes
 next_room i place bytes payloads inside are is = omega (arith, is, next_place i payloads inside, place_inside (i + 1) bytes payloads are)
 
--- With a closed gate behind them they are the group that goes to the disk.
+-- With a closed gate after them they are the group that goes to the disk.
 pub waiting_group : (bytes closed : List ℕ) (payloads : List (List ℕ)) → payloads_in bytes ≡ payloads → 0 < length payloads → AreRecords bytes (payloads_in bytes) → closed ≡ bytes ++ 0 ∷ [] → IsGroup payloads (take (length closed - 1) (drop 1 closed))
 waiting_group bytes closed payloads same some are is =
     some_are_group payloads closed some (subst AreShort same are.short) (is ∙ ap (λ (l : List ℕ). l ++ 0 ∷ []) are.spelled ∙ ap (λ (ps : List (List ℕ)). records ps ++ 0 ∷ []) same)

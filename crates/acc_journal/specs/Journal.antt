@@ -50,7 +50,7 @@ keeps_group (Some passed) choice = (passed == 3) && (choice == 1)
 abbrev pub left_by_choice : Option ℕ → ℕ → List (List ℕ) → List (List ℕ) → List (List ℕ)
 left_by_choice armed choice before group = if keeps_group armed choice then before ++ group else before
 
--- Of a write and its sync on a strict disk at rest, one failed: the write, or the sync behind it.
+-- Of a write and its sync on a strict disk at rest, one failed: the write, or the sync after it.
 pub record FailedHalfWay (at : ℕ) (bytes : List ℕ) (before after : DiskState) : Type 0 where
   pub all_synced : after.synced ≡ before.content
   pub one_written : after.written ≡ (at, length bytes) ∷ []

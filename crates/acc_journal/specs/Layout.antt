@@ -1,4 +1,4 @@
--- The bytes of a journal: a version, and then records, each behind an open gate, up to a closed one.
+-- The bytes of a journal: a version, and then records, each after an open gate, up to a closed one.
 use Rattle.std.specs.Prelude.{◌≡◌, ◌≢◌, ◌⊎◌, ℕ, zero, suc, ◌+◌, ◌^◌, ◌<◌, ◌==◌, ◌&&◌, nat_lt, if◌then◌else◌, List, [], ◌∷◌, ◌++◌, length, take, drop}
 use Rattle.std.specs.List.{AllByRecursion}
 use Rattle.std.specs.Int.{w32, from_be_bytes}
@@ -35,7 +35,7 @@ pub record IsForeign (bytes : List ℕ) (version : ℕ) : Type 0 where
 abbrev pub NoRecord : List ℕ → Type 0
 NoRecord bytes = (payload : List ℕ) (gate : ℕ) (behind : List ℕ) → length payload < 2 ^ 32 → bytes ≡ sized payload ++ gate ∷ behind → ⊥
 
--- At this place stands an open gate behind which the length, the payload or the next gate is cut.
+-- At this place stands an open gate after which the length, the payload or the next gate is cut.
 pub record IsCutBehind (bytes : List ℕ) (place : ℕ) : Type 0 where
   pub payloads : List (List ℕ)
   pub rest : List ℕ
@@ -44,11 +44,11 @@ pub record IsCutBehind (bytes : List ℕ) (place : ℕ) : Type 0 where
   pub at : place ≡ 1 + length (records payloads)
   pub cut : NoRecord rest
 
--- The version is missing, or the first gate, or a part of a record or the gate behind it.
+-- The version is missing, or the first gate, or a part of a record or the gate after it.
 abbrev pub IsCut : List ℕ → ℕ → Type 0
 IsCut bytes place = ((bytes ≡ []) × (place ≡ 0)) ⊎ ((bytes ≡ 1 ∷ []) × (place ≡ 1)) ⊎ IsCutBehind bytes place
 
--- the payloads behind a gate, up to the first gate that is closed or whose record is cut; there are at most so many
+-- the payloads after a gate, up to the first gate that is closed or whose record is cut; there are at most so many
 abbrev pub records_behind : ℕ → List ℕ → List (List ℕ)
 records_behind zero bytes = []
 records_behind (suc most) [] = []

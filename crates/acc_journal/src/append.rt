@@ -10,7 +10,7 @@ use crate::durable::write_durably;
 use acc_ports::{Disk, PortError};
 
 /// Appends a group of records to a journal on a disk at rest, and answers where its closed gate stands then. `bytes` are
-/// the records without the gate in front of them, and a closed gate. First they are written behind the gate that is
+/// the records without the gate in front of them, and a closed gate. First they are written after the gate that is
 /// closed, and synced, and only then is it opened: so a crash leaves all of the group or nothing of it.
 pub(crate) fn append_records<D: Disk>(
     disk: &mut D,

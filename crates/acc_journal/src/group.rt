@@ -33,7 +33,7 @@ fn push_record(buffer: &mut Vec<u8>, payload: &[u8])
     push_all(buffer, payload);
 }
 
-/// Puts the record of one payload into a buffer, an open gate in front of it and a closed one behind. It takes no memory.
+/// Puts the record of one payload into a buffer, an open gate in front of it and a closed one after. It takes no memory.
 pub(crate) fn fill_one(buffer: &mut Vec<u8>, payload: &[u8])
     requires short { length payload.now < 2 ^ 32 }
     requires room { 6 + length payload.now ≤ vec_capacity buffer.old }
@@ -45,7 +45,7 @@ pub(crate) fn fill_one(buffer: &mut Vec<u8>, payload: &[u8])
     push_all(buffer, &[0]);
 }
 
-/// Puts the records of a group into a buffer, an open gate in front of each and a closed one behind. It takes no memory.
+/// Puts the records of a group into a buffer, an open gate in front of each and a closed one after. It takes no memory.
 pub(crate) fn fill(buffer: &mut Vec<u8>, payloads: &[Bytes])
     requires short { AreShort payloads.now }
     requires room { 1 + sum_by length payloads.now + 5 * length payloads.now ≤ vec_capacity buffer.old }

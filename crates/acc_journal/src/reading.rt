@@ -11,7 +11,7 @@ use acc_ports::Disk;
 use acc_wire::Reader;
 use std::alloc::Global;
 
-/// What the bytes of a journal tell: its payloads, and where the closed gate behind the last of them stands.
+/// What the bytes of a journal tell: its payloads, and where the closed gate after the last of them stands.
 #[derive(Drop)]
 pub(crate) struct Told {
     pub(crate) payloads: Payloads,

@@ -52,7 +52,7 @@ fn set_length(bytes: &mut [u8])
     BigEndian::write_u32(bytes, length as u32);
 }
 
-/// Appends a payload behind the four bytes for its length, and writes that. Room is left for a gate.
+/// Appends a payload after the four bytes for its length, and writes that. Room is left for a gate.
 fn put_payload<P: Payload>(buffer: &mut Vec<u8>, payload: &P) -> Result<(), OutOfMemory>
     requires has { P.has_payload payload.now }
     requires room { 4 ≤ vec_len buffer.old }
@@ -108,7 +108,7 @@ fn put_record<P: Payload>(buffer: &mut Vec<u8>, payload: &P) -> Result<(), OutOf
     put
 }
 
-/// The place behind the first records.
+/// The place after the first records.
 fn place_behind(bytes: &[u8], count: usize) -> usize
     requires records { AreRecords bytes.now (payloads_in bytes.now) }
     requires count { count ≤ length (payloads_in bytes.now) }
@@ -125,7 +125,7 @@ fn place_behind(bytes: &[u8], count: usize) -> usize
 /// Payloads that wait to be appended to a journal as one group, as the bytes that go to its disk.
 #[derive(Debug, Drop)]
 pub struct Records {
-    /// The records, an open gate in front of each. There is room for the closed gate behind them.
+    /// The records, an open gate in front of each. There is room for the closed gate after them.
     pub(crate) bytes: Vec<u8>,
     count: usize,
 }
@@ -159,7 +159,7 @@ impl Records {
         self.count
     }
 
-    /// Puts a payload behind the others, in place. Without memory for it they are as before; that comes of a payload of 2^32 bytes or
+    /// Puts a payload after the others, in place. Without memory for it they are as before; that comes of a payload of 2^32 bytes or
     /// more too.
     #[inline(always)]
     pub fn put<P: Payload>(&mut self, payload: &P) -> Result<(), OutOfMemory>

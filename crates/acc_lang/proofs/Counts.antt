@@ -51,7 +51,7 @@ with_keys_some writes (key ∷ keys) uses some =
     let rest = with_keys_keeps writes keys (used uses key writes) in
     omega arith
 
--- the keys behind LETs, a select and updates are those of the footprint
+-- the keys after LETs, a select and updates are those of the footprint
 pub lets_uses : (lets so_far : List Let) (uses : Uses) → (after with_let (so_far, uses) lets).1 ≡ with_keys false uses (map (λ l. l.key) lets)
 lets_uses [] so_far uses = refl
 lets_uses (l ∷ lets) so_far uses = lets_uses lets (so_far ++ l ∷ []) (used uses l.key false)

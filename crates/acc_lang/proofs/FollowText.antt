@@ -13,7 +13,7 @@ use Rattle.acc_lang.proofs.Following.{Shape, pairs, places, Follows, in_sight, i
 abbrev pub Uses : Type 0
 Uses = List (Key × Bool)
 
--- a value, and what is read behind it
+-- a value, and what is read after it
 module _ {A S : Type 0} (F : List ℕ → Reads A) (t : Shape S) (G : A × List ℕ → Result S Fault) (second : (x : A) → Follows 0 t (λ a. G (x, a))) where
   pub value_then : Follows 1 pairs F → Follows 1 t (λ a. F a >>= G)
   value_then first = in_turn 1 pairs t F G first (λ y. second y.0)
@@ -41,7 +41,7 @@ pub begins_same : (m : ℕ) (a b : List ℕ) → 1 ≤ m → SameTokens m a b �
 begins_same zero a b some same = absurd (omega arith)
 begins_same (suc m) a b some same = begins_alike a b same.0 (same_first m (behind a) (behind b) same.1)
 
--- one token, and what is read behind it, which may go by it
+-- one token, and what is read after it, which may go by it
 module _ {S : Type 0} (as_key : Bool) (t : Shape S) (standing : Token → Standing) (G : Token → List ℕ → Result S Fault) (second : (token : Token) → Follows 0 t (G token)) where
   pub token_then : Follows 1 t (λ a. step as_key (standing (token_at a)) a >>= G (token_at a))
   token_then = in_sight 1 places t (λ a. step as_key (standing (token_at a)) a) G (one_token as_key standing) (λ token y. second token)
@@ -59,7 +59,7 @@ module _ (texts : Bool) where
   unfolding take_mark
   mark_follows mark = one_token (not texts) (λ token. standing_of (says_mark mark token) false true)
 
-  -- a word or a mark, and what is read behind it
+  -- a word or a mark, and what is read after it
   module _ {S : Type 0} (t : Shape S) (G : List ℕ → Result S Fault) (second : Follows 0 t G) where
     pub word_then : (word : List ℕ) → Follows 1 t (λ a. take_word texts word a >>= G)
     word_then word = in_turn 1 places t (take_word texts word) G (word_follows word) (λ y. second)

@@ -1,5 +1,5 @@
 -- Reading goes by the tokens from the left: texts that show the same tokens are read alike, and a fault is found as soon as
--- its token is seen, or the one behind a word v.
+-- its token is seen, or the one after a word v.
 use Rattle.std.proofs.Common.{◌≡◌, ◌≤◌, ◌⊎◌, ℕ, zero, suc, Bool, true, false, cond, List, Option, Some, None, Result, Ok, Err, refl, sym, ap, ◌∙◌, subst, inl, inr, ⊎_elim, arith}
 use Rattle.acc_token.specs.Tokens.{Token, token_at, left_at, behind, says_mark}
 use Rattle.acc_lang.specs.declared.error.LangKind.{LangKind}
@@ -201,7 +201,7 @@ module _ {R : Type 0} (least : ℕ) (s : Shape R) (test : Token → Bool) (F G :
   pub by_token : Follows least s (λ a. cond (test (token_at a)) (F a) (G a))
   by_token = record { ok = λ a y is. ok_by (test (token_at a)) a y refl is; err = λ a f is. err_by (test (token_at a)) a f refl is }
 
--- behind the next token
+-- after the next token
 pub behind_one : {R : Type 0} (s : Shape R) (F : List ℕ → Result R Fault) → Follows 0 s F → Follows 0 s (λ a. F (behind a))
 behind_one s F first = record {
   ok = λ a y is. let m = first.ok (behind a) y is in (suc m.0, omega arith, m.2, λ b same. m.3 (behind b) same.1);

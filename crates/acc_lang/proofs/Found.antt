@@ -21,7 +21,7 @@ abbrev pub from_tokens : Key → List Token
 from_tokens key = Word (codes "from") ∷ Word key.table ∷ where_tokens key
 
 module _ (texts : Bool) where
-  -- a word or a mark, and what is read behind it
+  -- a word or a mark, and what is read after it
   pub word_first : {B : Type 0} (word text : List ℕ) (next : List ℕ → Result B Fault) (y : B) → (take_word texts word text >>= next) ≡ Ok y
       → (token_at text ≡ Word word) × (next (behind text) ≡ Ok y)
   word_first word text next y is =
@@ -40,7 +40,7 @@ module _ (texts : Bool) where
       → IsFreeWord (word_of (token_at text))
   free_found text free sound = record { free = free.1; short = ap is_long (sym free.0) ∙ sound.short }
 
-  -- a table, and what is read behind it
+  -- a table, and what is read after it
   pub table_first : {B : Type 0} (text : List ℕ) (next : List ℕ × List ℕ → Result B Fault) (y : B) → (table texts text >>= next) ≡ Ok y
       → (name : List ℕ) × (token_at text ≡ Word name) × IsFreeWord name × (next (name, behind text) ≡ Ok y)
   unfolding table

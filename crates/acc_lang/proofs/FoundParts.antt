@@ -68,14 +68,14 @@ let_at (l ∷ lets) name number is =
     let p = position-Some (λ l. bytes_eq name l.name) (l ∷ lets) number l is in
     (get_or (l ∷ lets) number l, slice_get-get_or (l ∷ lets) number l p.0, sym ((bytes_eq-Decides name (get_or (l ∷ lets) number l).name).0 p.1))
 
--- the tokens of a LET behind its first
+-- the tokens of a LET after its first
 abbrev pub let_tokens : Let → List Token
 let_tokens l =
     Word l.name ∷ Mark (codes "=") ∷ Mark (codes "(") ∷ Word (codes "select") ∷ Word (codes "v")
     ∷ (from_tokens l.key ++ Mark (codes ")") ∷ Mark (codes ";") ∷ [])
 
 module _ (texts : Bool) where
-  -- a new name, and what is read behind it
+  -- a new name, and what is read after it
   pub new_name_first : {B : Type 0} (lets : List Let) (text : List ℕ) (next : List ℕ × List ℕ → Result B Fault) (y : B) → (new_name texts lets text >>= next) ≡ Ok y
       → (name : List ℕ) × (token_at text ≡ Word name) × IsFreeWord name × (let_of lets name ≡ None) × (next (name, behind text) ≡ Ok y)
   unfolding new_name

@@ -74,7 +74,7 @@ module _ (texts : Bool) where
       let same = ok_same (q.0.0, behind q.0.1) y m.1 in
       (p.0.0, e.0, sym (ap (λ y. y.0) same) ∙ e.1 ∙ after_at_end (p.0.0 ∷ []) e.0, p.0.1, q.0.1, n.0, e.2, (m.0, ap (λ y. y.1) same), e.4)
 
-  -- a select that was read behind SELECT
+  -- a select that was read after SELECT
   pub selected_found : (uses : Uses) (lets : List Let) (text : List ℕ) (y : (Select × Uses) × List ℕ) → token_at text ≡ Word (codes "select") → selected texts uses lets (behind text) ≡ Ok y
       → SelectSpelled lets y.0.0 text y.1 × IsFitSelect uses y.0.0 × (y.0.1 ≡ uses_after_select uses y.0.0)
   unfolding selected get
@@ -113,7 +113,7 @@ module _ (texts : Bool) where
     chosen false begins is =
         subst (λ (y : (Select × Uses) × List ℕ). SelectSpelled lets y.0.0 text y.1 × IsFitSelect uses y.0.0 × (y.0.1 ≡ uses_after_select uses y.0.0)) (ok_same ((Nothing, uses), text) y is) (refl, tt, refl)
 
-  -- a number behind a minus sign
+  -- a number after a minus sign
   behind_minus : (token : Token) → fault_behind_minus (not texts) token ≡ None → (token ≡ Digits (Some (number_of token))) × (number_of token ≤ 9223372036854775808)
   unfolding fault_behind_minus
   behind_minus (Word letters) none = misplaced (not texts) (Word letters) none
@@ -235,7 +235,7 @@ module _ (texts : Bool) where
       let q = both (term texts true lets p.0) _ y p.2 in
       absurd (true≢false (term_found true lets p.0 q.0 q.1).2)
 
-  -- the terms behind a first one
+  -- the terms after a first one
   pub parts_found : (lets : List Let) (first : Term) (start text : List ℕ) (y : List Part × List ℕ) → TermSpelled texts lets first start text → IsFitTerm first
       → more_parts texts lets 15 (part_of false first ∷ []) text ≡ Ok y → ExpressionSpelled texts lets y.0 start y.1 × IsFitSum y.0
   unfolding more_parts

@@ -208,7 +208,7 @@ module _ (texts : Bool) where
   updates_found lets room so_far text y is =
       each_found begins_update (one_update texts lets) with_update (UpdateSpelled texts lets) IsFitUpdate (one_update_found lets) (one_update_full lets) room so_far text y is
 
-  -- conditions and updates, and the keys behind them
+  -- conditions and updates, and the keys after them
   pub record ActionFound (lets : List Let) (uses : Uses) (text : List ℕ) (y : ((List Condition × List Update) × Uses) × List ℕ) : Type 0 where
     pub spelled : ActionSpelled texts lets y.0.0.0 y.0.0.1 text y.1
     pub few_guards : length y.0.0.0 ≤ 16

@@ -25,7 +25,7 @@ around front c rest utf8 ascii =
       subst IsUtf8 (ap (drop (length front + 1)) (sym (append_assoc front (c ∷ []) rest)) ∙ drop_at (front ++ c ∷ []) rest (length front + 1) (length-append front (c ∷ []))) past.1,
     )
 
--- behind ASCII bytes
+-- after ASCII bytes
 pub behind_ascii : (p : ℕ → Bool) → ((c : ℕ) → p c ≡ true → c < 128) → (text : List ℕ) → IsUtf8 text → IsUtf8 (drop (prefix_len p text) text)
 behind_ascii p ascii [] utf8 = utf8
 behind_ascii p ascii (c ∷ cs) utf8 = tested (p c) refl (λ passes. behind_ascii p ascii cs (around [] c cs utf8 (ascii c passes)).2) where

@@ -24,7 +24,7 @@ fits_plain as_key standing (Quoted text closed) none = omega arith
 fits_plain as_key standing Strange none = omega arith
 fits_plain as_key standing End none = omega arith
 
--- behind a minus sign it is at most 2^63
+-- after a minus sign it is at most 2^63
 pub fits_behind_minus : (as_key : Bool) (token : Token) → fault_behind_minus as_key token ≡ None → number_of token ≤ 9223372036854775808
 unfolding fault_behind_minus
 fits_behind_minus as_key (Word letters) none = omega arith

@@ -15,7 +15,7 @@ use Rattle.acc_lang.proofs.Found.{where_tokens, from_tokens}
 use Rattle.acc_lang.proofs.FoundSums.{Any}
 use Rattle.acc_lang.proofs.Repeating.{stops, goes_on}
 
--- a step that ends well, and what is read behind it
+-- a step that ends well, and what is read after it
 pub then_ok : {A B : Type 0} (read : Result A Fault) (next : A → Result B Fault) (x : A) (y : Result B Fault) → read ≡ Ok x → next x ≡ y → (read >>= next) ≡ y
 then_ok read next x y is rest = ap (λ r. r >>= next) is ∙ rest
 

@@ -35,7 +35,7 @@ sign_minus false = refl
 plainly : (part : Part) → part.minus ≡ false → part_of false part.term ≡ part
 plainly part is = λ i. record { minus = sym is i; term = part.term }
 
--- the terms behind a first one, which has no sign
+-- the terms after a first one, which has no sign
 others_fit : (first : Part) (parts : List Part) → first.minus ≡ false → InTurn at_end IsFitPart (first ∷ []) parts → InTurn at_end IsFitPart (part_of false first.term ∷ []) parts
 others_fit first parts plus fit = subst (λ part. InTurn at_end IsFitPart (part ∷ []) parts) (sym (plainly first plus)) fit
 
@@ -112,7 +112,7 @@ module _ (texts : Bool) where
             (ap (λ minus. Ok (so_far ++ part_of minus part.term ∷ [], rest)) minus)),
       )
 
-  -- the terms behind a first one
+  -- the terms after a first one
   pub parts_only : (lets : List Let) (first : Term) (parts : List Part) (text rest : List ℕ) → AreNamed lets → Each (PartSpelled texts lets) parts text rest → length parts ≤ 15 → InTurn at_end IsFitPart (part_of false first ∷ []) parts
       → is_sign (token_at rest) ≡ false → more_parts texts lets 15 (part_of false first ∷ []) text ≡ Ok (part_of false first ∷ parts, rest)
   unfolding more_parts
@@ -150,7 +150,7 @@ module _ (texts : Bool) where
       (then_ok (expression texts lets behind_op.0) _ (right, rest) _ (expression_only lets right behind_op.0 rest names behind_op.2 fit_right ends)
       (ap (λ part. Ok (Compare op (part ∷ left) right, rest)) (plainly first plus))))
 
-  -- behind the first term of a comparison stands a sign or an operator, and not IS
+  -- after the first term of a comparison stands a sign or an operator, and not IS
   not_is : (lets : List Let) (op : Operator) (left right : List Part) (text place rest : List ℕ) → Each (PartSpelled texts lets) left text place
       → Behind (Mark (operator_mark op) ∷ []) (ExpressionSpelled texts lets) right place rest → says_word (codes "is") (token_at text) ≡ false
   not_is lets op [] right text place rest spelled behind_op = ap (λ at. says_word (codes "is") (token_at at)) spelled ∙ ap (says_word (codes "is")) behind_op.1.0

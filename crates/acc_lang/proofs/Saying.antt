@@ -1,4 +1,4 @@
--- What the tokens of a UTF-8 text say, and that it stays UTF-8 behind each.
+-- What the tokens of a UTF-8 text say, and that it stays UTF-8 after each.
 use Rattle.std.proofs.Common.{◌≡◌, ◌<◌, ◌+◌, ◌==◌, ℕ, suc, Bool, true, false, ◌||◌, ◌&&◌, cond, List, [], ◌∷◌, map, take, drop, Option, IsUtf8, refl, sym, subst, arith}
 use Rattle.std.specs.Char.{is_ascii_digit, to_ascii_lowercase}
 use Rattle.std.specs.List.{prefix_len, take_while}
@@ -54,7 +54,7 @@ both_of : (a b : Bool) → (a && b) ≡ true → (a ≡ true) × (b ≡ true)
 both_of true b is = (refl, is)
 both_of false b is = cc
 
--- behind a mark
+-- after a mark
 mark_rest : (c : ℕ) (cs : List ℕ) → IsUtf8 (c ∷ cs) → IsUtf8 (drop (mark_len (c ∷ cs)) (c ∷ cs))
 mark_rest c cs utf8 = two ((is_order c || c == 33) && begins_with_equals cs) refl where
   second : (cs : List ℕ) → IsUtf8 cs → begins_with_equals cs ≡ true → IsUtf8 (drop 1 cs)

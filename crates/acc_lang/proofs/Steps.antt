@@ -197,7 +197,7 @@ number_token (Quoted text closed) is small = cc
 number_token Strange is small = cc
 number_token End is small = cc
 
--- one list of tokens behind another
+-- one list of tokens after another
 pub join : (first second : List Token) (a b c : List ℕ) → Spells first a b → Spells second b c → Spells (first ++ second) a c
 join [] second a b c front back = subst (λ place. Spells second place c) (sym front) back
 join (token ∷ first) second a b c front back = (front.0, join first second (behind a) b c front.1 back)

@@ -18,7 +18,7 @@ use Rattle.acc_lang.proofs.FoundText.{action_found}
 use Rattle.acc_lang.proofs.FoundBody.{lets_alone}
 
 module _ (texts : Bool) where
-  -- behind the LETs
+  -- after the LETs
   pub uses_behind : (uses before all : Uses) (lets : List Let) (s : Select) (guards : List Condition) (updates : List Update) (text place rest : List ℕ)
       → select texts uses lets text ≡ Ok ((s, before), place) → action texts before lets place ≡ Ok (((guards, updates), all), rest)
       → all ≡ with_keys true (with_keys false uses (selected_keys s)) (map updated_key updates)

@@ -82,7 +82,7 @@ fault_of as_key standing (Quoted text closed) = greatest_fault as_key standing (
 fault_of as_key standing Strange = Some Char
 fault_of as_key standing End = Some Missing
 
--- what is wrong with what stands behind a minus sign in front of a number: with its sign it is at least -2^63
+-- what is wrong with what stands after a minus sign in front of a number: with its sign it is at least -2^63
 unfoldable pub fault_behind_minus : Bool → Token → Option LangKind
 fault_behind_minus as_key (Word word) = greatest_fault as_key Misplaced (Word word)
 fault_behind_minus as_key (Mark mark) = greatest_fault as_key Misplaced (Mark mark)
@@ -91,7 +91,7 @@ fault_behind_minus as_key (Quoted text closed) = greatest_fault as_key Misplaced
 fault_behind_minus as_key Strange = Some Char
 fault_behind_minus as_key End = Some Missing
 
--- what is wrong with what stands behind the end
+-- what is wrong with what stands after the end
 unfoldable pub fault_behind_end : Token → Option LangKind
 fault_behind_end (Word word) = Some Trailing
 fault_behind_end (Mark mark) = Some Trailing

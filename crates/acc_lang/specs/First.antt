@@ -12,7 +12,7 @@ abbrev pub SameTokens : ℕ → List ℕ → List ℕ → Type 0
 SameTokens zero text other = token_at text ≡ token_at other
 SameTokens (suc count) text other = (token_at text ≡ token_at other) × SameTokens count (behind text) (behind other)
 
--- and, where that one is the word v, the same behind it, since a FROM there makes it the column
+-- and, where that one is the word v, the same after it, since a FROM there makes it the column
 abbrev pub Seen : ℕ → List ℕ → List ℕ → Type 0
 Seen zero text other =
     (token_at text ≡ token_at other) × (says_word (codes "v") (token_at text) ≡ true → token_at (behind text) ≡ token_at (behind other))

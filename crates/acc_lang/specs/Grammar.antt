@@ -24,12 +24,12 @@ abbrev pub Spells : List Token → List ℕ → List ℕ → Type 0
 Spells [] from to = from ≡ to
 Spells (token ∷ tokens) from to = (token_at from ≡ token) × Spells tokens (behind from) to
 
--- such parts, one behind the other
+-- such parts, one after the other
 abbrev pub Each : {A : Type 0} → (A → List ℕ → List ℕ → Type 0) → List A → List ℕ → List ℕ → Type 0
 Each One [] from to = from ≡ to
 Each One (x ∷ xs) from to = (next : List ℕ) × One x from next × Each One xs next to
 
--- a part behind these tokens
+-- a part after these tokens
 abbrev pub Behind : {A : Type 0} → List Token → (A → List ℕ → List ℕ → Type 0) → A → List ℕ → List ℕ → Type 0
 Behind tokens One x from to = (next : List ℕ) × Spells tokens from next × One x next to
 

@@ -67,7 +67,7 @@ is_free _ = false
 abbrev pub fault_at : LangKind → List ℕ → Fault
 fault_at kind text = record { kind = kind; left = left_at text }
 
--- goes behind the token that stands next, unless it is at fault
+-- goes after the token that stands next, unless it is at fault
 abbrev pub passed : Option LangKind → List ℕ → Result (List ℕ) Fault
 passed None text = Ok (behind text)
 passed (Some kind) text = Err (fault_at kind text)
@@ -184,7 +184,7 @@ module _ (texts : Bool) where
     rest ← step (not texts) (standing_of (is_free (token_at text)) false (not (is_some (let_of lets (word_of (token_at text)))))) text
     Ok (word_of (token_at text), rest)
 
-  -- LET name = ( SELECT v FROM table WHERE k = 'key' ) ; behind LET
+  -- LET name = ( SELECT v FROM table WHERE k = 'key' ) ; after LET
   unfoldable pub binding : List (Key × Bool) → List Let → List ℕ → Reads Let
   binding uses lets text = do
     name ← new_name lets text
@@ -240,7 +240,7 @@ module _ (texts : Bool) where
     t ← take_mark (codes ";") names.1
     Ok (names.0, t)
 
-  -- the select, behind SELECT, with the keys up to there
+  -- the select, after SELECT, with the keys up to there
   unfoldable pub get : List (Key × Bool) → List ℕ → Reads (Select × List (Key × Bool))
   get uses text = do
     t ← take_word (codes "v") text
@@ -312,13 +312,13 @@ module _ (texts : Bool) where
     t ← step (not texts) (standing_of (is_some (operator_of (token_at text))) false true) text
     Ok (unwrap_or (operator_of (token_at text)) Equal, t)
 
-  -- NULL or NOT NULL, behind IS
+  -- NULL or NOT NULL, after IS
   unfoldable pub null_test : ℕ → List ℕ → Reads Condition
   null_test name text =
       if says_word (codes "not") (token_at text) then (take_word (codes "null") (behind text) >>= (λ t. Ok (IsNotNull name, t)))
       else (take_word (codes "null") text >>= (λ t. Ok (IsNull name, t)))
 
-  -- a comparison, behind the first term of its left side
+  -- a comparison, after the first term of its left side
   unfoldable pub comparison : List Let → Term → List ℕ → Reads Condition
   comparison lets first text = do
     left ← more_parts lets 15 (part_of false first ∷ []) text
@@ -326,7 +326,7 @@ module _ (texts : Bool) where
     right ← expression lets op.1
     Ok (Compare op.0 left.0 right.0, right.1)
 
-  -- what follows the first term of a condition: IS NULL and IS NOT NULL only behind a name
+  -- what follows the first term of a condition: IS NULL and IS NOT NULL only after a name
   unfoldable pub condition_from : List Let → Term → List ℕ → Reads Condition
   condition_from lets (NumberTerm number) text = comparison lets (NumberTerm number) text
   condition_from lets (NameTerm name) text =
@@ -359,7 +359,7 @@ module _ (texts : Bool) where
 
   -- Updates
 
-  -- table SET v = expression WHERE k = 'key' ; behind UPDATE
+  -- table SET v = expression WHERE k = 'key' ; after UPDATE
   unfoldable pub assignment : List (Key × Bool) → List Let → List ℕ → Reads Update
   assignment uses lets text = do
     name ← table text
@@ -371,7 +371,7 @@ module _ (texts : Bool) where
     t ← take_mark (codes ";") key.1
     Ok (Set key.0 value.0, t)
 
-  -- FROM table WHERE k = 'key' ; behind DELETE
+  -- FROM table WHERE k = 'key' ; after DELETE
   unfoldable pub removal : List (Key × Bool) → List ℕ → Reads Update
   removal uses text = do
     key ← from_key true uses text
@@ -393,7 +393,7 @@ module _ (texts : Bool) where
 
   -- The whole
 
-  -- conditions THEN update { update } END IF [ ; ] behind IF: the conditions, the updates, and the keys up to there
+  -- conditions THEN update { update } END IF [ ; ] after IF: the conditions, the updates, and the keys up to there
   unfoldable pub guarded : List (Key × Bool) → List Let → List ℕ → Reads ((List Condition × List Update) × List (Key × Bool))
   guarded uses lets text = do
     guards ← conditions lets text

@@ -87,7 +87,7 @@ fn condition(
     condition_from(alloc, cursor, texts, lets, first)
 }
 
-// Behind the first term: IS NULL and IS NOT NULL only behind a name.
+// After the first term: IS NULL and IS NOT NULL only after a name.
 #[tactic(auto, unfolding(crate::specs::Reading::condition_from))]
 fn condition_from(
     alloc: Global,

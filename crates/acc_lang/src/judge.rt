@@ -22,7 +22,7 @@ const LONGEST_VALUE: usize = 255;
 /// The greatest number without a sign.
 const LARGEST: u64 = 9223372036854775807;
 
-/// The greatest number behind a minus sign.
+/// The greatest number after a minus sign.
 const LARGEST_NEGATIVE: u64 = 9223372036854775808;
 
 /// How a token stands that is allowed or not, that is one too many or not, and that suits or not.
@@ -48,7 +48,7 @@ pub fn check(shown: &Shown<'_>, as_key: bool, standing: Standing) -> Result<(), 
     judged(fault_of(as_key, standing, &shown.lexeme), shown.left)
 }
 
-/// Whether a token is a number that may stand behind a minus sign.
+/// Whether a token is a number that may stand after a minus sign.
 pub fn check_behind_minus(shown: &Shown<'_>, as_key: bool) -> Result<(), ReadError>
     ensures { Judges result (fault_behind_minus as_key (token_shown shown.now.lexeme)) shown.now.left }
 {

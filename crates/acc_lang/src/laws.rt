@@ -29,7 +29,7 @@ pub fn texts_of_version_1_are_of_version_2()
 {}
 
 /// The first fault is found as soon as its token is seen: no text of the grammar begins with the tokens up to it and with
-/// it, and behind a word v also the next one. The place of a fault is that of its token.
+/// it, and after a word v also the next one. The place of a fault is that of its token.
 pub fn faults_are_found_at_once()
     ensures { (texts : Bool) (text : List ℕ) (kind : LangKind) (at : ℕ) → reading_fault texts text ≡ Some (kind, at)
         → (count : ℕ) × (at ≡ length text - left_at (behind_all count text))

@@ -60,7 +60,7 @@ pub fn named(
     named_by(&shown, cursor, texts, lets, extra)
 }
 
-/// The same behind the name, which was taken from the text.
+/// The same after the name, which was taken from the text.
 #[tactic(auto, using(crate::proofs::Taking::fails_on), unfolding(crate::specs::Reading::named))]
 pub fn named_by(
     shown: &Shown<'_>,

@@ -18,7 +18,7 @@ use acc_txn::{BodyParts, Conditions, Let, Lets, Updates};
 use acc_value::Footprint;
 use std::alloc::Global;
 
-/// `BEGIN TRANSACTION { let } [ select ] action COMMIT TRANSACTION [ ; ]`, and nothing behind it. `texts` tells whether text
+/// `BEGIN TRANSACTION { let } [ select ] action COMMIT TRANSACTION [ ; ]`, and nothing after it. `texts` tells whether text
 /// values are allowed. The keys that the body uses are added to the footprint.
 #[tactic(auto, using(crate::proofs::Taking::fails_on), unfolding(crate::specs::Reading::reading))]
 pub fn read(
@@ -70,7 +70,7 @@ fn behind_lets(
     })
 }
 
-/// `COMMIT TRANSACTION [ ; ]`, and nothing behind it.
+/// `COMMIT TRANSACTION [ ; ]`, and nothing after it.
 #[tactic(auto, using(crate::proofs::Taking::fails_on), unfolding(crate::specs::Reading::closing))]
 fn close(cursor: &mut Cursor<'_>, texts: bool, uses: &Footprint) -> Result<(), ReadError>
     ensures { Passes result cursor.new.rest.now (closing texts uses.now cursor.old.rest.now) }

@@ -35,7 +35,7 @@ pub fn select(
     }
 }
 
-// Behind SELECT.
+// After SELECT.
 #[tactic(auto, using(crate::proofs::Taking::fails_on), unfolding(crate::specs::Reading::selected))]
 fn selected(
     alloc: Global,

@@ -19,7 +19,7 @@ use std::alloc::Global;
 /// The greatest number of terms.
 const MOST_TERMS: usize = 16;
 
-/// The greatest number behind a minus sign.
+/// The greatest number after a minus sign.
 const LARGEST_NEGATIVE: u64 = 9223372036854775808;
 
 /// `term { ( + | - ) term }`

@@ -17,7 +17,7 @@ pub fn sees_word(cursor: &Cursor<'_>, word: &str) -> bool
     cursor.is_word(word.as_bytes())
 }
 
-/// Goes behind this word, which is given in small letters, where it stands next, and tells whether it does.
+/// Goes after this word, which is given in small letters, where it stands next, and tells whether it does.
 #[inline(always)]
 pub fn skip_word(cursor: &mut Cursor<'_>, word: &str) -> bool
     ensures word { result ≡ says_word word.now (token_at cursor.old.rest.now) }

@@ -39,7 +39,7 @@ pub stretch_more : (end : Head → ℕ) (heads : List Head) (h : Head) (from to 
 stretch_more end [] h from to s low = (omega (arith, s, low), refl)
 stretch_more end (g ∷ heads) h from to s low = (s.0, stretch_more end heads h (end g) to s.1 low)
 
--- the last head ends behind what is appended
+-- the last head ends after what is appended
 pub stretch_by : {X : Type 0} (end : Head → ℕ) (heads heads' : List Head) (h : Head) (list more list' : List X) → IsStretch end 0 heads (length list) → end h ≡ length list + length more → heads' ≡ heads ++ h ∷ [] → list' ≡ list ++ more
     → IsStretch end 0 heads' (length list')
 stretch_by end heads heads' h list more list' s ends more_heads appended =
@@ -159,7 +159,7 @@ sent_there heads notes messages sent place index low is = at (slice_get (joined 
     at None e = absurd (there_is (joined 0 0 heads notes messages) place (omega (arith, low, length-joined heads 0 0 notes messages)) e)
     at (Some item) e = ap (λ l. slice_get l index) (is item e)
 
--- behind the last head there is no item
+-- after the last head there is no item
 pub nothing_behind : (heads : List Head) (notes : List Note) (messages : List Message) (place index : ℕ) → length heads ≤ place → None ≡ message_in (slice_get (joined 0 0 heads notes messages) place) index
 nothing_behind heads notes messages place index high =
     ap (λ item. message_in item index) (sym (slice_get_past (joined 0 0 heads notes messages) place (omega (arith, high, length-joined heads 0 0 notes messages))))
@@ -169,7 +169,7 @@ pub lent : {X : Type 0} (xs : List X) (i : ℕ) (S : Bor X → Type 0) (r : Opti
 lent xs i S None is m = sym (slice_get_past xs i m)
 lent xs i S (Some x) is m = sym (slice_get_read xs (length xs) i x.now refl m.0 is)
 
--- ---- behind other items
+-- ---- after other items
 
 pub get_behind : {A : Type 0} (xs ys : List A) (n : ℕ) → length xs ≤ n → slice_get (xs ++ ys) n ≡ slice_get ys (n - length xs)
 get_behind [] ys n high = let e : n ≡ n - 0 = omega arith in ap (slice_get ys) e

@@ -99,7 +99,7 @@ abbrev pub top_of_view : View → ℕ
 top_of_view view =
     max view.vote.h (max (top_of_accepted view.accepted) (max (top_of_accepted view.committed) (top_of_settled view.stable)))
 
--- the greatest h of the fields behind the ballot
+-- the greatest h of the fields after the ballot
 abbrev pub top_of_own : Message → ℕ
 top_of_own (PreAccept from to id ballot body) = 0
 top_of_own (PreAcceptOk from to id ballot vote deps) = vote.h

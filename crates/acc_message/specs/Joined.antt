@@ -1,4 +1,4 @@
--- The items of heads and of lists that hold their notes and messages, one head's behind another's.
+-- The items of heads and of lists that hold their notes and messages, one head's after another's.
 use Rattle.std.specs.Prelude.{◌≡◌, ℕ, ◌≤◌, zero, suc, Bool, true, false, List, [], ◌∷◌}
 use Rattle.std.specs.List.{slice_range}
 use Rattle.acc_message.specs.declared.message.Message.{Message}
@@ -29,7 +29,7 @@ is_step_of (BareUnknown step txn) = false
 is_step_of (BareNoQuorum step txn) = false
 is_step_of (BareDown actor) = false
 
--- the places behind the notes of a head, and behind its messages
+-- the places after the notes of a head, and after its messages
 abbrev pub noted_of : Head → ℕ
 noted_of h = h.noted
 
@@ -41,7 +41,7 @@ abbrev pub joined : ℕ → ℕ → List Head → List Note → List Message →
 joined noted from [] notes messages = []
 joined noted from (h ∷ heads) notes messages = item_of h.bare (slice_range notes noted (noted_of h)) (slice_range messages from (until_of h)) ∷ joined (noted_of h) (until_of h) heads notes messages
 
--- by where each head ends, the heads stand from one place to another, each behind the head before it
+-- by where each head ends, the heads stand from one place to another, each after the head before it
 abbrev pub IsStretch : (Head → ℕ) → ℕ → List Head → ℕ → Type 0
 IsStretch end from [] to = from ≡ to
 IsStretch end from (h ∷ heads) to = (from ≤ end h) × IsStretch end (end h) heads to

@@ -117,7 +117,7 @@ abbrev pub emitted_by : (Attempt → Reaction) → Option Attempt → Emitted
 emitted_by react None = silence
 emitted_by react (Some a) = (react a).emitted
 
--- an outcome has the reply right behind it, as long as the client is open
+-- an outcome has the reply right after it, as long as the client is open
 abbrev pub replied : Bool → Note → List Note
 replied is_open (OutcomeNote id reply) = OutcomeNote id reply ∷ cond is_open (ReplyNote id reply ∷ []) []
 replied is_open note = note ∷ []

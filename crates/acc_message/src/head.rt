@@ -119,7 +119,7 @@ fn append<T: Drop>(list: &mut Vec<T>, more: Sequence<T>)
     }
 }
 
-/// Puts an item behind the others, where there is room for it.
+/// Puts an item after the others, where there is room for it.
 #[inline(always)]
 pub(crate) fn put(
     heads: &mut Vec<Head>,

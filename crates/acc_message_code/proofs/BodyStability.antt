@@ -1,4 +1,4 @@
--- Bodies, cells and outcomes: more behind them changes no answer other than that the bytes are too short.
+-- Bodies, cells and outcomes: more after them changes no answer other than that the bytes are too short.
 use Rattle.std.proofs.Common.{ℕ, ℤ, zero, suc, Bool, true, false, not, List, length, Option, Some, None}
 use Rattle.std.specs.Prelude.{◌==◌, nat_lt}
 use Rattle.std.specs.List.{list_any, list_all}

@@ -64,7 +64,7 @@ flag_takes : (flag : Bool) → length (flag_bytes flag) ≡ 1
 unfolding flag_bytes
 flag_takes flag = refl
 
--- parts that stand one behind the other
+-- parts that stand one after the other
 four_take : (a b c d : List ℕ) → length (a ++ b ++ c ++ d) ≡ length a + length b + length c + length d
 four_take a b c d = omega (arith, length-append (a ++ b ++ c) d, length-append (a ++ b) c, length-append a b)
 

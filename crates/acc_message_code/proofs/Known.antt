@@ -1,11 +1,11 @@
--- Values that are made of several fields, one behind the other.
+-- Values that are made of several fields, one after the other.
 use Rattle.std.proofs.Common.{◌≡◌, ℕ, List, ◌++◌, Ok, refl, sym, ap, subst}
 use Rattle.acc_wire.specs.Reading.{Unread, Read, ◌>>=◌}
 use Rattle.acc_wire.proofs.Fields.{IsField}
 use Rattle.acc_code.proofs.Formats.{IsThen, then_field, made_field, made_of_two, same_field}
 
 module _ {A C : Type 0} {FitsA : A → Type 0} {a_bytes : A → List ℕ} {at : Unread → Read A} (part : C → A) (field : IsField FitsA a_bytes at) {Known : C → Type 0} where
-  -- the part of a value is read, and the rest of the value behind it, where this part is known
+  -- the part of a value is read, and the rest of the value after it, where this part is known
   pub known_then : {Rest : C → Type 0} {tail : C → List ℕ} {k : A → Unread → Read C} → ((x : A) → FitsA x → IsField (λ c. Rest c × (Known c × (part c ≡ x))) tail (k x)) → IsField (λ c. (FitsA (part c) × Rest c) × Known c) (λ c. a_bytes (part c) ++ tail c) (λ u. at u >>= λ x. k x.0 x.1)
   known_then {Rest} {tail} rest =
       let then : IsThen FitsA a_bytes (λ x c. Rest c × (Known c × (part c ≡ x))) (λ x c. tail c) (λ c. (FitsA (part c) × Rest c) × Known c) (λ c. a_bytes (part c) ++ tail c) = record {

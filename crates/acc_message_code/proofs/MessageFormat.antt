@@ -110,7 +110,7 @@ message_again m fits =
     let passes : Passes (unread (message_bytes m) 0) rest (message_bytes m) = record { bytes = sym (append-nil (message_bytes m)); place = omega arith } in
     rw (message_field.again (unread (message_bytes m) 0) rest m fits passes) refl
 
--- more stands behind a message
+-- more stands after a message
 pub message_trails : (m : Message) (x : ℕ) (xs : List ℕ) → FitsMessage m → message_of (message_bytes m ++ x ∷ xs) ≡ Err (record { kind = Trailing; place = length (message_bytes m) })
 unfolding message_of
 message_trails m x xs fits =

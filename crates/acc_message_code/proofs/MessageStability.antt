@@ -1,4 +1,4 @@
--- Messages: more behind one changes no answer other than that the bytes are too short. So a cut message is too short.
+-- Messages: more after one changes no answer other than that the bytes are too short. So a cut message is too short.
 use Rattle.std.proofs.Common.{◌≡◌, inl, inr, ℕ, zero, suc, Bool, true, false, ◌<◌, ◌≤◌, List, [], ◌++◌, length, take, drop, Some, None, Ok, Err, refl, sym, ap, subst, ◌∙◌, arith, length-append}
 use Rattle.std.specs.Prelude.{◌==◌, nat_le, nat_lt}
 use Rattle.std.specs.List.{list_all}
@@ -235,7 +235,7 @@ abbrev length_left : Read Message → ℕ
 length_left (Ok x) = length x.1.bytes
 length_left (Err e) = 0
 
--- what is read where nothing is left behind it isn't read where bytes are missing
+-- what is read where nothing is left after it isn't read where bytes are missing
 ends_at : (k : ℕ) (more : List ℕ) (cut : Read Message) (m : Message) (place : ℕ) → 0 < length more → Agrees more k cut (Ok (m, unread [] place)) → EndsAt k cut
 ends_at k more (Ok x) m place some h =
     let e : length (x.1.bytes ++ more) ≡ 0 = ap length_left (sym h.0) in

@@ -1,4 +1,4 @@
--- Lists that rise by a strict order, with one more behind them.
+-- Lists that rise by a strict order, with one more after them.
 use Rattle.std.proofs.Common.{◌≡◌, ℕ, suc, ◌-◌, ◌<◌, Bool, true, false, ◌&&◌, List, [], ◌∷◌, ◌++◌, length, Some, refl, sym, ap, ◌∙◌, IsTrue, slice_get, arith}
 use Rattle.std.specs.Cmp.{first_so, second_so}
 use Rattle.std.specs.List.{list_all, AllByRecursion}
@@ -40,7 +40,7 @@ behind_last p (q ∷ ids) last x rises e =
     let later = behind_last q ids last x rises.1 e in
     and_true (id_lt p x) (list_all (λ y. id_lt y x) (q ∷ ids)) (λ h. id_order.trans p last x (below_last p q ids last rises.0 e) (sym later ∙ h)) ∙ later
 
--- one is behind them all where it is behind the last
+-- one is after them all where it is after the last
 pub behind : (ids : List TxnId) (last x : TxnId) → IsRising ids → Some last ≡ slice_get ids (length ids - 1) → list_all (λ y. id_lt y x) ids ≡ id_lt last x
 behind [] last x rises e = absurd cc
 behind (p ∷ ids) last x rises e =

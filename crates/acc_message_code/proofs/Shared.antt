@@ -88,7 +88,7 @@ apply_is e body bytes rest s outcome numbered h last fits =
       fits = ((numbered, h.fits), fits);
     }
 
--- the bytes behind the body are bytes
+-- the bytes after the body are bytes
 pub are_bytes_behind : (bytes rest front tail : List ℕ) (head : Head) → IsHead bytes rest head → rest ≡ front ++ tail → AreBytes tail
 are_bytes_behind bytes rest front tail head h e = AreBytes-append_right front tail (subst AreBytes e h.are_bytes)
 

@@ -1,4 +1,4 @@
--- What a reader answers on some bytes, other than that they are too short, it answers where more stands behind them too.
+-- What a reader answers on some bytes, other than that they are too short, it answers where more stands after them too.
 use Rattle.std.proofs.Common.{◌≡◌, ◌⊎◌, inl, inr, ℕ, zero, suc, ◌+◌, ◌≤◌, Bool, true, false, cond, ltb, List, [], ◌∷◌, ◌++◌, length, take, Ok, Err, refl, ap, subst, arith, length-append}
 use Rattle.std.specs.Int.{w16, w32, w64, cast_signed, from_be_bytes}
 use Rattle.std.proofs.lemmas.Bool.{cases_lt, lt-ltb, le-ltb}
@@ -9,15 +9,15 @@ use Rattle.acc_wire.specs.Reading.{Unread, Read, ◌>>=◌, skip, fault_at, fiel
 use Rattle.acc_wire.proofs.Fields.{unread}
 use Rattle.acc_code.specs.Reading.{passing, between_at, each_at, listed_at}
 
--- the place behind all that is left
+-- the place after all that is left
 abbrev pub end_of : Unread → ℕ
 end_of u = u.place + length u.bytes
 
--- more stands behind what is left
+-- more stands after what is left
 abbrev pub with_more : Unread → List ℕ → Unread
 with_more u more = unread (u.bytes ++ more) u.place
 
--- the first answer comes from bytes that end at this place, and the second where more stands behind them
+-- the first answer comes from bytes that end at this place, and the second where more stands after them
 abbrev pub Agrees : {A : Type 0} → List ℕ → ℕ → Read A → Read A → Type 0
 Agrees more end (Ok x) longer = (longer ≡ Ok (x.0, with_more x.1 more)) × (end_of x.1 ≡ end)
 Agrees more end (Err e) longer = (e.place ≤ end) × ((e.kind ≡ Short) ⊎ (longer ≡ Err e))
@@ -38,7 +38,7 @@ then_agrees more end (Err e) s f h goes_on = (
 )
 
 module _ {A : Type 0} where
-  -- a reader behind a stable one, each for what was read before
+  -- a reader after a stable one, each for what was read before
   pub stable_then : {B : Type 0} {at : Unread → Read A} {k : A → Unread → Read B} → IsStable at → ((x : A) → IsStable (k x)) → IsStable (λ u. at u >>= λ x. k x.0 x.1)
   stable_then {B} {at} {k} first next = record {
     agrees = λ more u. then_agrees more (end_of u) (at u) (at (with_more u more)) (λ x. k x.0 x.1) (first.agrees more u) (λ x e.

@@ -24,7 +24,7 @@ envelope_at u = do
   ballot ← ballot_at id.1
   Ok (record { from = from.0; to = to.0; id = id.0; ballot = ballot.0 }, ballot.1)
 
--- what stands behind the first byte of an answer to a Stable, which are cells or else an outcome
+-- what stands after the first byte of an answer to a Stable, which are cells or else an outcome
 abbrev pub answer_behind : Bool → Unread → Read ReadAnswer
 answer_behind true u = do
   cells ← cells_at u

@@ -1,4 +1,4 @@
-//! Whether the next bytes spell a value that is at hand. Where they don't, the reader may stand anywhere behind.
+//! Whether the next bytes spell a value that is at hand. Where they don't, the reader may stand anywhere after.
 ghost use Rattle.std.specs.Prelude.{◌≡◌, ◌++◌, IsTrue};
 ghost use Rattle.std.specs.List.{flat_map, AllByRecursion};
 ghost use Rattle.acc_message_code.specs.Spelling.{stamp_bytes, id_bytes, shard_bytes, deps_bytes, settled_bytes};

@@ -14,7 +14,7 @@ pub fn one_spelling()
         → (a ≡ b) × (x ≡ y) }
 {}
 
-/// Where more stands behind a message, the fault is at its first byte.
+/// Where more stands after a message, the fault is at its first byte.
 pub fn bytes_behind_a_message()
     ensures { (m : Message) (x : ℕ) (xs : List ℕ) → FitsMessage m →
         message_of (message_bytes m ++ x ∷ xs) ≡ Err (record { kind = Trailing; place = length (message_bytes m) }) }

@@ -165,8 +165,8 @@ fn take_all(alloc: Global, bytes: &[u8]) -> Result<Message, CodeError>
 
 /// The message of some bytes, all of them. The error is their first fault, from left to right. Short comes where the bytes
 /// end inside a field, at its first byte; a text and its length are one field. Range comes at the first byte of a field
-/// that holds what isn't allowed, of a key or an id that may not stand behind those before it, and of a body without a
-/// key. Trailing comes at the first byte behind a message.
+/// that holds what isn't allowed, of a key or an id that may not stand after those before it, and of a body without a
+/// key. Trailing comes at the first byte after a message.
 pub fn decode(alloc: Global, bytes: &[u8]) -> Result<Message, CodeError>
     // What is read is spelled so.
     ensures found { IfOk result (λ m. bytes.now ≡ message_bytes m) }

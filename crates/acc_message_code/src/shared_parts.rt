@@ -45,14 +45,14 @@ fn take_head(reader: &mut Reader<'_>) -> Result<Head, CodeError>
     Ok(Head { number, envelope })
 }
 
-/// What is left behind these bytes, where the others begin with them.
+/// What is left after these bytes, where the others begin with them.
 fn strip<'a>(bytes: &'a [u8], front: &[u8]) -> Option<&'a [u8]>
     ensures { IfSome result (λ rest. bytes.now ≡ front.now ++ rest.now) }
 {
     bytes.strip_prefix(front)
 }
 
-/// A timestamp and dependencies, and what is left behind them.
+/// A timestamp and dependencies, and what is left after them.
 fn read_settled(alloc: Global, bytes: &[u8]) -> Result<(Settled, &[u8]), CodeError>
     requires { AreBytes bytes.now }
     ensures { IfOk result (λ parts. AreSettled bytes.now parts.0 parts.1.now) }
@@ -62,7 +62,7 @@ fn read_settled(alloc: Global, bytes: &[u8]) -> Result<(Settled, &[u8]), CodeErr
     Ok((settled, reader.left()))
 }
 
-/// A timestamp and dependencies, and what is left behind them. Where they are those at hand, these are shared.
+/// A timestamp and dependencies, and what is left after them. Where they are those at hand, these are shared.
 fn share_settled<'a>(
     alloc: Global,
     bytes: &'a [u8],

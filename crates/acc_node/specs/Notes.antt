@@ -21,7 +21,7 @@ pub data Noted (x : TxnId) : List Note → Bool → Type 0 where
   Blocks : (ballot : Ballot) (by : List TxnId) → Noted x (Blocked x ballot by ∷ []) true
   Ends : (ballot by : Ballot) → Noted x (Ended x ballot by ∷ []) true
 
--- the reply that stands right behind an outcome, and behind notes where they are an outcome alone
+-- the reply that stands right after an outcome, and after notes where they are an outcome alone
 abbrev pub reply_to : Note → Option Note
 reply_to (Begin id) = None
 reply_to (Recover id ballot) = None
@@ -36,7 +36,7 @@ reply_behind [] = None
 reply_behind (note ∷ []) = reply_to note
 reply_behind (note ∷ (other ∷ notes)) = None
 
--- each outcome has the reply right behind it where the client is open, and whether the reply to x is there
+-- each outcome has the reply right after it where the client is open, and whether the reply to x is there
 pub record Replies (x : TxnId) (is_open : Bool) (before after : List Note) (has_replied : Bool) : Type 0 where
   pub notes : after ≡ flat_map (replied is_open) before
   pub answers : has_replied ≡ list_any (replies x) after

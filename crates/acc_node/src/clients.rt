@@ -35,7 +35,7 @@ pub(crate) fn reply_note(
     one_note(alloc, Note::Reply { id, reply })
 }
 
-/// Puts the reply behind the outcome with which an attempt ends, where the client is open, and tells whether there is one. No
+/// Puts the reply after the outcome with which an attempt ends, where the client is open, and tells whether there is one. No
 /// memory is needed where the attempt hasn't ended.
 pub(crate) fn answer_client(
     notes: &mut Notes,
@@ -52,7 +52,7 @@ pub(crate) fn answer_client(
     }
 }
 
-// Puts the reply behind an outcome.
+// Puts the reply after an outcome.
 fn add_reply(notes: &mut Notes) -> Result<bool, OutOfMemory>
     ensures { IfOk result (λ has_replied. (x : AnyId) (has_ended : Bool) → Noted x notes.old has_ended → Replies x true notes.old notes.new has_replied) }
 {
@@ -65,7 +65,7 @@ fn add_reply(notes: &mut Notes) -> Result<bool, OutOfMemory>
     }
 }
 
-// The reply that belongs behind these notes.
+// The reply that belongs after these notes.
 fn reply_behind(notes: &[Note]) -> Result<Option<Note>, OutOfMemory>
     ensures { IfOk result (λ reply. reply ≡ reply_behind notes.now) }
 {

@@ -42,7 +42,7 @@ pub(crate) fn silent(alloc: Global) -> Heard
 
 impl Running {
     /// What the attempt at a transaction makes of a message that is no Inform. Where the client is open, the reply stands right
-    /// behind an outcome. Without memory the attempt is as before.
+    /// after an outcome. Without memory the attempt is as before.
     pub(crate) fn hear(
         &mut self,
         topology: &Topology,

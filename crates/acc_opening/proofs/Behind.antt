@@ -86,7 +86,7 @@ closed-later shard at done c x place r = record {
   past = λ i z p q e. past-later at done c r.settled.t z (r.past i z p q e);
 }
 
--- the change that is right behind all of them may be added
+-- the change that is right after all of them may be added
 pub each-push : (shard : ℕ) (at : Lookup) (done changes : List Change) (c : Change) → EachRight shard at done changes
     → IsRight shard at (done ++ changes) c → EachRight shard at done (changes ++ c ∷ [])
 each-push shard at done [] c e r = (subst (λ list. IsRight shard at list c) (append-nil done) r, tt)

@@ -65,7 +65,7 @@ from_changes p (b ∷ done) h = by (from_changes p done) (p (change_of b)) refl
         let rest = later (sym (ap (λ v. v || list_any p (changes_in done)) k) ∙ h) in
         (rest.0, Contains-later b done rest.0 rest.1, rest.2)
 
--- each of them is right behind some changes
+-- each of them is right after some changes
 record RightAt (shard : ℕ) (at : Lookup) (all : List Change) (a : Turn) : Type 0 where
   there : Record
   there_is : at a.id ≡ Some there

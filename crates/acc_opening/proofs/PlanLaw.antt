@@ -197,7 +197,7 @@ module _ (shard : ℕ) (step : Taken) (past : List Taken) (at : Lookup) (taking 
         (opened_of-complete shard step past f.change.id f.placed.opened)
         (ap not (was_opened f.change.id f.placed.there f.placed.there_is) ∙ sym f.placed.opens ∙ f.passes))
 
-    -- what is opened by now and has an outcome is applied behind the plan
+    -- what is opened by now and has an outcome is applied after the plan
     applied_if_opened : (y : TxnId) (o : Option Record) → at y ≡ o → is_opened_in o ≡ true → is_some (outcome_in o) ≡ true
         → (is_applied_in o || applies_in y changes) ≡ true
     applied_if_opened y None is opened has = absurd (true≢false (sym opened))

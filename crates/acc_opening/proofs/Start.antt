@@ -40,7 +40,7 @@ pub or_nil : (b : Bool) → (b || false) ≡ b
 or_nil true = refl
 or_nil false = refl
 
--- behind nothing, a record holds back what it holds back by itself
+-- after nothing, a record holds back what it holds back by itself
 past_alone : (at : Lookup) (t : Stamp) (z : TxnId) (o : Option Record) → at z ≡ o → is_past_behind at [] t z ≡ is_past_record t o
 past_alone at t z None e = ap (λ p. is_past t (is_applied_in p || false) (settled_in p)) e
 past_alone at t z (Some r) e = ap (λ p. is_past t (is_applied_in p || false) (settled_in p)) e ∙ ap (λ b. is_past t b r.stable) (or_nil r.applied)

@@ -151,7 +151,7 @@ lt_then Greater s h = absurd (true≢false (sym h))
 pub some_same : {X : Type 0} (x y : X) → Some x ≡ Some y → x ≡ y
 some_same x y e = cc
 
--- what a transaction holds back comes behind it
+-- what a transaction holds back comes after it
 held_key : (at : Lookup) (changes : List Change) (turn : Turn) (t : Stamp) (x : TxnId) → HasItsTime at turn → is_past_behind at changes t turn.id ≡ false
     → key_lt (key_of turn) (t, x) ≡ true
 held_key at changes turn t x time h =

@@ -57,7 +57,7 @@ module _ (at : Lookup) where
       ⊎_elim (λ here. subst (λ z. turn_lt x z ≡ true) ((id_order.decides c.id y).0 here) above.0) (above_at x y rest above.1)
       (or_cases (id_eq c.id y) (concerns y rest) h)
 
-  -- x isn't among what comes behind it
+  -- x isn't among what comes after it
   not_above_itself : (x : TxnId) (changes : List Change) → Above x changes → concerns x changes ≡ false
   not_above_itself x changes above =
       ⊎_elim (λ there. absurd (true≢false (sym (above_at x x changes above there) ∙ before_not_itself (t_of (settled_in (at x))) x))) (λ isnt. isnt)

@@ -18,7 +18,7 @@ use Rattle.acc_opening.proofs.TurnFacts.{Contains-first}
 use Rattle.acc_opening.proofs.Behind.{all_past}
 use Rattle.acc_opening.proofs.StateFacts.{some_same, moved, queued}
 
--- the one at a place stands in front of those behind it
+-- the one at a place stands in front of those after it
 pub front : (shard : ℕ) (at : Lookup) (watching : TxnId → List Watch) (woken : List Watch) (place : ℕ) (d : Watch) (done queue : List Turn)
     → place < length woken → IsUnderWay shard at watching (drop place woken) done queue
     → IsUnderWay shard at watching (get_or woken place d ∷ drop (place + 1) woken) done queue

@@ -36,13 +36,13 @@ abbrev pub is_applied_in : Option Record → Bool
 is_applied_in None = false
 is_applied_in (Some r) = r.applied
 
--- ---- readiness behind some changes
+-- ---- readiness after some changes
 
 -- y is applied, before the step or by one of these changes
 abbrev pub is_applied_behind : Lookup → List Change → TxnId → Bool
 is_applied_behind at done y = is_applied_in (at y) || applies_in y done
 
--- behind these changes y holds back no transaction with this timestamp
+-- after these changes y holds back no transaction with this timestamp
 abbrev pub is_past_behind : Lookup → List Change → Stamp → TxnId → Bool
 is_past_behind at done t y = is_past t (is_applied_behind at done y) (settled_in (at y))
 
@@ -52,7 +52,7 @@ is_ready_behind shard at done s = list_all (is_past_behind at done s.t) (of_shar
 
 -- ---- plans
 
--- The change is right behind these: it opens a stable transaction that is ready, or applies one that was opened; and it applies
+-- The change is right after these: it opens a stable transaction that is ready, or applies one that was opened; and it applies
 -- what has an outcome and isn't applied.
 pub record IsRight (shard : ℕ) (at : Lookup) (done : List Change) (c : Change) : Type 0 where
   pub there : Record
@@ -77,7 +77,7 @@ abbrev pub change_lt : Lookup → Change → Change → Bool
 change_lt at a b =
     is_lt (ordering_then (stamp_cmp (t_of (settled_in (at a.id))) (t_of (settled_in (at b.id)))) (id_cmp a.id b.id))
 
--- A plan: each change is right behind those before it, they rise, and nothing is left to do: what isn't opened by them is held
+-- A plan: each change is right after those before it, they rise, and nothing is left to do: what isn't opened by them is held
 -- back, and what was opened and has an outcome is applied.
 pub record IsPlan (shard : ℕ) (at : Lookup) (changes : List Change) : Type 0 where
   pub each : EachRight shard at [] changes

@@ -32,7 +32,7 @@ pub record AreWatches (shard : ℕ) (at : Lookup) (watching : TxnId → List Wat
       (x : TxnId) (r : Record) → at x ≡ Some r → IsTrue (is_some r.stable) → r.opened ≡ false
       → (y : TxnId) × (w : Watch) × Contains (watching y) w × (w.id ≡ x)
 
--- the turns are the plan of the step, and the lists are those behind it
+-- the turns are the plan of the step, and the lists are those after it
 pub record IsPlanned (shard : ℕ) (records : Records) (own : Record) (waits : Waits) (plan : Plan) : Type 0 where
   pub turns : IsPlan shard (lookup records own) (changes_in plan.done)
   pub waiting : AreWatches shard (after_changes (lookup records own) (changes_in plan.done)) (watches_now plan.touched waits)

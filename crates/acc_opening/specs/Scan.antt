@@ -15,7 +15,7 @@ ArePast at done t ids from end =
 abbrev pub AllPastUpTo : Lookup → List Change → Stamp → List TxnId → ℕ → Type 0
 AllPastUpTo at done t ids last = ArePast at done t ids 0 (last + 1)
 
--- none behind this place holds it back
+-- none after this place holds it back
 abbrev pub AllPastBehind : Lookup → List Change → Stamp → List TxnId → ℕ → Type 0
 AllPastBehind at done t ids place = ArePast at done t ids (place + 1) (length ids)
 

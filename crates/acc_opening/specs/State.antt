@@ -17,7 +17,7 @@ use Rattle.acc_opening.specs.Turns.{key_of, key_lt, turn_lt, change_of, changes_
 abbrev pub no_turn : Turn
 no_turn = record { t = zero_stamp; id = record { 0 = zero_stamp }; opens = false; applies = false }
 
--- the transaction is stable and was not opened, and the dependencies behind a place no longer hold it back
+-- the transaction is stable and was not opened, and the dependencies after a place no longer hold it back
 pub record IsClosed (shard : ℕ) (at : Lookup) (done : List Change) (x : TxnId) (place : ℕ) : Type 0 where
   pub there : Record
   pub there_is : at x ≡ Some there
@@ -32,7 +32,7 @@ pub record IsHeld (shard : ℕ) (at : Lookup) (done : List Change) (y : TxnId) (
   pub waits_for : slice_get (of_shard of.settled.deps shard) w.place ≡ Some y
   pub held : is_past_behind at done of.settled.t y ≡ false
 
--- it no longer waits where it did, and comes behind all turns so far
+-- it no longer waits where it did, and comes after all turns so far
 pub record IsWoken (shard : ℕ) (at : Lookup) (done : List Turn) (w : Watch) : Type 0 where
   pub of : IsClosed shard at (changes_in done) w.id w.place
   pub later : (a : Turn) (settled : Settled) → Contains done a → settled_in (at w.id) ≡ Some settled → key_lt (key_of a) (settled.t, w.id) ≡ true

@@ -13,7 +13,7 @@ use crate::turns::{Turn, is_applied_at};
 use acc_record::{Record, Records};
 use acc_stamp::{Stamp, TxnId};
 
-/// Whether a dependency no longer holds back a transaction with this timestamp, behind these turns.
+/// Whether a dependency no longer holds back a transaction with this timestamp, after these turns.
 pub(crate) fn is_past(records: &Records, own: &Record, turns: &[Turn], t: Stamp, id: TxnId) -> bool
     requires rises { IsRisingBy turn_lt turns.now }
     requires times { HaveTheirTimes (lookup records.now own.now) turns.now }
@@ -34,7 +34,7 @@ pub(crate) fn is_past(records: &Records, own: &Record, turns: &[Turn], t: Stamp,
     is_applied_at(turns, settled.t, id)
 }
 
-/// The place of the last dependency, up to this one, that holds back a transaction with this timestamp behind these turns.
+/// The place of the last dependency, up to this one, that holds back a transaction with this timestamp after these turns.
 pub(crate) fn last_held(
     records: &Records,
     own: &Record,

@@ -44,7 +44,7 @@ pub message_whole : (s : Situation) (n : ℕ) → message_at (whole s) (length (
 message_whole s n =
     ap (λ ms. slice_get ms (length (sent_of s.earlier) + n)) (sent_joined s.earlier s.own) ∙ get_behind (sent_of s.earlier) (sent_of s.own) n
 
--- ---- behind nothing
+-- ---- after nothing
 
 event_alone : (event : Event) → raised_event 0 event ≡ event
 event_alone (Begin txn) = refl
@@ -63,7 +63,7 @@ pub joined_alone : (own : List Item) → joined [] own ≡ own
 joined_alone [] = refl
 joined_alone (item ∷ own) = ap (λ i. i ∷ joined [] own) (alone item) ∙ ap (λ items. item ∷ items) (joined_alone own)
 
--- a cluster that was opened behind nothing
+-- a cluster that was opened after nothing
 pub whole_alone : (s : Situation) → s.earlier ≡ [] → whole s ≡ s.own
 whole_alone s none = ap (λ items. joined items s.own) none ∙ joined_alone s.own
 

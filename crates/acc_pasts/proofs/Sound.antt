@@ -1,4 +1,4 @@
--- Each move keeps the whole past a run, and the stopped steps such as can still be entered, one behind another.
+-- Each move keeps the whole past a run, and the stopped steps such as can still be entered, one after another.
 use Rattle.std.proofs.Common.{◌≡◌, ◌≢◌, ℕ, suc, Bool, true, false, not, List, [], ◌∷◌, ◌++◌, length, refl, sym, ◌∙◌, ap, subst}
 use Rattle.std.specs.List.{AllByRecursion}
 use Rattle.std.proofs.lemmas.Bool.{true≢false}
@@ -119,7 +119,7 @@ module _ (cluster : Cluster) where
     h.1,
   )
 
-  -- behind the first one, which is lost, the others still can go on
+  -- after the first one, which is lost, the others still can go on
   pub others_go_on : (s : Situation) (a : Actor) (event : Event) (events : List Event) → CanAllGoOn cluster s a (event ∷ events)
       → CanAllGoOn cluster (entered cluster s a event true) a events
   others_go_on s a event events h = (each events h.0.1 h.1.0, h.1.1)
@@ -181,7 +181,7 @@ module _ (cluster : Cluster) where
             as_many = length-push rest.entries ∙ ap suc rest.as_many;
           }
 
-  -- the steps of another actor, behind what comes back
+  -- the steps of another actor, after what comes back
   pub stay_behind : (s : Situation) (a b : Actor) (events others : List Event) → same_actor a b ≡ false → CanAllGoOn cluster s a events
       → CanAllGoOn cluster s b others → CanAllGoOn cluster (with_kept cluster s a events) b others
   stay_behind s a b [] others apart h k = k

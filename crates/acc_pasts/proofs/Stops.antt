@@ -1,4 +1,4 @@
--- While an actor is down nothing takes a step away that a fault stopped, and it stays the same, also behind its actor's other stopped steps.
+-- While an actor is down nothing takes a step away that a fault stopped, and it stays the same, also after its actor's other stopped steps.
 use Rattle.std.proofs.Common.{◌≡◌, ◌≢◌, ℕ, zero, suc, Bool, true, false, not, cond, ◌||◌, List, [], ◌∷◌, ◌++◌, Option, None, Some, refl, sym, ◌∙◌, ap, subst}
 use Rattle.std.specs.List.{AllByRecursion, slice_get}
 use Rattle.std.specs.Option.{option_map}
@@ -170,7 +170,7 @@ module _ (cluster : Cluster) (items : List Item) (item : Item) (a : Actor) (even
   same_step =
       same_by_deeds cluster items (item ∷ items) a event act (deeds_still cluster items a item other) may.act_is (act_still cluster items item event act may.act_is)
 
--- each of more events, behind those before it
+-- each of more events, after those before it
 pub same_steps : (cluster : Cluster) (before now : List Item) (a : Actor) (events : List Event) (lost : Bool)
     → deeds_of cluster a now ≡ deeds_of cluster a before
     → AllByRecursion (λ (event : Event). (act : Act) × (act_of cluster before event ≡ Some act) × (act_of cluster now event ≡ Some act)) events
@@ -236,7 +236,7 @@ gone_down cluster items a event act journalled may =
       may = may_still cluster items (Down a) a event act refl may tt journalled;
     }
 
--- behind the lost entry of another event of its actor
+-- after the lost entry of another event of its actor
 pub behind_lost : (cluster : Cluster) (items : List Item) (a : Actor) (first event : Event) → first ≢ event → CanGoOn cluster items a event
     → CanGoOn cluster (entering cluster items a first true ∷ items) a event
 behind_lost cluster items a first event differ h =

@@ -22,7 +22,7 @@ abbrev pub entering : Cluster → List Item → Actor → Event → Bool → Ite
 entering cluster items a event lost =
     Step (record { actor = a; event = event; emitted = emitted_for cluster items a event; lost = lost })
 
--- behind the items the event takes this, and may come to the actor
+-- after the items the event takes this, and may come to the actor
 pub record MayTake (cluster : Cluster) (items : List Item) (a : Actor) (event : Event) (act : Act) : Type 0 where
   pub act_is : act_of cluster items event ≡ Some act
   pub place : MayStand cluster items a act event

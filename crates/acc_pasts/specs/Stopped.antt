@@ -32,7 +32,7 @@ abbrev pub AreDifferent : List Event → Type 0
 AreDifferent [] = Unit {0}
 AreDifferent (event ∷ events) = AllByRecursion (λ (other : Event). event ≢ other) events × AreDifferent events
 
--- Each event of the actor can go on, and none is there twice: so they can be entered one behind another, whatever others enter before.
+-- Each event of the actor can go on, and none is there twice: so they can be entered one after another, whatever others enter before.
 abbrev pub CanAllGoOn : Cluster → Situation → Actor → List Event → Type 0
 CanAllGoOn cluster s a events = AllByRecursion (λ (event : Event). CanGoOn cluster (whole s) a (event_in s event)) events × AreDifferent events
 
@@ -49,7 +49,7 @@ pub record IsSameStep (cluster : Cluster) (before now : List Item) (a : Actor) (
   pub emitted : emitted_for cluster now a event ≡ emitted_for cluster before a event
   pub payload : payload_for cluster now a event ≡ payload_for cluster before a event
 
--- what the entries of the events would be is the same, each behind those of the events before it
+-- what the entries of the events would be is the same, each after those of the events before it
 abbrev pub AreSameSteps : Cluster → List Item → List Item → Actor → List Event → Bool → Type 0
 AreSameSteps cluster before now a [] lost = Unit {0}
 AreSameSteps cluster before now a (event ∷ events) lost =

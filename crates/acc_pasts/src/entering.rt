@@ -74,7 +74,7 @@ pub fn situations_stay_sound()
 {}
 
 /// What an event takes, what its entry emits and what the journal gets of it stay the same as long as its actor enters nothing. So does
-/// that of more events, each behind the entries of those before it: it depends on what their actor did, and not on what others enter.
+/// that of more events, each after the entries of those before it: it depends on what their actor did, and not on what others enter.
 pub fn stopped_steps_stay()
     ensures one { (cluster : Cluster) (items : List Item) (item : Item) (a : Actor) (event : Event) (act : Act) → is_other a item ≡ true →
         MayTake cluster items a event act → IsSameStep cluster items (item ∷ items) a event }
@@ -86,7 +86,7 @@ pub fn stopped_steps_stay()
         IsSameStep cluster before now a event }
 {}
 
-/// The steps of an actor that were stopped can be entered one behind another: behind the first one, which is lost, the others still can.
+/// The steps of an actor that were stopped can be entered one after another: after the first one, which is lost, the others still can.
 pub fn stopped_steps_go_on()
     ensures { (cluster : Cluster) (s : Situation) (a : Actor) (event : Event) (events : List Event) →
         CanAllGoOn cluster s a (event ∷ events) →

@@ -1,4 +1,4 @@
--- What the draws of a node tell of it, and that its next draw may stand behind them.
+-- What the draws of a node tell of it, and that its next draw may stand after them.
 use Rattle.std.proofs.Common.{◌≡◌, ℕ, ◌*◌, ◌^◌, ◌<◌, ◌≤◌, Bool, true, false, not, cond, ◌&&◌, max, eqb, ltb, leb, List, [], ◌∷◌, ◌++◌, Option, None, Some, is_some, refl, sym, ap, ◌∙◌, arith}
 use Rattle.std.specs.List.{list_any}
 use Rattle.std.proofs.lemmas.Bool.{lt-ltb, le-leb}

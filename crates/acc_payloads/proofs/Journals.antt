@@ -9,7 +9,7 @@ module _ {A : Type 0} (May : List A → A → Type 0) where
   each_snoc before (y ∷ items) x each may =
       (each.0, each_snoc (before ++ y ∷ []) items x each.1 (subst (λ (b : List A). May b x) (sym (append_assoc before (y ∷ []) items)) may))
 
-  -- the items of a journal behind those of another one are the same, as long as these go on
+  -- the items of a journal after those of another one are the same, as long as these go on
   module _ (bytes : A → List ℕ) (same : (b c : List A) (x y : A) → May b x → May c y → bytes x ≡ bytes y → x ≡ y) where
     pub no_bad : (front items before : List A) (payload : List ℕ) (behind : List (List ℕ))
         → map bytes items ≡ map bytes before ++ payload ∷ behind → EachMay May front items → EachMay May front before

@@ -79,7 +79,7 @@ store_mark : (p : StorePayload) → store.FitsStore p → is_marked (store.store
 store_mark StoreMark fits = refl
 store_mark (Takes m) fits = message_no_mark m fits
 
--- a text value stands behind a mark
+-- a text value stands after a mark
 text_marked : (a b text marked : Bool) → (a && b && (not text || marked)) ≡ true → text ≡ true → marked ≡ true
 text_marked true true true marked may e = may
 text_marked true true false marked may e = absurd (let f : false ≡ true = e in cc)

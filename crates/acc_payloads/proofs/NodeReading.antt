@@ -13,7 +13,7 @@ use Rattle.acc_payloads.proofs.NodeJournals.{same_node}
 differ : {b : Bool} → b ≡ false → b ≡ true → ⊥
 differ e f = cc
 
--- these payloads are read, and behind them stands the next gate
+-- these payloads are read, and after them stands the next gate
 pub record ReadSoFar (node version start : ℕ) (payloads : List (List ℕ)) (told : NodeTold) (gate : ℕ) : Type 0 where
   pub items : List NodePayload
   pub journal : IsNodeJournal version start payloads items

@@ -94,7 +94,7 @@ three true true false e f g = g
 three true false c e f g = f
 three false b c e f g = e
 
--- a text value is allowed behind a mark
+-- a text value is allowed after a mark
 texts_allowed : (text marked : Bool) → (text ≡ true → marked ≡ true) → (not text || marked) ≡ true
 texts_allowed true true h = refl
 texts_allowed true false h = h refl

@@ -92,7 +92,7 @@ ends_down a (item ∷ earlier) = cond (is_item_of a item) (is_down_of a item) (e
 abbrev pub has_mark_among : List (List ℕ) → Bool
 has_mark_among payloads = list_any (λ payload. bytes_eq payload mark_bytes) payloads
 
--- A mark stands where one may, and what has a text value stands behind one.
+-- A mark stands where one may, and what has a text value stands after one.
 pub record MayBeMarked (version : ℕ) (before : List (List ℕ)) (payload : List ℕ) : Type 0 where
   pub marks : payload ≡ mark_bytes → may_mark version (has_mark_among before) ≡ true
   pub texts : (m : Message) → FitsMessage m → payload ≡ message_bytes m → has_text m ≡ true → has_mark_among before ≡ true
@@ -107,7 +107,7 @@ AreMarked version payloads = EachMay (MayBeMarked version) [] payloads
 abbrev pub without_marks : List (List ℕ) → List (List ℕ)
 without_marks payloads = filter (λ payload. not (bytes_eq payload mark_bytes)) payloads
 
--- These are the payloads; where the actor is down further ones may stand behind them.
+-- These are the payloads; where the actor is down further ones may stand after them.
 abbrev pub AreKept : Bool → List (List ℕ) → List (List ℕ) → Type 0
 AreKept false payloads kept = kept ≡ payloads
 AreKept true payloads kept = (further : List (List ℕ)) × (kept ≡ payloads ++ further)

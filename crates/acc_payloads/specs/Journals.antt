@@ -1,11 +1,11 @@
--- Journals of payloads of one kind. `May before x` says that x may stand behind these.
+-- Journals of payloads of one kind. `May before x` says that x may stand after these.
 use Rattle.std.specs.Prelude.{◌≡◌, ℕ, ◌+◌, Bool, not, ◌==◌, ◌&&◌, ◌||◌, List, [], ◌∷◌, ◌++◌, length, map, if◌then◌else◌}
 use Rattle.acc_journal.specs.declared.error.JournalError.{JournalError}
 use Rattle.acc_journal.specs.declared.error.JournalError.TheVariants.{DiskFault, BadVersion, BadRecord, OutOfMemory}
 use Rattle.acc_journal.specs.Layout.{records}
 use Rattle.acc_payloads.specs.Spelling.{mark_bytes}
 
--- each may stand behind those before it
+-- each may stand after those before it
 abbrev pub EachMay : {A : Type 0} → (List A → A → Type 0) → List A → List A → Type 0
 EachMay May before [] = Unit {0}
 EachMay May before (x ∷ xs) = May before x × EachMay May (before ++ x ∷ []) xs
@@ -15,7 +15,7 @@ pub record IsJournalOf {A : Type 0} (bytes : A → List ℕ) (May : List A → A
   pub spelled : payloads ≡ map bytes items
   pub each : EachMay May [] items
 
--- Behind a journal stands a payload that nothing spells which may stand there; its gate stands at this place.
+-- After a journal stands a payload that nothing spells which may stand there; its gate stands at this place.
 pub record IsBadRecord {A : Type 0} (bytes : A → List ℕ) (May : List A → A → Type 0) (payloads : List (List ℕ)) (place : ℕ) : Type 0 where
   pub before : List A
   pub payload : List ℕ

@@ -92,7 +92,7 @@ pub record IsReadAs (node version start : ℕ) (payloads : List (List ℕ)) (tol
 
 -- ---- growth
 
--- behind a node's journal its payloads of one draw more are a journal again
+-- after a node's journal its payloads of one draw more are a journal again
 pub record GrowsBy (version start : ℕ) (payloads : List (List ℕ)) (items : List NodePayload) (d : Draw) : Type 0 where
   pub later : List NodePayload
   pub journal : IsNodeJournal version start (payloads ++ appended version (has_mark items) (draw_bytes d)) later

@@ -99,7 +99,7 @@ pub record HoldsPayloads {T : Type 0} (version : ℕ) (past : Past T) (bytes : L
 
 -- ---- what didn't go out, as the actor keeps it
 
--- It is kept exactly where there are such steps, and in their order: the event of each, and what the rules give for it behind the steps
+-- It is kept exactly where there are such steps, and in their order: the event of each, and what the rules give for it after the steps
 -- before it.
 abbrev pub IsUnsent : {T : Type 0} → (Past T → T → Emitted) → Past T → List (Stop T) → List Unsent → Type 0
 IsUnsent rules past [] [] = Unit {0}
@@ -128,7 +128,7 @@ abbrev pub TellsByChoice : {T : Type 0} → Bool → List (Stop T) → Option Bo
 TellsByChoice keeps stopped (Some more) = (more && some stopped) ≡ (keeps && some stopped)
 TellsByChoice keeps stopped None = ⊥
 
--- the past behind a restart that found this
+-- the past after a restart that found this
 abbrev pub past_with : {T : Type 0} → List Unsent → Past T → Past T
 past_with kept past = kept_if (some kept) past
 

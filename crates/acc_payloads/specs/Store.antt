@@ -48,7 +48,7 @@ taken_in items = reverse (messages_in items)
 abbrev pub is_for : Actor → Message → Bool
 is_for own m = actor_eq (to_of m) own && is_some (body_in m)
 
--- It names no h of 2^62 or more, and has a text value only behind a mark.
+-- It names no h of 2^62 or more, and has a text value only after a mark.
 abbrev pub may_take : Actor → Bool → Message → Bool
 may_take own marked m = is_for own m && nat_lt (top_of m) (2 ^ 62) && (not (has_text m) || marked)
 
@@ -77,7 +77,7 @@ pub record IsNextFor (layout : Layout) (version : ℕ) (own : Actor) (taken : Li
   pub greatest : greatest_h own (replay layout own taken) < 2 ^ 62
   pub texts : has_text m ≡ true → version ≡ 2
 
--- behind a store's journal its payloads of one message more are a journal again
+-- after a store's journal its payloads of one message more are a journal again
 pub record GrowsBy (layout : Layout) (version : ℕ) (own : Actor) (payloads : List (List ℕ)) (items : List StorePayload) (m : Message) : Type 0 where
   pub later : List StorePayload
   pub journal : IsStoreJournal layout version own (payloads ++ appended version (has_mark items) (message_bytes m)) later

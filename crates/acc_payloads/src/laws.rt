@@ -24,7 +24,7 @@ pub fn journals_are_read()
 {}
 
 /// The draws of a node tell the greatest `h` that it drew and the transactions that it began, whatever else it did. What it draws next
-/// may stand behind them, as long as its clock is below 2^62; a begin, where it has not begun the transaction.
+/// may stand after them, as long as its clock is below 2^62; a begin, where it has not begun the transaction.
 pub fn draws_tell()
     ensures told { (number start : ℕ) (past : List Deed) (draws : List Draw) → AreDrawsOf number start past draws → DrawsTell number start past draws }
     ensures next { (number start : ℕ) (past : List Deed) (draws : List Draw) (purpose : Purpose) (txn : ℕ) → AreDrawsOf number start past draws → MayDraw number start past

@@ -63,7 +63,7 @@ impl Payload for Mark {
     }
 }
 
-/// The same of a payload that is written in place, behind the records that wait for a journal.
+/// The same of a payload that is written in place, after the records that wait for a journal.
 pub fn put_record<P: Payload>(
     records: &mut Records,
     version: u8,

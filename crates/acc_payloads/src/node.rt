@@ -84,7 +84,7 @@ impl NodeTold {
         draw.h > self.drawn && draw.h <= GREATEST
     }
 
-    /// Whether a draw may stand behind the payloads that told this.
+    /// Whether a draw may stand after the payloads that told this.
     fn may_draw(&self, draw: &Draw) -> bool
         ensures { (node start : ℕ) (items : List Payload) → AreTold node start items self.now → result ≡ may_stand start (draws_in items) draw.now }
     {
@@ -92,7 +92,7 @@ impl NodeTold {
         self.is_in_range(draw) && !begins_again
     }
 
-    /// Whether a payload may stand behind those that told this.
+    /// Whether a payload may stand after those that told this.
     fn may_follow(&self, version: u8, payload: &NodePayload) -> bool
         ensures { (node start : ℕ) (items : List Payload) → AreTold node start items self.now → result ≡ node_may version start items payload.now }
     {
@@ -119,7 +119,7 @@ impl NodeTold {
         Ok(())
     }
 
-    /// Enters a payload that may stand behind the others.
+    /// Enters a payload that may stand after the others.
     fn enter(&mut self, node: u32, payload: &NodePayload) -> Result<(), OutOfMemory>
         requires { node ≤ 15 }
         ensures { OnOk result ((version start : ℕ) (items : List Payload) → AreTold node start items self.old → node_may version start items payload.now ≡ true

@@ -54,7 +54,7 @@ pub fn told(
     }
 }
 
-/// Puts a step behind the others. There is room for it.
+/// Puts a step after the others. There is room for it.
 pub fn put(unsents: &mut Vec<Unsent>, unsent: Unsent)
     requires { vec_len unsents.old < vec_capacity unsents.old }
     ensures { unsents.new.items ≡ unsents.old.items ++ unsent ∷ [] }

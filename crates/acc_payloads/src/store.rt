@@ -47,7 +47,7 @@ pub fn read_store_payload<K: KnownParts>(
 }
 
 /// Whether a payload may stand in the journal of a store that is read by this version, where `marked` tells whether a mark stands
-/// before it. A message goes to this store, brings a body, names no `h` of 2^62 or more, and has a text value only behind a mark.
+/// before it. A message goes to this store, brings a body, names no `h` of 2^62 or more, and has a text value only after a mark.
 /// That it follows no vote whose `h` is 2^62 or more is left to the one who replays the journal.
 pub fn may_follow(own: Actor, version: u8, marked: bool, payload: &StorePayload) -> bool
     ensures { result ≡ store_may version own marked payload.now }

@@ -1,4 +1,4 @@
--- What is written piece by piece behind a text stands there as one piece.
+-- What is written piece by piece after a text stands there as one piece.
 use Rattle.std.proofs.Common.{◌≡◌, ℕ, List, ◌++◌, ap, ◌∙◌, append_assoc}
 
 pub joined2 : (before one two a b : List ℕ) → one ≡ before ++ a → two ≡ one ++ b → two ≡ before ++ (a ++ b)

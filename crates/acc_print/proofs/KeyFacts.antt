@@ -12,7 +12,7 @@ use Rattle.acc_lang.specs.Grammar.{Spells, LetSpelled}
 use Rattle.acc_print.proofs.TokenFacts.{stops, goes_on, word_stop, spaced, name_spelled}
 use Rattle.acc_print.proofs.QuotedFacts.{quoted_spelled}
 
--- pieces that are joined from the left, with something behind them
+-- pieces that are joined from the left, with something after them
 pub behind3 : (a b c rest : List ℕ) → (a ++ b ++ c) ++ rest ≡ a ++ (b ++ (c ++ rest))
 behind3 a b c rest = simp append_assoc
 

@@ -66,7 +66,7 @@ minus_spelled : (rest to : List ℕ) (tokens : List Token) → Spells tokens res
 unfolding token_at token_of token_len behind after_blanks
 minus_spelled rest to tokens h = (refl, h)
 
--- a number of 64 bits behind a space
+-- a number of 64 bits after a space
 pub number_spelled : (number : ℤ) (rest : List ℕ) → mag number < 2 ^ 63 → stops continues_word rest ≡ true → NumberSpelled number (32 ∷ signed_decimal number ++ rest) rest
 number_spelled (pos n) rest small stop =
     inl (n, omega arith, refl, spaced (Number (Some n)) [] (decimal n ++ rest) rest (digits_spelled n rest rest [] (omega arith) stop refl))

@@ -9,7 +9,7 @@ use Rattle.acc_print.specs.Canonical.{quoted_byte, quoted}
 use Rattle.acc_lang.specs.Grammar.{Spells}
 use Rattle.acc_print.proofs.TokenFacts.{stops, one_token}
 
--- a text behind its opening quote is closed, says this, and this follows it
+-- a text after its opening quote is closed, says this, and this follows it
 record Closes (from said rest : List ℕ) : Type 0 where
   says : content false from ≡ said
   closed : is_closed false from ≡ true

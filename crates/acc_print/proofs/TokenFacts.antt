@@ -122,7 +122,7 @@ all_stay (c ∷ cs) h =
     let others = all_stay cs parts.1 in
     cc
 
--- a name behind a space
+-- a name after a space
 pub name_spelled : (name rest to : List ℕ) (tokens : List Token) → is_lower_word name ≡ true → stops continues_word rest ≡ true → Spells tokens rest to →
     Spells (Word name ∷ tokens) (32 ∷ name ++ rest) to
 name_spelled [] rest to tokens lower stop h = cc

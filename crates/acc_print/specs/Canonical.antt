@@ -58,7 +58,7 @@ abbrev pub sign_text : Bool → List ℕ
 sign_text true = codes " - "
 sign_text false = codes " + "
 
--- a term behind the first, with its sign
+-- a term after the first, with its sign
 abbrev pub signed_text : List Let → Part → List ℕ
 signed_text lets part = sign_text part.minus ++ term_text lets part.term
 

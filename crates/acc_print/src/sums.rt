@@ -20,7 +20,7 @@ pub fn push_sum(text: &mut Vec<u8>, lets: &[Let], sum: &[Part]) -> Result<(), Ou
     Ok(())
 }
 
-/// Appends a term behind the first, with its sign.
+/// Appends a term after the first, with its sign.
 fn push_signed(text: &mut Vec<u8>, lets: &[Let], part: &Part) -> Result<(), OutOfMemory>
     ensures { OnOk result (text.new.items ≡ text.old.items ++ signed_text lets.now part.now) }
 {

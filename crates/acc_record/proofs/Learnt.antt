@@ -49,7 +49,7 @@ own_below_later s (Some t) = cond_both (stamp_lt t s) s t (λ z. stamp_le s z �
 other_below_later : (s t : Stamp) → stamp_le t (later_of s (Some t)) ≡ true
 other_below_later s t = cond_both (stamp_lt t s) s t (λ z. stamp_le t z ≡ true) (λ h. le_from_lt t s h) (λ _. le_itself t)
 
--- ---- a stamp behind one that is shown
+-- ---- a stamp after one that is shown
 
 -- some stamp of the list is as great
 pub record IsBehind (list : List Stamp) (s : Stamp) : Type 0 where

@@ -17,7 +17,7 @@ module _ (layout : Layout) (shard : ℕ) where
   abbrev lies : Key × Bool → Bool
   lies x = shard_of_key layout x.0 == shard
 
-  -- the keys in front and those behind don't lie in the shard, and those between do
+  -- the keys in front and those after don't lie in the shard, and those between do
   pub part_is : (xs : List (Key × Bool)) (a b d : ℕ) (inner outer : List (Key × Bool)) → inner ≡ drop a xs → outer ≡ drop (a + b) xs → a + b ≤ length xs → length xs ≤ a + b + d
       → share_of layout (take a xs) shard ≡ [] → share_of layout (take b inner) shard ≡ take b inner → share_of layout (take d outer) shard ≡ []
       → take (a + b - a) (drop a xs) ≡ share_of layout xs shard

@@ -33,7 +33,7 @@ past_alike t _ _ Neither = refl
 past_alike t _ _ (Both r s alike) = ap (λ b. is_past t b s.stable) alike.applied ∙ ap (is_past t r.applied) alike.stable
 past_alike t _ _ (Newly s none) = ap (is_past t s.applied) none
 
--- the record behind one that is there
+-- the record after one that is there
 pub record Behind (n : Option Record) (r : Record) : Type 0 where
   pub other : Record
   pub there : n ≡ Some other

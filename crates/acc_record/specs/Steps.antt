@@ -100,7 +100,7 @@ stamps_shown x None = []
 stamps_shown x (Some r) =
     x.0 ∷ stamps_in r.vote ++ time_accepted r.accepted ++ time_accepted r.committed ++ time_settled r.stable
 
--- What is noted by a step is what it tells. Of what it tells, a stamp stands behind a greater one that is noted, or behind one
+-- What is noted by a step is what it tells. Of what it tells, a stamp stands after a greater one that is noted, or after one
 -- that the record showed before the step, which was noted earlier.
 pub record NotesTold (layout : Layout) (shard : ℕ) (m : Message) (before : Option Record) (r : Record) (old new : List Noted) : Type 0 where
   pub kept : (n : Noted) → Contains old n → Contains new n

@@ -29,7 +29,7 @@ pub(crate) fn share_of(
     Share::part(footprint, from, to)
 }
 
-// How many keys in front lie in a shard, or don't. Of the first few that is known already. The key behind them does the other.
+// How many keys in front lie in a shard, or don't. Of the first few that is known already. The key after them does the other.
 fn run(topology: &Topology, pairs: &[(Key, bool)], shard: u32, lies: bool, known: usize) -> usize
     requires few { known ≤ length pairs.now }
     requires known { share_of topology.now (take known pairs.now) shard ≡ cond lies (take known pairs.now) [] }

@@ -75,7 +75,7 @@ counted_with c (Reply id reply) (Decisions Slow) = omega arith
 counted_with c (Reply id reply) (Decisions Recovered) = omega arith
 counted_with c (Reply id reply) (Decisions Adopted) = omega arith
 
--- the counts behind one note more of some
+-- the counts after one note more of some
 pub counted_more : (first before after : Counts) (notes : List Note) (i : ℕ) (note : Note) (what : Tally) → i < length notes → note ≡ get_or notes i note →
     counted before what ≡ counted first what + count_by (is_counted what) (take i notes) → after ≡ counts_with before note →
     counted after what ≡ counted first what + count_by (is_counted what) (take (i + 1) notes)

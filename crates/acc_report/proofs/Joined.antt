@@ -10,7 +10,7 @@ use Rattle.acc_report.proofs.Steps.{reverse_more}
 use Rattle.acc_report_line.specs.declared.line.Line.{Line}
 use Rattle.acc_report_line.specs.Texts.{full_text, lines_text}
 
--- four words with a number behind each, and the end
+-- four words with a number after each, and the end
 pub joined_counts : (before one two three four five a k b l c m d n z : List ℕ) → one ≡ before ++ (a ++ k) → two ≡ one ++ (b ++ l) → three ≡ two ++ (c ++ m) →
     four ≡ three ++ (d ++ n) → five ≡ four ++ z → five ≡ before ++ (a ++ k ++ b ++ l ++ c ++ m ++ d ++ n ++ z)
 joined_counts before one two three four five a k b l c m d n z e f g h i =

@@ -41,7 +41,7 @@ fn push_note(text: &mut Vec<u8>, directory: &Directory<'_>, note: &Note) -> Resu
     }
 }
 
-/// The word that a line begins with, and the name of its transaction, with a space behind it.
+/// The word that a line begins with, and the name of its transaction, with a space after it.
 fn push_head(
     text: &mut Vec<u8>,
     word: &[u8],

@@ -21,7 +21,7 @@ known_stays : (names : List (List ℕ)) (found more : Option ℕ) → IsNumbered
 known_stays names None more h = absurd h
 known_stays names (Some txn) more h = refl
 
--- what later items give comes behind
+-- what later items give comes after
 txn_later : (later items : List Item) (x : TxnId) → (more : Option ℕ) × (txn_of (later ++ items) x ≡ or_else (txn_of items x) more)
 txn_later [] items x = (None, sym (or_else-none (txn_of items x)))
 txn_later (item ∷ later) items x =

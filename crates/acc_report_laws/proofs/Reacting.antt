@@ -49,7 +49,7 @@ module _ (most : ℕ) (begun : List TxnId) where
   deps_known [] h = tt
   deps_known (d ∷ deps) h = each_union (λ y. IsIn y begun) id_lt d.ids (all_ids deps) h.0.ids (deps_known deps h.1)
 
-  -- a reply behind an outcome is of the same transaction
+  -- a reply after an outcome is of the same transaction
   pub replied_bounded : (is_open : Bool) (notes : List Note) → AreBoundedNotes notes → AreBoundedNotes (flat_map (replied is_open) notes)
   replied_bounded is_open [] h = tt
   replied_bounded true (OutcomeNote id reply ∷ notes) h = (h.0, (h.0, replied_bounded true notes h.1))

@@ -15,7 +15,7 @@ first_fits : (ds : List Data) → AllByRecursion AllFit ds → AllFit (first_in 
 first_fits [] h = tt
 first_fits (d ∷ ds) h = h.0
 
--- each word in its turn; two of them have the number of a message behind them
+-- each word in its turn; two of them have the number of a message after them
 text_numbers : (cast : Cast) (text : List ℕ) (ds : List Data) → AllByRecursion AllFit ds → NumbersMessage (form_step cast (word_of text) ds)
 text_numbers cast text ds h =
     let number = number_in_fits (first_in ds) (first_fits ds h) in

@@ -54,7 +54,7 @@ cell_text None = codes "null"
 cell_text (Some (NumberValue number)) = signed_decimal number
 cell_text (Some (TextValue text)) = quoted text
 
--- the values behind a verdict; there are none where nothing was selected
+-- the values after a verdict; there are none where nothing was selected
 abbrev pub values_text : List (Option Value) → List ℕ
 values_text [] = []
 values_text (cell ∷ cells) = codes " " ++ join_by cell_text (codes ",") (cell ∷ cells)

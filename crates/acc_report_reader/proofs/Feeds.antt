@@ -85,7 +85,7 @@ path_lacks Adopted = refl
 
 -- ---- lines
 
--- one behind another
+-- one after another
 then2 : (a b : List ℕ) → Lacks 10 a → Lacks 10 b → Lacks 10 (a ++ b)
 then2 a b h k = lacks_both 10 a b h k
 

@@ -229,7 +229,7 @@ no_quorum-is step rest line e h =
     let P : Line → Type 0 = λ line. HasForm line × (line_text line ≡ codes "skip " ++ (decimal step ++ 32 ∷ (codes "noquorum" ++ 32 ∷ rest))) in
     subst P n.2 ((h, name.0), ap (λ l. codes "skip " ++ l) (append_assoc (decimal step) (codes " noquorum ") n.0 ∙ ap (λ l. decimal step ++ (codes " noquorum " ++ l)) name.1))
 
--- what holds behind the word that was compared holds behind the word that stands there
+-- what holds after the word that was compared holds after the word that stands there
 like_cause : (step : ℕ) (word known rest : List ℕ) (line : Line) → bytes_eq word known ≡ true → IsCause step known rest line → IsCause step word rest line
 like_cause step word known rest line is found h =
     let P : List ℕ → Type 0 = λ w. HasForm line × (line_text line ≡ codes "skip " ++ (decimal step ++ 32 ∷ (w ++ 32 ∷ rest))) in

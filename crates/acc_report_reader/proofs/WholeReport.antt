@@ -1,4 +1,4 @@
--- Lines are read one behind another, up to the first that has no form.
+-- Lines are read one after another, up to the first that has no form.
 use Rattle.std.proofs.Common.{◌≡◌, ℕ, ◌+◌, ◌<◌, ◌≤◌, List, [], ◌∷◌, ◌++◌, length, Some, None, Result, Ok, Err, refl, sym, ap, ◌∙◌, subst, append_assoc, length-append, arith}
 use Rattle.std.specs.Prelude.{codes}
 use Rattle.std.specs.Result.{IsErrAnd}

@@ -21,12 +21,12 @@ use Rattle.acc_report_reader.specs.Gives.{◌>>=◌, guarded, with_found}
 
 -- ---- parts
 
--- what stands before the first such byte, and what behind it
+-- what stands before the first such byte, and what after it
 abbrev pub parts_at : ℕ → List ℕ → Option (List ℕ × List ℕ)
 parts_at c [] = None
 parts_at c (b ∷ bs) = if b == c then Some ([], bs) else option_map (λ p. (b ∷ p.0, p.1)) (parts_at c bs)
 
--- what stands behind a word and a space
+-- what stands after a word and a space
 unfoldable pub behind_word : List ℕ → List ℕ → Option (List ℕ)
 behind_word word bytes = do
   parts ← parts_at 32 bytes
@@ -37,7 +37,7 @@ abbrev pub turned : Bool → Bool → Bool
 turned inside true = not inside
 turned inside false = inside
 
--- what stands before the first comma outside of quotes, and what behind it. The flag tells whether the bytes in front end
+-- what stands before the first comma outside of quotes, and what after it. The flag tells whether the bytes in front end
 -- inside of quotes
 abbrev pub piece_at : Bool → List ℕ → Option (List ℕ × List ℕ)
 piece_at inside [] = None
@@ -88,7 +88,7 @@ small_number_in bytes = do
   n ← number_in bytes
   guarded (nat_lt n 4294967296) n
 
--- a number behind its label
+-- a number after its label
 unfoldable pub count_in : List ℕ → List ℕ → Option ℕ
 count_in label bytes = do
   parts ← parts_at 61 bytes
@@ -131,7 +131,7 @@ path_in bytes =
 
 -- ---- replies
 
--- what a text in quotes says, from behind its opening quote on. The flag tells whether the byte in front is a quote that waits
+-- what a text in quotes says, from after its opening quote on. The flag tells whether the byte in front is a quote that waits
 -- for what follows it
 abbrev pub content_in : Bool → List ℕ → Option (List ℕ)
 content_in false [] = None
@@ -144,7 +144,7 @@ text_in bytes = do
   text ← content_in false bytes
   guarded (is_text_value text) (Some (TextValue text))
 
--- a number behind its minus sign
+-- a number after its minus sign
 unfoldable pub negative_in : List ℕ → Option (Option Value)
 negative_in bytes = do
   n ← number_in bytes

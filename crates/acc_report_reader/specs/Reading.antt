@@ -8,7 +8,7 @@ use Rattle.acc_report_line.specs.declared.line.Line.TheVariants.{Begin, Recover,
 use Rattle.acc_report_reader.specs.Gives.{◌>>=◌}
 use Rattle.acc_report_reader.specs.Fields.{parts_at, behind_word, name_in, names_in, number_in, count_in, stamp_in, actor_in, path_in, reply_in}
 
--- ---- lines of notes, behind their first word
+-- ---- lines of notes, after their first word
 
 unfoldable pub stamped_in : List ℕ → Option (List ℕ × Stamp)
 stamped_in bytes = do

@@ -38,7 +38,7 @@ fn bare(alloc: Global, bytes: &[u8]) -> Result<Reply, Refusal>
     Ok(Reply { verdict, values })
 }
 
-/// A verdict and the values behind it.
+/// A verdict and the values after it.
 #[tactic(auto, unfolding(crate::specs::Fields::valued_in))]
 fn valued(alloc: Global, first: &[u8], others: &[u8]) -> Result<Reply, Refusal>
     ensures { Gives (λ reply. reply) result (valued_in (first.now, others.now)) }
@@ -93,7 +93,7 @@ fn cell(alloc: Global, bytes: &[u8]) -> Result<Option<Value>, Refusal>
     }
 }
 
-/// A text, from behind its opening quote on.
+/// A text, from after its opening quote on.
 #[tactic(auto, unfolding(crate::specs::Fields::text_in))]
 fn text(alloc: Global, bytes: &[u8]) -> Result<Option<Value>, Refusal>
     ensures { Gives (λ cell. cell) result (text_in bytes.now) }
@@ -130,7 +130,7 @@ fn push_said(said: &mut Text, byte: u8, is_said: bool) -> Result<(), OutOfMemory
     if is_said { said.push(byte) } else { Ok(()) }
 }
 
-/// A number below zero, from behind its sign on.
+/// A number below zero, from after its sign on.
 #[tactic(auto, unfolding(crate::specs::Fields::negative_in))]
 fn negative(bytes: &[u8]) -> Result<Option<Value>, Refusal>
     ensures { Gives (λ cell. cell) result (negative_in bytes.now) }

@@ -9,7 +9,7 @@ use std::fmt;
 /// Why bytes are no report.
 #[derive(Clone, Copy, Debug, PartialEq, Eq)]
 pub enum ReportError {
-    /// A line has no form of a report, or no line feed behind it.
+    /// A line has no form of a report, or no line feed after it.
     Line {
         /// The number of the first such line, counted from 1.
         number: u64,

@@ -1,4 +1,4 @@
-//! The lines of notes, as they are read from behind their first word on.
+//! The lines of notes, as they are read from after their first word on.
 ghost use Rattle.std.specs.Prelude.{◌≡◌};
 ghost use Rattle.acc_report_reader.specs.Gives.{Gives};
 ghost use Rattle.acc_report_reader.specs.Reading.{stamped_in, blocked_in, ended_in, decide_in, replied_in};

@@ -71,7 +71,7 @@ fn small_number(bytes: &[u8]) -> Result<u32, Refusal>
     }
 }
 
-/// A number behind its label.
+/// A number after its label.
 #[tactic(auto, unfolding(crate::specs::Fields::count_in))]
 pub(crate) fn count(bytes: &[u8], label: &[u8]) -> Result<u64, Refusal>
     ensures { Gives (λ number. number) result (count_in label.now bytes.now) }

@@ -7,7 +7,7 @@ ghost use Rattle.acc_report_reader.specs.Fields.{parts_at, behind_word, piece_at
 use crate::refusal::Refusal;
 use memchr::memchr;
 
-/// What stands before the first such byte, and what behind it.
+/// What stands before the first such byte, and what after it.
 pub(crate) fn parts(bytes: &[u8], at: u8) -> Option<(&[u8], &[u8])>
     ensures { option_map (λ p. (p.0.now, p.1.now)) result ≡ parts_at at bytes.now }
 {
@@ -19,7 +19,7 @@ pub(crate) fn parts(bytes: &[u8], at: u8) -> Option<(&[u8], &[u8])>
     None
 }
 
-/// What stands before the first line feed, and what behind it.
+/// What stands before the first line feed, and what after it.
 pub(crate) fn first_line(bytes: &[u8]) -> Option<(&[u8], &[u8])>
     ensures { option_map (λ p. (p.0.now, p.1.now)) result ≡ parts_at 10 bytes.now }
 {
@@ -29,7 +29,7 @@ pub(crate) fn first_line(bytes: &[u8]) -> Option<(&[u8], &[u8])>
     }
 }
 
-/// The parts before and behind a byte that has to be there.
+/// The parts before and after a byte that has to be there.
 pub(crate) fn both_parts(bytes: &[u8], at: u8) -> Result<(&[u8], &[u8]), Refusal>
     ensures { Gives (λ p. (p.0.now, p.1.now)) result (parts_at at bytes.now) }
 {
@@ -39,7 +39,7 @@ pub(crate) fn both_parts(bytes: &[u8], at: u8) -> Result<(&[u8], &[u8]), Refusal
     }
 }
 
-/// What stands before the first comma outside of quotes, and what behind it.
+/// What stands before the first comma outside of quotes, and what after it.
 pub(crate) fn piece(bytes: &[u8]) -> Option<(&[u8], &[u8])>
     ensures { option_map (λ p. (p.0.now, p.1.now)) result ≡ piece_at false bytes.now }
 {
@@ -59,7 +59,7 @@ pub(crate) fn is_word(bytes: &[u8], word: &[u8]) -> bool
     bytes == word
 }
 
-/// What stands behind a word that has to be there, and a space.
+/// What stands after a word that has to be there, and a space.
 #[tactic(auto, unfolding(crate::specs::Fields::behind_word))]
 pub(crate) fn rest_behind<'a>(bytes: &'a [u8], word: &[u8]) -> Result<&'a [u8], Refusal>
     ensures { Gives (λ rest. rest.now) result (behind_word word.now bytes.now) }

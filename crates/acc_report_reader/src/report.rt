@@ -15,7 +15,7 @@ use std::alloc::Global;
 const COMMON_LENGTH: usize = 32;
 
 /// The lines that these bytes are the text of, each with its line feed. A report is read by its lines alone, which may stand in
-/// any order and number. The first line that has no form, or no line feed behind it, is refused.
+/// any order and number. The first line that has no form, or no line feed after it, is refused.
 pub fn read_report(alloc: Global, bytes: &[u8]) -> Result<PlacedLines<'_>, ReportError>
     ensures { Reads result bytes.now }
 {

@@ -1,4 +1,4 @@
-//! The lines of steps that were passed over, as they are read from behind their first word on.
+//! The lines of steps that were passed over, as they are read from after their first word on.
 ghost use Rattle.std.specs.Prelude.{◌≡◌};
 ghost use Rattle.acc_report_reader.specs.Gives.{Gives};
 ghost use Rattle.acc_report_reader.specs.Reading.{no_message_in, cause_in, skip_in};

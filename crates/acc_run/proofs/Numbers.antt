@@ -42,7 +42,7 @@ all_below set n all = ap (members_below set) all
 pub all_named : {A : Type 0} (named : List ℕ → A) (x : A) (set n : ℕ) (listed nodes : List ℕ) → x ≡ named (members_below set n) → n ≡ 16 → members set ≡ listed → listed ≡ nodes → x ≡ named nodes
 all_named named x set n listed nodes so_far all lists is = so_far ∙ ap named (all_below set n all ∙ lists ∙ is)
 
--- the same for the stores of a shard behind others
+-- the same for the stores of a shard after others
 pub one_more_store : (before : List Actor) (shard set n : ℕ) (b : Bool) → b ≡ true → b ≡ in_set set n
     → before ++ map (λ node. actor_of node shard) (members_below set (n + 1)) ≡ (before ++ map (λ node. actor_of node shard) (members_below set n)) ++ actor_of n shard ∷ []
 one_more_store before shard set n b within told =

@@ -19,7 +19,7 @@ use Rattle.acc_cluster.specs.Ends.{KeepsIn, AreDisksOf}
 abbrev pub numbered : {D : Type 0} → Actor × D → ℕ × D
 numbered entry = (entry.0.0, entry.1)
 
--- Behind what was given before stands a disk for each actor of the plan, under the actor's number and in rising order, and each keeps its
+-- After what was given before stands a disk for each actor of the plan, under the actor's number and in rising order, and each keeps its
 -- actor in the situation.
 pub record GivesBack {D : Type 0} (port : Ghosts D) (plan : Content) (s : Situation) (before after : List (ℕ × D)) : Type 0 where
   pub disks : List (Actor × D)

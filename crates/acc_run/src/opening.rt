@@ -113,7 +113,7 @@ where
     Ok(stores)
 }
 
-// Puts the stores of a shard behind those of others, in rising order of their nodes.
+// Puts the stores of a shard after those of others, in rising order of their nodes.
 fn fresh_stores_of<M: DiskMaker>(
     alloc: Global,
     plan: &Plan,

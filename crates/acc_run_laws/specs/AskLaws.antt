@@ -62,12 +62,12 @@ pub record IsLostOf (cluster : Cluster) (a : Actor) (earlier : List Item) (e : E
   pub lost : e.lost ≡ true
   pub kept_none : kept_of e.event ≡ 0
 
--- these entries, the newest first, behind the items
+-- these entries, the newest first, after the items
 abbrev pub with_entries : List Entry → List Item → List Item
 with_entries [] items = items
 with_entries (e ∷ entries) items = Step e ∷ with_entries entries items
 
--- they are entries of the actor, one behind another, and each is lost
+-- they are entries of the actor, one after another, and each is lost
 abbrev pub AreLostOf : Cluster → Actor → List Item → List Entry → Type 0
 AreLostOf cluster a items [] = Unit {0}
 AreLostOf cluster a items (e ∷ entries) = IsLostOf cluster a (with_entries entries items) e × AreLostOf cluster a items entries

@@ -1,4 +1,4 @@
--- What an actor may do behind some items, and what it sends then.
+-- What an actor may do after some items, and what it sends then.
 use Rattle.std.specs.Prelude.{◌≡◌, List, Some}
 use Rattle.acc_stamp.specs.declared.actors.Actor.{Actor}
 use Rattle.acc_message.specs.declared.message.Message.{Message}

@@ -18,11 +18,11 @@ waits items dropped number = not (list_any (item_takes number) items || is_among
 abbrev pub waiting : List Item → List ℕ → List ℕ
 waiting items dropped = filter (waits items dropped) (range_with_len 0 (length (sent_of items)))
 
--- the messages that an item sends behind others, by their numbers
+-- the messages that an item sends after others, by their numbers
 abbrev pub new_messages : List Item → Item → List ℕ
 new_messages earlier item = range_with_len (length (sent_of earlier)) (length (sent_in item))
 
--- a drain delivers the oldest of these; what is sent then waits behind them. It does so at most so many times
+-- a drain delivers the oldest of these; what is sent then waits after them. It does so at most so many times
 abbrev pub drained_with : ℕ → Cluster → List ℕ → List Item → List Item
 drained_with zero cluster numbers items = items
 drained_with (suc times) cluster [] items = items

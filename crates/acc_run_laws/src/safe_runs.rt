@@ -32,7 +32,7 @@ pub fn runs_go_on()
         IsRun cluster (restart_at cluster (with_entries entries items) a (length entries) ∷ with_entries entries items) }
 {}
 
-/// Each entry that the rules allow behind some items is entered there for some ask, unless it is lost, or a restart that kept
+/// Each entry that the rules allow after some items is entered there for some ask, unless it is lost, or a restart that kept
 /// lost ones.
 pub fn allowed_entries_are_asked()
     ensures { (cluster : Cluster) (earlier : List Item) (step : ℕ) (e : Entry) → StandsOn cluster earlier e → e.lost ≡ false →

@@ -132,7 +132,7 @@ module _ (layout : Layout) (node start : ℕ) (past : List Deed) where
   one_note : (act : Act) (note other : Note) → NodeNotes layout node start past act other → IsIn note (other ∷ []) → NodeNotes layout node start past act note
   one_note act note other k h = subst (NodeNotes layout node start past act) (sym (only note other h)) k
 
-  -- behind an outcome the reply stands, as long as the client is open
+  -- after an outcome the reply stands, as long as the client is open
   move_replies : (act : Act) (x : TxnId) (a : Attempt) (move : Move) (note : Note) → Reacts layout node start past x act a move
       → IsIn note (flat_map (replied (is_open x past)) (made layout (actor_of node 0) x a move).emitted.notes) → NodeNotes layout node start past act note
   move_replies act x a Wait note reacts h = absurd (none_is_in note h)

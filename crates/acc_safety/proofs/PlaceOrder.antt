@@ -17,7 +17,7 @@ module _ {T : Type 0} where
   StandsAt-IsIn x past xs (Here a rest) = First a rest
   StandsAt-IsIn x past xs (Back a b rest bs there) = Later a b bs (StandsAt-IsIn a rest bs there)
 
-  -- what a place has behind it is a past, with the element in front too
+  -- what a place has after it is a past, with the element in front too
   pub StandsAt-IsPast : (x : T) (past xs : List T) → StandsAt x past xs → IsPast (x ∷ past) xs
   StandsAt-IsPast x past xs (Here a rest) = Whole (a ∷ rest)
   StandsAt-IsPast x past xs (Back a b rest bs there) = Behind b (a ∷ rest) bs (StandsAt-IsPast a rest bs there)
@@ -38,7 +38,7 @@ module _ {T : Type 0} where
   StandsAt-whole x past middle xs h (Whole ys) = h
   StandsAt-whole x past middle xs h (Behind y ys zs there) = Back x y past zs (StandsAt-whole x past ys zs h there)
 
-  -- a place behind a place
+  -- a place after a place
   pub StandsAt-behind : (x y : T) (past before xs : List T) → StandsAt x past before → StandsAt y before xs → StandsAt x past xs
   StandsAt-behind x y past before xs h at =
       StandsAt-whole x past before xs h (IsPast-rest y before xs (StandsAt-IsPast y before xs at))

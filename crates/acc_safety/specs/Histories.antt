@@ -45,7 +45,7 @@ pub record Noting (items : List Item) (note : Note) : Type 0 where
 
 -- ---- steps of a history, with their entries
 
--- a store's step: its entry, behind which the past stands, and the earlier entry that sent the message
+-- a store's step: its entry, after which the past stands, and the earlier entry that sent the message
 pub record StoreStep (cluster : Cluster) (a : Actor) (items : List Item) (step : Taken) (past : List Taken) : Type 0 where
   pub entry : Entry
   pub earlier : List Item
@@ -56,7 +56,7 @@ pub record StoreStep (cluster : Cluster) (a : Actor) (items : List Item) (step :
   pub addressed : to_of step.message ≡ a
   pub out_is : entry.emitted.out ≡ step.sent
 
--- a node's step: its entry, behind which the past stands
+-- a node's step: its entry, after which the past stands
 pub record NodeStep (cluster : Cluster) (a : Actor) (items : List Item) (deed : Deed) (past : List Deed) : Type 0 where
   pub entry : Entry
   pub earlier : List Item

@@ -1,6 +1,6 @@
 -- Places in a list whose newest element stands first: an entry of a run, a deed of a node, a step of a store.
 --     IsIn x xs      x is an element
---     StandsAt x past xs      x is an element, and these stand behind it
+--     StandsAt x past xs      x is an element, and these stand after it
 --     IsPast past xs      the list without some of its newest elements
 use Rattle.std.specs.Prelude.{◌≡◌, List, ◌∷◌}
 

@@ -1,4 +1,4 @@
--- What the lemmas of safety say of a run. Each is a premise of those behind it.
+-- What the lemmas of safety say of a run. Each is a premise of those after it.
 --     BodiesAreBegun, HomesAreOne, DepsAreSets      the frame
 --     OneProposal, OneCommit, NeverBoth      an attempt proposes once, commits once, and at ballot zero never also decides fast
 --     ProposalsHaveRoots, CommitsHaveRoots, DecisionsHaveRoots, RecordsHaveRoots

@@ -27,7 +27,7 @@ use Rattle.acc_safety.specs.Places.{IsIn}
 abbrev pub taking_step : Message → Taken
 taking_step m = record { message = m; sent = [] }
 
--- a change of the step that takes a message, behind some of its changes and in front of the others
+-- a change of the step that takes a message, after some of its changes and in front of the others
 pub record ChangeAmong (shard : ℕ) (past : List Taken) (m : Message) (c : Change) (before : List Change) : Type 0 where
   pub rest : List Change
   pub changes_are : changes_of shard (taking_step m) past ≡ before ++ c ∷ rest

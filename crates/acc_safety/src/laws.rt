@@ -67,7 +67,7 @@ pub fn dependencies_are_sets()
     ensures { (cluster : Cluster) (items : List Item) → EachStands cluster items → DepsAreSets items }
 {}
 
-/// What an entry notes of a transaction comes behind the entry that began it, unless it begins it.
+/// What an entry notes of a transaction comes after the entry that began it, unless it begins it.
 pub fn noted_means_begun()
     ensures { (cluster : Cluster) (items earlier : List Item) (e : Entry) (note : Note) → EachStands cluster items →
         StandsAt (Item.Step e) earlier items → IsIn note e.emitted.notes → begins (id_of_note note) note ≡ false →

@@ -34,7 +34,7 @@ use Rattle.acc_safety_laws.proofs.NotesInOrder.{HasReply, InOrder}
 
 -- ---- outcomes in order
 
--- behind notes with these outcomes, an outcome is right
+-- after notes with these outcomes, an outcome is right
 pub record OutcomeAt (cluster : Cluster) (whole : List Item) (earlier : List Answer) (a : Answer) : Type 0 where
   pub before : List Note
   pub earlier_are : outcomes_of before ≡ earlier

@@ -1,4 +1,4 @@
--- Notes in order: each outcome is right and comes behind its begin, and each reply behind an outcome.
+-- Notes in order: each outcome is right and comes after its begin, and each reply after an outcome.
 use Rattle.std.proofs.Common.{◌≡◌, true, List, [], ◌∷◌, ◌++◌, refl, sym, ◌∙◌, ap, subst}
 use Rattle.std.specs.List.{list_any}
 use Rattle.std.proofs.lemmas.Bool.{or_left, or_right}
@@ -27,7 +27,7 @@ pub record HasReply (cluster : Cluster) (whole : List Item) (before : List Note)
   pub reply_is : reply ≡ outcome.reply
   pub finished : Finished cluster whole before x outcome
 
--- behind these notes, a note is in its place
+-- after these notes, a note is in its place
 abbrev pub InPlace : Cluster → List Item → List Note → Note → Type 0
 InPlace cluster whole before (OutcomeNote x reply) = (list_any (begins x) before ≡ true) × HasReply cluster whole before x reply
 InPlace cluster whole before (ReplyNote x reply) = Answered before x × HasReply cluster whole before x reply

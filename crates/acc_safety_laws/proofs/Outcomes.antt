@@ -53,7 +53,7 @@ each_first P seen (a ∷ answers) each =
     (λ _. each_first P (a ∷ seen) answers each.1) (λ _. (each.0, each_first P (a ∷ seen) answers each.1))
 
 module _ (cluster : Cluster) (whole : List Item) (given : Premises cluster whole) where
-  -- the transaction has this reply behind some notes
+  -- the transaction has this reply after some notes
   abbrev pub Replies : TxnId → Reply → Type 0
   Replies x reply = (before : List Note) × HasReply cluster whole before x reply
 

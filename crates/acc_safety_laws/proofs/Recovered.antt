@@ -1,4 +1,4 @@
--- What stands behind a proposal and a commit: the move of an attempt, its answers, and the record that a recovery adopts.
+-- What stands after a proposal and a commit: the move of an attempt, its answers, and the record that a recovery adopts.
 use Rattle.std.proofs.Common.{◌≡◌, ℕ, ◌≤◌, Bool, true, false, ◌==◌, List, [], ◌∷◌, Some, Contains, refl, sym, ◌∙◌, ap, subst}
 use Rattle.std.proofs.lemmas.Bool.{eq-eqb}
 use Rattle.acc_stamp.specs.declared.stamps.Stamp.{Stamp}
@@ -86,7 +86,7 @@ pub used_shard : (layout : Layout) (body : BodyParts) → Uses layout body → (
 unfolding Uses
 used_shard layout body u = u
 
--- ---- the move behind a proposal
+-- ---- the move after a proposal
 
 -- the attempt that proposed this, with its move and its answers
 pub record Proposal (cluster : Cluster) (items : List Item) (x : TxnId) (b : Ballot) (body : BodyParts) (t : Stamp) (deps : List ShardDeps) : Type 0 where

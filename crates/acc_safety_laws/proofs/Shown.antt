@@ -41,7 +41,7 @@ greater_ballot-second : (a b : Ballot) → ballot_lt (greater_ballot a b) b ≡ 
 greater_ballot-second a b =
     cond_both (ballot_lt a b) b a (λ z. ballot_lt z b ≡ false) (λ above. ballot_order.irrefl b) (λ below. below)
 
--- what a step grants isn't above the promise behind it
+-- what a step grants isn't above the promise after it
 pub granted_promised : (step : Taken) (past : List Taken) (x : TxnId) → grants x step.message step.sent ≡ true
     → ballot_lt (promise_of (step ∷ past) x) (ballot_of step.message) ≡ false
 granted_promised step past x granted =
@@ -180,7 +180,7 @@ view_granted f g from to x above body view late is sent = (
   ap ballot_of is,
 )
 
--- a message of a smaller ballot isn't allowed behind a view
+-- a message of a smaller ballot isn't allowed after a view
 not_behind : (layout : Layout) (own : Actor) (late : Taken) (past before : List Taken) (f g : Actor) (x : TxnId) (b above : Ballot) (view : View)
     → EachAnswers layout own past → StandsAt late before past → IsIn (RecoverOk f g x above view) late.sent
     → ballot_lt b above ≡ true → ballot_lt b (promise_of past x) ≡ false → ⊥

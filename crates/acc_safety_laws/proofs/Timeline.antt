@@ -22,7 +22,7 @@ abbrev pub OpenedIn : List Change → TxnId → Type 0
 OpenedIn [] x = ⊥
 OpenedIn (c ∷ changes) x = ((c.opens ≡ true) × (c.id ≡ x)) ⊎ OpenedIn changes x
 
--- these changes, one after another, behind earlier ones
+-- these changes, one after another, after earlier ones
 abbrev pub behind : List Change → List Change → List Change
 behind [] earlier = earlier
 behind (c ∷ changes) earlier = behind changes (c ∷ earlier)
@@ -45,7 +45,7 @@ AllInTurn below [] = Unit {0}
 AllInTurn below (c ∷ earlier) = InTurn below c earlier × AllInTurn below earlier
 
 module _ (below : TxnId → TxnId → Type 0) where
-  -- ---- behind earlier ones
+  -- ---- after earlier ones
 
   pub AppliedIn-behind : (changes earlier : List Change) (x : TxnId) → AppliedIn earlier x → AppliedIn (behind changes earlier) x
   AppliedIn-behind [] earlier x h = h

@@ -47,7 +47,7 @@ accept_ok_is _ h = absurd (true≢false (sym h))
 module _ (cluster : Cluster) (items : List Item) (h : EachStands cluster items) where
   -- ---- what a store knows
 
-  -- the body by which a transaction is known behind a step of a store
+  -- the body by which a transaction is known after a step of a store
   pub body_there : (a : Actor) (step : Taken) (past : List Taken) (x : TxnId) (known body : BodyParts) → StandsAt step past (taken_of cluster a items)
       → body_known (step ∷ past) x ≡ Some known → IsBody cluster items x body → known ≡ body
   body_there a step past x known body at e is =

@@ -21,7 +21,7 @@ pub fn coverage()
 {}
 
 /// In every run of a valid cluster the first outcomes, in the order in which they are printed, are those of a serial run of their
-/// bodies, no other outcome and no reply differs from them, and each stands behind its begin and not behind its reply.
+/// bodies, no other outcome and no reply differs from them, and each stands after its begin and not after its reply.
 pub fn serial()
     ensures { (cluster : Cluster) (items : List Item) → IsValidCluster cluster → IsRun cluster items → SerialOutcomes cluster items }
 {}

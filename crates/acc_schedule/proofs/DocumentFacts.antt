@@ -49,7 +49,7 @@ module _ (a b c : Fault) (e : PlanError) where
 pub none_of_three : (a b c : Fault) → a ≡ None → b ≡ None → c ≡ None → (a then b then c) ≡ None
 none_of_three a b c n m k = both_none (a then b) c (both_none a b n m) k
 
--- what is answered behind a rule that holds
+-- what is answered after a rule that holds
 pub given_behind : {X : Type 0} (first second : Fault) (P : X → Type 0) (r : Result X PlanError) → first ≡ None → Gives second P r → Gives (first then second) P r
 given_behind first second P (Ok x) n h = (both_none first second n h.0, h.1)
 given_behind first second P (Err e) n h = behind first second e n h

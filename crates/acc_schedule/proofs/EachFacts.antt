@@ -10,7 +10,7 @@ use Rattle.acc_base.specs.Faults.{◌then◌, each}
 use Rattle.acc_base.proofs.Faults.{both_none}
 use Rattle.acc_schedule.specs.Faults.{Fault, IsFault}
 
--- a fault behind a rule that holds
+-- a fault after a rule that holds
 pub behind : (first second : Fault) (e : PlanError) → first ≡ None → IsFault second e → IsFault (first then second) e
 behind first second e holds h = subst (λ (f : Fault). IsFault (f then second) e) (sym holds) h
 

@@ -30,7 +30,7 @@ pub record Cast : Type 0 where
 abbrev pub cast_in : List (List ℕ) → Layout → Cast
 cast_in names layout = record { names = names; is_node = is_among layout.nodes; actor = actor_named (actors layout) }
 
--- ---- the items of a step behind its word
+-- ---- the items of a step after its word
 
 -- the transaction of a name
 abbrev pub transaction_in : Cast → Data → Option ℕ
@@ -99,7 +99,7 @@ form_fault cast place (Some FailWord) =
 form_fault cast place (Some DrainWord) = no_item (no_step_fault place)
 form_fault cast place None = λ items. no_step_fault place
 
--- the word of a step, and the items behind it
+-- the word of a step, and the items after it
 abbrev pub word_in : List Data → Option Word
 word_in [] = None
 word_in (word ∷ operands) = option_and_then word_of (as_str word)

@@ -65,7 +65,7 @@ fn step(alloc: Global, item: &Value, place: usize, cast: &Cast<'_>) -> Result<St
     }
 }
 
-// The step of a word and the items behind it.
+// The step of a word and the items after it.
 fn form(
     alloc: Global,
     word: Option<Word>,

@@ -22,7 +22,7 @@ use Rattle.acc_schedule_runs.specs.StrictMoves.{StrictSituation, tried_strictly,
 use Rattle.acc_schedule_runs.specs.StrictSchedules.{FollowsStrictly, ObeysStrictly}
 use Rattle.acc_schedule_runs.specs.StrictLaws.{no_faults}
 
--- ---- answers one behind the other
+-- ---- answers one after the other
 
 -- the first ones below a place, and the others from there on
 abbrev pub behind : ℕ → Answers → Answers → Answers

@@ -1,4 +1,4 @@
--- What items say behind an earlier run.
+-- What items say after an earlier run.
 use Rattle.std.proofs.Common.{◌≡◌, ℕ, suc, ◌+◌, nat_lt, true, List, [], ◌∷◌, ◌++◌, length, refl, sym, ◌∙◌, ap, arith}
 use Rattle.std.specs.List.{slice_get}
 use Rattle.std.proofs.lemmas.List.{length-append, append_assoc, append-nil}
@@ -46,7 +46,7 @@ is_sent_whole s n less =
     more : (by n k : ℕ) → nat_lt n k ≡ true → nat_lt (by + n) (by + k) ≡ true
     more by n k h = grind (arith, nat_tests)
 
--- ---- behind nothing
+-- ---- after nothing
 
 event_alone : (event : Event) → raised_event 0 event ≡ event
 event_alone (Begin txn) = refl

@@ -47,6 +47,6 @@ pub record IsFront (plan : Content) (answers : Answers) (items : List Item) : Ty
   pub reaches : Reaches (cluster_of plan) answers 0 plan.steps (opened []) reached
   pub begins : Begins items reached.own
 
--- the limit ends the plan's run behind these items
+-- the limit ends the plan's run after these items
 abbrev pub LimitEnds : Content → Answers → List Item → Which → ℕ → Type 0
 LimitEnds plan answers items which number = EndsAt (IsFront plan answers) items which number

@@ -16,13 +16,13 @@ pub record IsWithin (items : List Item) : Type 0 where
   pub few : length items ≤ most_items
   pub light : weight_of_items items ≤ most_bytes
 
--- The item behind these would pass this limit, which has this number. The limit of items comes first. A document's is none of a run.
+-- The item after these would pass this limit, which has this number. The limit of items comes first. A document's is none of a run.
 abbrev pub WouldPass : List Item → Item → Which → ℕ → Type 0
 WouldPass items item Document number = ⊥
 WouldPass items item Items number = (number ≡ most_items) × (most_items < length (item ∷ items))
 WouldPass items item Bytes number = (number ≡ most_bytes) × (length (item ∷ items) ≤ most_items) × (most_bytes < weight_of_items (item ∷ items))
 
--- The limit ends a run behind these items: they are a front of it within the limits, and the next item would pass this one.
+-- The limit ends a run after these items: they are a front of it within the limits, and the next item would pass this one.
 pub record EndsAt (Front : List Item → Type 0) (items : List Item) (which : Which) (number : ℕ) : Type 0 where
   pub next : Item
   pub front : Front (next ∷ items)

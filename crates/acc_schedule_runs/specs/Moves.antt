@@ -51,7 +51,7 @@ entry_of cluster s a event lost =
 abbrev pub entered : Cluster → Situation → Actor → Event → Bool → Situation
 entered cluster s a event lost = with_item (entry_of cluster s a event lost) s
 
--- one behind another
+-- one after another
 abbrev pub entered_all : Cluster → Situation → Actor → List Event → Bool → Situation
 entered_all cluster s a [] lost = s
 entered_all cluster s a (event ∷ events) lost = entered_all cluster (entered cluster s a event lost) a events lost

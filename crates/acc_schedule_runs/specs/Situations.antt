@@ -26,13 +26,13 @@ pub record Situation : Type 0 where
   pub dropped : List ℕ
   pub stopped : List Stopped
 
--- a cluster that was opened behind a run
+-- a cluster that was opened after a run
 abbrev pub opened : List Item → Situation
 opened earlier = record { earlier = earlier; own = []; dropped = []; stopped = [] }
 
 -- ---- the whole past
 
--- the event among items that stand behind so many messages
+-- the event among items that stand after so many messages
 abbrev pub raised_event : ℕ → Event → Event
 raised_event by (Begin txn) = Begin txn
 raised_event by (Recover txn) = Recover txn
@@ -45,7 +45,7 @@ raised by (Step e) = Step (record { actor = e.actor; event = raised_event by e.e
 raised by (Skipped step cause) = Skipped step cause
 raised by (Down actor) = Down actor
 
--- the second items, which count their own messages, behind the first ones
+-- the second items, which count their own messages, after the first ones
 abbrev pub joined : List Item → List Item → List Item
 joined earlier [] = earlier
 joined earlier (item ∷ own) = raised (length (sent_of earlier)) item ∷ joined earlier own

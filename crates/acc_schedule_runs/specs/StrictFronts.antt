@@ -44,6 +44,6 @@ pub record IsStrictFront (plan : Content) (items : List Item) : Type 0 where
   pub reaches : StrictlyReaches (cluster_of plan) 0 plan.steps (opened_strictly []) reached
   pub begins : Begins items reached.found.own
 
--- the limit ends the plan's run over strict disks behind these items
+-- the limit ends the plan's run over strict disks after these items
 abbrev pub StrictLimitEnds : Content → List Item → Which → ℕ → Type 0
 StrictLimitEnds plan items which number = EndsAt (IsStrictFront plan) items which number

@@ -59,6 +59,6 @@ IsStrictNext cluster number (Fail actor calls) s next = next ≡ record { found 
 IsStrictNext cluster number (Restart actor choice) s next = next ≡ restarted_strictly cluster s actor choice
 IsStrictNext cluster number Drain s next = StrictDrains cluster next s
 
--- a cluster that was opened behind a run, with nothing armed on its disks
+-- a cluster that was opened after a run, with nothing armed on its disks
 abbrev pub opened_strictly : List Item → StrictSituation
 opened_strictly earlier = record { found = opened earlier; disks = fresh_disks }

@@ -38,7 +38,7 @@ pub fn drains_leave_nothing()
         Obeys plan answers items → IsCalm items }
 {}
 
-/// Whatever the disks answer, the items of a schedule, behind the run that stood before, are a run; from fresh actors those of a plan
+/// Whatever the disks answer, the items of a schedule, after the run that stood before, are a run; from fresh actors those of a plan
 /// are a run of its cluster.
 pub fn schedules_give_runs()
     ensures behind { (cluster : Cluster) (answers : Answers) (earlier : List Item) (steps : List Step) (last : Situation) →

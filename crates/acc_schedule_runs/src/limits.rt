@@ -47,7 +47,7 @@ pub fn a_limit_or_the_whole()
         IsWithin items → LimitEnds plan answers front which number → ⊥ }
 {}
 
-/// A front is made step by step: behind whole steps it goes on with a part of the next one, whatever steps follow. The answers are read only
+/// A front is made step by step: after whole steps it goes on with a part of the next one, whatever steps follow. The answers are read only
 /// at the places of its items.
 pub fn fronts_are_made_step_by_step()
     ensures step { (cluster : Cluster) (answers : Answers) (number : ℕ) (steps more : List Step) (step : Step) (s between reached : Situation) →

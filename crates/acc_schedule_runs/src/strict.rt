@@ -50,7 +50,7 @@ pub fn strict_runs_are_made_step_by_step()
 {}
 
 /// Where a *fail* armed so many calls to pass, a fourth of them is how many journalled steps of the actor pass, and the next one stops. A
-/// restart keeps that step exactly where three calls of its append passed, so that the second sync failed, and the choice is 1. Behind a
+/// restart keeps that step exactly where three calls of its append passed, so that the second sync failed, and the choice is 1. After a
 /// restart nothing fails and nothing is kept. What happens to one actor's disk changes nothing of another's. And an append fails by these
 /// definitions just where it does by the contracts of a journal.
 pub fn armed_calls_are_counted()

@@ -1,4 +1,4 @@
--- A board after some items entered it one behind another.
+-- A board after some items entered it one after another.
 use Rattle.std.proofs.Common.{◌≡◌, ℕ, ◌+◌, ◌-◌, List, [], ◌∷◌, ◌++◌, length, take, sym, ap, ◌∙◌, arith, append_assoc, length-append}
 use Rattle.std.specs.Prelude.{sum_by}
 use Rattle.std.proofs.Math.Seq.{take-append_seam}
@@ -18,7 +18,7 @@ module _ {E : Type 0} where
       let n : length before + 1 ≡ length (before ++ item ∷ []) = (let l = length-append before (item ∷ []) in omega arith) in
       ap (λ k. take k all) n ∙ front_is all (before ++ item ∷ []) after (append_assoc before (item ∷ []) after ∙ ap (λ l. before ++ l) (sym next) ∙ is)
 
-  -- what fits with the items up to one fits with that one behind those that entered
+  -- what fits with the items up to one fits with that one after those that entered
   pub next_fits : (fits : List E → Type 0) (old all before left after : List E) (item : E) → before ++ left ≡ all → left ≡ item ∷ after → (now : List E) → now ≡ old ++ before → ((k : ℕ) → fits (old ++ take k all)) → fits (now ++ item ∷ [])
   next_fits fits old all before left after item is next now so all_fit =
       rw (so, append_assoc old before (item ∷ []), sym (next_front all before left after item is next)) (all_fit (length before + 1))

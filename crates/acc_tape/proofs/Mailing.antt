@@ -186,7 +186,7 @@ module _ {E : Type 0} (took : E → Option ℕ) (sent_to : E → List ℕ) (is_l
     next_waits actor from None h = none_waits actor from h
     next_waits actor from (Some post) h = oldest_waits actor from post h
 
-  -- ---- messages that wait, one behind another
+  -- ---- messages that wait, one after another
 
   pub behind_all-snoc : (from : ℕ) (posts : List Post) (post : Post) → behind_all from (posts ++ post ∷ []) ≡ post.number + 1
   behind_all-snoc from [] post = refl
@@ -196,7 +196,7 @@ module _ {E : Type 0} (took : E → Option ℕ) (sent_to : E → List ℕ) (is_l
   oldest_more items actor from [] post old new = (new, tt)
   oldest_more items actor from (p ∷ posts) post old new = (old.0, oldest_more items actor (p.number + 1) posts post old.1 new)
 
-  -- one more is found, behind those that were
+  -- one more is found, after those that were
   pub found_more : {M : Type 0} (is_sent : E → ℕ → M → Type 0) (items : List E) (actor : ℕ) (found found' : List (Post × M)) (post : Post) (message : M) (last : ℕ) → found' ≡ found ++ (post, message) ∷ [] → last ≡ behind_all 0 (posts_in found)
       → AreOldest took sent_to is_lost items actor 0 (posts_in found) → All (IsSentBy is_sent items) found → IsOldest took sent_to is_lost items actor last post → IsSentBy is_sent items (post, message)
       → (post.number + 1 ≡ behind_all 0 (posts_in found')) × AreOldest took sent_to is_lost items actor 0 (posts_in found') × All (IsSentBy is_sent items) found'

@@ -44,7 +44,7 @@ module _ {E : Type 0} (took : E → Option ℕ) (sent_to : E → List ℕ) (is_l
   AreOldest items actor from [] = Unit {0}
   AreOldest items actor from (post ∷ posts) = IsOldest items actor from post × AreOldest items actor (post.number + 1) posts
 
--- the number behind the one of the last message, or `from` where there is none
+-- the number after the one of the last message, or `from` where there is none
 abbrev pub behind_all : ℕ → List Post → ℕ
 behind_all from [] = from
 behind_all from (post ∷ posts) = behind_all (post.number + 1) posts

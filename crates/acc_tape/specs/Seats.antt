@@ -42,7 +42,7 @@ pub record Turns {E : Type 0} (actor_of bytes : E → ℕ) (fits : List E → Ty
   pub holds : AreReserved new.own new.held_items new.held_weight
   pub fitting : fits new.seen
 
--- The visit comes last of all, and of the seat's own: behind visits that begin with those that the seat knew.
+-- The visit comes last of all, and of the seat's own: after visits that begin with those that the seat knew.
 pub record Visited {E : Type 0} (old new : SeatView E) (visit : Visit) : Type 0 where
   pub before : List Visit
   pub last : new.visits ≡ before ++ visit ∷ []
@@ -57,15 +57,15 @@ pub record InOneOrder {E : Type 0} (first : SeatView E) (others : List (SeatView
   pub seats : All (λ (seat : SeatView E). IsPrefix seat.visits all × (visits_of seat.actor all ≡ seat.own)) others
   pub owned : All (λ (visit : Visit). (visit.actor ≡ first.actor) ⊎ Any (λ (seat : SeatView E). seat.actor ≡ visit.actor) others) all
 
--- The item fits behind every list that fits, begins with what the seat has seen and has no other item of its actor than those that the seat entered. So it may be entered whatever others entered meanwhile.
+-- The item fits after every list that fits, begins with what the seat has seen and has no other item of its actor than those that the seat entered. So it may be entered whatever others entered meanwhile.
 abbrev pub FitsBehind : {E : Type 0} → (E → ℕ) → (List E → Type 0) → SeatView E → E → Type 0
 FitsBehind {E} actor_of fits seat item = (before : List E) → IsPrefix seat.seen before → items_of actor_of seat.actor before ≡ seat.mine → fits before → fits (before ++ item ∷ [])
 
--- The same of items that are entered one behind another: whatever others entered, each front of them fits.
+-- The same of items that are entered one after another: whatever others entered, each front of them fits.
 abbrev pub FitAllBehind : {E : Type 0} → (E → ℕ) → (List E → Type 0) → SeatView E → List E → Type 0
 FitAllBehind {E} actor_of fits seat entering = (before : List E) → IsPrefix seat.seen before → items_of actor_of seat.actor before ≡ seat.mine → fits before → (k : ℕ) → fits (before ++ take k entering)
 
--- The items stand last, behind a list that fits, begins with what the seat had seen, and has of the seat's actor just what the seat had entered.
+-- The items stand last, after a list that fits, begins with what the seat had seen, and has of the seat's actor just what the seat had entered.
 pub record ComeLast {E : Type 0} (actor_of : E → ℕ) (fits : List E → Type 0) (old : SeatView E) (seen entering : List E) : Type 0 where
   pub before : List E
   pub seen_is : seen ≡ before ++ entering

@@ -82,7 +82,7 @@ module _ {E : Type 0} where
     abbrev pub left : Me (Content E) (View E) → Me (Content E) (View E)
     left m = (view_after m.0 (taken_of m.0.taken) (now_of m.1), [])
 
-    -- what a seat may leave in the slot: the same items with some of its own behind them, and at least what is reserved for the others
+    -- what a seat may leave in the slot: the same items with some of its own after them, and at least what is reserved for the others
     pub record MayLeave (actor held_items held_weight : ℕ) (before now : Content E) : Type 0 where
       pub new : List E
       pub grows : now.items ≡ before.items ++ new

@@ -163,7 +163,7 @@ impl<E: Posted, R: Rules<E>> Board<E, R> {
         self.reserved_weight -= weight;
     }
 
-    /// Gives up so much of what is reserved, and appends items one behind another. It takes no memory.
+    /// Gives up so much of what is reserved, and appends items one after another. It takes no memory.
     pub fn put_all(&mut self, count: u64, weight: u64, entering: Vec<E>)
         requires reserved { (length entering.items ≤ count) × (count ≤ self.old.reserved) × (weight ≤ self.old.reserved_weight) }
         requires bytes { All E.weighs entering.items × (sum_by E.bytes entering.items ≤ weight) }
@@ -223,7 +223,7 @@ impl<E: Posted, R: Rules<E>> Board<E, R> {
         self.posts.next_after(actor, number)
     }
 
-    // The oldest message that waits for an actor, behind the last one if there is one.
+    // The oldest message that waits for an actor, after the last one if there is one.
     fn next_behind(&mut self, actor: u32, last: Option<u64>) -> Option<Post>
         ensures same { self.new ≡ self.old }
         ensures next { MatchOption result (HasNone E.took E.sent_to E.is_lost self.old.items actor (behind_last last)) (IsOldest E.took E.sent_to E.is_lost self.old.items actor (behind_last last)) }

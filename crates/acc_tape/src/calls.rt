@@ -85,7 +85,7 @@ impl<E: Posted, R: Rules<E>> Tape<E, R> {
         self.leave(&mut seat.token);
     }
 
-    /// Gives up so much of what is reserved for the seat, and appends items of its actor one behind another, which are no more,
+    /// Gives up so much of what is reserved for the seat, and appends items of its actor one after another, which are no more,
     /// weigh no more, and have two notes each at most. It takes no memory and can't be refused.
     pub fn put_all<W: Wait>(
         &self,

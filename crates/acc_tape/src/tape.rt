@@ -23,7 +23,7 @@ const NEXT: usize = 0;
 
 const SERVED: usize = 1;
 
-// A thread that waits with a ticket holds up all that come behind it until it runs again. So it draws one at once only
+// A thread that waits with a ticket holds up all that come after it until it runs again. So it draws one at once only
 // where no ticket is out, and else looks so many times whether that has come about. Then it draws one in any case.
 const PATIENCE: u32 = 64;
 

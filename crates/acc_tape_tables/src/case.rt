@@ -27,7 +27,7 @@ pub fn agrees<R: Threads + Wait + Sync>(
     }
 }
 
-// The word with which an array begins, and what stands behind it.
+// The word with which an array begins, and what stands after it.
 fn kind_of(list: &Value) -> Option<(&str, &[Value])> {
     match list.as_array()?.as_slice() {
         [kind, parts @ ..] => Some((kind.as_str()?, parts)),
@@ -263,7 +263,7 @@ fn long_act(kind: &str, first: Option<u64>, second: Option<u64>) -> Option<Act> 
     }
 }
 
-// The act that asks for messages to an actor, behind a number or so many.
+// The act that asks for messages to an actor, after a number or so many.
 fn messages(kind: &str, to: u32, number: u64) -> Option<Act> {
     match kind {
         "after" => Some(Act::After { to, number }),

@@ -85,7 +85,7 @@ impl Chair {
         true
     }
 
-    /// Enters items one behind another in place of so much that is reserved, and tells whether there was so much and they are and weigh
+    /// Enters items one after another in place of so much that is reserved, and tells whether there was so much and they are and weigh
     /// no more.
     pub fn enter_all<W: Wait>(
         &mut self,

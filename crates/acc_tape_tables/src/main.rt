@@ -15,10 +15,10 @@
 //! - `["enter", ACTOR, RESERVED, BYTES, TAKEN, [TO, ..], LOST, ANSWER]`: an item of so many bytes, of which each message has one, in place of
 //!   one and so many bytes that are reserved; TAKEN is the number of a message or null, LOST whether the messages are lost. `ok`, or
 //!   `not held` where not so much is reserved or the item weighs more;
-//! - `["enter all", ACTOR, ITEMS, RESERVED, [BYTES, TAKEN, [TO, ..], LOST], .., ANSWER]`: the same of items one behind another, in place of so
+//! - `["enter all", ACTOR, ITEMS, RESERVED, [BYTES, TAKEN, [TO, ..], LOST], .., ANSWER]`: the same of items one after another, in place of so
 //!   many and so many bytes;
 //! - `["fetch", ACTOR, PLACE, ANSWER]`: the item at a place, as its actor, a dot and how many that entered before; or `none`;
-//! - `["next", ACTOR, TO, ANSWER]`, `["after", ACTOR, TO, NUMBER, ANSWER]`: the oldest message that waits for an actor, also behind a number: its
+//! - `["next", ACTOR, TO, ANSWER]`, `["after", ACTOR, TO, NUMBER, ANSWER]`: the oldest message that waits for an actor, also after a number: its
 //!   number, the place of its item and its index there; or `none`;
 //! - `["item", ACTOR, TO, ANSWER]`: the oldest with the item that sent it;
 //! - `["collect", ACTOR, TO, MOST, ANSWER]`: so many of the oldest, each with the item that sent it, with commas between; or `none`;

@@ -23,7 +23,7 @@ pub struct Crowd {
     pub given: u64,
 }
 
-/// A chair behind its work: how many reservations were refused, and whether memory was.
+/// A chair after its work: how many reservations were refused, and whether memory was.
 #[derive(Drop)]
 pub struct Worked {
     pub chair: Chair,
@@ -83,7 +83,7 @@ fn opened<W: Wait>(rt: &W, alloc: Global, crowd: &Crowd) -> Result<Hall>
     Ok(hall)
 }
 
-// The chairs behind their work, each on a thread of its own.
+// The chairs after their work, each on a thread of its own.
 fn side_by_side<R: Threads + Wait + Sync>(
     rt: &R,
     tape: &Reel,

@@ -45,7 +45,7 @@ below_later bytes (s ∷ t ∷ shards) (suc i) (suc j) rise le within h =
     let both = and_parts (is_end_before s.end t.end) (ends_rise (t ∷ shards)) rise in
     below_later bytes (t ∷ shards) i j both.1 (omega arith) (omega arith) h
 
--- ---- the first that ends behind the bytes
+-- ---- the first that ends after the bytes
 
 before_by : (bytes : List ℕ) (s : Shard) (shards : List Shard) (i : ℕ) (b : Bool) → is_below bytes s.end ≡ b → ((j : ℕ) → j < shards_before bytes shards → below_at bytes shards j ≡ false) → i < cond b 0 (shards_before bytes shards + 1) → below_at bytes (s ∷ shards) i ≡ false
 before_by bytes s shards i true e rest lt = absurd (omega arith)

@@ -46,7 +46,7 @@ shards_before bytes (s ∷ shards) = if is_below bytes s.end then 0 else shards_
 abbrev pub shard_of : Layout → List ℕ → ℕ
 shard_of layout bytes = shards_before bytes layout.shards + 1
 
--- the shard holds a key with these bytes: it ends behind them, and the shard before it does not
+-- the shard holds a key with these bytes: it ends after them, and the shard before it does not
 pub record HoldsKey (layout : Layout) (shard : ℕ) (bytes : List ℕ) : Type 0 where
   pub exists : HasShard layout shard
   pub ends : IsTrue (is_below bytes (shard_at layout shard).end)
@@ -60,7 +60,7 @@ node_numbers = range_with_len 1 15
 abbrev pub is_replica_count : ℕ → Bool
 is_replica_count n = n == 1 || n == 3 || n == 5 || n == 7
 
--- a shard that has an end, and the end of the shard behind it, which is greater or is none
+-- a shard that has an end, and the end of the shard after it, which is greater or is none
 abbrev pub is_end_before : Option (List ℕ) → Option (List ℕ) → Bool
 is_end_before None behind = false
 is_end_before (Some end) behind = is_below end behind

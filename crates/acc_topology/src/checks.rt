@@ -103,7 +103,7 @@ fn named_electorate(
     Ok(set)
 }
 
-/// Whether a shard may end here: the last has no end, and every other one ends behind the one before.
+/// Whether a shard may end here: the last has no end, and every other one ends after the one before.
 pub(crate) fn may_end(is_last: bool, before: Option<&Text>, end: Option<&Text>) -> bool
     ensures { result ≡ ends_well is_last (option_copied before.entry) (option_copied end.entry) }
 {

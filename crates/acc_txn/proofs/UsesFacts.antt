@@ -29,14 +29,14 @@ or_true : (b : Bool) → (b || true) ≡ true
 or_true true = refl
 or_true false = refl
 
--- one key more that is read, among those behind it
+-- one key more that is read, among those after it
 reads_step : (behind here written : Bool) (old : Option Bool) → (here ≡ true → written ≡ unwrap_or old false) → cond behind (Some (unwrap_or (cond here (Some (written || false)) old) false)) (cond here (Some (written || false)) old) ≡ cond (here || behind) (Some (unwrap_or old false)) old
 reads_step true true written old same = ap Some (or_false written ∙ same refl)
 reads_step true false written old same = refl
 reads_step false true written old same = ap Some (or_false written ∙ same refl)
 reads_step false false written old same = refl
 
--- one key more that is written, among those behind it
+-- one key more that is written, among those after it
 writes_step : (behind here written : Bool) (old : Option Bool) → cond behind (Some true) (cond here (Some (written || true)) old) ≡ cond (here || behind) (Some true) old
 writes_step true true written old = refl
 writes_step true false written old = refl

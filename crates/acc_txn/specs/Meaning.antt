@@ -127,7 +127,7 @@ condition_holds bound (Compare op left right) = compared op (sum_of bound left) 
 condition_holds bound (IsNull name) = Ok (is_none (named bound name))
 condition_holds bound (IsNotNull name) = Ok (is_some (named bound name))
 
--- a condition and those behind it, which count only where it holds
+-- a condition and those after it, which count only where it holds
 abbrev pub and_then : Result Bool Overflow → Result Bool Overflow → Result Bool Overflow
 and_then (Err error) behind = Err error
 and_then (Ok false) behind = Ok false

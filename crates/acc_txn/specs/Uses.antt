@@ -24,7 +24,7 @@ updated_key (Delete key) = key
 abbrev pub read_keys : BodyParts → List Key
 read_keys parts = map (λ l. l.key) parts.lets ++ selected_keys parts.select
 
--- the keys that updates name, also behind conditions that may turn out false
+-- the keys that updates name, also after conditions that may turn out false
 abbrev pub written_keys : BodyParts → List Key
 written_keys parts = map updated_key parts.updates
 

@@ -108,14 +108,14 @@ module _ (layout : Layout) (shard : ℕ) (history : List Taken) (key : Key) wher
 
   module _ (x : TxnId) (settled : Settled) (cell : Option Value) (settled_is : stable_of history x ≡ Some settled)
       (writes : write_of layout shard history x key ≡ Some cell) where
-    -- nothing that is applied and writes the key comes behind x
+    -- nothing that is applied and writes the key comes after x
     abbrev IsLastOf : List Change → Type 0
     IsLastOf changes =
         (y : TxnId) (theirs : Settled) → applies_in y changes ≡ true → stable_of history y ≡ Some theirs
         → is_some (write_of layout shard history y key) ≡ true
         → standing_lt (record { id = x; settled = settled }) (record { id = y; settled = theirs }) ≡ false
 
-    -- x has its turn now, so nothing behind it writes the key
+    -- x has its turn now, so nothing after it writes the key
     nothing_behind : (s : Standing) (changes : List Change) (standings : List Standing) → s.id ≡ x → stable_of history s.id ≡ Some s.settled
         → ids_of standings ≡ changed_ids changes → AllByRecursion (λ (r : Standing). stable_of history r.id ≡ Some r.settled) standings
         → AllByRecursion (λ (r : Standing). standing_lt s r ≡ true) standings → IsLastOf changes → last_in changes ≡ None
@@ -158,7 +158,7 @@ module _ (layout : Layout) (shard : ℕ) (history : List Taken) (key : Key) wher
         behind : IsLastOf changes
         behind y theirs h = last y theirs (or_right (id_eq c.id y && c.applies) (applies_in y changes) h)
 
--- ---- the cells behind a step
+-- ---- the cells after a step
 
 module _ (layout : Layout) (shard : ℕ) (step : Taken) (past : List Taken) (key : Key) where
   order : OpensInOrder shard step past

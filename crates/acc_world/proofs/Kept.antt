@@ -78,7 +78,7 @@ entered cluster items actors e out all b = by (same_actor e.actor b) refl
 
 -- ---- an event
 
--- the actor stands behind it
+-- the actor stands after it
 held_more : (cluster : Cluster) (items : List Item) (e : Entry) (act : Act) (held : Held) → act_of cluster items e.event ≡ Some act
     → HeldStands cluster e.actor (record { act = act; emitted = e.emitted } ∷ deeds_of cluster e.actor items) held
     → HeldStands cluster e.actor (deeds_of cluster e.actor (Step e ∷ items)) held
@@ -91,7 +91,7 @@ pub asked_ready : (setup : Setup) (history : History) (actors : BTreeMap ℕ Hel
 asked_ready setup history actors a event items act held ready stands =
     record { past = ready.past.past; known = ready.may.act_is; standing = ready.past.standing; few = ready.past.few; may = ready.may; stands = stands }
 
--- all that are kept stand behind what one has taken
+-- all that are kept stand after what one has taken
 pub has_acted : (cluster : Cluster) (items : List Item) (old new : BTreeMap ℕ Held) (a : Actor) (event : Event) (act : Act) (emitted : Emitted) (held : Held)
     → HasTaken cluster items a event act emitted held → IsWritten old new a (Some held) → AreHeld cluster items old → HasActed cluster items a event act emitted new
 has_acted cluster items old new a event act emitted held took written all =

@@ -23,7 +23,7 @@ use Rattle.acc_world.specs.declared.setup.Setup.{Setup}
 use Rattle.acc_world.specs.declared.held.Held.{Held}
 use Rattle.acc_world.specs.Held.{moment, cluster_of, HeldStands, IsPast, IsAsked, MayAsk, MayTryAt, HasTaken, IsRedone}
 
--- ---- the items behind others
+-- ---- the items after others
 
 module _ (cluster : Cluster) where
   pub each_behind : (front earlier : List Item) → EachStands cluster (front ++ earlier) → EachStands cluster earlier

@@ -30,7 +30,7 @@ pub record MayAct (setup : Setup) (history : History) (actors : BTreeMap ℕ Hel
   pub act : Act
   pub ready : IsReady setup history actors a event items act
 
--- it may take the event, gives what the rules say, and all that are kept stand behind its entry
+-- it may take the event, gives what the rules say, and all that are kept stand after its entry
 pub record HasActed (cluster : Cluster) (items : List Item) (a : Actor) (event : Event) (act : Act) (emitted : Emitted) (actors : BTreeMap ℕ Held) : Type 0 where
   pub may : MayTake cluster items a event act
   pub emits_it : emitted ≡ emits cluster items a act

@@ -26,7 +26,7 @@ is_newly_applied shard step past x = is_applied shard (step ∷ past) x && not (
 abbrev pub write_of : Layout → ℕ → List Taken → TxnId → Key → Option (Option Value)
 write_of layout shard history x key = find (writes_in layout shard (kept_outcome history x)) key
 
--- Of what the step applies, x writes the key last: it writes this cell, and nothing that writes the key too comes behind it, by
+-- Of what the step applies, x writes the key last: it writes this cell, and nothing that writes the key too comes after it, by
 -- the timestamp, and of equal timestamps by the id.
 pub record WritesLast (layout : Layout) (shard : ℕ) (step : Taken) (past : List Taken) (key : Key) (x : TxnId) (cell : Option Value) : Type 0 where
   pub settled : Settled

@@ -40,7 +40,7 @@ pub fn coverage(
 {}
 
 /// The first outcomes are those of a serial run of their bodies, no other outcome and no reply differs from them, and each stands
-/// behind its begin and not behind its reply.
+/// after its begin and not after its reply.
 pub fn serial(
     topology: &Topology,
     starts: &Starts,

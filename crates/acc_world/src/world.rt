@@ -178,7 +178,7 @@ impl World {
         Ok(entry)
     }
 
-    // An actor takes an event, which is entered. Where memory is refused behind its step, it is left out, as it has done more than the past
+    // An actor takes an event, which is entered. Where memory is refused after its step, it is left out, as it has done more than the past
     // says.
     fn enter(&mut self, actor: Actor, event: Event) -> Result<SharedEntry, NodeError>
         requires { MayBeTried self.old actor event }

@@ -32,7 +32,7 @@ fn texts_of(alloc: Global, words: &[String]) -> Result<Sequence<Text>, OutOfMemo
     Ok(texts)
 }
 
-/// The words behind the first, which is the program's name.
+/// The words after the first, which is the program's name.
 fn behind_name(alloc: Global, args: &[String]) -> Result<Sequence<Text>, OutOfMemory>
     ensures { IfOk result (λ words. words ≡ map string_bytes (drop 1 args.now)) }
 {

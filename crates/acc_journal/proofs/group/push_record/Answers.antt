@@ -1,4 +1,4 @@
--- The gate, the length and the payload, one behind the other.
+-- The gate, the length and the payload, one after the other.
 use Rattle.acc_wire.specs.Spelling.{u32_bytes}
 use Rattle.acc_journal.proofs.Groups.{record_items}
 use Rattle.acc_journal.proofs.group.push_record.Goals as goal

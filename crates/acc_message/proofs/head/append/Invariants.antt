@@ -1,4 +1,4 @@
--- The values that are appended stand behind those of before, and for the rest there is room.
+-- The values that are appended stand after those of before, and for the rest there is room.
 use Rattle.std.proofs.Common.{◌≡◌, ◌+◌, ◌≤◌, ◌++◌, length}
 use Rattle.std.specs.Vec.{vec_capacity}
 use Rattle.std.specs.Vec.Iter.{into_iter_items}

@@ -1,4 +1,4 @@
--- The head stands behind the others, and its notes and messages behind theirs.
+-- The head stands after the others, and its notes and messages after theirs.
 use Rattle.std.proofs.Common.{◌≡◌, ◌+◌, ◌++◌, ◌∷◌, [], length, ap, ap₂, ◌∙◌, arith}
 use Rattle.acc_message.specs.Joined.{until_of, noted_of, joined}
 use Rattle.acc_message.proofs.Joined.{stretch_by, joined_more}

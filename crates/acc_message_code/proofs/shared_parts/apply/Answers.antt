@@ -1,4 +1,4 @@
--- Behind the body are the timestamp and the dependencies, then the outcome, and nothing else.
+-- After the body are the timestamp and the dependencies, then the outcome, and nothing else.
 use Rattle.std.proofs.Common.{◌≡◌, ℕ, List, [], ◌++◌, sym, ap, subst, ◌∙◌}
 use Rattle.std.proofs.lemmas.List.{append-nil}
 use Rattle.acc_wire.specs.Reading.{Unread}

@@ -1,4 +1,4 @@
--- The body is all that is behind the head.
+-- The body is all that is after the head.
 use Rattle.std.proofs.Common.{◌≡◌, [], sym, ap, subst, ◌∙◌}
 use Rattle.acc_wire.specs.Reading.{Unread}
 use Rattle.acc_txn.specs.declared.parts.BodyParts.{BodyParts}

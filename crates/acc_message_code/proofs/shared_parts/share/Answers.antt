@@ -1,4 +1,4 @@
--- The head, the known body, and what is read behind it are the whole message.
+-- The head, the known body, and what is read after it are the whole message.
 use Rattle.std.proofs.Common.{sym, subst, ◌∙◌}
 use Rattle.acc_wire.specs.Reading.{Unread}
 use Rattle.acc_message_code.specs.SharedParts.{IsHead}

@@ -1,4 +1,4 @@
--- Behind the body are the timestamp and the dependencies, and nothing else.
+-- After the body are the timestamp and the dependencies, and nothing else.
 use Rattle.std.proofs.Common.{◌≡◌, [], sym, ap, subst, ◌∙◌}
 use Rattle.acc_wire.specs.Reading.{Unread}
 use Rattle.acc_message.specs.declared.message.Message.{Message}

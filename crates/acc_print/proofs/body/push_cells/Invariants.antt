@@ -1,4 +1,4 @@
--- The names behind the first are written up to this one, each behind a comma.
+-- The names after the first are written up to this one, each after a comma.
 use Rattle.std.proofs.Common.{◌≡◌, ◌++◌, take}
 use Rattle.std.specs.Prelude.{codes}
 use Rattle.std.specs.List.{flat_map}

@@ -1,4 +1,4 @@
--- The conditions behind the first are written up to this one, each behind an AND.
+-- The conditions after the first are written up to this one, each after an AND.
 use Rattle.std.proofs.Common.{◌≡◌, ◌++◌, take}
 use Rattle.std.specs.Prelude.{codes}
 use Rattle.std.specs.List.{flat_map}

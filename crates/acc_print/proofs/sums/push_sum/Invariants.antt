@@ -1,4 +1,4 @@
--- The terms behind the first are written up to this one, each with its sign.
+-- The terms after the first are written up to this one, each with its sign.
 use Rattle.std.proofs.Common.{◌≡◌, ◌++◌, take}
 use Rattle.std.specs.List.{flat_map}
 use Rattle.acc_print.specs.Canonical.{signed_text}

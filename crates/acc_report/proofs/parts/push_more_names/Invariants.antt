@@ -1,4 +1,4 @@
--- The names so far are printed, each behind a comma.
+-- The names so far are printed, each after a comma.
 use Rattle.std.proofs.Common.{◌≡◌, ◌++◌, take, map}
 use Rattle.std.specs.Prelude.{codes}
 use Rattle.std.specs.List.{flat_map}

@@ -1,4 +1,4 @@
--- What is found is found behind the bytes so far.
+-- What is found is found after the bytes so far.
 use Rattle.std.proofs.Common.{◌≡◌, ◌++◌, take, drop, false}
 use Rattle.std.specs.Prelude.{option_map}
 use Rattle.acc_report_reader.specs.Fields.{piece_at}

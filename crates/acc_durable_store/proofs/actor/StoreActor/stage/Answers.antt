@@ -1,4 +1,4 @@
--- What the durable store staged stands behind what was staged before.
+-- What the durable store staged stands after what was staged before.
 use Rattle.std.proofs.Common.{◌≡◌, false, List, [], ◌∷◌, ◌++◌, sym, ap, ◌∙◌, subst}
 use Rattle.acc_message.specs.declared.entry.Event.{Event}
 use Rattle.acc_message.specs.declared.entry.Emitted.{Emitted}

@@ -1,4 +1,4 @@
--- Behind the shared items stand those of the heads.
+-- After the shared items stand those of the heads.
 use Rattle.std.proofs.Common.{◌≡◌, ◌-◌, ◌≤◌, length, sym, ap, ap₂, ◌∙◌, arith}
 use Rattle.std.specs.Arc.{arc_value}
 use Rattle.std.specs.List.{slice_get}
