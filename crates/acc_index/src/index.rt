@@ -3,12 +3,13 @@ ghost use Rattle.std.specs.Prelude.{◌≡◌, [], ◌∷◌, ◌++◌, map, IfO
 ghost use Rattle.acc_stamp.specs.Rising.{IsRising, ids_union};
 ghost use Rattle.acc_index.specs.Noted.{Noted, IsGreatestStamp, rival_stamps, rival_ids, rival_ids_below, writer_ids};
 
-use crate::columns::{Columns, put};
+use crate::columns::Columns;
 use crate::order::rising;
 use crate::questions::{all_below, all_of, greatest_and_below, greatest_of_all};
 use crate::share::Share;
 use crate::users::{Users, add_all, reserve_all, users_of};
 use acc_base::OutOfMemory;
+use acc_ports::History;
 use acc_stamp::{Ids, Stamp, TxnId};
 use acc_value::Key;
 use std::alloc::Global;
@@ -20,7 +21,8 @@ use std::marker::Model;
 #[derive(Debug, Drop)]
 pub struct Index {
     columns: Columns,
-    shares: Vec<Share>,
+    // The keys of each place, in contracts alone.
+    shares: History<Share>,
     users: HashMap<Key, Users>,
 }
 
@@ -43,7 +45,7 @@ impl Index {
     {
         Index {
             columns: Columns::new(alloc),
-            shares: Vec::new(alloc),
+            shares: History::new(),
             users: HashMap::new(alloc),
         }
     }
@@ -53,12 +55,10 @@ impl Index {
         ensures ok { OnOk result (self.new ≡ self.old ++ record { id = id; share = share.now; stamp = stamp } ∷ []) }
         ensures err { OnErr result (self.new ≡ self.old) }
     {
-        let kept = share.copy()?;
         reserve_all(&mut self.users, share.pairs())?;
-        self.shares.reserve(1)?;
+        let place = self.columns.heights.len();
         self.columns.push(id, stamp)?;
-        let place = self.shares.len();
-        put(&mut self.shares, kept);
+        self.shares = self.shares.and(share);
         add_all(&mut self.users, share.pairs(), place);
         Ok(())
     }
@@ -75,7 +75,7 @@ impl Index {
         ensures ids { IfOk result (λ ids. ids ≡ rival_ids_below self.now id share.now bound) }
         ensures rises { IfOk result IsRising }
     {
-        let alloc = *self.shares.allocator();
+        let alloc = *self.columns.heights.allocator();
         let found = all_below(alloc, &self.columns, &self.users, share.pairs(), id, bound)?;
         let ids = rising(found)?;
         Ok(ids)
@@ -94,7 +94,7 @@ impl Index {
         ensures ids { IfOk result (λ found. found.1 ≡ rival_ids_below self.now id share.now bound) }
         ensures rises { IfOk result (λ found. IsRising found.1) }
     {
-        let alloc = *self.shares.allocator();
+        let alloc = *self.columns.heights.allocator();
         let uses = share.pairs();
         let (greatest, found) = greatest_and_below(
             alloc,
@@ -112,7 +112,7 @@ impl Index {
     pub fn conflicting(&self, id: TxnId, share: &Share) -> Result<Vec<TxnId>, OutOfMemory>
         ensures { IfOk result (λ found. ids_union [] found.items ≡ rival_ids self.now id share.now) }
     {
-        let alloc = *self.shares.allocator();
+        let alloc = *self.columns.heights.allocator();
         all_of(alloc, &self.columns, &self.users, share.pairs(), id)
     }
 
@@ -121,7 +121,7 @@ impl Index {
         ensures ids { IfOk result (λ ids. ids ≡ writer_ids self.now key.now) }
         ensures rises { IfOk result IsRising }
     {
-        let mut found = Vec::new(*self.shares.allocator());
+        let mut found = Vec::new(*self.columns.heights.allocator());
         let (writers, _) = users_of(&self.users, key, false);
         self.columns.collect(writers, &mut found)?;
         let ids = rising(found)?;

@@ -62,15 +62,4 @@ impl Share {
     {
         &self.whole.pairs()[self.from..self.to]
     }
-
-    /// An equal share, which takes no memory of its own.
-    pub fn copy(&self) -> Result<Share, OutOfMemory>
-        ensures { IfOk result (λ copy. copy ≡ self.now) }
-    {
-        Ok(Share {
-            whole: self.whole.copy()?,
-            from: self.from,
-            to: self.to,
-        })
-    }
 }
