@@ -29,6 +29,7 @@ pub(crate) fn all_of(
     let mut found = Vec::new(alloc);
     for (key, writes) in uses {
         let (writers, readers) = users_of(users, key, *writes);
+        found.reserve(writers.len().saturating_add(readers.len()))?;
         columns.collect_others(writers, id, &mut found)?;
         columns.collect_others(readers, id, &mut found)?;
     }
