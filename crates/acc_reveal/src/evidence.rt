@@ -73,7 +73,7 @@ fn is_awaited(there: Option<&Record>, id: TxnId, rival: TxnId) -> bool
 {
     match there {
         Some(record) => {
-            is_accepted_above(&record.accepted, id, rival) && record.stable.is_none()
+            record.stable.is_none() && is_accepted_above(&record.accepted, id, rival)
         }
         None => false,
     }
