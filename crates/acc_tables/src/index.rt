@@ -2,10 +2,12 @@
 ghost use Rattle.std.specs.Prelude.{◌≡◌, length};
 
 use crate::stamps::stamp;
+use acc_base::OutOfMemory;
 use acc_index::{Index, Share};
 use acc_lanes::{below, greatest, has};
 use acc_lang::parse;
 use acc_stamp::{Stamp, TxnId};
+use acc_txn::Body;
 use anyhow::{Context, Result, bail};
 use std::alloc::{AllocError, Global};
 
@@ -30,10 +32,19 @@ pub fn answer(alloc: Global, text: &str) -> Result<String> {
 
 /// The keys of a transaction.
 fn share(alloc: Global, text: &str) -> Result<Share> {
+    let body = body(alloc, text).context("no transaction")?;
+    Ok(keys(&body)?)
+}
+
+fn body(alloc: Global, text: &str) -> Option<Body> {
     match parse(alloc, text) {
-        Ok(body) => Ok(Share::whole(body.footprint()?)),
-        Err(_) => bail!("no transaction"),
+        Ok(body) => Some(body),
+        Err(_) => None,
     }
+}
+
+fn keys(body: &Body) -> Result<Share, OutOfMemory> {
+    Ok(Share::whole(body.footprint()?))
 }
 
 fn noted(alloc: Global, share: &Share, listed: &str) -> Result<Index> {

@@ -9,8 +9,8 @@ pub fn stamp(word: &str) -> Result<Stamp> {
 
 fn parsed(word: &str) -> Option<Stamp> {
     let (h, origin) = word.split_once('.')?;
-    match (h.parse::<u64>(), origin.parse::<u32>()) {
-        (Ok(h), Ok(origin)) => Some(Stamp { h, origin }),
-        _ => None,
-    }
+    Some(Stamp {
+        h: h.parse().ok()?,
+        origin: origin.parse().ok()?,
+    })
 }
