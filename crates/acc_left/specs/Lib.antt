@@ -1,0 +1,10 @@
+pub mod Leaves
+pub mod Digits
+pub mod Documents
+pub mod Rules
+pub mod Reading
+pub mod Rolls
+pub mod Kept
+pub mod Told
+pub mod Nodes
+pub mod Answers
