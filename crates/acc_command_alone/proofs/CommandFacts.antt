@@ -22,7 +22,7 @@ refusal bytes NoMemory text cause says = absurd says
 -- ---- documents
 
 -- a document that is accepted isn't refused
-not_refused : (bytes text : List ℕ) → IsAccepted bytes → IsRefusal bytes text → ⊥
+pub not_refused : (bytes text : List ℕ) → IsAccepted bytes → IsRefusal bytes text → ⊥
 not_refused bytes text accepted refusal = says_no_fault bytes accepted.0 refusal.kind refusal.path refusal.detail refusal.at accepted.1 refusal.cause
 
 limited : (over : Over) (command : Command) (bytes text : List ℕ) → length bytes ≤ document_limit → IsDue over command bytes Limit text → IsDone command Limit

@@ -11,10 +11,12 @@ pub mod GeneratedReports
 pub mod GlanceFacts
 pub mod HealingFacts
 pub mod JudgeFacts
+pub mod LeavingFacts
 pub mod LineFacts
 pub mod NumberFacts
 pub mod ReadFacts
 pub mod RespondFacts
+pub mod ResumingFacts
 pub mod SaidFacts
 pub mod SpellingFacts
 pub mod StrictReports

@@ -6,9 +6,11 @@ pub mod Finished
 pub mod Glancing
 pub mod Healing
 pub mod Judging
+pub mod Leaving
 pub mod Lines
 pub mod Number
 pub mod Reader
 pub mod Responds
+pub mod Resuming
 pub mod Streams
 pub mod Words

@@ -13,7 +13,7 @@ abbrev pub line : List ℕ → List ℕ
 line text = text ++ 10 ∷ []
 
 abbrev pub usage_text : List ℕ
-usage_text = codes "usage: accord run | check | free --workers W | gen --seed N --txns M | heal | audit | glance"
+usage_text = codes "usage: accord run | check | free --workers W | gen --seed N --txns M | heal | leave | resume | audit | glance"
 
 -- ---- limits
 

@@ -5,7 +5,7 @@ use Rattle.acc_command_alone.specs.declared.words.Command.{Command}
 use Rattle.acc_command_alone.specs.declared.words.Command.TheVariants.{Run, Check}
 use Rattle.acc_command_alone.specs.declared.words.Numbers.{Numbers}
 use Rattle.acc_command_alone.specs.declared.words.Line.{Line}
-use Rattle.acc_command_alone.specs.declared.words.Line.TheVariants.{Document, Heal, Audit, Glance, Generate}
+use Rattle.acc_command_alone.specs.declared.words.Line.TheVariants.{Document, Heal, Leave, Resume, Audit, Glance, Generate}
 
 abbrev pub IsRunLine : List (List ℕ) → Type 0
 IsRunLine words = words ≡ codes "run" ∷ []
@@ -16,23 +16,33 @@ IsCheckLine words = words ≡ codes "check" ∷ []
 abbrev pub IsHealLine : List (List ℕ) → Type 0
 IsHealLine words = words ≡ codes "heal" ∷ []
 
+abbrev pub IsLeaveLine : List (List ℕ) → Type 0
+IsLeaveLine words = words ≡ codes "leave" ∷ []
+
+abbrev pub IsResumeLine : List (List ℕ) → Type 0
+IsResumeLine words = words ≡ codes "resume" ∷ []
+
 abbrev pub IsAuditLine : List (List ℕ) → Type 0
 IsAuditLine words = words ≡ codes "audit" ∷ []
 
 abbrev pub IsGlanceLine : List (List ℕ) → Type 0
 IsGlanceLine words = words ≡ codes "glance" ∷ []
 
--- the command runs a document without looks, step by step
+-- the command runs a document without looks and journals, step by step
 abbrev pub IsSteppedLine : List (List ℕ) → Type 0
-IsSteppedLine words = IsRunLine words ⊎ IsHealLine words
+IsSteppedLine words = (IsRunLine words ⊎ IsHealLine words) ⊎ IsLeaveLine words
 
 -- it takes disks for a run, and asks for no threads
 abbrev pub UsesDisksAlone : List (List ℕ) → Type 0
 UsesDisksAlone words = IsSteppedLine words ⊎ IsGlanceLine words
 
--- the command reads a document, with looks or without, or a case
+-- the command reads a document without looks, with journals or without
+abbrev pub IsPlanLine : List (List ℕ) → Type 0
+IsPlanLine words = (((IsRunLine words ⊎ IsCheckLine words) ⊎ IsHealLine words) ⊎ IsLeaveLine words) ⊎ IsResumeLine words
+
+-- or one with looks, or a case
 abbrev pub IsDocumentLine : List (List ℕ) → Type 0
-IsDocumentLine words = (((IsRunLine words ⊎ IsCheckLine words) ⊎ IsHealLine words) ⊎ IsAuditLine words) ⊎ IsGlanceLine words
+IsDocumentLine words = (IsPlanLine words ⊎ IsAuditLine words) ⊎ IsGlanceLine words
 
 -- the words make a document of this seed, with so many transactions
 pub record IsGenerateLine (words : List (List ℕ)) (seed txns : ℕ) : Type 0 where
@@ -71,7 +81,7 @@ IsLine words = IsLineAlone words ⊎ AsksForWorkers words
 abbrev pub ReadsDocument : List (List ℕ) → Type 0
 ReadsDocument words = IsDocumentLine words ⊎ AsksForWorkers words
 
--- they run one without looks
+-- they run one without looks and journals
 abbrev pub RunsDocument : List (List ℕ) → Type 0
 RunsDocument words = IsSteppedLine words ⊎ AsksForWorkers words
 
@@ -100,6 +110,8 @@ abbrev pub IsLineOf : List (List ℕ) → Option Line → Type 0
 IsLineOf words (Some (Document Run)) = IsRunLine words
 IsLineOf words (Some (Document Check)) = IsCheckLine words
 IsLineOf words (Some Heal) = IsHealLine words
+IsLineOf words (Some Leave) = IsLeaveLine words
+IsLineOf words (Some Resume) = IsResumeLine words
 IsLineOf words (Some Audit) = IsAuditLine words
 IsLineOf words (Some Glance) = IsGlanceLine words
 IsLineOf words (Some (Generate numbers)) = IsGenerateLine words numbers.seed numbers.txns

@@ -13,9 +13,11 @@ use crate::check::check;
 use crate::generate::generate;
 use crate::glance::glance;
 use crate::heal::heal;
+use crate::leave::leave;
 use crate::remains::Remains;
 use crate::reply::{Reply, say};
 use crate::respond::{read_document, tell};
+use crate::resume::resume;
 use crate::run::run;
 use crate::status::Status;
 use crate::words::{Command, Line, line_of};
@@ -24,7 +26,7 @@ use acc_ports::{DiskMaker, Sink, Source};
 use std::alloc::Global;
 
 const USAGE: &[u8] =
-    b"usage: accord run | check | free --workers W | gen --seed N --txns M | heal | audit | glance\n";
+    b"usage: accord run | check | free --workers W | gen --seed N --txns M | heal | leave | resume | audit | glance\n";
 
 /// Does what a command line says that asks for no threads, as `accord` does, and waits for nobody. What it needs no longer goes to `remains`.
 pub fn accord_alone<S: Source, K: Sink, M: DiskMaker>(
@@ -50,6 +52,8 @@ where
             answer(alloc, Command::Check, source, sink, disks, remains)
         }
         Ok(Some(Line::Heal)) => heal(alloc, source, sink, disks, remains),
+        Ok(Some(Line::Leave)) => leave(alloc, source, sink, disks, remains),
+        Ok(Some(Line::Resume)) => resume(alloc, source, sink, remains),
         Ok(Some(Line::Audit)) => audit(alloc, source, sink, remains),
         Ok(Some(Line::Glance)) => glance(alloc, source, sink, disks, remains),
         Ok(Some(Line::Generate(numbers))) => generate(alloc, numbers, sink),

@@ -1,6 +1,6 @@
 //! The words of a command line.
 ghost use Rattle.std.specs.Prelude.{◌≡◌, ◌↔◌, ◌≤◌, [], ◌∷◌, IsTrue, IfOk};
-ghost use Rattle.acc_command_alone.specs.Words.{IsAuditLine, IsGlanceLine, IsLineOf, IsDocumentLineOf, IsHealLine, IsNumbersOf, IsWorkersOf};
+ghost use Rattle.acc_command_alone.specs.Words.{IsAuditLine, IsGlanceLine, IsLineOf, IsDocumentLineOf, IsHealLine, IsLeaveLine, IsNumbersOf, IsResumeLine, IsWorkersOf};
 
 use crate::{seed, txns, workers};
 use acc_base::{OutOfMemory, Text};
@@ -31,6 +31,10 @@ pub enum Line {
     Document(Command),
     /// The command that runs a document and heals what its run left open.
     Heal,
+    /// The command that runs a document and writes it again with the journals of its run.
+    Leave,
+    /// The command that goes on from the journals of a document.
+    Resume,
     /// The command that judges a report.
     Audit,
     /// The command that runs a document with looks.
@@ -62,6 +66,12 @@ pub(crate) fn line_of(alloc: Global, words: &[Text]) -> Result<Option<Line>, Out
     }
     if is_heal_line(words) {
         return Ok(Some(Line::Heal));
+    }
+    if is_leave_line(words) {
+        return Ok(Some(Line::Leave));
+    }
+    if is_resume_line(words) {
+        return Ok(Some(Line::Resume));
     }
     if is_audit_line(words) {
         return Ok(Some(Line::Audit));
@@ -99,6 +109,26 @@ fn is_heal_line(words: &[Text]) -> bool
         return false;
     };
     is(word, b"heal")
+}
+
+// Whether these words are the line that leaves journals.
+fn is_leave_line(words: &[Text]) -> bool
+    ensures { IsTrue result ↔ IsLeaveLine words.now }
+{
+    let [word] = words else {
+        return false;
+    };
+    is(word, b"leave")
+}
+
+// Whether these words are the line that goes on from journals.
+fn is_resume_line(words: &[Text]) -> bool
+    ensures { IsTrue result ↔ IsResumeLine words.now }
+{
+    let [word] = words else {
+        return false;
+    };
+    is(word, b"resume")
 }
 
 // Whether these words judge a report.

@@ -10,7 +10,7 @@ use Rattle.acc_command_alone.specs.Command.{DoesOn, IsDue, no_run, OverDisks}
 use Rattle.acc_command_alone.specs.CarriesOut.{alone_over}
 use Rattle.acc_command_alone.proofs.RespondFacts.{answers_so}
 use Rattle.acc_command_alone.proofs.CommandFacts.{check_due}
-use Rattle.acc_command_alone.proofs.CarryFacts.{checks, forgets, generates, heals, judges, looks, no_line, refuses, runs}
+use Rattle.acc_command_alone.proofs.CarryFacts.{checks, forgets, generates, heals, judges, leaves_journals, looks, no_line, refuses, resumes, runs}
 use Rattle.acc_command_alone.proofs.LineFacts.{ends_so}
 use Rattle.acc_command_alone.proofs.SaidFacts.{ends_usage, usage_faults, usage_reads}
 use Rattle.acc_command_alone.proofs.alone.accord_alone.Goals as goal
@@ -38,6 +38,18 @@ returns-in-Ok-Some-Heal-clause-does g c =
     heals c.args.words.now (alone_over g.M.D.Disk (g.M.DiskMaker.strict c.args.disks.now) (g.M.DiskMaker.given c.args.disks.now) (g.M.DiskMaker.given c.heal.new.disks)) (streams_of g.S.Source g.K.Sink c.args.source.now c.args.sink.now) (streams_of g.S.Source g.K.Sink c.heal.new.source c.heal.new.sink) c.heal.result
     (subst (IsLineOf c.args.words.now) (c.in-Ok-Some-Heal.field-0-is ∙ ap (λ (line : Line). Some line) c.in-Ok-Some-Heal.field-0-0-is) c.in-Ok-Some-Heal.ensures)
     c.heal.ensures
+
+pub returns-in-Ok-Some-Leave-clause-does : goal.returns-in-Ok-Some-Leave-clause-does
+returns-in-Ok-Some-Leave-clause-does g c =
+    leaves_journals c.args.words.now (alone_over g.M.D.Disk (g.M.DiskMaker.strict c.args.disks.now) (g.M.DiskMaker.given c.args.disks.now) (g.M.DiskMaker.given c.leave.new.disks)) (streams_of g.S.Source g.K.Sink c.args.source.now c.args.sink.now) (streams_of g.S.Source g.K.Sink c.leave.new.source c.leave.new.sink) c.leave.result
+    (subst (IsLineOf c.args.words.now) (c.in-Ok-Some-Leave.field-0-is ∙ ap (λ (line : Line). Some line) c.in-Ok-Some-Leave.field-0-0-is) c.in-Ok-Some-Leave.ensures)
+    c.leave.ensures
+
+pub returns-in-Ok-Some-Resume-clause-does : goal.returns-in-Ok-Some-Resume-clause-does
+returns-in-Ok-Some-Resume-clause-does g c =
+    resumes c.args.words.now (alone_over g.M.D.Disk (g.M.DiskMaker.strict c.args.disks.now) (g.M.DiskMaker.given c.args.disks.now) (g.M.DiskMaker.given c.args.disks.now)) (streams_of g.S.Source g.K.Sink c.args.source.now c.args.sink.now) (streams_of g.S.Source g.K.Sink c.resume.new.source c.resume.new.sink) c.resume.result
+    (subst (IsLineOf c.args.words.now) (c.in-Ok-Some-Resume.field-0-is ∙ ap (λ (line : Line). Some line) c.in-Ok-Some-Resume.field-0-0-is) c.in-Ok-Some-Resume.ensures)
+    c.resume.ensures
 
 pub returns-in-Ok-Some-Audit-clause-does : goal.returns-in-Ok-Some-Audit-clause-does
 returns-in-Ok-Some-Audit-clause-does g c =
