@@ -18,7 +18,7 @@ ghost use Rattle.acc_history.specs.Entering.{IsAsBefore, IsCovered};
 use crate::begun::{Begun, begun_at, known, note_begin};
 use crate::entering::{cover_all, enter};
 use acc_base::OutOfMemory;
-use acc_message::{GrowingItems, Item, Items, Message, Shown, notes_of, sent_by};
+use acc_message::{Entry, GrowingItems, Item, Items, Message, Shown, notes_of, sent_by};
 use acc_message_code::messages_length;
 use acc_message_index::Waiting;
 use acc_stamp::{Actor, TxnId};
@@ -321,6 +321,28 @@ impl History {
         let place = self.admit(shown, messages, messages.len() + 1, notes, weight)?;
         enter(&mut self.waiting, shown, messages, place);
         self.items.push(item);
+        Ok(())
+    }
+
+    /// The same of an entry.
+    #[inline(always)]
+    pub fn add_entry(&mut self, entry: Entry, weight: u64) -> Result<(), OutOfMemory>
+        ensures stands { OnOk result ((s : Situation) → StandsFor self.old s → TakesSent s (AnItem.Step entry) → StandsFor self.new (with_item (AnItem.Step entry) s)) }
+        ensures weighed { OnOk result ((s : Situation) → IsWeighed self.old s → weight ≡ weight_of (AnItem.Step entry) → IsWeighed self.new (with_item (AnItem.Step entry) s)) }
+        ensures still_stands { OnErr result ((s : Situation) → StandsFor self.old s → StandsFor self.new s) }
+        ensures still_weighed { OnErr result ((s : Situation) → IsWeighed self.old s → IsWeighed self.new s) }
+    {
+        let shown = Shown::Step {
+            actor: entry.actor,
+            lost: entry.lost,
+            event: entry.event,
+            notes: entry.emitted.notes.as_slice(),
+        };
+        let messages = entry.emitted.out.as_slice();
+        let notes = entry.emitted.notes.len();
+        let place = self.admit(shown, messages, messages.len() + 1, notes, weight)?;
+        enter(&mut self.waiting, shown, messages, place);
+        self.items.push(Item::Step(entry));
         Ok(())
     }
 
