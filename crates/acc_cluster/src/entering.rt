@@ -102,13 +102,20 @@ pub(crate) fn enter_entry(
     ensures as_before { IfErr result (IfLimit (λ which number. history.new ≡ history.old)) }
 {
     let weight = messages_length(emitted.out.as_slice());
+    if history.weight().saturating_add(weight) > MOST_BYTES {
+        return Err(RunError::Limit {
+            which: Which::Bytes,
+            number: MOST_BYTES,
+        });
+    }
     let entry = Entry {
         actor,
         event,
         emitted,
         lost,
     };
-    enter(history, Item::Step(entry), weight)
+    history.add_entry(entry, weight)?;
+    Ok(())
 }
 
 /// Enters what an actor gave, or that its disk failed.
