@@ -1,7 +1,7 @@
 //! Bytes as hexadecimal digits.
-ghost use Rattle.std.specs.Prelude.{◌≡◌, string_bytes, IfOk, IsTrue};
+ghost use Rattle.std.specs.Prelude.{◌≡◌, ◌<◌, ◌*◌, ℕ, Ok, Some, length, slice_index, string_bytes, IfOk, IsTrue};
 ghost use Rattle.std.specs.List.{list_all};
-ghost use Rattle.hex.specs.Hex.{encode_lower};
+ghost use Rattle.hex.specs.Hex.{decode_pairs, encode_lower, hex_digit_value, lower_digits, pair_value};
 ghost use Rattle.acc_left.specs.Digits.{bytes_said, is_digits as are_digits, is_lower_digit as is_lower_digit_byte};
 
 use acc_base::{Bytes, OutOfMemory};
@@ -14,10 +14,15 @@ pub(crate) fn is_digits(text: &str) -> bool
     text.len() % 2 == 0 && are_lower(text.as_bytes())
 }
 
+// The loop goes to the end whatever it finds, so that a compiler can test many bytes at once.
 fn are_lower(bytes: &[u8]) -> bool
     ensures { result ≡ list_all is_lower_digit_byte bytes.now }
 {
-    bytes.iter().all(|byte| is_lower_digit(*byte))
+    let mut all = true;
+    for byte in bytes {
+        all &= is_lower_digit(*byte);
+    }
+    all
 }
 
 fn is_lower_digit(byte: u8) -> bool
@@ -31,15 +36,75 @@ pub(crate) fn bytes_of(alloc: Global, text: &str) -> Result<Bytes, OutOfMemory>
     requires { IsTrue (are_digits text.now) }
     ensures { IfOk result (λ bytes. bytes ≡ bytes_said text.now) }
 {
-    match hex::decode(alloc, text) {
-        Ok(bytes) => Ok(Bytes::from_vec(bytes)),
-        Err(_) => Err(OutOfMemory),
+    let digits = text.as_bytes();
+    let mut bytes = vec![in alloc; 0u8; digits.len() / 2]?;
+    write_bytes(digits, bytes.as_mut_slice());
+    Ok(Bytes::from_vec(bytes))
+}
+
+// Writes the bytes that digits say. Nothing branches on a digit.
+fn write_bytes(digits: &[u8], bytes: &mut [u8])
+    requires digits { IsTrue (list_all is_lower_digit_byte digits.now) }
+    requires fits { length digits.now ≡ 2 * length bytes.old }
+    ensures { decode_pairs 0 digits.now ≡ Ok bytes.new }
+{
+    for place in 0..bytes.len() {
+        bytes[place] = byte_of(digits[2 * place], digits[2 * place + 1]);
     }
+}
+
+// The byte that two digits say.
+fn byte_of(high: u8, low: u8) -> u8
+    requires high { IsTrue (is_lower_digit_byte high) }
+    requires low { IsTrue (is_lower_digit_byte low) }
+    ensures { (place : ℕ) → pair_value high low place ≡ Ok result }
+{
+    value_of(high) * 16 + value_of(low)
+}
+
+// What a digit is worth.
+fn value_of(digit: u8) -> u8
+    requires { IsTrue (is_lower_digit_byte digit) }
+    ensures value { hex_digit_value digit ≡ Some result }
+    ensures small { result < 16 }
+{
+    digit % 16 + digit / 64 * 9
 }
 
 /// The digits that say some bytes.
 pub(crate) fn digits_of(alloc: Global, bytes: &[u8]) -> Result<String, OutOfMemory>
     ensures { IfOk result (λ text. string_bytes text ≡ encode_lower bytes.now) }
 {
-    Ok(hex::encode(alloc, bytes)?)
+    let Some(length) = bytes.len().checked_mul(2) else {
+        return Err(OutOfMemory);
+    };
+    let mut digits = vec![in alloc; 0u8; length]?;
+    write_digits(bytes, digits.as_mut_slice());
+    match String::from_utf8(digits) {
+        Ok(text) => Ok(text),
+        Err(_) => Err(OutOfMemory),
+    }
+}
+
+// Writes the digits that say some bytes. Nothing branches on a byte.
+fn write_digits(bytes: &[u8], digits: &mut [u8])
+    requires { length digits.old ≡ 2 * length bytes.now }
+    ensures { digits.new ≡ encode_lower bytes.now }
+{
+    for place in 0..bytes.len() {
+        digits[2 * place] = digit_of(bytes[place] / 16);
+        digits[2 * place + 1] = digit_of(bytes[place] % 16);
+    }
+}
+
+// The digit that is worth this.
+fn digit_of(value: u8) -> u8
+    requires { value < 16 }
+    ensures { result ≡ slice_index lower_digits value }
+{
+    if value < 10 {
+        b'0' + value
+    } else {
+        b'a' - 10 + value
+    }
 }
