@@ -52,8 +52,8 @@ unless_promised own x b promised least answer = cond (ballot_lt least promised) 
 abbrev pub voted : Actor → TxnId → Ballot → Vote → List Message
 voted own x b v = PreAcceptOk own (home_of x b) x b v.vote v.deps ∷ []
 
--- Each of the four has the past, which has the promise and what is stable. Those that answer with dependencies or a view have
--- also this past with the message itself, which makes its transaction known.
+-- The promise is read in the past, and of PreAccept, Accept and Commit also what is stable. Those that answer with
+-- dependencies or a view have also this past with the message itself, which makes its transaction known.
 
 -- on PreAccept: the vote, as long as the promise is zero
 abbrev pub on_preaccept : Layout → Actor → List Taken → List Taken → TxnId → Ballot → BodyParts → List Message
