@@ -1,5 +1,6 @@
--- The numbers of a body that is spelled in a text are those of 64 bits.
-use Rattle.std.proofs.Common.{◌≡◌, ℕ, zero, suc, ◌+◌, ◌≤◌, Bool, List, [], ◌∷◌, codes, Result, Ok, Err, pos, neg_ℤ, ℤ, inl, inr, refl, sym, subst, arith}
+-- The numbers of a body that is spelled in a text are those of 64 bits, and so are those of the bodies that a document
+-- says.
+use Rattle.std.proofs.Common.{◌≡◌, ℕ, zero, suc, ◌+◌, ◌≤◌, Bool, List, [], ◌∷◌, map, codes, Result, Ok, Err, pos, neg_ℤ, ℤ, inl, inr, refl, sym, subst, arith}
 use Rattle.std.specs.List.{AllByRecursion}
 use Rattle.std.specs.Int.{w64}
 use Rattle.std.specs.Int.RustNames.{FitsSigned}
@@ -20,7 +21,10 @@ use Rattle.acc_lang.specs.Grammar.{Each, Behind, NumberSpelled, TermSpelled, Par
 use Rattle.acc_lang.specs.Reading.{reading}
 use Rattle.acc_code.specs.Short.{IsShortTerm, IsShortSum, IsShortCondition, IsShortUpdate, IsTerm, AreTerms, HasTerms, SetsTerms, IsNumberedBody}
 use Rattle.acc_code.proofs.BodyFacts.{short_body}
-use Rattle.acc_schedule.specs.Texts.{no_parts}
+use Rattle.serde_json.specs.Data.{Data}
+use Rattle.acc_schedule.specs.Fields.{field, text as text_said}
+use Rattle.acc_schedule.specs.Texts.{has_texts, no_parts}
+use Rattle.acc_schedule.specs.Transactions.{body_of}
 
 negative_fits : (n : ℕ) → n ≤ greatest_i64 + 1 → FitsSigned w64 (neg_ℤ (pos n))
 negative_fits zero h = omega arith
@@ -103,6 +107,15 @@ kept : {E : Type 0} (r : Result BodyParts E) → ((parts : BodyParts) → r ≡ 
 kept (Ok parts) step h = step parts refl h
 kept (Err e) step h = record { keeps_rules = h; guards = tt; updates = tt }
 
-pub body_fits : (texts : Bool) → ((text : List ℕ) (parts : BodyParts) → reading texts text ≡ Ok parts → Spelled texts text parts) → (text : List ℕ)
+body_fits : (texts : Bool) → ((text : List ℕ) (parts : BodyParts) → reading texts text ≡ Ok parts → Spelled texts text parts) → (text : List ℕ)
     → IsBody (result_unwrap_or (reading texts text) no_parts) → IsNumberedBody (result_unwrap_or (reading texts text) no_parts)
 body_fits texts said text h = kept (reading texts text) (λ parts is body. spelled_fits texts text parts body (said text parts is)) h
+
+-- where what is read is spelled, the bodies of these transactions have such numbers if they keep the rules of bodies
+pub bodies_fit : (said : (texts : Bool) (text : List ℕ) (parts : BodyParts) → reading texts text ≡ Ok parts → Spelled texts text parts) (version : ℕ) (ds : List Data)
+    → AllByRecursion IsBody (map (body_of version) ds) → AllByRecursion IsNumberedBody (map (body_of version) ds)
+bodies_fit said version [] h = tt
+bodies_fit said version (d ∷ ds) h = (
+  body_fits (has_texts version) (said (has_texts version)) (text_said (field (codes "text") d)) h.0,
+  bodies_fit said version ds h.1,
+)

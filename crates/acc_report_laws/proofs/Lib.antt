@@ -1,6 +1,6 @@
 mod Actors
 pub mod Alone
-mod Bodies
+pub mod Bodies
 mod Cases
 pub mod Called
 mod Data
