@@ -3,7 +3,7 @@ pub mod Alone
 pub mod Bodies
 mod Cases
 pub mod Called
-mod Data
+pub mod Data
 pub mod Forms
 mod Known
 mod Noted
