@@ -5,6 +5,7 @@ mod NodeFacts
 mod DrawFacts
 mod PlaceFacts
 mod ItemFacts
+mod LaneFacts
 mod NodeWalk
 mod StoreWalk
 mod DocumentFacts

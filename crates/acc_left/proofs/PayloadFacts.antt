@@ -1,8 +1,10 @@
 -- Payloads that are read one after another, up to the first that may not stand there.
-use Rattle.std.proofs.Common.{◌≡◌, ℕ, ◌+◌, ◌<◌, List, [], ◌∷◌, ◌++◌, length, map, take, drop, get_or, refl, sym, ap, subst, ◌∙◌, arith}
-use Rattle.std.proofs.lemmas.List.{map-append, take-append-drop, drop_more, take_more}
+use Rattle.std.proofs.Common.{◌≡◌, ℕ, ◌+◌, ◌<◌, ◌≤◌, List, [], ◌∷◌, ◌++◌, length, map, take, drop, get_or, refl, sym, ap, subst, ◌∙◌, arith}
+use Rattle.std.specs.Borrow.{Bor}
+use Rattle.std.proofs.lemmas.List.{get_or-map, length-map, map-append, take_all, take-append-drop, drop_more, take_more}
 use Rattle.acc_journal.specs.Layout.{records}
 use Rattle.acc_journal.proofs.Readings.{one_more_long}
+use Rattle.acc_left.specs.Told.{bytes_in}
 use Rattle.acc_payloads.specs.Journals.{IsBadRecord, IsJournalOf}
 use Rattle.acc_payloads.proofs.Journals.{each_snoc}
 
@@ -18,6 +20,19 @@ read_none bytes May = record { journal = record { spelled = refl; each = tt }; g
 pub record IsNext (payloads : List (List ℕ)) (i : ℕ) (payload : List ℕ) : Type 0 where
   pub within : i < length payloads
   pub is : payload ≡ get_or payloads i payload
+
+-- the same of payloads behind references
+abbrev pub payload_at : List (Bor (List ℕ)) → ℕ → List ℕ
+payload_at payloads i = (get_or payloads i (record { ref_ptr = (0, 0); now = [] })).now
+
+pub next_in : (payloads : List (Bor (List ℕ))) (i : ℕ) → i < length payloads → IsNext (bytes_in payloads) i (payload_at payloads i)
+next_in payloads i within = record {
+  within = subst (λ (n : ℕ). i < n) (sym (length-map payloads (λ (p : Bor (List ℕ)). p.now))) within;
+  is = sym (get_or-map (λ (p : Bor (List ℕ)). p.now) payloads i (record { ref_ptr = (0, 0); now = [] }) (payload_at payloads i) within);
+}
+
+pub all_in : (payloads : List (Bor (List ℕ))) (i : ℕ) → length payloads ≤ i → take i (bytes_in payloads) ≡ bytes_in payloads
+all_in payloads i past = take_all i (bytes_in payloads) (subst (λ (n : ℕ). n ≤ i) (sym (length-map payloads (λ (p : Bor (List ℕ)). p.now))) past)
 
 module _ {A : Type 0} (bytes : A → List ℕ) (May : List A → A → Type 0) (payloads : List (List ℕ)) (i : ℕ) (items : List A) (gate : ℕ) (payload : List ℕ)
     (so_far : IsReadTo bytes May (take i payloads) items gate) (is_next : IsNext payloads i payload) where

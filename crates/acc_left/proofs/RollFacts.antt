@@ -1,6 +1,6 @@
 -- What the draws of a table begin, in the order of their stamps.
-use Rattle.std.proofs.Common.{◌≡◌, ℕ, Bool, true, false, cond, List, [], ◌∷◌, ◌++◌, map, Contains, Option, None, Some, refl, sym, ap, subst, ◌∙◌, append_assoc, ⊎_elim, arith}
-use Rattle.std.specs.Prelude.{◌↔◌, option_and_then}
+use Rattle.std.proofs.Common.{◌≡◌, ℕ, ◌<◌, Bool, true, false, cond, List, [], ◌∷◌, ◌++◌, length, map, get_or, Contains, Option, None, Some, refl, sym, ap, subst, ◌∙◌, append_assoc, ⊎_elim, arith}
+use Rattle.std.specs.Prelude.{◌↔◌, option_and_then, IfSome}
 use Rattle.std.specs.BTreeMap.{IsOrdered, is_at}
 use Rattle.std.specs.declared.cmp.Ordering.{Ordering}
 use Rattle.std.specs.declared.cmp.Ordering.TheVariants.{Less, Equal, Greater}
@@ -8,8 +8,11 @@ use Rattle.std.specs.List.{AllByRecursion}
 use Rattle.std.specs.List.Sorted.{IsStrictlySortedBy}
 use Rattle.std.specs.Map.{keys_of, lookup}
 use Rattle.std.specs.Ordering.{is_eq, is_lt}
+use Rattle.std.proofs.Math.Dec.{ltb}
+use Rattle.std.proofs.Math.ListN.{set}
 use Rattle.std.proofs.lemmas.Bool.{true≢false}
 use Rattle.std.proofs.lemmas.Bool.Decides.{nat_tests}
+use Rattle.std.proofs.lemmas.List.Elements.{All-set, Contains-get_or}
 use Rattle.std.proofs.lemmas.Map.Entries.{lookup_head, lookup_tail}
 use Rattle.std.proofs.lemmas.Map.Keys.{sorted_head, sorted_tail}
 use Rattle.std.proofs.lemmas.Option.{none-some, same_Some}
@@ -23,7 +26,7 @@ use Rattle.acc_payloads.specs.Node.{is_begin}
 use Rattle.acc_schedule.specs.Content.{Content}
 use Rattle.acc_left.specs.declared.image.Image.{Image}
 use Rattle.acc_left.specs.Rolls.{IsRoll}
-use Rattle.acc_left.specs.Told.{Draws, ListsBegins, TellDraws, begun_with, number_begun}
+use Rattle.acc_left.specs.Told.{AreBegins, Draws, ListsBegins, TellDraws, begun_with, number_begun}
 use Rattle.acc_left.proofs.MessageFacts.{begins_is}
 use Rattle.acc_left.proofs.TableFacts.{at_head, behind_head, head_or_behind, no_element}
 
@@ -179,3 +182,19 @@ is_roll plan images draws roll tells lists = record {
     λ begins. (lists.each id txn).1 ((begins_is plan draws images tells id txn).1 begins),
   );
 }
+
+-- ---- a table of what is begun
+
+pub begins_put : (draws : Draws) (entries later : List (Option (TxnId × ℕ))) (place : ℕ) (begin : TxnId × ℕ) → later ≡ cond (ltb place (length entries)) (set entries place (Some begin)) entries
+    → number_begun draws begin.0 ≡ Some begin.1 → AreBegins draws entries → AreBegins draws later
+begins_put draws entries later place begin is begun so_far = subst (AreBegins draws) (sym is) (by (ltb place (length entries)))
+  where
+    IsBegin : Option (TxnId × ℕ) → Type 0
+    IsBegin entry = IfSome entry (λ (e : TxnId × ℕ). number_begun draws e.0 ≡ Some e.1)
+
+    by : (b : Bool) → AreBegins draws (cond b (set entries place (Some begin)) entries)
+    by true = All-set IsBegin entries place (Some begin) begun so_far
+    by false = so_far
+
+pub is_begun : (draws : Draws) (roll : List (TxnId × ℕ)) (i : ℕ) (d : TxnId × ℕ) → ListsBegins draws roll → i < length roll → number_begun draws (get_or roll i d).0 ≡ Some (get_or roll i d).1
+is_begun draws roll i d lists within = (lists.each (get_or roll i d).0 (get_or roll i d).1).0 (Contains-get_or roll i d within)

@@ -3,8 +3,9 @@
 --     AddsDraws draws more node items      a table with the draws of one more node
 --     ListsBegins draws roll      a list of what the draws of a table begin
 --     comes_of plan draws own m txn body      what is asked of a message by such a table, but for the body that it brings
-use Rattle.std.specs.Prelude.{◌≡◌, ◌↔◌, ℕ, ◌*◌, ◌==◌, ◌&&◌, ◌||◌, nat_le, Bool, false, not, List, map, find, Contains, Option, None, Some, is_some, option_and_then, if◌then◌else◌}
+use Rattle.std.specs.Prelude.{◌≡◌, ◌↔◌, ℕ, ◌*◌, ◌==◌, ◌&&◌, ◌||◌, nat_le, Bool, false, not, List, map, find, All, Contains, IfSome, Option, None, Some, is_some, option_and_then, if◌then◌else◌}
 use Rattle.std.specs.List.{list_all}
+use Rattle.std.specs.Borrow.{Bor}
 use Rattle.std.specs.BTreeMap.{BTreeMap, get}
 use Rattle.acc_base.specs.Faults.{or_else}
 use Rattle.acc_stamp.specs.declared.stamps.Stamp.{Stamp}
@@ -28,6 +29,10 @@ use Rattle.acc_stamp.specs.declared.actors.Actor.{Actor}
 use Rattle.acc_left.specs.declared.image.Image.{Image}
 use Rattle.acc_left.specs.Rules.{deps_brought, greatest_height, HasDrawn, NodeMayLeave, StoreMayLeave}
 
+-- the payloads behind references
+abbrev pub bytes_in : List (Bor (List ℕ)) → List (List ℕ)
+bytes_in = map (λ payload. payload.now)
+
 -- ---- draws by their stamps
 
 abbrev pub Draws : Type 0
@@ -47,6 +52,10 @@ number_begun draws id = option_and_then begun_with (draw_at draws id.0)
 abbrev pub recovers_with : ℕ → Option Draw → Bool
 recovers_with txn None = false
 recovers_with txn (Some d) = not (is_begin d.purpose) && d.txn == txn
+
+-- these entries, where there are any, are transactions that the draws of the table begin
+abbrev pub AreBegins : Draws → List (Option (TxnId × ℕ)) → Type 0
+AreBegins draws entries = All (λ entry. IfSome entry (λ e. number_begun draws e.0 ≡ Some e.1)) entries
 
 -- the stamp that a node drew
 abbrev pub stamp_drawn : ℕ → Draw → Stamp

@@ -1,11 +1,16 @@
 //! Bytes as hexadecimal digits.
-ghost use Rattle.std.specs.Prelude.{◌≡◌, ◌<◌, ◌*◌, ℕ, Ok, Some, length, slice_index, string_bytes, IfOk, IsTrue};
+ghost use Rattle.std.specs.Prelude.{◌≡◌, ◌+◌, ◌<◌, ◌≤◌, ◌*◌, ℕ, Ok, Some, length, map, take, drop, slice_index, string_bytes, IfOk, IsTrue};
 ghost use Rattle.std.specs.List.{list_all};
+ghost use Rattle.std.specs.Simd.Lanes.{digits_l, number_l};
 ghost use Rattle.hex.specs.Hex.{decode_pairs, encode_lower, hex_digit_value, lower_digits, pair_value};
-ghost use Rattle.acc_left.specs.Digits.{bytes_said, is_digits as are_digits, is_lower_digit as is_lower_digit_byte};
+ghost use Rattle.acc_left.specs.Digits.{bytes_said, is_digits as are_digits, is_lower_digit as is_lower_digit_byte, pair_byte};
 
 use acc_base::{Bytes, OutOfMemory};
 use std::alloc::Global;
+use std::simd::prelude::*;
+
+/// How many bytes are written at once.
+const LANES: usize = 8;
 
 /// Whether a text is an even number of digits 0 to 9 and a to f.
 pub(crate) fn is_digits(text: &str) -> bool
@@ -48,9 +53,29 @@ fn write_bytes(digits: &[u8], bytes: &mut [u8])
     requires fits { length digits.now ≡ 2 * length bytes.old }
     ensures { decode_pairs 0 digits.now ≡ Ok bytes.new }
 {
-    for place in 0..bytes.len() {
-        bytes[place] = byte_of(digits[2 * place], digits[2 * place + 1]);
+    let mut place = 0;
+    while bytes.len() - place >= LANES {
+        eight_bytes(digits, 2 * place).copy_to_slice(&mut bytes[place..]);
+        place += LANES;
     }
+    for rest in place..bytes.len() {
+        bytes[rest] = byte_of(digits[2 * rest], digits[2 * rest + 1]);
+    }
+}
+
+// The bytes that sixteen digits say, from this place on. A lane has a pair of them, the first in its low
+// byte.
+#[inline(always)]
+fn eight_bytes(digits: &[u8], at: usize) -> u8x8
+    requires { at + 16 ≤ length digits.now }
+    ensures { result ≡ map pair_byte (digits_l 65536 8 (number_l 256 (take 16 (drop at digits.now)))) }
+{
+    let pairs = u16x8::from_le_bytes(u8x16::from_slice(&digits[at..]));
+    let high = pairs % u16x8::splat(256);
+    let low = pairs / u16x8::splat(256);
+    let high = high % u16x8::splat(16) + high / u16x8::splat(64) * u16x8::splat(9);
+    let low = low % u16x8::splat(16) + low / u16x8::splat(64) * u16x8::splat(9);
+    ((high * u16x8::splat(16) + low) % u16x8::splat(256)).cast::<u8>()
 }
 
 // The byte that two digits say.

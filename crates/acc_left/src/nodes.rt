@@ -5,11 +5,11 @@ ghost use Rattle.acc_message.specs.Run.{clock_start};
 ghost use Rattle.acc_payloads.specs.declared.node.NodePayload.{NodePayload as Payload};
 ghost use Rattle.acc_payloads.specs.Node.{begins, draws_in, greatest_drawn, is_begin};
 ghost use Rattle.acc_left.specs.Nodes.{follows, TellNode};
-ghost use Rattle.acc_left.specs.Told.{AddsDraws, FindsInNode};
+ghost use Rattle.acc_left.specs.Told.{bytes_in, AddsDraws, FindsInNode};
 ghost use Rattle.acc_left.specs.Rules.{is_draw_of as is_drawn_of};
 
 use crate::drawn::Drawn;
-use acc_base::{Bytes, OutOfMemory};
+use acc_base::OutOfMemory;
 use acc_payloads::{Draw, NodePayload, Purpose, may_mark, read_node_payload};
 use acc_schedule::Plan;
 use acc_topology::NodeSpec;
@@ -97,15 +97,15 @@ pub(crate) fn enter_node(
     alloc: Global,
     plan: &Plan,
     node: u32,
-    payloads: &[Bytes],
+    payloads: &[&[u8]],
     drawn: &mut Drawn,
 ) -> Result<Option<u64>, OutOfMemory>
-    ensures { IfOk result (FindsInNode plan.now node payloads.now drawn.old.draws drawn.new.draws) }
+    ensures { IfOk result (FindsInNode plan.now node (bytes_in payloads.now) drawn.old.draws drawn.new.draws) }
 {
     let mut told = Told::new(alloc, start_of(plan.starts.as_slice(), node));
     let mut gate: u64 = 1;
     for payload in payloads {
-        let Some(read) = read_node_payload(payload.as_slice()) else {
+        let Some(read) = read_node_payload(*payload) else {
             return Ok(Some(gate));
         };
         if !told.may_follow(plan, node, &read) {

@@ -1,33 +1,17 @@
-//! Payloads of journals: read from their bytes, and put there.
-ghost use Rattle.std.specs.Prelude.{◌≡◌, ◌∷◌, ◌++◌, [], length, IfOk, IfErr, OnOk, if◌then◌else◌};
+//! Payloads put into journals.
+ghost use Rattle.std.specs.Prelude.{◌≡◌, ◌∷◌, ◌++◌, [], length, OnOk, if◌then◌else◌};
 ghost use Rattle.acc_wire.specs.Spelling.{u32_bytes};
-ghost use Rattle.acc_journal.specs.Journal.{IsRefused};
-ghost use Rattle.acc_journal.specs.Layout.{records, sized, Reads};
+ghost use Rattle.acc_journal.specs.Layout.{records, sized};
 ghost use Rattle.acc_message_code.specs.MessageSpelling.{message_bytes};
 ghost use Rattle.acc_message_code.specs.Short.{IsShortMessage};
 ghost use Rattle.acc_payloads.specs.Journals.{may_mark as may_be_marked};
 ghost use Rattle.acc_payloads.specs.Spelling.{draw_bytes, mark_bytes};
 
 use acc_base::{Bytes, OutOfMemory};
-use acc_journal::{Journal, JournalError, Payloads};
 use acc_message::Message;
 use acc_message_code::{message_length, put_message};
 use acc_payloads::{Draw, may_mark};
-use acc_ports::MemDisk;
 use acc_wire::{put_u8, put_u32};
-use std::alloc::Global;
-
-/// The payloads of a journal. `BadVersion` and `BadRecord` say of the bytes what `Journal::reopen` says of them.
-pub(crate) fn payloads_of(alloc: Global, bytes: &Bytes) -> Result<Payloads, JournalError>
-    ensures ok { IfOk result (λ payloads. Reads bytes.now payloads) }
-    ensures refused { IfErr result (IsRefused bytes.now) }
-{
-    let disk = MemDisk::of(alloc, bytes.copy()?)?;
-    match Journal::reopen(alloc, disk) {
-        Ok((_journal, payloads)) => Ok(payloads),
-        Err((error, _disk)) => Err(error),
-    }
-}
 
 /// Appends the record of the mark, where an actor of this version puts one in front of a payload.
 pub(crate) fn put_mark(out: &mut Bytes, version: u8, marked: bool) -> Result<(), OutOfMemory>

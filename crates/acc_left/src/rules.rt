@@ -9,7 +9,8 @@ ghost use Rattle.acc_left.specs.Told.{TellDraws};
 use crate::drawn::Drawn;
 use crate::image::Image;
 use crate::nodes::enter_node;
-use crate::payloads::payloads_of;
+use crate::numbers::Numbers;
+use crate::records::payloads_of;
 use crate::refusal::{JournalFault, refusal, unreadable};
 use crate::stores::store_fault;
 use acc_schedule::{Plan, PlanError};
@@ -22,9 +23,10 @@ pub(crate) fn test_all(alloc: Global, plan: &Plan, images: &[Image]) -> Result<(
     ensures { GivesTested plan.now images.now result }
 {
     let drawn = drawn_in(alloc, plan, images)?;
+    let numbers = Numbers::of(alloc, drawn)?;
     for image in images {
         if image.actor.shard() != 0 {
-            test_store(alloc, plan, image, &drawn)?;
+            test_store(alloc, plan, image, &numbers)?;
         }
     }
     Ok(())
@@ -48,24 +50,24 @@ fn test_node(alloc: Global, plan: &Plan, image: &Image, drawn: &mut Drawn) -> Re
     requires { is_node image.now.actor ≡ true }
     ensures { GivesNode plan.now image.now drawn.old.draws drawn.new.draws result }
 {
-    let payloads = match payloads_of(alloc, &image.bytes) {
+    let payloads = match payloads_of(alloc, image.bytes.as_slice()) {
         Ok(payloads) => payloads,
         Err(error) => return Err(unreadable(alloc, image.actor, error)),
     };
-    match enter_node(alloc, plan, image.actor.node(), payloads.as_slice(), drawn)? {
+    match enter_node(alloc, plan, image.actor.node(), &payloads, drawn)? {
         Some(gate) => Err(refusal(alloc, image.actor, JournalFault::Payload(gate))),
         None => Ok(()),
     }
 }
 
-fn test_store(alloc: Global, plan: &Plan, image: &Image, drawn: &Drawn) -> Result<(), PlanError>
-    ensures { (images : List AnImage) → TellDraws plan.now drawn.now.draws images → GivesStore plan.now images image.now result }
+fn test_store(alloc: Global, plan: &Plan, image: &Image, drawn: &Numbers) -> Result<(), PlanError>
+    ensures { (images : List AnImage) → TellDraws plan.now drawn.now.drawn.draws images → GivesStore plan.now images image.now result }
 {
-    let payloads = match payloads_of(alloc, &image.bytes) {
+    let payloads = match payloads_of(alloc, image.bytes.as_slice()) {
         Ok(payloads) => payloads,
         Err(error) => return Err(unreadable(alloc, image.actor, error)),
     };
-    match store_fault(alloc, plan, image.actor, payloads.as_slice(), drawn)? {
+    match store_fault(alloc, plan, image.actor, &payloads, drawn)? {
         Some(gate) => Err(refusal(alloc, image.actor, JournalFault::Payload(gate))),
         None => Ok(()),
     }

@@ -7,11 +7,11 @@ ghost use Rattle.acc_payloads.specs.declared.store.StorePayload.{StorePayload as
 ghost use Rattle.acc_payloads.specs.Store.{has_mark, is_mark, FitsStore};
 ghost use Rattle.acc_left.specs.declared.image.Image.{Image as AnImage};
 ghost use Rattle.acc_left.specs.Rules.{deps_brought, IsMessageOf, StoreMayLeave};
-ghost use Rattle.acc_left.specs.Told.{are_begun as are_all_begun, comes_of, is_from_attempt as comes_from_attempt, number_begun, FindsInStore, TellDraws};
+ghost use Rattle.acc_left.specs.Told.{are_begun as are_all_begun, bytes_in, comes_of, is_from_attempt as comes_from_attempt, number_begun, FindsInStore, TellDraws};
 
-use crate::drawn::Drawn;
 use crate::nodes::GREATEST_HEIGHT;
-use acc_base::{Bytes, OutOfMemory};
+use crate::numbers::Numbers;
+use acc_base::OutOfMemory;
 use acc_deps::{Deps, Settled};
 use acc_message::{Message, top};
 use acc_message_code::KnownParts;
@@ -26,7 +26,7 @@ use std::alloc::Global;
 #[derive(Drop)]
 struct Planned<'a> {
     bodies: &'a [Body],
-    drawn: &'a Drawn,
+    drawn: &'a Numbers,
 }
 
 impl<'a> KnownParts for Planned<'a> {
@@ -48,17 +48,17 @@ pub(crate) fn store_fault(
     alloc: Global,
     plan: &Plan,
     own: Actor,
-    payloads: &[Bytes],
-    drawn: &Drawn,
+    payloads: &[&[u8]],
+    drawn: &Numbers,
 ) -> Result<Option<u64>, OutOfMemory>
-    ensures { (images : List AnImage) → TellDraws plan.now drawn.now.draws images → IfOk result (FindsInStore plan.now images own payloads.now) }
+    ensures { (images : List AnImage) → TellDraws plan.now drawn.now.drawn.draws images → IfOk result (FindsInStore plan.now images own (bytes_in payloads.now)) }
 {
     let bodies = plan.bodies.as_slice();
     let known = Planned { bodies, drawn };
     let mut marked = false;
     let mut gate: u64 = 1;
     for payload in payloads {
-        let Some(read) = read_store_payload(alloc, payload.as_slice(), &known)? else {
+        let Some(read) = read_store_payload(alloc, *payload, &known)? else {
             return Ok(Some(gate));
         };
         if !may_leave(plan, drawn, own, marked, &read) {
@@ -84,8 +84,8 @@ fn is_marked(marked: bool, payload: &StorePayload) -> bool
 }
 
 // Whether a payload may stand in the journal of a store, where `marked` tells whether a mark stands before it.
-fn may_leave(plan: &Plan, drawn: &Drawn, own: Actor, marked: bool, payload: &StorePayload) -> bool
-    ensures { (images : List AnImage) → TellDraws plan.now drawn.now.draws images → (before : List Payload) → has_mark before ≡ marked → FitsStore payload.now
+fn may_leave(plan: &Plan, drawn: &Numbers, own: Actor, marked: bool, payload: &StorePayload) -> bool
+    ensures { (images : List AnImage) → TellDraws plan.now drawn.now.drawn.draws images → (before : List Payload) → has_mark before ≡ marked → FitsStore payload.now
         → (result ≡ true) ↔ StoreMayLeave plan.now images own before payload.now }
 {
     if !may_follow(own, plan.version, marked, payload) {
@@ -98,8 +98,8 @@ fn may_leave(plan: &Plan, drawn: &Drawn, own: Actor, marked: bool, payload: &Sto
 }
 
 // Whether a message to a store is about a transaction that was begun, as this is in the plan.
-fn is_message_of(plan: &Plan, drawn: &Drawn, own: Actor, m: &Message) -> bool
-    ensures { (images : List AnImage) → TellDraws plan.now drawn.now.draws images → (result ≡ true) ↔ IsMessageOf plan.now images own m.now }
+fn is_message_of(plan: &Plan, drawn: &Numbers, own: Actor, m: &Message) -> bool
+    ensures { (images : List AnImage) → TellDraws plan.now drawn.now.drawn.draws images → (result ≡ true) ↔ IsMessageOf plan.now images own m.now }
 {
     let Some(txn) = drawn.begun(m.id()) else {
         return false;
@@ -111,8 +111,8 @@ fn is_message_of(plan: &Plan, drawn: &Drawn, own: Actor, m: &Message) -> bool
 }
 
 // Whether all but the body of a message is as the plan and the draws of nodes want it.
-fn comes(plan: &Plan, drawn: &Drawn, own: Actor, m: &Message, txn: u32, body: &Body) -> bool
-    ensures { result ≡ comes_of plan.now drawn.now.draws own m.now txn body.now }
+fn comes(plan: &Plan, drawn: &Numbers, own: Actor, m: &Message, txn: u32, body: &Body) -> bool
+    ensures { result ≡ comes_of plan.now drawn.now.drawn.draws own m.now txn body.now }
 {
     is_store(&plan.topology, plan.topology.shards_of(body.uses()), own)
         && is_from_attempt(drawn, m, txn)
@@ -121,8 +121,8 @@ fn comes(plan: &Plan, drawn: &Drawn, own: Actor, m: &Message, txn: u32, body: &B
 }
 
 // Whether a message comes from the node of its attempt, which drew its ballot for this transaction.
-fn is_from_attempt(drawn: &Drawn, m: &Message, txn: u32) -> bool
-    ensures { result ≡ comes_from_attempt drawn.now.draws m.now txn }
+fn is_from_attempt(drawn: &Numbers, m: &Message, txn: u32) -> bool
+    ensures { result ≡ comes_from_attempt drawn.now.drawn.draws m.now txn }
 {
     let ballot = m.ballot();
     m.from() == home(m.id(), ballot) && (ballot == Ballot::ZERO || drawn.recovers(ballot, txn))
@@ -160,8 +160,8 @@ fn are_same(one: &Body, other: &Body) -> bool
 }
 
 // Whether each transaction on which a message makes its own depend is begun.
-fn are_begun(drawn: &Drawn, m: &Message) -> bool
-    ensures { result ≡ are_all_begun drawn.now.draws (deps_brought m.now) }
+fn are_begun(drawn: &Numbers, m: &Message) -> bool
+    ensures { result ≡ are_all_begun drawn.now.drawn.draws (deps_brought m.now) }
 {
     match m {
         Message::Accept { deps, .. }
@@ -173,16 +173,16 @@ fn are_begun(drawn: &Drawn, m: &Message) -> bool
 }
 
 // Whether each of these transactions is begun.
-fn all_begun(drawn: &Drawn, deps: &Deps) -> bool
-    ensures { result ≡ are_all_begun drawn.now.draws deps.now }
+fn all_begun(drawn: &Numbers, deps: &Deps) -> bool
+    ensures { result ≡ are_all_begun drawn.now.drawn.draws deps.now }
 {
     deps.by_shard()
         .iter()
         .all(|shard| ids_begun(drawn, shard.ids.as_slice()))
 }
 
-fn ids_begun(drawn: &Drawn, ids: &[TxnId]) -> bool
-    ensures { result ≡ list_all (λ (id : AnId). is_some (number_begun drawn.now.draws id)) ids.now }
+fn ids_begun(drawn: &Numbers, ids: &[TxnId]) -> bool
+    ensures { result ≡ list_all (λ (id : AnId). is_some (number_begun drawn.now.drawn.draws id)) ids.now }
 {
     ids.iter().all(|id| drawn.begun(*id).is_some())
 }

@@ -1,6 +1,7 @@
-use Rattle.std.proofs.Common.{◌≡◌, Err, arith}
+use Rattle.std.proofs.Common.{◌≡◌, Err, arith, subst, sym}
 use Rattle.std.proofs.lemmas.Result.{err_from_is_err_and}
 use Rattle.acc_schedule.specs.declared.error.PlanError.{PlanError}
+use Rattle.acc_left.specs.Told.{Draws, TellDraws}
 use Rattle.acc_left.proofs.RuleFacts.{kind_node, kind_store, nodes_fail, store_fails, stores_all, stores_more, stores_none, stores_skip}
 use Rattle.acc_left.proofs.rules.test_all.Goals as goal
 use Rattle.acc_left.proofs.rules.test_all.Goals.{then-shard-ne0+in_ok-test_store, else-shard-ne0}
@@ -19,7 +20,7 @@ loop-image-preserved c =
     elim c.if-shard-ne0.branch [
       | then-shard-ne0+in_ok-test_store w ↦
           stores_more c.args.plan.now c.args.images.now c.loop-image.image-index c.image-item.result c.loop-image-test.true c.image-item.is c.loop-image.invariant
-          (λ store. w.in_ok-test_store.ensures c.args.images.now c.in_ok-drawn.ensures.1)
+          (λ store. w.in_ok-test_store.ensures c.args.images.now (subst (λ (d : Draws). TellDraws c.args.plan.now d c.args.images.now) (sym c.in_ok-numbers.ensures) c.in_ok-drawn.ensures.1))
       | else-shard-ne0 w ↦
           stores_skip c.args.plan.now c.args.images.now c.loop-image.image-index c.image-item.result c.loop-image-test.true c.image-item.is
           (kind_node c.image-item.result.actor c.shard.result c.shard.ensures w.if-shard-ne0.false) c.loop-image.invariant
@@ -33,7 +34,7 @@ returns-in_err-test_store c =
     rw (p.1, p.2)
     (store_fails c.args.plan.now c.args.images.now c.loop-image.image-index c.image-item.result c.loop-image-test.true c.image-item.is given
     (kind_store c.image-item.result.actor c.shard.result c.shard.ensures c.if-shard-ne0.true) c.in_ok-drawn.ensures.0 c.loop-image.invariant
-    (c.in_err-test_store.ensures c.args.images.now c.in_ok-drawn.ensures.1))
+    (c.in_err-test_store.ensures c.args.images.now (subst (λ (d : Draws). TellDraws c.args.plan.now d c.args.images.now) (sym c.in_ok-numbers.ensures) c.in_ok-drawn.ensures.1)))
 
 pub returns : goal.returns
 returns c = stores_all c.args.plan.now c.args.images.now c.loop-image.image-index (omega arith) c.in_ok-drawn.ensures.0 c.loop-image.invariant

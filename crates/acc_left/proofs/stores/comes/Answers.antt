@@ -14,8 +14,8 @@ use Rattle.acc_left.proofs.stores.comes.Goals.{then-is_store, else-is_store, the
 pub returns-then-are_begun : goal.returns-then-are_begun
 returns-then-are_begun c =
     let store = is_store_of c.args.plan.now.topology c.args.body.now c.args.own in
-    let from = is_from_attempt c.args.drawn.now.draws c.args.m.now c.args.txn in
-    let all = are_begun c.args.drawn.now.draws (deps_brought c.args.m.now) in
+    let from = is_from_attempt c.args.drawn.now.drawn.draws c.args.m.now c.args.txn in
+    let all = are_begun c.args.drawn.now.drawn.draws (deps_brought c.args.m.now) in
     let is : c.is_store.result ≡ store =
     c.is_store.ensures.value c.args.body.now (c.shards_of.ensures.listed ∙ ap (λ f. in_order (shards_of c.plan.inside.topology f)) c.uses.ensures)
     ∙ ap (λ (p : Content). is_store_of p.topology c.args.body.now c.args.own) c.plan.view_is in
@@ -36,8 +36,8 @@ returns-then-are_begun c =
 pub returns-else-are_begun : goal.returns-else-are_begun
 returns-else-are_begun c =
     let store = is_store_of c.args.plan.now.topology c.args.body.now c.args.own in
-    let from = is_from_attempt c.args.drawn.now.draws c.args.m.now c.args.txn in
-    let all = are_begun c.args.drawn.now.draws (deps_brought c.args.m.now) in
+    let from = is_from_attempt c.args.drawn.now.drawn.draws c.args.m.now c.args.txn in
+    let all = are_begun c.args.drawn.now.drawn.draws (deps_brought c.args.m.now) in
     let is : c.is_store.result ≡ store =
     c.is_store.ensures.value c.args.body.now (c.shards_of.ensures.listed ∙ ap (λ f. in_order (shards_of c.plan.inside.topology f)) c.uses.ensures)
     ∙ ap (λ (p : Content). is_store_of p.topology c.args.body.now c.args.own) c.plan.view_is in
