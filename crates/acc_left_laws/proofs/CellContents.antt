@@ -1,4 +1,5 @@
--- What of a message are cells and outcomes that have a spelling: each number has 64 bits.
+-- What of a message are cells and outcomes that have a spelling: each number has 64 bits, and what is written to are
+-- keys.
 use Rattle.std.proofs.Common.{true, false, cond, List, [], ◌∷◌, Option, Some, unwrap_or}
 use Rattle.std.specs.declared.cmp.Ordering.TheVariants.{Less, Equal, Greater}
 use Rattle.std.specs.FinMap.Entries.{by_order}
@@ -8,19 +9,20 @@ use Rattle.acc_value.specs.declared.value.Value.{Value}
 use Rattle.acc_value.specs.Key.{key_cmp, key_eq}
 use Rattle.acc_value.specs.Pairs.{find, put}
 use Rattle.acc_txn.specs.Short.{IsNumberedBody}
-use Rattle.acc_code.specs.Short.{IsCell, IsOutcome}
+use Rattle.acc_code.specs.Short.{IsCell}
 use Rattle.acc_message.specs.declared.answer.ReadAnswer.{ReadAnswer}
 use Rattle.acc_message.specs.declared.answer.ReadAnswer.TheVariants.{Values, Known}
 use Rattle.acc_message.specs.declared.message.Message.{Message}
 use Rattle.acc_message.specs.declared.message.Message.TheVariants.{PreAccept, PreAcceptOk, Accept, AcceptOk, Commit, CommitOk, Stable, ReadOk, Apply, Recover, RecoverOk, Nack, Decided, Inform}
 use Rattle.acc_message.specs.NodeRules.{Act, Begins, Recovers, Slows, Takes, Restarts}
+use Rattle.acc_left_laws.proofs.WrittenKeys.{IsSpelled}
 
 abbrev pub AreCellsOf : List (Key × Option Value) → Type 0
 AreCellsOf pairs = AllByRecursion (λ p. IsCell p.1) pairs
 
 abbrev pub AnswersCells : ReadAnswer → Type 0
 AnswersCells (Values cells) = AreCellsOf cells
-AnswersCells (Known outcome) = IsOutcome outcome
+AnswersCells (Known outcome) = IsSpelled outcome
 
 abbrev pub HasFittingCells : Message → Type 0
 HasFittingCells (PreAccept from to id ballot body) = IsNumberedBody body
@@ -31,12 +33,12 @@ HasFittingCells (Commit from to id ballot body t deps) = IsNumberedBody body
 HasFittingCells (CommitOk from to id ballot) = Unit {0}
 HasFittingCells (Stable from to id ballot body t deps) = IsNumberedBody body
 HasFittingCells (ReadOk from to id ballot answer) = AnswersCells answer
-HasFittingCells (Apply from to id ballot body t deps outcome) = IsNumberedBody body × IsOutcome outcome
+HasFittingCells (Apply from to id ballot body t deps outcome) = IsNumberedBody body × IsSpelled outcome
 HasFittingCells (Recover from to id ballot body) = IsNumberedBody body
 HasFittingCells (RecoverOk from to id ballot view) = Unit {0}
 HasFittingCells (Nack from to id ballot promised) = Unit {0}
 HasFittingCells (Decided from to id ballot t deps) = Unit {0}
-HasFittingCells (Inform from to id ballot outcome) = IsOutcome outcome
+HasFittingCells (Inform from to id ballot outcome) = IsSpelled outcome
 
 abbrev pub TakesFitting : Act → Type 0
 TakesFitting (Begins txn body) = IsNumberedBody body

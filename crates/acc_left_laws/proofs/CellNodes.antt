@@ -26,10 +26,10 @@ use Rattle.acc_safety.proofs.Attempted.{doing, of_moving, answers_kept, origin_o
 use Rattle.acc_safety.proofs.Frame.{before_reacts}
 use Rattle.acc_run_laws.proofs.Unions.{or_else_if}
 use Rattle.acc_txn.specs.Short.{IsNumberedBody}
-use Rattle.acc_code.specs.Short.{IsCell, IsOutcome}
-use Rattle.acc_code.proofs.AnswersFit.{answer_fits}
+use Rattle.acc_code.specs.Short.{IsCell}
 use Rattle.acc_left_laws.proofs.CellContents.{found_fits, AnswersCells, HasFittingCells, TakesFitting}
 use Rattle.acc_left_laws.proofs.CellStores.{KeepsFitting}
+use Rattle.acc_left_laws.proofs.WrittenKeys.{answer_spelled, IsSpelled}
 
 -- ---- outcomes from answers
 
@@ -59,7 +59,7 @@ known_fits (Inform from to id ballot outcome) h = tt
 known_among_fits : (answers : List Message) → HaveFittingCells answers → KeepsFitting (known_among answers)
 known_among_fits [] h = tt
 known_among_fits (m ∷ answers) h =
-    or_else_if IsOutcome (known_in m) (known_among answers) (known_fits m (h m (First m answers)))
+    or_else_if IsSpelled (known_in m) (known_among answers) (known_fits m (h m (First m answers)))
     (known_among_fits answers (λ n there. h n (Later n m answers there)))
 
 read_fits : (answer : ReadAnswer) (key : Key) → AnswersCells answer → IsCell (cell_in_read key answer)
@@ -90,14 +90,14 @@ cells_read_fits layout (m ∷ answers) h key =
     (λ _. cells_read_fits layout answers (λ n there. h n (Later n m answers there)) key)
 
 outcome_if_fits : (b : Bool) (layout : Layout) (body : BodyParts) (answers : List Message) → IsNumberedBody body → HaveFittingCells answers → KeepsFitting (outcome_if b layout body answers)
-outcome_if_fits true layout body answers fit h = answer_fits body (cell_read layout answers) fit (cells_read_fits layout answers h)
+outcome_if_fits true layout body answers fit h = answer_spelled body (cell_read layout answers) fit (cells_read_fits layout answers h)
 outcome_if_fits false layout body answers fit h = tt
 
 outcome_from_fits : (layout : Layout) (body : BodyParts) (answers : List Message) (outcome : Outcome) → IsNumberedBody body → HaveFittingCells answers
-    → outcome_from layout body answers ≡ Some outcome → IsOutcome outcome
+    → outcome_from layout body answers ≡ Some outcome → IsSpelled outcome
 outcome_from_fits layout body answers outcome fit h is =
     subst KeepsFitting is
-    (or_else_if IsOutcome (known_among answers) (outcome_if (read_everywhere layout body answers) layout body answers) (known_among_fits answers h)
+    (or_else_if IsSpelled (known_among answers) (outcome_if (read_everywhere layout body answers) layout body answers) (known_among_fits answers h)
     (outcome_if_fits (read_everywhere layout body answers) layout body answers fit h))
 
 -- ---- moves
@@ -109,7 +109,7 @@ took_fits : (deeds : List Deed) → DidFitting deeds → (m : Message) → Took 
 took_fits deeds did m t = subst TakesFitting t.act_is (each_at (λ (deed : Deed). TakesFitting deed.act) t.deed deeds did (StandsAt-IsIn t.deed t.past deeds t.at))
 
 abbrev FinishesFitting : Move → Type 0
-FinishesFitting (FinishWith s outcome) = IsOutcome outcome
+FinishesFitting (FinishWith s outcome) = IsSpelled outcome
 FinishesFitting _ = Unit {0}
 
 module _ (layout : Layout) (x : TxnId) where

@@ -25,13 +25,14 @@ use Rattle.acc_message.specs.Opening.{Change, changes_of, writes_of, writes_in, 
 use Rattle.acc_message.specs.StoreRules.{read_here, read_by, kept_or}
 use Rattle.acc_safety.specs.StoreSends.{StoreSends, Votes, Accepts, Commits, Reveals, ReadsAtOnce, ReadsOnOpening, Refuses, Tells}
 use Rattle.acc_run_laws.proofs.Unions.{or_else_if}
-use Rattle.acc_code.specs.Short.{IsCell, IsOutcome}
+use Rattle.acc_code.specs.Short.{IsCell}
 use Rattle.acc_left_laws.proofs.CellContents.{found_fits, put_each, AreCellsOf, AnswersCells, HasFittingCells}
+use Rattle.acc_left_laws.proofs.WrittenKeys.{IsSpelled}
 
 -- ---- outcomes that are kept
 
 abbrev pub KeepsFitting : Option Outcome → Type 0
-KeepsFitting o = IfSome o IsOutcome
+KeepsFitting o = IfSome o IsSpelled
 
 outcome_in_fits : (x : TxnId) (m : Message) → HasFittingCells m → KeepsFitting (outcome_in x m)
 outcome_in_fits x (Apply from to id ballot body t deps outcome) h = cond_both (id_eq id x) (Some outcome) None KeepsFitting (λ _. h.1) (λ _. tt)
@@ -56,7 +57,7 @@ TookFitting history = AllByRecursion (λ (step : Taken). HasFittingCells step.me
 kept_fits : (history : List Taken) (x : TxnId) → TookFitting history → KeepsFitting (kept_outcome history x)
 kept_fits [] x h = tt
 kept_fits (step ∷ past) x h =
-    or_else_if IsOutcome (kept_outcome past x) (outcome_in x step.message) (kept_fits past x h.1) (outcome_in_fits x step.message h.0)
+    or_else_if IsSpelled (kept_outcome past x) (outcome_in x step.message) (kept_fits past x h.1) (outcome_in_fits x step.message h.0)
 
 -- ---- cells
 
@@ -65,7 +66,7 @@ AllCells cells = (key : Key) → IsCell (cells key)
 
 writes_fits : (o : Option Outcome) → KeepsFitting o → AreCellsOf (writes_of o)
 writes_fits None h = tt
-writes_fits (Some outcome) h = h.writes.cells
+writes_fits (Some outcome) h = h.fits.writes.cells
 
 module _ (layout : Layout) (shard : ℕ) (history : List Taken) (took : TookFitting history) where
   written_fits : (c : Change) (cells : Key → Option Value) → AllCells cells → AllCells (written_by layout shard history c cells)

@@ -81,7 +81,7 @@ module _ (most : ℕ) (low : most < 2 ^ 64) (begun : List TxnId) (each_low : (x 
   content_fits (Commit from to id ballot body t deps) brings sets known short cells = (cells, fits_dated t deps known.t_low sets.0 short known.deps_begun)
   content_fits (Stable from to id ballot body t deps) brings sets known short cells = (cells, fits_dated t deps known.t_low sets.0 short known.deps_begun)
   content_fits (Apply from to id ballot body t deps outcome) brings sets known short cells =
-      ((cells.0, fits_dated t deps known.0.t_low sets.0 short.0 known.0.deps_begun), cells.1)
+      ((cells.0, fits_dated t deps known.0.t_low sets.0 short.0 known.0.deps_begun), cells.1.fits)
   content_fits (Recover from to id ballot body) brings sets known short cells = cells
   content_fits (PreAcceptOk from to id ballot vote deps) brings sets known short cells = absurd (true≢false (sym brings))
   content_fits (AcceptOk from to id ballot deps) brings sets known short cells = absurd (true≢false (sym brings))

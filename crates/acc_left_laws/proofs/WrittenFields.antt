@@ -19,7 +19,7 @@ use Rattle.acc_schedule.specs.declared.error.PlanKind.TheVariants.{Shape}
 use Rattle.acc_left.specs.Documents.{without_steps}
 use Rattle.acc_left_laws.proofs.PutFacts.{found_none, get_without, none_found, put_depth, put_named, without_named, AllNamed}
 
-names_differ : (a b : List ℕ) → bytes_eq a b ≡ false → a ≡ b → ⊥
+pub names_differ : (a b : List ℕ) → bytes_eq a b ≡ false → a ≡ b → ⊥
 names_differ a b apart same = true≢false (sym ((bytes_eq-Decides a b).1 same) ∙ apart)
 
 -- the document is an object
