@@ -23,7 +23,10 @@ use acc_ports::{Sink, Source};
 use acc_report::text;
 use acc_resume::{read_left, resume as resumed, roll};
 use acc_schedule::{Plan, PlanError};
-use std::alloc::Global;
+use std::alloc::{AllocError, Global};
+
+/// More bytes than a document has, and so few that the C library takes note of such a block.
+const LARGE: usize = 24 * 1024 * 1024;
 
 /// Reads a document with journals, opens each actor from its journal, takes the steps of the schedule, and tells what happened.
 pub(crate) fn resume<S: Source, K: Sink>(
@@ -34,10 +37,18 @@ pub(crate) fn resume<S: Source, K: Sink>(
 ) -> Status
     ensures { Responds IsResumeDue ResumesOn (streams_of S.Source K.Sink source.old sink.old) (streams_of S.Source K.Sink source.new sink.new) result }
 {
+    keep_freed(alloc);
     match read_document(alloc, source, sink) {
         Ok(bytes) => tell(sink, reply(alloc, bytes, remains)),
         Err(status) => status,
     }
+}
+
+// Has the C library keep the memory that is freed from here on. It maps long blocks one by one, and gives each back to the system
+// when it is freed, until it has freed a longer one once. Here the bytes and the JSON of the document are freed before the actors
+// are opened, which need as much again: to get that from the system anew would take as long as a tenth of all.
+fn keep_freed(alloc: Global) {
+    let _block: Result<Vec<u8>, AllocError> = Vec::with_capacity(alloc, LARGE);
 }
 
 // What is answered to a document.

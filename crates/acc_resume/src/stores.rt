@@ -17,6 +17,7 @@ use acc_left_laws::laws::reopened_actors_stand;
 use acc_ports::MemDisk;
 use acc_schedule::Plan;
 use acc_stamp::{Actor, actor};
+use acc_store::Store;
 use acc_topology::sets::contains;
 use std::alloc::Global;
 
@@ -58,11 +59,20 @@ fn push_stores(
     let replicas = plan.topology.replicas(shard);
     for node in 0..16 {
         if contains(replicas, node) {
-            let store = store_of(alloc, plan, images, actor(node, shard))?;
+            let own = actor(node, shard);
+            let store = store_of(alloc, plan, images, own, last_of(stores.as_slice()))?;
             stores.push(store)?;
         }
     }
     Ok(())
+}
+
+// The last of these stores.
+fn last_of(stores: &[DurableStore<MemDisk>]) -> Option<&Store> {
+    match stores.last() {
+        Some(store) => Some(store.store()),
+        None => None,
+    }
 }
 
 // The store, unless its journal has more messages than any memory holds.
@@ -76,12 +86,14 @@ fn short_of(store: DurableStore<MemDisk>) -> Result<DurableStore<MemDisk>, OutOf
     Ok(store)
 }
 
-// A store of the plan. Journals that break no rule are refused for want of memory alone.
+// A store of the plan. It shares the bodies and dependencies that its journal spells and another store, opened before it,
+// knows: most are known to all stores of a shard. Journals that break no rule are refused for want of memory alone.
 fn store_of(
     alloc: Global,
     plan: &Plan,
     images: &[Image],
     own: Actor,
+    other: Option<&Store>,
 ) -> Result<DurableStore<MemDisk>, OutOfMemory>
     requires is_plan { IsPlan plan.now }
     requires left { AreLeft plan.now images.now }
@@ -91,7 +103,7 @@ fn store_of(
 {
     reopened_actors_stand();
     let disk = disk_of(alloc, images, own)?;
-    match DurableStore::reopen(alloc, &plan.topology, own, plan.version, disk, None) {
+    match DurableStore::reopen(alloc, &plan.topology, own, plan.version, disk, other) {
         Ok(store) => short_of(store),
         Err(_) => Err(OutOfMemory),
     }

@@ -19,7 +19,7 @@ loop-node-preserved c =
       | then-contains+in_ok-store+in_ok-push w ↦
           let t = w.in_ok-store.ensures in
           pushed actor_in P _ _ (actor_of c.loop-node.node c.args.shard) _ _ _ w.in_ok-store.store c.loop-node.invariant
-          (one_more_store before c.args.shard set c.loop-node.node _ w.if-contains.true c.contains.ensures) (ap items_of w.stores-is) w.in_ok-push.ensures.items (t.actor ∙ w.actor.ensures.number) t.opened
+          (one_more_store before c.args.shard set c.loop-node.node _ w.if-contains.true c.contains.ensures) (ap items_of w.stores-is) w.in_ok-push.ensures.items (t.actor ∙ w.actor-own.ensures.number) t.opened
       | else-contains w ↦
           renamed actor_in P _ _ _ _ c.loop-node.invariant (no_more_store before c.args.shard set c.loop-node.node _ w.if-contains.false c.contains.ensures) (ap items_of w.stores-is)
     ]
