@@ -8,10 +8,10 @@ ghost use Rattle.acc_accept.specs.Accepting.{is_accept, is_commit, refusal_at, a
 
 use acc_base::OutOfMemory;
 use acc_deps::laws::dependencies_are_sets;
-use acc_deps::{Accepted, Deps};
+use acc_deps::{Accepted, Deps, SharedAccepted};
 use acc_index::Share;
 use acc_message::{Message, top};
-use acc_record::{Change, QuietPlan, Record, SharedAccepted, Shelf, answering, note_of, refusal};
+use acc_record::{Change, QuietPlan, Record, Shelf, answering, note_of, refusal};
 use acc_stamp::TxnId;
 use acc_topology::Topology;
 use acc_txn::Body;

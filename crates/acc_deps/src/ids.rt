@@ -31,7 +31,16 @@ pub(crate) fn insert_id(ids: &mut Ids, id: TxnId) -> Result<(), OutOfMemory>
     }
 }
 
-/// The transactions of either list, each once, rising. It looks at each of them once.
+// The same transactions, without room for more.
+fn fitted(ids: Ids) -> Ids
+    ensures { result ≡ ids }
+{
+    let mut exact = ids.into_vec();
+    exact.shrink_to_fit();
+    Ids::from_vec(exact)
+}
+
+/// The transactions of either list, each once, rising, in a list that fits. It looks at each of them once.
 pub fn merged_ids(alloc: Global, left: &[TxnId], right: &[TxnId]) -> Result<Ids, OutOfMemory>
     requires left_rises { IsRising left.now }
     requires right_rises { IsRising right.now }
@@ -62,5 +71,5 @@ pub fn merged_ids(alloc: Global, left: &[TxnId], right: &[TxnId]) -> Result<Ids,
     }
     merged.extend_from_slice(&left[i..])?;
     merged.extend_from_slice(&right[j..])?;
-    Ok(merged)
+    Ok(fitted(merged))
 }

@@ -12,5 +12,5 @@ mod shards;
 
 pub use deps::Deps;
 pub use ids::merged_ids;
-pub use records::{Accepted, Choice, Settled, SharedView, View};
+pub use records::{Accepted, Choice, Settled, SharedAccepted, SharedView, View};
 pub use shards::ShardDeps;

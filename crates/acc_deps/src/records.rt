@@ -38,6 +38,54 @@ impl Duplicate for Accepted {
     }
 }
 
+/// What an attempt proposed or committed, in a place that copies share, so that what lacks it stays small. Contracts see what stands there.
+#[derive(Debug, Drop)]
+pub struct SharedAccepted {
+    accepted: Arc<Accepted, Global>,
+}
+
+impl Model for SharedAccepted {
+    ghost use Rattle.std.specs.Arc.{arc_value};
+    ghost use Rattle.acc_deps.specs.declared.records.Accepted.{Accepted as Proposed};
+
+    ghost Value = { Proposed };
+
+    ghost view = { λ s. arc_value s.accepted };
+}
+
+impl SharedAccepted {
+    /// The same, which may be shared now.
+    pub fn new(alloc: Global, accepted: Accepted) -> Result<SharedAccepted, OutOfMemory>
+        ensures { IfOk result (λ shared. shared ≡ accepted) }
+    {
+        Ok(SharedAccepted {
+            accepted: Arc::new(alloc, accepted)?,
+        })
+    }
+
+    /// What stands there.
+    pub fn accepted(&self) -> &Accepted
+        ensures { result.now ≡ self.now }
+    {
+        &self.accepted
+    }
+
+    /// The same, shared with this one. It takes no memory of its own.
+    pub fn copy(&self) -> Result<SharedAccepted, OutOfMemory>
+        ensures { IfOk result (λ copy. copy ≡ self.now) }
+    {
+        Ok(SharedAccepted {
+            accepted: Arc::try_clone(&self.accepted)?,
+        })
+    }
+}
+
+impl Duplicate for SharedAccepted {
+    fn copy(&self) -> Result<SharedAccepted, OutOfMemory> {
+        SharedAccepted::copy(self)
+    }
+}
+
 /// A timestamp and dependencies without a ballot, as they are once they are decided.
 #[derive(Debug, PartialEq, Eq, Drop)]
 pub struct Settled {
@@ -66,7 +114,7 @@ impl Duplicate for Settled {
 }
 
 /// What a store reveals of a transaction to a recovery.
-#[derive(Debug, PartialEq, Eq, Drop)]
+#[derive(Debug, Drop)]
 pub struct View {
     /// The store.
     pub store: Actor,
@@ -75,9 +123,9 @@ pub struct View {
     /// The dependencies that it gave with the vote.
     pub vote_deps: Deps,
     /// What it accepted last.
-    pub accepted: Option<Accepted>,
+    pub accepted: Option<SharedAccepted>,
     /// What was committed at it last.
-    pub committed: Option<Accepted>,
+    pub committed: Option<SharedAccepted>,
     /// What is stable at it.
     pub stable: Option<Settled>,
     /// Whether a conflicting transaction was accepted, or is stable, in a way that rules out a fast decision.

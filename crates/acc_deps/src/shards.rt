@@ -111,6 +111,7 @@ pub(crate) fn merged_shards(
     }
     copy_onto(&mut merged, &left[i..])?;
     copy_onto(&mut merged, &right[j..])?;
+    merged.shrink_to_fit();
     Ok(merged)
 }
 

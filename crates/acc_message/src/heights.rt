@@ -3,7 +3,7 @@ ghost use Rattle.std.specs.Prelude.{◌≡◌};
 ghost use Rattle.acc_message.specs.Fields.{top_of, top_of_view, top_of_accepted, top_of_settled, top_of_own};
 
 use crate::message::Message;
-use acc_deps::{Accepted, Settled, View};
+use acc_deps::{Settled, SharedAccepted, View};
 
 /// The greatest `h` that a message names: that of its id, ballot, timestamp, vote or promise, and those of a view's vote,
 /// timestamps and ballots. Dependencies and waits don't count.
@@ -49,11 +49,14 @@ fn top_of_a_view(view: &View) -> u64
     view.vote.h.max(accepted.max(committed.max(stable)))
 }
 
-fn top_of_record(kept: &Option<Accepted>) -> u64
+fn top_of_record(kept: &Option<SharedAccepted>) -> u64
     ensures { result ≡ top_of_accepted kept.now }
 {
     match kept {
-        Some(accepted) => accepted.ballot.0.h.max(accepted.t.h),
+        Some(shared) => {
+            let accepted = shared.accepted();
+            accepted.ballot.0.h.max(accepted.t.h)
+        }
         None => 0,
     }
 }

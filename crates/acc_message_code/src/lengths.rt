@@ -5,7 +5,7 @@ ghost use Rattle.acc_message_code.specs.Spelling.{ids_bytes, shard_bytes, deps_b
 ghost use Rattle.acc_message_code.specs.Short.{AreShortIds, IsShortShard, AreShortDeps, IsShortAccepted, IsShortSettled, IsShortView};
 
 use crate::stamps::STAMP;
-use acc_deps::{Accepted, Deps, Settled, ShardDeps, View};
+use acc_deps::{Deps, Settled, ShardDeps, SharedAccepted, View};
 use acc_stamp::TxnId;
 
 #[tactic(auto, using(crate::proofs::ByteCounts::ids_take))]
@@ -67,14 +67,14 @@ pub(crate) fn dated_length(deps: &Deps) -> u64
 }
 
 #[tactic(auto, using(crate::proofs::ByteCounts::accepted_takes), unfolding(crate::specs::Spelling::optional))]
-fn optional_accepted_length(accepted: &Option<Accepted>) -> u64
+fn optional_accepted_length(accepted: &Option<SharedAccepted>) -> u64
     requires { IfSome accepted.now IsShortAccepted }
     ensures exact { result ≡ length (optional accepted_bytes accepted.now) }
     ensures most { result < 2 ^ 26 }
 {
     match accepted {
         None => 1,
-        Some(accepted) => 1 + STAMP + dated_length(&accepted.deps),
+        Some(accepted) => 1 + STAMP + dated_length(&accepted.accepted().deps),
     }
 }
 

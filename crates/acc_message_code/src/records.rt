@@ -11,7 +11,7 @@ use crate::deps::{put_deps, take_deps};
 use crate::stamps::{put_stamp, take_ballot, take_stamp};
 use acc_base::{Bytes, OutOfMemory};
 use acc_code::{CodeError, take_between};
-use acc_deps::{Accepted, Deps, Settled};
+use acc_deps::{Accepted, Deps, Settled, SharedAccepted};
 use acc_stamp::Stamp;
 use acc_wire::{Reader, put_u8};
 use std::alloc::Global;
@@ -43,7 +43,7 @@ fn put_accepted(out: &mut Bytes, accepted: &Accepted) -> Result<(), OutOfMemory>
 #[tactic(auto, using(acc_txn::proofs::Kept::keeps_all, acc_txn::proofs::Kept::keeps_front, acc_txn::proofs::Kept::keeps_more), unfolding(crate::specs::Spelling::optional))]
 pub(crate) fn put_optional_accepted(
     out: &mut Bytes,
-    accepted: &Option<Accepted>,
+    accepted: &Option<SharedAccepted>,
 ) -> Result<(), OutOfMemory>
     requires { IfSome accepted.now IsShortAccepted }
     ensures spelled { OnOk result (out.new ≡ out.old ++ optional accepted_bytes accepted.now) }
@@ -54,7 +54,7 @@ pub(crate) fn put_optional_accepted(
         None => put_u8(out, 0),
         Some(accepted) => {
             put_u8(out, 1)?;
-            put_accepted(out, accepted)
+            put_accepted(out, accepted.accepted())
         }
     }
 }
@@ -112,12 +112,15 @@ fn take_accepted(alloc: Global, reader: &mut Reader<'_>) -> Result<Accepted, Cod
 pub(crate) fn take_optional_accepted(
     alloc: Global,
     reader: &mut Reader<'_>,
-) -> Result<Option<Accepted>, CodeError>
+) -> Result<Option<SharedAccepted>, CodeError>
     ensures { Reads result reader.new (optional_at accepted_at reader.old) }
 {
     match take_between(reader, 0, 1)? {
         0 => Ok(None),
-        _ => Ok(Some(take_accepted(alloc, reader)?)),
+        _ => {
+            let accepted = take_accepted(alloc, reader)?;
+            Ok(Some(SharedAccepted::new(alloc, accepted)?))
+        }
     }
 }
 

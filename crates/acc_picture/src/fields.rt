@@ -2,7 +2,7 @@
 use crate::cast::Cast;
 use crate::pieces::{Piece, put};
 use acc_base::OutOfMemory;
-use acc_deps::{Accepted, Deps, Settled, View};
+use acc_deps::{Deps, Settled, SharedAccepted, View};
 use acc_message::{Message, ReadAnswer};
 use acc_stamp::{Stamp, TxnId};
 use acc_txn::{Outcome, Reply, Verdict};
@@ -203,18 +203,21 @@ fn push_view(text: &mut Vec<u8>, cast: &Cast<'_>, view: &View) -> Result<(), Out
 fn push_accepted(
     text: &mut Vec<u8>,
     word: &str,
-    accepted: &Option<Accepted>,
+    accepted: &Option<SharedAccepted>,
 ) -> Result<(), OutOfMemory> {
     match accepted {
-        Some(accepted) => put(
-            text,
-            &[
-                Piece::Raw(word),
-                Piece::Stamp(accepted.t),
-                Piece::Raw(" by ballot "),
-                Piece::Stamp(accepted.ballot.0),
-            ],
-        ),
+        Some(shared) => {
+            let accepted = shared.accepted();
+            put(
+                text,
+                &[
+                    Piece::Raw(word),
+                    Piece::Stamp(accepted.t),
+                    Piece::Raw(" by ballot "),
+                    Piece::Stamp(accepted.ballot.0),
+                ],
+            )
+        }
         None => Ok(()),
     }
 }

@@ -4,8 +4,8 @@ ghost use Rattle.acc_message.specs.BallotRules.{greater_ballot};
 ghost use Rattle.acc_record.specs.Changes.{with_vote, promising, changed};
 
 use crate::record::Record;
-use crate::shared_accepted::SharedAccepted;
 use crate::vote::Vote;
+use acc_deps::SharedAccepted;
 use acc_stamp::Ballot;
 
 /// What a step that opens nothing makes of the record of its transaction.

@@ -8,10 +8,9 @@ ghost use Rattle.acc_record.specs.Steps.{fresh};
 ghost use Rattle.acc_record.specs.Learning.{IsLearnt, is_covered_by, is_below_accepted, is_below_settled, later_of, share_at, stamp_to_note, note_of, notes_of};
 
 use crate::record::{KeptRecord, Record, Records};
-use crate::shared_accepted::SharedAccepted;
 use crate::shelf::Shelf;
 use acc_base::{OutOfMemory, ShortList};
-use acc_deps::{Deps, Settled};
+use acc_deps::{Deps, Settled, SharedAccepted};
 use acc_index::{Index, Share};
 use acc_stamp::{Ballot, Stamp, TxnId};
 use acc_topology::Topology;

@@ -9,7 +9,6 @@ mod plan;
 mod record;
 mod refusals;
 mod share;
-mod shared_accepted;
 mod shelf;
 mod vote;
 
@@ -19,6 +18,5 @@ pub use learn::{NotedStamp, fresh, note_of};
 pub use plan::{QuietParts, QuietPlan};
 pub use record::{KeptRecord, Record, Records};
 pub use refusals::{answering, refusal};
-pub use shared_accepted::SharedAccepted;
 pub use shelf::{Shelf, Waits, Watch};
 pub use vote::{Vote, drawn};

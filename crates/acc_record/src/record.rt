@@ -5,9 +5,8 @@ ghost use Rattle.acc_record.specs.contracts.record.KeptRecord.{the_row};
 ghost use Rattle.acc_record.specs.contracts.record.Record.{the_row as record_row};
 ghost use Rattle.acc_record.specs.Over.{is_over};
 
-use crate::shared_accepted::SharedAccepted;
 use acc_base::{OutOfMemory, ShortList};
-use acc_deps::{Deps, Settled};
+use acc_deps::{Deps, Settled, SharedAccepted};
 use acc_message::SharedOutcome;
 use acc_stamp::{Ballot, Stamp, TxnId};
 use acc_txn::Body;

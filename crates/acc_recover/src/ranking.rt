@@ -106,11 +106,12 @@ pub(crate) fn kept_in(view: &View) -> Option<(&Accepted, bool)>
         (λ kept. highest_claim (claims_in view.now) ≡ Some (claim_at view.now.store kept.0.now kept.1)) }
 {
     match (&view.committed, &view.accepted) {
-        (Some(committed), Some(accepted)) if committed.ballot < accepted.ballot => {
-            Some((accepted, false))
+        (Some(committed), Some(accepted))
+            if committed.accepted().ballot < accepted.accepted().ballot => {
+            Some((accepted.accepted(), false))
         }
-        (Some(committed), _) => Some((committed, true)),
-        (None, Some(accepted)) => Some((accepted, false)),
+        (Some(committed), _) => Some((committed.accepted(), true)),
+        (None, Some(accepted)) => Some((accepted.accepted(), false)),
         (None, None) => None,
     }
 }

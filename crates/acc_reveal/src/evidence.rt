@@ -8,9 +8,9 @@ ghost use Rattle.acc_message.specs.Evidence.{accepted_without, stable_without, a
 ghost use Rattle.acc_reveal.specs.Revealed.{rules_out, keeps_waiting, superseded_at, awaited_at};
 
 use acc_base::OutOfMemory;
-use acc_deps::Settled;
+use acc_deps::{Settled, SharedAccepted};
 use acc_index::rising;
-use acc_record::{Record, SharedAccepted, Shelf};
+use acc_record::{Record, Shelf};
 use acc_stamp::{Ids, TxnId};
 
 /// What the rivals of a transaction tell about it.

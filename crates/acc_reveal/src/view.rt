@@ -6,9 +6,9 @@ ghost use Rattle.acc_reveal.specs.Revealed.{accepted_in, committed_in, stable_in
 
 use crate::evidence::{Told, told_by};
 use acc_base::{Duplicate, OutOfMemory};
-use acc_deps::{Accepted, Settled, View};
+use acc_deps::{Settled, SharedAccepted, View};
 use acc_index::Share;
-use acc_record::{SharedAccepted, Shelf, Vote};
+use acc_record::{Shelf, Vote};
 use acc_stamp::TxnId;
 
 /// What the store reveals of a transaction that uses these keys here. `top` is the greatest `h` of the message that asks.
@@ -43,29 +43,20 @@ fn view_of(shelf: &Shelf, id: TxnId, rivals: Vec<TxnId>, vote: Vote) -> Result<V
     })
 }
 
-fn accepted(shelf: &Shelf, id: TxnId) -> Result<Option<Accepted>, OutOfMemory>
+fn accepted(shelf: &Shelf, id: TxnId) -> Result<Option<SharedAccepted>, OutOfMemory>
     ensures { IfOk result (λ accepted. accepted ≡ accepted_in (record_at shelf.now.records id)) }
 {
     match shelf.find(id) {
-        Some(record) => copied(&record.accepted),
+        Some(record) => record.accepted.copy(),
         None => Ok(None),
     }
 }
 
-fn committed(shelf: &Shelf, id: TxnId) -> Result<Option<Accepted>, OutOfMemory>
+fn committed(shelf: &Shelf, id: TxnId) -> Result<Option<SharedAccepted>, OutOfMemory>
     ensures { IfOk result (λ committed. committed ≡ committed_in (record_at shelf.now.records id)) }
 {
     match shelf.find(id) {
-        Some(record) => copied(&record.committed),
-        None => Ok(None),
-    }
-}
-
-fn copied(accepted: &Option<SharedAccepted>) -> Result<Option<Accepted>, OutOfMemory>
-    ensures { IfOk result (λ copy. copy ≡ accepted.now) }
-{
-    match accepted {
-        Some(accepted) => Ok(Some(accepted.accepted().copy()?)),
+        Some(record) => record.committed.copy(),
         None => Ok(None),
     }
 }

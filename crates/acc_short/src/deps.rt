@@ -4,7 +4,7 @@ ghost use Rattle.std.specs.List.{list_all};
 ghost use Rattle.acc_short.specs.Tests.{is_short_shard, are_short_deps, has_short_deps, has_short_settled, is_short_view};
 
 use crate::waits::rise;
-use acc_deps::{Accepted, Deps, Settled, ShardDeps, View};
+use acc_deps::{Deps, Settled, ShardDeps, SharedAccepted, View};
 
 fn shard_is_short(d: &ShardDeps) -> bool
     ensures { result ≡ is_short_shard d.now }
@@ -30,11 +30,11 @@ pub(crate) fn deps_are_short(deps: &Deps) -> bool
     shards_are_short(deps.by_shard())
 }
 
-fn accepted_is_short(accepted: &Option<Accepted>) -> bool
+fn accepted_is_short(accepted: &Option<SharedAccepted>) -> bool
     ensures { result ≡ has_short_deps accepted.now }
 {
     match accepted {
-        Some(accepted) => deps_are_short(&accepted.deps),
+        Some(accepted) => deps_are_short(&accepted.accepted().deps),
         None => true,
     }
 }

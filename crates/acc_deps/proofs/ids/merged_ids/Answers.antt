@@ -31,7 +31,8 @@ returns c =
     let i = c.loop-i.i in
     let j = c.loop-i.j in
     let so_far = c.loop-i.invariant.so_far in
-    c.in_ok-extend_from_slice-2.ensures.ok
+    c.fitted.ensures
+    ∙ c.in_ok-extend_from_slice-2.ensures.ok
     ∙ ap (λ zs. zs ++ take (length right - j) (drop j right)) (c.in_ok-extend_from_slice.ensures.ok ∙ ap (λ zs. c.loop-i.merged ++ zs) (whole_rest left i))
     ∙ ap (λ zs. (c.loop-i.merged ++ drop i left) ++ zs) (whole_rest right j)
     ∙ elim c.loop-i-test.branch [

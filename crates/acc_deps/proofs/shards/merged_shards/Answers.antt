@@ -44,7 +44,8 @@ returns c =
     let i = c.loop-i.i in
     let j = c.loop-i.j in
     let so_far = c.loop-i.invariant.so_far in
-    c.in_ok-copy_onto-2.ensures
+    c.shrink_to_fit.ensures.items
+    ∙ c.in_ok-copy_onto-2.ensures
     ∙ ap (λ zs. zs ++ take (length right - j) (drop j right)) (c.in_ok-copy_onto.ensures ∙ ap (λ zs. c.loop-i.merged.items ++ zs) (whole_rest left i))
     ∙ ap (λ zs. (c.loop-i.merged.items ++ drop i left) ++ zs) (whole_rest right j)
     ∙ elim c.loop-i-test.branch [
