@@ -27,10 +27,14 @@ pub fn write_all<K: Sink>(sink: &mut K, text: &[u8]) -> Result<(), PortError>
 /// How much room the first read has.
 const FIRST_ROOM: usize = 64 * 1024;
 
+/// By how much a buffer grows at most. The C library maps a block of such a size and moves the map when the block grows, in place of
+/// its bytes. All room is written before it is read into, so what is never filled is to be little.
+const STEP: usize = 1024 * 1024;
+
 /// Reads all bytes that `source` has left, where there are at most `limit`. `TooLong` comes where there are more: then
 /// one byte past the limit was read, and no further one is. After `Failed` and `OutOfMemory` at most that many bytes
 /// were read. After any error the bytes that were read are gone. They stand once in memory, in a buffer that becomes
-/// twice as long when it is full.
+/// twice as long when it is full, or a MiB longer once it has that.
 pub fn read_all<S: Source>(alloc: Global, source: &mut S, limit: u64) -> Result<Bytes, ReadError>
     ensures within { IfOk result (λ bytes. length bytes ≤ limit) }
     ensures all { IfOk result (λ bytes. IfSome (S.left source.old) (λ left. bytes ≡ left)) }
@@ -64,7 +68,8 @@ pub fn read_all<S: Source>(alloc: Global, source: &mut S, limit: u64) -> Result<
     Err(ReadError::TooLong)
 }
 
-/// Makes room behind the first `filled` bytes. A full buffer becomes twice as long, as far as `most` allows.
+/// Makes room behind the first `filled` bytes. A full buffer becomes twice as long, or a MiB longer once it has that, as far as `most`
+/// allows.
 fn make_room(bytes: &mut Vec<u8>, filled: usize, most: usize) -> Result<(), AllocError>
     requires fits { vec_len bytes.old ≤ most }
     requires not_full { filled < most }
@@ -74,7 +79,8 @@ fn make_room(bytes: &mut Vec<u8>, filled: usize, most: usize) -> Result<(), Allo
     ensures within { vec_len bytes.new ≤ most }
 {
     if filled == bytes.len() {
-        let room = filled.saturating_mul(2).max(FIRST_ROOM).min(most);
+        let more = filled.max(FIRST_ROOM).min(STEP);
+        let room = filled.saturating_add(more).min(most);
         bytes.resize(room, 0)?;
     }
     Ok(())
