@@ -1,5 +1,5 @@
 -- The spelling of a body is bytes.
-use Rattle.std.proofs.Common.{ℕ, ◌+◌, ◌<◌, ◌≤◌, Bool, true, false, List, [], ◌∷◌, ◌++◌, length, arith}
+use Rattle.std.proofs.Common.{ℕ, ◌<◌, ◌≤◌, Bool, true, false, List, [], ◌∷◌, ◌++◌, length, arith}
 use Rattle.std.specs.List.{AllByRecursion}
 use Rattle.acc_value.specs.declared.key.Key.{Key}
 use Rattle.acc_wire.specs.Spelling.{text_bytes, u8_bytes}
