@@ -179,7 +179,6 @@ fn range_of_notes(heads: &[Head], notes: &[Note], place: usize) -> (usize, usize
     ensures within { result.1 ≤ length notes.now }
     ensures range { (head : AHead) → slice_get heads.now place ≡ Some head → (result.0 ≡ begin_of noted_of 0 heads.now place) × (result.1 ≡ noted_of head) }
 {
-    let _notes = notes;
     let noted = heads[place].noted();
     (begin_notes(heads, place) as usize, noted as usize)
 }
@@ -192,7 +191,6 @@ fn range(heads: &[Head], messages: &[Message], place: usize) -> (usize, usize)
     ensures within { result.1 ≤ length messages.now }
     ensures range { (head : AHead) → slice_get heads.now place ≡ Some head → (result.0 ≡ begin_of until_of 0 heads.now place) × (result.1 ≡ until_of head) }
 {
-    let _messages = messages;
     let until = heads[place].until();
     (begin(heads, place) as usize, until as usize)
 }
