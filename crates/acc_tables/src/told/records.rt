@@ -1,7 +1,7 @@
 //! Actors, stamps, dependencies, and what stores keep. Each stands after a space.
 use super::push;
 use acc_base::{OutOfMemory, push_number};
-use acc_deps::{Accepted, Deps, Settled, View};
+use acc_deps::{Deps, Settled, SharedAccepted, View};
 use acc_stamp::{Actor, Stamp, TxnId};
 
 /// The number of a node, or that of a node and that of a shard, joined by a point.
@@ -77,10 +77,11 @@ fn push_records(text: &mut Vec<u8>, view: &View) -> Result<(), OutOfMemory> {
 }
 
 /// The ballot, the timestamp and the dependencies in brackets, or `-`.
-fn push_accepted(text: &mut Vec<u8>, record: Option<&Accepted>) -> Result<(), OutOfMemory> {
-    let Some(record) = record else {
+fn push_accepted(text: &mut Vec<u8>, shared: Option<&SharedAccepted>) -> Result<(), OutOfMemory> {
+    let Some(shared) = shared else {
         return push(text, " -");
     };
+    let record = shared.accepted();
     push(text, " (")?;
     push_pair(text, record.ballot.0)?;
     push_settled(text, record.t, &record.deps)?;
