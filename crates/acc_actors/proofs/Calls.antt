@@ -1,5 +1,6 @@
 -- From what the calls of actors ensure to what their slots have tried.
 use Rattle.std.proofs.Common.{◌≡◌, ℕ, ◌≤◌, true, false, Option, None, Result, Ok, Err, IfOk, is_none, sym, ◌∙◌, ap, subst}
+use Rattle.std.specs.Prelude.{OnErr}
 use Rattle.acc_base.specs.declared.memory.OutOfMemory.{OutOfMemory}
 use Rattle.acc_stamp.specs.declared.actors.Actor.{Actor}
 use Rattle.acc_stamp.specs.declared.stamps.TxnId.{TxnId}
@@ -25,10 +26,11 @@ use Rattle.acc_schedule_runs.specs.Disks.{Disks}
 use Rattle.acc_actors.specs.declared.slot.Slot.{Slot}
 use Rattle.acc_actors.specs.declared.slot.Slot.TheVariants.{Node}
 use Rattle.acc_actors.specs.Pasts.{node_past}
-use Rattle.acc_actors.specs.Slots.{IsStrictSlot, node_name, faults_in}
+use Rattle.acc_actors.specs.Slots.{IsStrictSlot, StaysIn, node_name, faults_in}
 use Rattle.acc_actors.specs.Asked.{step_by, over_disks, IsAsked, MayAsk, HasTried, HasTriedStrictly, HasAnswered}
 use Rattle.acc_actors.proofs.NodeSlots.{stop_for, may_draw, is_fresh, tried, tried_strictly, begin_stop_is, recover_stop_is}
 use Rattle.acc_actors.proofs.Few.{steps_up}
+use Rattle.acc_actors.proofs.Refused.{node_stays}
 
 module _ {D : Type 0} (port : Ghosts D) (plan : Content) (a : Actor) (slot : Slot D) (n : NodeActor D) (is : slot ≡ Node n)
     (layout : Layout) (layout_is : layout ≡ plan.topology) where
@@ -103,12 +105,21 @@ module _ {D : Type 0} (port : Ghosts D) (plan : Content) (a : Actor) (slot : Slo
         (node_name plan (node_of a)) (disks.armed a) (disks.passed a) (node_past (cluster_of plan) s a) here.stands.stands
         (subst (λ (x : Slot D). IsStrictSlot port plan s disks a x) is are))
 
+    -- where memory was refused
+    refused : (r : Result (Option Emitted) OutOfMemory) → node.is_down n ≡ false → OnErr r (node.is_down new ≡ false → node.IsAsBefore port layout n new × (node.disk_of new ≡ node.disk_of n))
+        → OnErr r (node.is_down new ≡ false → StaysIn port plan a slot (Node new))
+    refused (Ok given) up left = tt
+    refused (Err e) up left = λ still_up.
+        let as_before = left still_up in
+        subst (λ (x : Slot D). StaysIn port plan a x (Node new)) (sym is) (node_stays port plan a layout layout_is n new up still_up as_before.0 as_before.1)
+
     -- what its slot answers
-    pub answers : (r : Result (Option Emitted) OutOfMemory) → node.HasStepped port layout n new (stop layout) r → HasAnswered port plan (step_by a event act) slot (Node new) r
-    answers r stepped =
+    pub answers : (r : Result (Option Emitted) OutOfMemory) → MayAsk port plan (step_by a event act) slot → node.HasStepped port layout n new (stop layout) r → HasAnswered port plan (step_by a event act) slot (Node new) r
+    answers r may stepped =
         record {
           ok = called r stepped.ok stepped.down (steps_up r _ _ stepped.faults) stepped.faults.cause;
           strict = called_strictly r stepped.strict;
+          refused = refused r (is_up event act may) stepped.refused;
           faults = subst (λ (x : Slot D). CountsFaults (r ≡ Ok None) (faults_in port x) (port.state (node.disk_of new)).faults) (sym is) stepped.faults;
         }
 

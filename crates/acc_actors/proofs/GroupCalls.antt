@@ -1,5 +1,5 @@
 -- From what the calls of a store that takes a group ensure to what its slot is.
-use Rattle.std.proofs.Common.{◌≡◌, ◌≢◌, ℕ, ◌≤◌, false, List, [], ◌∷◌, ◌++◌, Option, None, Result, Ok, Err, IfOk, OnOk, OnErr, is_none, refl, sym, ◌∙◌, ap, subst}
+use Rattle.std.proofs.Common.{◌≡◌, ◌≢◌, ℕ, ◌≤◌, true, false, List, [], ◌∷◌, ◌++◌, Option, None, Result, Ok, Err, IfOk, OnOk, OnErr, is_none, refl, sym, ◌∙◌, ap, subst}
 use Rattle.std.proofs.lemmas.Result.{on_ok_weaker}
 use Rattle.acc_base.specs.declared.memory.OutOfMemory.{OutOfMemory}
 use Rattle.acc_stamp.specs.declared.actors.Actor.{Actor}
@@ -10,6 +10,7 @@ use Rattle.acc_message.specs.declared.message.Message.{Message}
 use Rattle.acc_message.specs.declared.entry.Event.{Event}
 use Rattle.acc_message.specs.declared.entry.Event.TheVariants.{Message as TakesMessage}
 use Rattle.acc_message.specs.NodeRules.{Takes}
+use Rattle.acc_message.specs.Run.{is_node}
 use Rattle.acc_message_code.specs.Weight.{weight_of_all, weight_of}
 use Rattle.acc_payloads.specs.Items.{downs_in}
 use Rattle.acc_payloads.specs.declared.stops.Unsent.{Unsent}
@@ -196,6 +197,11 @@ module _ {D : Type 0} (port : Ghosts D) (plan : Content) (a : Actor) (slot : Slo
       (subst (λ (x : Slot D). IsStrictSlot port plan s disks a x) is are)
       (stops_some port plan s a staged t here some))
 
+  -- where memory was refused
+  settle_refused : (r : Result (Option (List Unsent)) OutOfMemory) (new : StoreActor D) → OnErr r (store.is_down new ≡ true) → OnErr r (is_node a ≡ false → store.is_down new ≡ true)
+  settle_refused (Ok given) new broken = tt
+  settle_refused (Err e) new broken = λ kind. broken
+
   -- what its slot answers
   pub settle_answers : (r : Result (Option (List Unsent)) OutOfMemory) (new : StoreActor D)
       → IfOk r (λ given. (layout : Layout) (name : StoreName) (past : Past Message) (staged : List (Stop Message)) → store.IsStaging port layout name past staged t
@@ -206,10 +212,12 @@ module _ {D : Type 0} (port : Ghosts D) (plan : Content) (a : Actor) (slot : Slo
       → store.IsStrictAt port layout name armed passed past t → staged ≢ []
       → IfOk r (λ given. (is_none given ≡ fails_append armed)
       × store.IsStrictAt port layout name (after_append armed) (passed_in armed) (after_group given past staged) new))
+      → OnErr r (store.is_down new ≡ true)
       → HasAnsweredAll port plan a slot (Store new) r
-  settle_answers r new ok down counts strict =
+  settle_answers r new ok down counts strict broken =
       record {
         ok = settle_called r new ok down (steps_up r _ _ counts) counts.cause;
         strict = settle_called_strictly r new strict;
+        refused = settle_refused r new broken;
         faults = subst (λ (x : Slot D). CountsFaults (r ≡ Ok None) (faults_in port x) (port.state (store.disk_of new)).faults) (sym is) counts;
       }

@@ -1,9 +1,11 @@
 pub mod Apart
 pub mod Arms
 pub mod Calls
+pub mod Excluded
 pub mod Few
 pub mod NodeSlots
 pub mod Pasts
+pub mod Refused
 pub mod RestartCalls
 pub mod RestartPasts
 pub mod RestartSlots

@@ -1,5 +1,6 @@
 -- From what the calls of actors that take a message ensure to what their slots have tried.
 use Rattle.std.proofs.Common.{◌≡◌, ◌⊎◌, ℕ, ◌+◌, ◌<◌, ◌≤◌, ◌^◌, true, false, not, List, [], Option, None, Some, Result, Ok, Err, IfOk, is_none, length, sym, ◌∙◌, ap, subst, arith, inl, inr, ⊎_elim}
+use Rattle.std.specs.Prelude.{OnErr, IsErr}
 use Rattle.std.specs.Option.{option_map}
 use Rattle.std.specs.List.{AllByRecursion}
 use Rattle.std.proofs.lemmas.Bool.{true≢false}
@@ -48,9 +49,10 @@ use Rattle.acc_schedule_runs.specs.Disks.{Disks}
 use Rattle.acc_actors.specs.declared.slot.Slot.{Slot}
 use Rattle.acc_actors.specs.declared.slot.Slot.TheVariants.{Node, Store}
 use Rattle.acc_actors.specs.Pasts.{node_past, store_past}
-use Rattle.acc_actors.specs.Slots.{IsStrictSlot, node_name, store_name, faults_in}
+use Rattle.acc_actors.specs.Slots.{IsStrictSlot, StaysIn, node_name, store_name, faults_in}
 use Rattle.acc_actors.specs.Asked.{step_by, over_disks, IsFew, IsAsked, MayAsk, HasTried, HasTriedStrictly, HasAnswered}
 use Rattle.acc_actors.proofs.Few.{few_whole, steps_up, given_counts, refused_counts}
+use Rattle.acc_actors.proofs.Refused.{node_stays, store_stays}
 use Rattle.acc_actors.proofs.NodeSlots.{took, took_strictly}
 use Rattle.acc_actors.proofs.StoreSlots.{store_tried, store_tried_strictly}
 
@@ -144,11 +146,22 @@ module _ {D : Type 0} (port : Ghosts D) (plan : Content) (a : Actor) (number : �
           record {
             ok = node_took n new emitted is ok down disk;
             strict = node_took_strictly n new emitted is strict;
+            refused = tt;
             faults = given_counts emitted (faults_in port slot) (port.state (node.disk_of new)).faults same_faults;
           }
 
-      pub node_refuses : (e : OutOfMemory) → HasAnswered port plan (step_by a (MessageEvent number) (Takes m)) slot (Node new) (Err e)
-      node_refuses e = record { ok = tt; strict = tt; faults = refused_counts e (faults_in port slot) (port.state (node.disk_of new)).faults same_faults }
+      pub node_refuses : (r : Result (Option Emitted) OutOfMemory) → IsErr r → MayAsk port plan (step_by a (MessageEvent number) (Takes m)) slot → node.IsAsBefore port layout n new
+          → HasAnswered port plan (step_by a (MessageEvent number) (Takes m)) slot (Node new) r
+      node_refuses (Ok given) failed may as_before = absurd (true≢false (sym failed))
+      node_refuses (Err e) failed may as_before =
+          let asked : IsAsked port plan may.0 (step_by a (MessageEvent number) (Takes m)) (Node n) = subst (λ (x : Slot D). IsAsked port plan may.0 (step_by a (MessageEvent number) (Takes m)) x) is may.1 in
+          let up : node.is_down n ≡ false = asked.stands.down ∙ asked.up in
+          record {
+            ok = tt;
+            strict = tt;
+            refused = λ still_up. subst (λ (x : Slot D). StaysIn port plan a x (Node new)) (sym is) (node_stays port plan a layout layout_is n new up still_up as_before disk);
+            faults = refused_counts e (faults_in port slot) (port.state (node.disk_of new)).faults same_faults;
+          }
 
     -- ---- a store
 
@@ -205,6 +218,16 @@ module _ {D : Type 0} (port : Ghosts D) (plan : Content) (a : Actor) (number : �
           (store_name plan a) (disks.armed a) (disks.passed a) (store_past (cluster_of plan) s a) here.stands.stands
           (subst (λ (x : Slot D). IsStrictSlot port plan s disks a x) is are))
 
+      store_refused : (new : StoreActor D) (r : Result (Option Emitted) OutOfMemory) → MayAsk port plan (step_by a (MessageEvent number) (Takes m)) slot
+          → OnErr r (store.is_down new ≡ false → store.IsAsBefore port layout t new × (store.disk_of new ≡ store.disk_of t))
+          → OnErr r (store.is_down new ≡ false → StaysIn port plan a slot (Store new))
+      store_refused new (Ok given) may left = tt
+      store_refused new (Err e) may left = λ still_up.
+          let asked : IsAsked port plan may.0 (step_by a (MessageEvent number) (Takes m)) (Store t) = there may.0 may.1 in
+          let up : store.is_down t ≡ false = asked.stands.down ∙ asked.up in
+          let as_before = left still_up in
+          subst (λ (x : Slot D). StaysIn port plan a x (Store new)) (sym is) (store_stays port plan a layout layout_is t new up still_up as_before.0 as_before.1)
+
       -- what its slot answers
       pub store_answers : (new : StoreActor D) (r : Result (Option Emitted) OutOfMemory)
           → IfOk r (λ given. (name : StoreName) (past : Past Message) → store.StandsFor port layout name past t → store.Steps port layout name past (store.message_stop number m) new given)
@@ -214,10 +237,13 @@ module _ {D : Type 0} (port : Ghosts D) (plan : Content) (a : Actor) (number : �
           → store.IsStrictAt port layout name armed passed past t
           → IfOk r (λ given. (is_none given ≡ fails_append armed)
           × store.IsStrictAt port layout name (after_append armed) (passed_in armed) (after_step given past (store.message_stop number m)) new))
+          → MayAsk port plan (step_by a (MessageEvent number) (Takes m)) slot
+          → OnErr r (store.is_down new ≡ false → store.IsAsBefore port layout t new × (store.disk_of new ≡ store.disk_of t))
           → HasAnswered port plan (step_by a (MessageEvent number) (Takes m)) slot (Store new) r
-      store_answers new r ok down counts strict =
+      store_answers new r ok down counts strict may left =
           record {
             ok = store_called new r ok down (steps_up r _ _ counts) counts.cause;
             strict = store_called_strictly new r strict;
+            refused = store_refused new r may left;
             faults = subst (λ (x : Slot D). CountsFaults (r ≡ Ok None) (faults_in port x) (port.state (store.disk_of new)).faults) (sym is) counts;
           }

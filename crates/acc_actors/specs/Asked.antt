@@ -1,5 +1,5 @@
 -- When an actor may be asked for a step, and what it answers.
-use Rattle.std.specs.Prelude.{◌≡◌, ℕ, ◌+◌, ◌<◌, ◌≤◌, ◌^◌, Bool, true, false, ◌&&◌, List, [], ◌∷◌, ◌≢◌, length, Option, None, Some, is_none, Result, Ok, IfOk}
+use Rattle.std.specs.Prelude.{◌≡◌, ℕ, ◌+◌, ◌<◌, ◌≤◌, ◌^◌, Bool, true, false, ◌&&◌, List, [], ◌∷◌, ◌≢◌, length, Option, None, Some, is_none, Result, Ok, IfOk, OnErr}
 use Rattle.std.specs.List.{AllByRecursion}
 use Rattle.acc_base.specs.declared.memory.OutOfMemory.{OutOfMemory as NoMemory}
 use Rattle.acc_stamp.specs.declared.actors.Actor.{Actor}
@@ -12,7 +12,7 @@ use Rattle.acc_message.specs.declared.item.Skip.TheVariants as skips
 use Rattle.acc_message.specs.declared.item.Item.TheVariants.{Down}
 use Rattle.acc_message.specs.Items.{id_of_txn}
 use Rattle.acc_message.specs.NodeRules.{Act}
-use Rattle.acc_message.specs.Run.{Cluster, act_of, is_down, IsHomeOf}
+use Rattle.acc_message.specs.Run.{Cluster, act_of, is_node, is_down, IsHomeOf}
 use Rattle.acc_message_code.specs.Weight.{weight_of}
 use Rattle.acc_node.specs.declared.error.NodeError.{NodeError}
 use Rattle.acc_node.specs.declared.error.NodeError.TheVariants.{Begun, Unknown, NoQuorum, OutOfMemory}
@@ -32,7 +32,7 @@ use Rattle.acc_payloads.specs.Appends.{fails_append}
 use Rattle.acc_schedule_runs.specs.Disks.{Disks, after_step, after_restart}
 use Rattle.acc_schedule_runs.specs.StrictMoves.{StrictSituation}
 use Rattle.acc_schedule_runs.specs.Limits.{most_items}
-use Rattle.acc_actors.specs.Slots.{SlotStages, SlotStands, IsStrictSlot, faults_in}
+use Rattle.acc_actors.specs.Slots.{SlotStages, SlotStands, IsStrictSlot, StaysIn, faults_in, is_down_in}
 use Rattle.acc_actors.specs.declared.slot.Slot.{Slot}
 
 -- room for counting as many items as a run may have after the earlier run
@@ -82,11 +82,13 @@ pub record HasTriedStrictly {D : Type 0} (port : Ghosts D) (plan : Content) (at 
 abbrev pub MayAsk : {D : Type 0} → Ghosts D → Content → ActorStep → Slot D → Type 0
 MayAsk port plan step slot = (s : Situation) × IsAsked port plan s step slot
 
--- What an actor that was asked for a step answers, and what it leaves. Want of memory tells of the disk's count alone.
+-- What an actor that was asked for a step answers, and what it leaves. Where memory was refused, all is as before, or its journal broke
+-- and it is down: then nothing but the disk's count is known.
 pub record HasAnswered {D : Type 0} (port : Ghosts D) (plan : Content) (step : ActorStep) (old new : Slot D) (result : Result (Option Emitted) NoMemory) : Type 0 where
   pub ok : IfOk result (λ given. (s : Situation) → IsAsked port plan s step old → HasTried port plan s step.actor step.event new given)
   pub strict : IfOk result (λ given. (s : Situation) (disks : Disks) → IsAsked port plan s step old → IsStrictSlot port plan s disks step.actor old
       → HasTriedStrictly port plan (over_disks s disks) step.actor step.event new given)
+  pub refused : OnErr result (is_down_in new ≡ false → StaysIn port plan step.actor old new)
   pub faults : CountsFaults (result ≡ Ok None) (faults_in port old) (faults_in port new)
 
 -- so many bytes of encoded messages would go out for the step
@@ -157,11 +159,12 @@ pub record HasSettledStrictly {D : Type 0} (port : Ghosts D) (plan : Content) (a
   pub fails : is_none given ≡ fails_append (at.disks.armed a)
   pub strictly : IsStrictSlot port plan (settled_if (is_none given) (cluster_of plan) at.found a staged) (after_step true a at.disks) a slot
 
--- What an actor answers that was asked to settle, and what it leaves. Want of memory tells of the disk's count alone.
+-- What an actor answers that was asked to settle, and what it leaves. Where memory was refused, a store is down, as its journal broke.
 pub record HasAnsweredAll {D : Type 0} (port : Ghosts D) (plan : Content) (a : Actor) (old new : Slot D) (result : Result (Option (List Unsent)) NoMemory) : Type 0 where
   pub ok : IfOk result (λ given. (s : Situation) (staged : List Event) → IsStaged port plan s a staged old → HasSettled port plan s a staged new given)
   pub strict : IfOk result (λ given. (s : Situation) (staged : List Event) (disks : Disks) → IsStaged port plan s a staged old → staged ≢ [] → IsStrictSlot port plan s disks a old
       → HasSettledStrictly port plan (over_disks s disks) a staged new given)
+  pub refused : OnErr result (is_node a ≡ false → is_down_in new ≡ true)
   pub faults : CountsFaults (result ≡ Ok None) (faults_in port old) (faults_in port new)
 
 -- ---- slowing

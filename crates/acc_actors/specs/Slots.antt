@@ -2,7 +2,7 @@
 --     SlotStages      for its past, with these steps staged after it, and its disk has counted its downs
 --     SlotStands      the same with nothing staged
 --     IsStrictSlot      its disk is strict, and what is armed there is known
-use Rattle.std.specs.Prelude.{◌≡◌, ℕ, ◌≤◌, true, false, List, [], ◌∷◌}
+use Rattle.std.specs.Prelude.{◌≡◌, ℕ, ◌≤◌, Bool, true, false, List, [], ◌∷◌}
 use Rattle.acc_stamp.specs.declared.actors.Actor.{Actor}
 use Rattle.acc_stamp.specs.Actor.{node_of}
 use Rattle.acc_ports.specs.declared.disk.Disk.{Ghosts}
@@ -63,6 +63,12 @@ SlotStages port plan s a staged (Store t) = StoreStages port plan s a staged t
 abbrev pub SlotStands : {D : Type 0} → Ghosts D → Content → Situation → Actor → Slot D → Type 0
 SlotStands port plan s a slot = SlotStages port plan s a [] slot
 
+-- an actor stands in the slot, and is down
+abbrev pub is_down_in : {D : Type 0} → Slot D → Bool
+is_down_in Empty = false
+is_down_in (Node n) = node.is_down n
+is_down_in (Store t) = store.is_down t
+
 -- the disk of the actor has counted so many faults
 abbrev pub faults_in : {D : Type 0} → Ghosts D → Slot D → ℕ
 faults_in port Empty = 0
@@ -91,3 +97,10 @@ abbrev pub IsPreparedIn : {D : Type 0} → Content → Slot D → Message → Pr
 IsPreparedIn plan Empty m prepared = ⊥
 IsPreparedIn plan (Node node) m prepared = ⊥
 IsPreparedIn plan (Store store) m prepared = IsPreparedBy plan.topology store m prepared
+
+-- ---- where memory was refused
+
+-- The actor stands in the slot for what it stood for, over the disk that it had.
+pub record StaysIn {D : Type 0} (port : Ghosts D) (plan : Content) (a : Actor) (old new : Slot D) : Type 0 where
+  pub stands : (s : Situation) → SlotStands port plan s a old → SlotStands port plan s a new
+  pub strictly : (s : Situation) (disks : Disks) → IsStrictSlot port plan s disks a old → IsStrictSlot port plan s disks a new

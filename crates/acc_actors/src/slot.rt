@@ -36,7 +36,7 @@ pub enum Slot<D: Rig> {
 }
 
 impl<D: Rig> Slot<D> {
-    ghost use Rattle.acc_actors.specs.Slots.{SlotStands, IsStrictSlot, IsTaken, faults_in};
+    ghost use Rattle.acc_actors.specs.Slots.{SlotStands, IsStrictSlot, IsTaken, faults_in, is_down_in};
     ghost use Rattle.acc_actors.specs.Stores.{IsStoreOf};
     ghost use Rattle.acc_actors.specs.Asked.{step_by, over_disks, IsFew, MayAsk, HasAnswered, HasRestartedAt, HasRestartedStrictlyAt};
 
@@ -53,7 +53,7 @@ impl<D: Rig> Slot<D> {
     {
         match self {
             Slot::Node(node) => node.begin(&plan.topology, txn, body),
-            Slot::Empty | Slot::Store(_) => Err(OutOfMemory),
+            Slot::Empty | Slot::Store(_) => unreachable!(),
         }
     }
 
@@ -71,7 +71,7 @@ impl<D: Rig> Slot<D> {
     {
         match self {
             Slot::Node(node) => node.recover(&plan.topology, txn, id, body),
-            Slot::Empty | Slot::Store(_) => Err(OutOfMemory),
+            Slot::Empty | Slot::Store(_) => unreachable!(),
         }
     }
 
@@ -89,18 +89,19 @@ impl<D: Rig> Slot<D> {
     {
         messages_have_numbers_alone();
         match self {
-            Slot::Empty => Err(OutOfMemory),
+            Slot::Empty => unreachable!(),
             Slot::Node(node) => Ok(Some(node.take(&plan.topology, m)?)),
             Slot::Store(store) => store.take(&plan.topology, number, m),
         }
     }
 
-    /// Whether the actor is down.
+    /// Whether an actor stands here that is down.
     pub fn is_down(&self) -> bool
-        ensures { (plan : Content) (s : Situation) (a : AnActor) → SlotStands D.Disk plan s a self.now → result ≡ is_down a (whole s) }
+        ensures value { result ≡ is_down_in self.now }
+        ensures stands { (plan : Content) (s : Situation) (a : AnActor) → SlotStands D.Disk plan s a self.now → result ≡ is_down a (whole s) }
     {
         match self {
-            Slot::Empty => true,
+            Slot::Empty => false,
             Slot::Node(node) => node.is_down(),
             Slot::Store(store) => store.is_down(),
         }

@@ -33,10 +33,9 @@ impl<D: Rig> Slot<D> {
         ensures prepared { IfOk result (λ found. IsPreparedIn plan.now self.now m.now found.1) }
     {
         messages_have_numbers_alone();
-        let _actor = actor;
-        let _number = number;
         match self {
-            Slot::Empty | Slot::Node(_) => Err(OutOfMemory),
+            Slot::Empty => unreachable!(),
+            Slot::Node(_) => Err(OutOfMemory),
             Slot::Store(store) => {
                 let prepared = store.prepare(&plan.topology, m)?;
                 let weight = store.weigh(&plan.topology, m, &prepared)?;
@@ -66,9 +65,9 @@ impl<D: Rig> Slot<D> {
         ensures faults { faults_in D.Disk self.new ≡ faults_in D.Disk self.old }
     {
         messages_have_numbers_alone();
-        let _actor = actor;
         match self {
-            Slot::Empty | Slot::Node(_) => Err(OutOfMemory),
+            Slot::Empty => unreachable!(),
+            Slot::Node(_) => Err(OutOfMemory),
             Slot::Store(store) => store.stage(&plan.topology, number, m, prepared),
         }
     }
@@ -79,10 +78,9 @@ impl<D: Rig> Slot<D> {
         requires { (s : Situation) × (staged : List AnEvent) × IsStaged D.Disk plan.now s actor staged self.old }
         ensures { HasAnsweredAll D.Disk plan.now actor self.old self.new result }
     {
-        let _plan = plan;
-        let _actor = actor;
         match self {
-            Slot::Empty | Slot::Node(_) => Err(OutOfMemory),
+            Slot::Empty => unreachable!(),
+            Slot::Node(_) => Err(OutOfMemory),
             Slot::Store(store) => store.settle(),
         }
     }

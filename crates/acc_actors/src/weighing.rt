@@ -26,10 +26,9 @@ impl<D: Rig> Slot<D> {
         requires { MayAsk D.Disk plan.now (step_by actor (AnEvent.Begin txn) (Begins txn body.now)) self.now }
         ensures { IfOk result (Weighs D.Disk plan.now (step_by actor (AnEvent.Begin txn) (Begins txn body.now)) self.now) }
     {
-        let _actor = actor;
         match self {
             Slot::Node(node) => node.weigh_begin(&plan.topology, txn, body),
-            Slot::Empty | Slot::Store(_) => Err(OutOfMemory),
+            Slot::Empty | Slot::Store(_) => unreachable!(),
         }
     }
 
@@ -45,11 +44,9 @@ impl<D: Rig> Slot<D> {
         requires { MayAsk D.Disk plan.now (step_by actor (AnEvent.Recover txn) (Recovers id body.now)) self.now }
         ensures { IfOk result (Weighs D.Disk plan.now (step_by actor (AnEvent.Recover txn) (Recovers id body.now)) self.now) }
     {
-        let _actor = actor;
-        let _txn = txn;
         match self {
             Slot::Node(node) => node.weigh_recover(&plan.topology, id, body),
-            Slot::Empty | Slot::Store(_) => Err(OutOfMemory),
+            Slot::Empty | Slot::Store(_) => unreachable!(),
         }
     }
 
@@ -65,10 +62,8 @@ impl<D: Rig> Slot<D> {
         ensures { IfOk result (WeighsBehind D.Disk plan.now (step_by actor (AnEvent.Message number) (Takes m.now)) self.now) }
     {
         messages_have_numbers_alone();
-        let _actor = actor;
-        let _number = number;
         match self {
-            Slot::Empty => Err(OutOfMemory),
+            Slot::Empty => unreachable!(),
             Slot::Node(node) => node.weigh_take(&plan.topology, m),
             Slot::Store(store) => {
                 let prepared = store.prepare(&plan.topology, m)?;

@@ -1,7 +1,7 @@
 -- A step of a node that is journalled: what it gives, and what a fault leaves.
-use Rattle.std.proofs.Common.{◌≡◌, ℕ, true, false, List, [], ◌∷◌, ◌++◌, Vec, Option, None, Some, is_none, Result, Ok, Err, refl, sym, ap, subst, ◌∙◌}
+use Rattle.std.proofs.Common.{◌≡◌, inl, inr, ℕ, true, false, List, [], ◌∷◌, ◌++◌, Vec, Option, None, Some, is_none, Result, Ok, Err, refl, sym, ap, subst, ◌∙◌}
 use Rattle.std.specs.declared.alloc.Global.{Global}
-use Rattle.std.specs.Prelude.{◌≤◌, IsTrue, IfOk, IfErr, OnOk, IsErr, IsErrOf}
+use Rattle.std.specs.Prelude.{◌≤◌, IsTrue, IfOk, IfErr, OnOk, OnErr, IsErr, IsErrOf}
 use Rattle.acc_base.specs.declared.memory.OutOfMemory.{OutOfMemory as NoMemory}
 use Rattle.acc_topology.specs.Layout.{Layout}
 use Rattle.acc_ports.specs.Disk.{CrashLeaves}
@@ -28,8 +28,8 @@ use Rattle.acc_payloads.specs.declared.stops.Unsent.{Unsent}
 use Rattle.acc_durable_node.specs.declared.state.NodeState.TheVariants.{Open}
 use Rattle.acc_durable_node.specs.declared.actor.NodeActor.{NodeActor}
 use Rattle.acc_payloads.specs.Stops.{Stop, Past, with_step, with_stops, after_step, IsUnsent}
-use Rattle.acc_durable_node.specs.Actor.{disk_in, disk_of, is_shut, is_down, emits_next, IsJournal, IsUp, StandsFor, OfEachPast, Steps, IsSettled, IsStrictAt, HasStepped}
-use Rattle.acc_payloads.proofs.Left.{if_err, not_err, not_ok, not_both, reads_if, left_with, left_up, none_items, none_unsent, passes, fails, passed_is}
+use Rattle.acc_durable_node.specs.Actor.{disk_in, disk_of, is_shut, is_down, emits_next, IsJournal, IsUp, StandsFor, OfEachPast, IsAsBefore, Steps, IsSettled, IsStrictAt, HasStepped}
+use Rattle.acc_payloads.proofs.Left.{if_err, on_err, not_err, not_ok, not_both, reads_if, left_with, left_up, none_items, none_unsent, passes, fails, passed_is}
 use Rattle.acc_durable_node.proofs.Nodes.{journal_up, kept_up, up_in}
 
 module _ {D : Type 0} (port : Ghosts D) (layout : Layout) (old : NodeActor D) (n after : DurableNode D) (is : old.state ≡ Open n) (sound : n.journal.broken ≡ false) (name : NodeName) (past : Past Act)
@@ -203,6 +203,7 @@ module _ {D : Type 0} (port : Ghosts D) (layout : Layout) (old new : NodeActor D
     down = down_of r settled ok err;
     faults = faults_settled port (port.state (disk_of old)).faults event kept r middle new result settled
         (subst (λ (d : D). CountsFaults (IsErrOf (durable.draw_answer r) Failed) (port.state d).faults (port.state after.journal.disk).faults) (ap disk_in (sym is)) appends.calls.faults);
+    refused = refused_by r settled err;
     strict = λ name armed passed past stands at.
         strictly port layout old n after is sound name past stands room room_is (stop name past) group (longer name past stands) (held_more name past stands) same armed passed at kept r new result
         (settled_by name past) (ok_by name past) (err_by name past) appends;
@@ -236,3 +237,32 @@ module _ {D : Type 0} (port : Ghosts D) (layout : Layout) (old new : NodeActor D
       down_of (Err (DiskFault unsent)) settled ok err =
           subst (λ (q : Result (Option Emitted) NoMemory). IfOk q (λ given. is_down new ≡ is_none given)) (sym settled.0) (ap is_down settled.1 ∙ err.0)
       down_of (Err OutOfMemory) settled ok err = if_err result _ settled.0
+
+      as_before : durable.IsAsBefore layout n after → durable.KeepsJournal n after → IsAsBefore port layout old middle
+      as_before standing kept name past stands =
+          let held : IsUp layout name past n = up_in layout name past old.state n is (stands.up up) in
+          record {
+            name_is = stands.name_is;
+            left = λ image i. stands.left image (subst (λ (d : D). port.is_image d image) (kept.0 ∙ sym (ap disk_in is)) i);
+            unsent = subst (IsUnsent (emits_next layout name) past past.stopped) (sym room_is) stands.unsent;
+            up = λ _. record {
+              stands = standing past.acts held.stands;
+              name_is = same ∙ held.name_is;
+              held_are = ap without_marks kept.1 ∙ held.held_are;
+              none_stopped = held.none_stopped;
+            };
+            kept_is = λ broken. absurd (not_both after.journal.broken broken (kept.2 ∙ sound));
+          }
+
+      left_so : new ≡ middle → durable.IsAsBefore layout n after × durable.KeepsJournal n after → OnErr result (is_down new ≡ false → IsAsBefore port layout old new × (disk_of new ≡ disk_of old))
+      left_so is_new err =
+          on_err result _ (λ _.
+          (subst (IsAsBefore port layout old) (sym is_new) (as_before err.0 err.1), ap disk_of is_new ∙ err.1.0 ∙ sym (ap disk_in is)))
+
+      refused_by : (r : Result Emitted DurableError) → IsSettled event kept r middle new result → IfErr r (durable.Refuses layout n after act)
+          → OnErr result (is_down new ≡ false → IsAsBefore port layout old new × (disk_of new ≡ disk_of old))
+      refused_by (Ok emitted) settled err = subst (λ (q : Result (Option Emitted) NoMemory). OnErr q (is_down new ≡ false → IsAsBefore port layout old new × (disk_of new ≡ disk_of old))) (sym settled.0) tt
+      refused_by (Err Begun) settled err = left_so settled.1 err
+      refused_by (Err (DiskFault unsent)) settled err = subst (λ (q : Result (Option Emitted) NoMemory). OnErr q (is_down new ≡ false → IsAsBefore port layout old new × (disk_of new ≡ disk_of old))) (sym settled.0) tt
+      refused_by (Err OutOfMemory) settled (inl broken) = on_err result _ (λ still_up. absurd (not_both after.journal.broken broken (ap is_down (sym settled.1) ∙ still_up)))
+      refused_by (Err OutOfMemory) settled (inr kept) = left_so settled.1 kept

@@ -1,7 +1,7 @@
 -- When a node with its disk stands for its past.
 --     StandsFor images layout name past actor      the actor has this name and this past
 --     IsStrictAt ..      it does over a strict disk, on which this call is armed
-use Rattle.std.specs.Prelude.{◌≡◌, ℕ, Bool, true, false, IsTrue, List, [], ◌∷◌, ◌++◌, Option, None, Some, IfSome, is_none, Result, Ok, Err, IfOk, IsErr}
+use Rattle.std.specs.Prelude.{◌≡◌, ℕ, Bool, true, false, IsTrue, List, [], ◌∷◌, ◌++◌, Option, None, Some, IfSome, is_none, Result, Ok, Err, IfOk, OnErr, IsErr}
 use Rattle.acc_stamp.specs.declared.stamps.TxnId.{TxnId}
 use Rattle.acc_base.specs.declared.memory.OutOfMemory.{OutOfMemory}
 use Rattle.acc_topology.specs.Layout.{Layout}
@@ -98,6 +98,22 @@ pub record StandsFor {D : Type 0} (port : Ghosts D) (layout : Layout) (name : No
   pub up : is_down actor ≡ false → IsUpIn layout name past actor.state
   pub kept_is : is_down actor ≡ true → actor.kept ≡ count_of past
 
+abbrev pub NodeJournals : Type 1
+NodeJournals = List (List ℕ) → List Act → Type 0
+
+-- each image of the disk reads as the past, with what was stopped or without
+abbrev pub AreLeft : {D : Type 0} → Ghosts D → D → NodeJournals → Past Act → Type 0
+AreLeft port disk IsOne past = (image : List ℕ) → port.is_image disk image → IsLeft IsOne past image
+
+-- and so does what a crash in the way of this choice leaves there: with it, or without
+abbrev pub AreLeftByChoice : {D : Type 0} → Ghosts D → D → ℕ → NodeJournals → Past Act → Bool → Type 0
+AreLeftByChoice port disk choice IsOne past keeps =
+    (bytes : List ℕ) → port.is_image disk bytes → CrashLeaves choice (port.state disk) bytes → ReadsIf IsOne past keeps bytes
+
+-- how many faults the disk has counted
+abbrev pub faults_of : {D : Type 0} → Ghosts D → NodeActor D → ℕ
+faults_of port actor = (port.state (disk_of actor)).faults
+
 -- a fact of each past that it stands for
 abbrev pub OfEachPast : {D : Type 0} → Ghosts D → Layout → NodeActor D → (NodeName → Past Act → Type 0) → Type 0
 OfEachPast port layout actor P = (name : NodeName) (past : Past Act) → StandsFor port layout name past actor → P name past
@@ -193,6 +209,8 @@ pub record HasStepped {D : Type 0} (port : Ghosts D) (layout : Layout) (old new 
   pub ok : IfOk result (λ given. OfEachPast port layout old (λ name past. Steps port layout name past (stop name past) new given))
   pub down : IfOk result (λ given. is_down new ≡ is_none given)
   pub faults : CountsFaults (result ≡ Ok None) (port.state (disk_of old)).faults (port.state (disk_of new)).faults
+  -- where memory was refused, its journal broke and it is down, or all is as before
+  pub refused : OnErr result (is_down new ≡ false → IsAsBefore port layout old new × (disk_of new ≡ disk_of old))
   -- a strict disk fails just where its armed call is one of the append
   pub strict : (name : NodeName) (armed passed : Option ℕ) (past : Past Act) → StandsFor port layout name past old → IsStrictAt port layout name armed passed past old
       → IfOk result (λ given. (is_none given ≡ fails_append armed)

@@ -1,4 +1,5 @@
 pub mod Names
 pub mod Actor
 pub mod Node
+pub mod JournalLaws
 pub mod Weighing

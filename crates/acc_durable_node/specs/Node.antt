@@ -106,6 +106,11 @@ pub record IsJournalAfter (layout : Layout) (name : NodeName) (payloads : List (
   pub journal : IsNodeJournal name.version name.start payloads items
   pub drawn : AreDrawsOf name.number name.start (deeds_by layout name acts) (draws_in items)
 
+-- of all acts whose journal stands in a content
+abbrev pub OfEachJournal : List ℕ → NodeName → (Layout → List Act → Type 0) → Type 0
+OfEachJournal content name P =
+    (layout : Layout) (acts : List Act) (payloads : List (List ℕ)) → Reads content payloads → IsJournalAfter layout name payloads acts → P layout acts
+
 -- the clock may draw
 pub record IsLow (clock : ClockState) : Type 0 where
   pub drawn : clock.drawn < 2 ^ 62

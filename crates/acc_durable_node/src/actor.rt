@@ -21,7 +21,7 @@ use acc_topology::Topology;
 use acc_txn::Body;
 use std::alloc::Global;
 
-/// A node that is up, or that is down since its disk failed. Once it was refused memory nothing is known of it but its disk.
+/// A node that is up, or that is down since its disk failed. Where memory was refused and it is down, nothing is known of it but its disk.
 #[derive(Debug, Drop)]
 pub struct NodeActor<D: Rig> {
     alloc: Global,
@@ -38,7 +38,7 @@ impl<D: Rig> NodeActor<D> {
     ghost use Rattle.acc_payloads.specs.Stops.{is_up, KeepsByChoice, HoldsPayloads};
     ghost use Rattle.acc_durable_node.specs.Names.{IsNodeName, IsSlowAnswer, id_begun};
     ghost use Rattle.acc_durable_node.specs.Node.{StandsFor as Durable};
-    ghost use Rattle.acc_durable_node.specs.Actor.{StandsFor, OfEachPast, IsAsBefore, IsStrictAt, IsAsStrict, MayBegin, MayRecover, HasStepped, Takes, HasSlowed, KeptIn, begin_stop, recover_stop, past_after, node_in, disk_of, is_down};
+    ghost use Rattle.acc_durable_node.specs.Actor.{faults_of, StandsFor, OfEachPast, IsAsBefore, IsStrictAt, IsAsStrict, MayBegin, MayRecover, HasStepped, Takes, HasSlowed, KeptIn, begin_stop, recover_stop, past_after, node_in, disk_of, is_down};
 
     /// The actor of a durable node.
     pub fn opened(alloc: Global, node: DurableNode<D>) -> NodeActor<D>
@@ -61,7 +61,8 @@ impl<D: Rig> NodeActor<D> {
         }
     }
 
-    /// Begins a transaction that the node hasn't begun. `None` says that its disk failed, and it is down.
+    /// Begins a transaction that the node hasn't begun. `None` says that its disk failed, and it is down. After an error it is down where
+    /// its journal broke, and else as before.
     pub fn begin(
         &mut self,
         topology: &Topology,
@@ -81,7 +82,8 @@ impl<D: Rig> NodeActor<D> {
         self.settle(Event::Begin { txn }, kept, given)
     }
 
-    /// Takes a transaction over. `None` says that its disk failed, and it is down.
+    /// Takes a transaction over. `None` says that its disk failed, and it is down. After an error it is down where its journal broke, and
+    /// else as before.
     pub fn recover(
         &mut self,
         topology: &Topology,
@@ -143,7 +145,7 @@ impl<D: Rig> NodeActor<D> {
         ensures ok { IfOk result.1 (λ found. (layout : Layout) → OfEachPast D.Disk layout self (λ name past.
             KeptIn layout name past found × StandsFor D.Disk layout name (past_after found past) result.0)) }
         ensures up { IfOk result.1 (λ found. is_down result.0 ≡ not (is_up found)) }
-        ensures faults { CountsFaults (result.1 ≡ Ok Restarted.Down) (D.state (disk_of self)).faults (D.state (disk_of result.0)).faults }
+        ensures faults { CountsFaults (result.1 ≡ Ok Restarted.Down) (faults_of D.Disk self) (faults_of D.Disk result.0) }
 
         ensures strict { (layout : Layout) (name : NodeName) (armed passed : Maybe ℕ) (past : Past Act) → StandsFor D.Disk layout name past self
             → IsStrictAt D.Disk layout name armed passed past self
@@ -174,7 +176,7 @@ impl<D: Rig> NodeActor<D> {
     pub fn arm(&mut self, calls: u64)
         ensures stands { (layout : Layout) → IsAsBefore D.Disk layout self.old self.new }
         ensures down { is_down self.new ≡ is_down self.old }
-        ensures faults { (D.state (disk_of self.new)).faults ≡ (D.state (disk_of self.old)).faults }
+        ensures faults { faults_of D.Disk self.new ≡ faults_of D.Disk self.old }
         ensures strict { (layout : Layout) (name : NodeName) (armed passed : Maybe ℕ) (past : Past Act)
             → IsStrictAt D.Disk layout name armed passed past self.old
             → IsStrictAt D.Disk layout name (Some calls) passed past self.new }

@@ -42,7 +42,7 @@ impl<D: Disk> DurableNode<D> {
     ghost use Rattle.acc_journal.specs.Journal.{IsOfTheDisk};
     ghost use Rattle.acc_journal.specs.Calls.{ReadsDisk};
     ghost use Rattle.acc_durable_node.specs.Names.{IsNodeName, IsSlowAnswer, id_begun};
-    ghost use Rattle.acc_durable_node.specs.Node.{draw_answer, StandsFor, OfActs, TakesOn, HasSlowed, IsAsBefore, IsLow, IsJournalAfter, IsReopened, IsRefusedBy, Refuses, AppendsDraw, draw_group};
+    ghost use Rattle.acc_durable_node.specs.Node.{OfEachJournal, draw_answer, StandsFor, OfActs, TakesOn, HasSlowed, IsAsBefore, IsLow, IsJournalAfter, IsReopened, IsRefusedBy, Refuses, AppendsDraw, draw_group};
 
     /// A node that has done nothing, on a disk that holds the bytes 1 and 0, synced. It makes no call of the disk and takes no memory.
     pub fn fresh(alloc: Global, name: NodeName, disk: D) -> DurableNode<D>
@@ -77,7 +77,7 @@ impl<D: Disk> DurableNode<D> {
 
         ensures ok { IfOk result IsReopened }
         ensures reads { IfOk result (λ n. Reads (D.state disk).content n.journal.payloads) }
-        ensures restarts { (layout : Layout) (acts : List Act) (payloads : List (List ℕ)) → Reads (D.state disk).content payloads → IsJournalAfter layout name payloads acts → IfOk result (λ n. StandsFor layout n (Restarts ∷ acts)) }
+        ensures restarts { OfEachJournal (D.state disk).content name (λ layout acts. IfOk result (λ n. StandsFor layout n (Restarts ∷ acts))) }
         ensures named { IfOk result (λ n. n.name ≡ name) }
         ensures disk { IfOk result (λ n. ReadsDisk D.Disk disk n.journal.disk (Ok tt)) }
         ensures err_disk { IfErr result (λ e. ReadsDisk D.Disk disk e.1 (Err (port_error e.0))) }

@@ -1,11 +1,10 @@
 //! Whether a node with its disk is up, and the disk.
-ghost use Rattle.std.specs.Prelude.{◌≡◌, IsTrue, Bool, List, ℕ, None, Ok, IfOk, OnOk, is_none};
+ghost use Rattle.std.specs.Prelude.{◌≡◌, IsTrue, Bool, None, Ok, IfOk, OnOk, is_none};
 ghost use Rattle.acc_topology.specs.Layout.{Layout};
-ghost use Rattle.acc_ports.specs.Disk.{CrashLeaves};
 ghost use Rattle.acc_ports.specs.Faults.{CountsFaults};
 ghost use Rattle.acc_message.specs.NodeRules.{Act};
-ghost use Rattle.acc_payloads.specs.Stops.{Past, count_of, IsLeft, ReadsIf, TellsByChoice};
-ghost use Rattle.acc_durable_node.specs.Actor.{IsJournal, IsFound, disk_in, node_in, is_shut};
+ghost use Rattle.acc_payloads.specs.Stops.{Past, count_of, TellsByChoice};
+ghost use Rattle.acc_durable_node.specs.Actor.{IsJournal, AreLeft, AreLeftByChoice, IsFound, disk_in, node_in, is_shut};
 
 use crate::DurableNode;
 use crate::name::Named;
@@ -54,14 +53,14 @@ pub(crate) fn reopened<D: Rig>(
     choice: u8,
     disk: D,
 ) -> (NodeState<D>, Result<Option<bool>, OutOfMemory>)
-    ensures ok { IfOk result.1 (λ found. (layout : Layout) (past : Past Act) → ((image : List ℕ) → D.is_image disk image → IsLeft (IsJournal layout named.name) past image) → kept ≡ count_of past
+    ensures ok { IfOk result.1 (λ found. (layout : Layout) (past : Past Act) → AreLeft D.Disk disk (IsJournal layout named.name) past → kept ≡ count_of past
         → IsFound D.Disk layout named.name past found result.0) }
     ensures shut { IfOk result.1 (λ found. is_shut result.0 ≡ is_none found) }
     ensures faults { CountsFaults (result.1 ≡ Ok None) (D.state disk).faults (D.state (disk_in result.0)).faults }
 
     ensures kind { (D.state (disk_in result.0)).strict ≡ (D.state disk).strict }
     ensures strict { IsTrue (D.state disk).strict → (layout : Layout) (past : Past Act) (keeps : Bool)
-        → ((bytes : List ℕ) → D.is_image disk bytes → CrashLeaves choice (D.state disk) bytes → ReadsIf (IsJournal layout named.name) past keeps bytes) → kept ≡ count_of past
+        → AreLeftByChoice D.Disk disk choice (IsJournal layout named.name) past keeps → kept ≡ count_of past
         → IfOk result.1 (TellsByChoice keeps past.stopped) }
     ensures unarmed { IsTrue (D.state disk).strict → OnOk result.1 ((D.state (disk_in result.0)).armed ≡ None) }
 {

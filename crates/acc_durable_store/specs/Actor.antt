@@ -107,12 +107,35 @@ abbrev pub StandsFor : {D : Type 0} → Ghosts D → Layout → StoreName → Pa
 StandsFor port layout name past actor = IsStaging port layout name past [] actor
 
 -- a fact of each past that it stands for, and of each with what is staged
+abbrev pub StoreJournals : Type 1
+StoreJournals = List (List ℕ) → List Message → Type 0
+
+abbrev pub store_at : Actor → ℕ → StoreName
+store_at a version = record { actor = a; version = version }
+
+-- each image of the disk reads as the past, with what was stopped or without
+abbrev pub AreLeft : {D : Type 0} → Ghosts D → D → StoreJournals → Past Message → Type 0
+AreLeft port disk IsOne past = (image : List ℕ) → port.is_image disk image → IsLeft IsOne past image
+
+-- and so does what a crash in the way of this choice leaves there: with it, or without
+abbrev pub AreLeftByChoice : {D : Type 0} → Ghosts D → D → ℕ → StoreJournals → Past Message → Bool → Type 0
+AreLeftByChoice port disk choice IsOne past keeps =
+    (bytes : List ℕ) → port.is_image disk bytes → CrashLeaves choice (port.state disk) bytes → ReadsIf IsOne past keeps bytes
+
+-- how many faults the disk has counted
+abbrev pub faults_of : {D : Type 0} → Ghosts D → StoreActor D → ℕ
+faults_of port actor = (port.state (disk_of actor)).faults
+
 abbrev pub OfEachPast : {D : Type 0} → Ghosts D → Layout → StoreActor D → (StoreName → Past Message → Type 0) → Type 0
 OfEachPast port layout actor P = (name : StoreName) (past : Past Message) → StandsFor port layout name past actor → P name past
 
 abbrev pub OfEachStaging : {D : Type 0} → Ghosts D → Layout → StoreActor D → (StoreName → Past Message → List (Stop Message) → Type 0) → Type 0
 OfEachStaging port layout actor P =
     (name : StoreName) (past : Past Message) (staged : List (Stop Message)) → IsStaging port layout name past staged actor → P name past staged
+
+-- it stands for what it stood for
+abbrev pub IsAsBefore : {D : Type 0} → Ghosts D → Layout → StoreActor D → StoreActor D → Type 0
+IsAsBefore port layout old new = OfEachPast port layout old (λ name past. StandsFor port layout name past new)
 
 -- ---- what calls need
 

@@ -78,6 +78,10 @@ HasTaken layout old new m result = IfOk result (λ sent. (messages : List Messag
 
 -- ---- what calls leave
 
+-- each image of the disk reads as the journal's payloads
+abbrev pub AllRead : {D : Type 0} → Ghosts D → DurableStore D → Type 0
+AllRead port s = (image : List ℕ) → port.is_image s.journal.disk image → Reads image s.journal.payloads
+
 -- it stands for what it stood for
 abbrev pub IsAsBefore : {D : Type 0} → DurableStore D → DurableStore D → Type 0
 IsAsBefore old new = (layout : Layout) (messages : List Message) → StandsFor layout old messages → StandsFor layout new messages

@@ -1,11 +1,10 @@
 //! A store with its disk.
 ghost use Rattle.std.specs.Prelude.{◌≡◌, IsTrue, Bool, true, false, not, List, [], ◌∷◌, ◌++◌, ℕ, Option as Maybe, None, Some, Ok, IfOk, OnOk, OnErr, IfSome, is_none};
 ghost use Rattle.acc_topology.specs.Layout.{Layout};
-ghost use Rattle.acc_ports.specs.Disk.{CrashLeaves};
 ghost use Rattle.acc_ports.specs.Faults.{CountsFaults};
 ghost use Rattle.acc_message.specs.declared.message.Message.{Message as Told};
-ghost use Rattle.acc_payloads.specs.Stops.{Past, count_of, IsLeft, ReadsIf, TellsByChoice};
-ghost use Rattle.acc_durable_store.specs.Actor.{IsJournal, IsFound, disk_in, store_in, is_shut, sends};
+ghost use Rattle.acc_payloads.specs.Stops.{Past, count_of, TellsByChoice};
+ghost use Rattle.acc_durable_store.specs.Actor.{IsJournal, AreLeft, AreLeftByChoice, store_at, IsFound, disk_in, store_in, is_shut, sends};
 
 use crate::{DurableStore, StepError, StoreName};
 use acc_base::OutOfMemory;
@@ -19,7 +18,8 @@ use acc_store::{Prepared, Store};
 use acc_topology::Topology;
 use std::alloc::Global;
 
-/// A store that is up, or that is down since its disk failed. Once it was refused memory nothing is known of it but its disk.
+/// A store that is up, or that is down since its disk failed. Where memory was refused and it is down, nothing is known of it but its
+/// disk.
 #[derive(Debug, Drop)]
 pub struct StoreActor<D: Rig> {
     alloc: Global,
@@ -44,7 +44,7 @@ impl<D: Rig> StoreActor<D> {
     ghost use Rattle.acc_store.specs.Stands.{StandsFor as Stands, actor_of};
     ghost use Rattle.acc_durable_store.specs.Store.{StandsFor as Durable, name_in};
     ghost use Rattle.acc_payloads.specs.Stops.{kept_with, is_up, HoldsPayloads};
-    ghost use Rattle.acc_durable_store.specs.Actor.{IsStaging, StandsFor, OfEachPast, OfEachStaging, IsStrictAt, MayTake, MayStage, MaySettle, Steps, Settles, StepsStrictly, SettlesStrictly, RestartsStrictly, ArmsStrictly, StaysStrict, KeptIn, message_stop, past_after, disk_of, is_down};
+    ghost use Rattle.acc_durable_store.specs.Actor.{faults_of, IsStaging, StandsFor, OfEachPast, IsAsBefore, OfEachStaging, IsStrictAt, MayTake, MayStage, MaySettle, Steps, Settles, StepsStrictly, SettlesStrictly, RestartsStrictly, ArmsStrictly, StaysStrict, KeptIn, message_stop, past_after, disk_of, is_down};
     ghost use Rattle.acc_durable_store.specs.Weighing.{IsPreparedBy};
 
     /// The actor of a durable store of this name, which has nothing staged.
@@ -69,7 +69,8 @@ impl<D: Rig> StoreActor<D> {
         }
     }
 
-    /// Takes the message that has this number: it is staged and settled. `None` says that its disk failed, and it is down.
+    /// Takes the message that has this number: it is staged and settled. `None` says that its disk failed, and it is down. After
+    /// an error it is down where its journal broke, and else as before.
     pub fn take(
         &mut self,
         topology: &Topology,
@@ -81,7 +82,8 @@ impl<D: Rig> StoreActor<D> {
 
         ensures ok { IfOk result (λ given. OfEachPast D.Disk topology.now self.old (λ name past. Steps D.Disk topology.now name past (message_stop number m.now) self.new given)) }
         ensures down { IfOk result (λ given. is_down self.new ≡ is_none given) }
-        ensures faults { CountsFaults (result ≡ Ok None) (D.state (disk_of self.old)).faults (D.state (disk_of self.new)).faults }
+        ensures err { OnErr result (is_down self.new ≡ false → IsAsBefore D.Disk topology.now self.old self.new × (disk_of self.new ≡ disk_of self.old)) }
+        ensures faults { CountsFaults (result ≡ Ok None) (faults_of D.Disk self.old) (faults_of D.Disk self.new) }
 
         ensures strict { StepsStrictly D.Disk topology.now self.old self.new (message_stop number m.now) result }
     {
@@ -143,7 +145,7 @@ impl<D: Rig> StoreActor<D> {
     }
 
     /// Appends all that is staged as one group, and gives it: it may go out now. `None` says that the disk failed, and the store is down;
-    /// what was staged is kept for a restart, which finds all of it on the disk or nothing.
+    /// what was staged is kept for a restart, which finds all of it on the disk or nothing. After an error it is down too.
     #[inline(always)]
     pub fn settle(&mut self) -> Result<Option<Unsents>, OutOfMemory>
         requires up { is_down self.old ≡ false }
@@ -151,7 +153,8 @@ impl<D: Rig> StoreActor<D> {
 
         ensures ok { IfOk result (λ given. (layout : Layout) → OfEachStaging D.Disk layout self.old (λ name past staged. Settles D.Disk layout name past staged self.new given)) }
         ensures down { IfOk result (λ given. is_down self.new ≡ is_none given) }
-        ensures faults { CountsFaults (result ≡ Ok None) (D.state (disk_of self.old)).faults (D.state (disk_of self.new)).faults }
+        ensures err { OnErr result (is_down self.new ≡ true) }
+        ensures faults { CountsFaults (result ≡ Ok None) (faults_of D.Disk self.old) (faults_of D.Disk self.new) }
 
         // However much is staged, it is one append.
         ensures strict { SettlesStrictly D.Disk self.old self.new result }
@@ -179,7 +182,7 @@ impl<D: Rig> StoreActor<D> {
         ensures ok { IfOk result.1 (λ found. OfEachPast D.Disk topology.now self (λ name past.
             KeptIn topology.now name.actor past found × StandsFor D.Disk topology.now name (past_after found past) result.0)) }
         ensures up { IfOk result.1 (λ found. is_down result.0 ≡ not (is_up found)) }
-        ensures faults { CountsFaults (result.1 ≡ Ok Restarted.Down) (D.state (disk_of self)).faults (D.state (disk_of result.0)).faults }
+        ensures faults { CountsFaults (result.1 ≡ Ok Restarted.Down) (faults_of D.Disk self) (faults_of D.Disk result.0) }
 
         ensures strict { RestartsStrictly D.Disk topology.now choice self result.0 result.1 }
     {
@@ -217,7 +220,7 @@ impl<D: Rig> StoreActor<D> {
     pub fn arm(&mut self, calls: u64)
         ensures stands { (layout : Layout) → OfEachStaging D.Disk layout self.old (λ name past staged. IsStaging D.Disk layout name past staged self.new) }
         ensures down { is_down self.new ≡ is_down self.old }
-        ensures faults { (D.state (disk_of self.new)).faults ≡ (D.state (disk_of self.old)).faults }
+        ensures faults { faults_of D.Disk self.new ≡ faults_of D.Disk self.old }
         ensures strict { ArmsStrictly D.Disk calls self.old self.new }
     {
         match &mut self.state {
@@ -317,14 +320,14 @@ fn reopened<D: Rig>(
     disk: D,
     earlier: Option<&Store>,
 ) -> (StoreState<D>, Result<Option<bool>, OutOfMemory>)
-    ensures ok { IfOk result.1 (λ found. (past : Past Told) → ((image : List ℕ) → D.is_image disk image → IsLeft (IsJournal topology.now (record { actor = actor; version = version })) past image) → kept ≡ count_of past
-        → IsFound D.Disk topology.now (record { actor = actor; version = version }) past found result.0) }
+    ensures ok { IfOk result.1 (λ found. (past : Past Told) → AreLeft D.Disk disk (IsJournal topology.now (store_at actor version)) past → kept ≡ count_of past
+        → IsFound D.Disk topology.now (store_at actor version) past found result.0) }
     ensures shut { IfOk result.1 (λ found. is_shut result.0 ≡ is_none found) }
     ensures faults { CountsFaults (result.1 ≡ Ok None) (D.state disk).faults (D.state (disk_in result.0)).faults }
 
     ensures kind { (D.state (disk_in result.0)).strict ≡ (D.state disk).strict }
     ensures strict { IsTrue (D.state disk).strict → (past : Past Told) (keeps : Bool)
-        → ((bytes : List ℕ) → D.is_image disk bytes → CrashLeaves choice (D.state disk) bytes → ReadsIf (IsJournal topology.now (record { actor = actor; version = version })) past keeps bytes) → kept ≡ count_of past
+        → AreLeftByChoice D.Disk disk choice (IsJournal topology.now (store_at actor version)) past keeps → kept ≡ count_of past
         → IfOk result.1 (TellsByChoice keeps past.stopped) }
     ensures unarmed { IsTrue (D.state disk).strict → OnOk result.1 ((D.state (disk_in result.0)).armed ≡ None) }
 {

@@ -20,7 +20,7 @@ ghost use Rattle.acc_journal.specs.Layout.{Reads};
 ghost use Rattle.acc_journal.specs.Errors.{port_error};
 ghost use Rattle.acc_journal.specs.Journal.{IsOfTheDisk};
 ghost use Rattle.acc_journal.specs.Calls.{ReadsDisk};
-ghost use Rattle.acc_durable_store.specs.Store.{step_answer, actor_in, message_group, AppendsGroup, StandsFor, CanTake, HasTaken, IsAsBefore, IsUntouched, IsTheSame, IsReopened, IsRefusedBy, Refuses, FailsToSettle, IsStillStaged};
+ghost use Rattle.acc_durable_store.specs.Store.{AllRead, step_answer, actor_in, message_group, AppendsGroup, StandsFor, CanTake, HasTaken, IsAsBefore, IsUntouched, IsTheSame, IsReopened, IsRefusedBy, Refuses, FailsToSettle, IsStillStaged};
 
 use crate::StepError;
 use crate::replay::replay;
@@ -207,7 +207,7 @@ impl<D: Disk> DurableStore<D> {
         ensures same { IsTheSame self.old self.new }
 
         ensures appended { OnOk result (self.new.journal.payloads ≡ self.old.journal.payloads ++ self.old.journal.group) }
-        ensures lasts { OnOk result ((image : List ℕ) → D.is_image self.new.journal.disk image → Reads image self.new.journal.payloads) }
+        ensures lasts { OnOk result (AllRead D.Disk self.new) }
         ensures appends { self.old.journal.group ≢ [] → AppendsGroup D.Disk self.old self.new self.old.journal.group (step_answer result) }
     {
         let _sound = self.journal.is_broken();
@@ -269,7 +269,7 @@ impl<D: Disk> DurableStore<D> {
     /// Whether a call of the disk failed or found no memory.
     pub fn is_broken(&self) -> bool
         ensures value { result ≡ self.now.journal.broken }
-        ensures sound { self.now.journal.broken ≡ false → (image : List ℕ) → D.is_image self.now.journal.disk image → Reads image self.now.journal.payloads }
+        ensures sound { self.now.journal.broken ≡ false → AllRead D.Disk self.now }
     {
         self.journal.is_broken()
     }

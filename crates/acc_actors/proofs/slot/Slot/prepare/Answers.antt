@@ -5,6 +5,7 @@ use Rattle.acc_schedule.specs.Plan.{IsPlan}
 use Rattle.acc_durable_store.specs.Weighing.{IsPreparedBy}
 use Rattle.acc_actors.specs.Slots.{IsPreparedIn}
 use Rattle.acc_actors.proofs.GroupCalls.{store_up, may_stage, may_weigh, store_weighs}
+use Rattle.acc_actors.proofs.Excluded.{not_empty_behind}
 use Rattle.acc_actors.proofs.slot.Slot.prepare.Goals as goal
 
 pub prepare-requires-clause-up : goal.prepare-requires-clause-up
@@ -31,3 +32,6 @@ returns-in_ok-weight-in-Store-clause-prepared g c =
     subst (λ slot. IsPreparedIn c.args.plan.now slot c.args.m.now c.in_ok-prepared-in-Store.prepared) (sym c.in-Store.is)
     (subst (λ (layout : Layout). IsPreparedBy layout c.in-Store.store c.args.m.now c.in_ok-prepared-in-Store.prepared) (ap (λ (p : Content). p.topology) c.plan.view_is)
     c.in_ok-prepared-in-Store.ensures)
+
+pub unreachable-requires : goal.unreachable-requires
+unreachable-requires g c = not_empty_behind g.D.Disk c.args.plan.now c.args.self.now c.in-Empty.is _ c.requires

@@ -5,6 +5,7 @@ use Rattle.acc_schedule.specs.Plan.{IsPlan}
 use Rattle.acc_durable_store.specs.Weighing.{IsPreparedBy}
 use Rattle.acc_actors.specs.Slots.{IsPreparedIn}
 use Rattle.acc_actors.proofs.GroupCalls.{store_up, may_stage, stage_called, stage_refused, stage_strictly, stage_faults}
+use Rattle.acc_actors.proofs.Excluded.{not_empty_behind}
 use Rattle.acc_actors.proofs.slot.Slot.stage.Goals as goal
 
 pub stage-requires-clause-up : goal.stage-requires-clause-up
@@ -40,3 +41,6 @@ pub returns-in-Store-clause-faults : goal.returns-in-Store-clause-faults
 returns-in-Store-clause-faults g c =
     stage_faults g.D.Disk c.args.plan.now c.args.actor c.args.self.now c.args.number c.args.m.now c.plan.inside.topology (ap (λ (p : Content). p.topology) c.plan.view_is) c.in-Store.store c.in-Store.is
     c.stage.new.self c.stage.ensures.disk
+
+pub unreachable-requires : goal.unreachable-requires
+unreachable-requires g c = not_empty_behind g.D.Disk c.args.plan.now c.args.self.now c.in-Empty.is _ c.requires.may

@@ -5,6 +5,7 @@ use Rattle.acc_schedule.specs.Content.{Content}
 use Rattle.acc_schedule.specs.Plan.{IsPlan}
 use Rattle.acc_actors.proofs.Weighed.{node_may_weigh, node_weighs}
 use Rattle.acc_actors.proofs.GroupCalls.{node_may_ask, node_weighs_behind, store_up, may_stage, may_weigh, store_weighs}
+use Rattle.acc_actors.proofs.Excluded.{not_empty_behind}
 use Rattle.acc_actors.proofs.slot.Slot.weigh_take.Goals as goal
 
 pub weigh_take-requires-clause-may : goal.weigh_take-requires-clause-may
@@ -36,3 +37,6 @@ pub returns-in_ok-prepared-in-Store : goal.returns-in_ok-prepared-in-Store
 returns-in_ok-prepared-in-Store g c =
     store_weighs g.D.Disk c.args.plan.now c.args.actor c.args.self.now c.args.number c.args.m.now c.plan.inside.topology (ap (λ (p : Content). p.topology) c.plan.view_is) c.in-Store.store c.in-Store.is
     c.weigh.result c.weigh.ensures
+
+pub unreachable-requires : goal.unreachable-requires
+unreachable-requires g c = not_empty_behind g.D.Disk c.args.plan.now c.args.self.now c.in-Empty.is _ c.requires

@@ -3,6 +3,7 @@ use Rattle.std.proofs.Common.{◌≡◌, List, [], ◌∷◌, Option, is_none, s
 use Rattle.acc_payloads.specs.Appends.{fails_append, after_append, passed_in}
 use Rattle.acc_payloads.specs.declared.stops.Unsent.{Unsent}
 use Rattle.acc_payloads.specs.Stops.{after_group}
+use Rattle.acc_payloads.proofs.Left.{on_err}
 use Rattle.acc_durable_store.specs.Actor.{message_stop, Settles, IsStrictAt}
 use Rattle.acc_durable_store.proofs.StoreTakes.{none_left, one_there, one_given, took, took_strictly}
 use Rattle.acc_durable_store.proofs.actor.StoreActor.take.Goals as goal
@@ -55,6 +56,10 @@ returns-in_default-clause-strict g c = λ name armed passed past stands at.
     subst (λ (given : Option (List Unsent)). (is_none given ≡ fails_append armed)
     × IsStrictAt g.D.Disk c.args.topology.now name (after_append armed) (passed_in armed)
     (after_group given past (message_stop c.args.number c.args.m.now ∷ [])) c.settle.new.self) c.in_default.is strictly
+
+pub returns-in_err-stage-clause-err : goal.returns-in_err-stage-clause-err
+returns-in_err-stage-clause-err g c =
+    on_err c.from_residual-in_err-stage.result _ (λ up. ((λ name past stands. c.in_err-stage.ensures.err name past [] stands), c.stage.ensures.disk))
 
 pub unreachable-requires : goal.unreachable-requires
 unreachable-requires g c =
