@@ -70,9 +70,19 @@ pub record TakesMessages (a : Actor) (old new : SeatView Item) : Type 0 where
 abbrev pub NoneAtOnce : Content → List Step → ℕ → Type 0
 NoneAtOnce plan commands gone = (command : Step) → slice_get commands gone ≡ Some command → ¬ IsTakenAtOnce plan (take gone commands) command
 
+-- the desk took the command, which went by
+abbrev pub HasTakenCommand : {D J : Type 0} → Step → Desk D J → Desk D J → Type 0
+HasTakenCommand command old new = (new.gone ≡ old.gone + 1) × TakesCommand old.actor command old.seat new.seat
+
+-- the one that was next
+abbrev pub HasTakenNext : {D J : Type 0} → Desk D J → Desk D J → Type 0
+HasTakenNext old new = (command : Step) × (slice_get old.commands old.gone ≡ Some command) × HasTakenCommand command old new
+
+-- it took messages, and no command went by
+abbrev pub HasTakenMessages : {D J : Type 0} → Desk D J → Desk D J → Type 0
+HasTakenMessages old new = (new.gone ≡ old.gone) × TakesMessages old.actor old.seat new.seat
+
 -- The turn that a desk took: its next command where that can be taken, and else messages. That a transaction which it is to recover was
 -- begun may be seen later.
 abbrev pub HasTaken : {D J : Type 0} → Content → Desk D J → Desk D J → Type 0
-HasTaken plan old new =
-    ((command : Step) × (slice_get old.commands old.gone ≡ Some command) × (new.gone ≡ old.gone + 1) × TakesCommand old.actor command old.seat new.seat)
-    ⊎ (NoneAtOnce plan old.commands old.gone × (new.gone ≡ old.gone) × TakesMessages old.actor old.seat new.seat)
+HasTaken plan old new = HasTakenNext old new ⊎ (NoneAtOnce plan old.commands old.gone × HasTakenMessages old new)

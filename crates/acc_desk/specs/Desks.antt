@@ -1,6 +1,7 @@
 -- When a desk is sound, and what it may take.
-use Rattle.std.specs.Prelude.{◌≡◌, ◌≢◌, ◌⊎◌, ℕ, ◌≤◌, Bool, true, false, List, [], ◌∷◌, length, reverse, sum_by, drop, All, Option, None, Some, Contains}
+use Rattle.std.specs.Prelude.{◌≡◌, ◌≢◌, ◌⊎◌, ℕ, ◌+◌, ◌≤◌, Bool, true, false, List, [], ◌∷◌, length, map, reverse, sum_by, drop, All, Option, None, Some, Result, MatchResult, Contains}
 use Rattle.std.specs.List.{slice_get}
+use Rattle.acc_base.specs.declared.memory.OutOfMemory.{OutOfMemory}
 use Rattle.acc_stamp.specs.declared.stamps.TxnId.{TxnId}
 use Rattle.acc_stamp.specs.declared.actors.Actor.{Actor}
 use Rattle.acc_ports.specs.declared.disk.Disk.{Ghosts}
@@ -24,7 +25,7 @@ use Rattle.acc_schedule_runs.specs.Schedules.{cluster_of}
 use Rattle.acc_schedule_runs.specs.Disks.{Disks, fresh_disks, after_restart}
 use Rattle.acc_schedule_runs.specs.Limits.{most_items}
 use Rattle.acc_actors.specs.declared.slot.Slot.{Slot}
-use Rattle.acc_actors.specs.Slots.{SlotStands, IsStrictSlot}
+use Rattle.acc_actors.specs.Slots.{SlotStands, IsStrictSlot, is_down_in}
 use Rattle.acc_free_laws.specs.Commands.{commands_of, is_restart, is_event_of, is_message}
 use Rattle.acc_free_laws.specs.FreeRun.{is_plain_event, IsUntaken, alone}
 use Rattle.acc_free_laws.specs.Serving.{IsServing, HasGone, AreStopsOf}
@@ -147,9 +148,52 @@ item_of a event (Some emitted) = StepItem (record { actor = a; event = event; em
 abbrev pub state_of : {D J : Type 0} → Desk D J → DeskState D
 state_of desk = desk_with desk.actor desk.seat desk.slot desk.commands desk.gone
 
--- the same of a desk
+-- the actor is up, as its seat sees it
+abbrev pub IsUp : {D J : Type 0} → Desk D J → Type 0
+IsUp desk = is_down desk.actor (newest desk.seat) ≡ false
+
+-- it keeps its actor and its commands
+abbrev pub IsSameDesk : {D J : Type 0} → Desk D J → Desk D J → Type 0
+IsSameDesk old new = (new.actor ≡ old.actor) × (new.commands ≡ old.commands)
+
+-- and no command goes by
+abbrev pub IsAtSameCommand : {D J : Type 0} → Desk D J → Desk D J → Type 0
+IsAtSameCommand old new = (new.actor ≡ old.actor) × (new.commands ≡ old.commands) × (new.gone ≡ old.gone)
+
+-- only its slot changes, and the counts of which nothing is said
+abbrev pub ChangesSlot : {D J : Type 0} → Desk D J → Desk D J → Type 0
+ChangesSlot old new = (new.actor ≡ old.actor) × (new.seat ≡ old.seat) × (new.commands ≡ old.commands) × (new.gone ≡ old.gone) × (new.unsound ≡ old.unsound)
+
+-- only its seat changes, and those counts
+abbrev pub ChangesSeat : {D J : Type 0} → Desk D J → Desk D J → Type 0
+ChangesSeat old new = (new.actor ≡ old.actor) × (new.slot ≡ old.slot) × (new.commands ≡ old.commands) × (new.gone ≡ old.gone) × (new.unsound ≡ old.unsound)
+
+-- IsSound of a desk
 abbrev pub IsSoundDesk : {D J : Type 0} → Ghosts D → Bool → Content → TapeName → Desk D J → Type 0
 IsSoundDesk port strict_run plan tape desk = IsSound port (run_with strict_run plan tape) (state_of desk)
+
+-- ---- where memory was refused
+
+-- The desk keeps its seat, which holds nothing reserved, and is sound unless it is marked.
+pub record IsSoundOrMarked {D J : Type 0} (port : Ghosts D) (strict_run : Bool) (plan : Content) (tape : TapeName) (desk : Desk D J) : Type 0 where
+  pub seated : IsSeated tape desk.actor no_hold desk.seat
+  pub sound : desk.unsound ≡ false → IsSoundDesk port strict_run plan tape desk
+
+-- the desk is marked only where it was so before, or where its actor is down in its slot
+abbrev pub IsMarkedDown : {D J : Type 0} → Desk D J → Desk D J → Type 0
+IsMarkedDown old new = new.unsound ≡ true → (old.unsound ≡ true) ⊎ (is_down_in new.slot ≡ true)
+
+-- the next command of the actor is a restart
+abbrev pub IsToRestart : {D J : Type 0} → Desk D J → Type 0
+IsToRestart desk = (command : Step) × (drop desk.gone desk.commands ≡ command ∷ drop (desk.gone + 1) desk.commands) × (is_restart command ≡ true)
+
+-- A step leaves the mark as it was. Only where memory was refused may the desk be marked, if its actor is down in its slot.
+abbrev pub MarksDown : {D J X : Type 0} → Result X OutOfMemory → Desk D J → Desk D J → Type 0
+MarksDown result old new = MatchResult result (λ _. new.unsound ≡ old.unsound) (λ _. IsMarkedDown old new)
+
+-- So does a turn, in which the desk may also be marked where it was to restart its actor.
+abbrev pub MarksAtTurn : {D J X : Type 0} → Result X OutOfMemory → Desk D J → Desk D J → Type 0
+MarksAtTurn result old new = MatchResult result (λ _. new.unsound ≡ old.unsound) (λ _. IsMarkedDown old new ⊎ IsToRestart new)
 
 -- ---- desks together
 
@@ -159,16 +203,23 @@ AreSound {D} {J} port strict_run plan tape desks = All (λ (desk : Desk D J). Is
 abbrev pub AreSeated : {D J : Type 0} → TapeName → List (Desk D J) → Type 0
 AreSeated {D} {J} tape desks = All (λ (desk : Desk D J). IsSeated tape desk.actor no_hold desk.seat) desks
 
--- The desk keeps its seat, which holds nothing reserved, and is sound unless it is marked.
-pub record IsSoundOrMarked {D J : Type 0} (port : Ghosts D) (strict_run : Bool) (plan : Content) (tape : TapeName) (desk : Desk D J) : Type 0 where
-  pub seated : IsSeated tape desk.actor no_hold desk.seat
-  pub sound : desk.unsound ≡ false → IsSoundDesk port strict_run plan tape desk
-
 -- Each desk but one is sound, and that one is sound unless it is marked.
 pub record AreSoundButOne {D J : Type 0} (port : Ghosts D) (strict_run : Bool) (plan : Content) (tape : TapeName) (desks : List (Desk D J)) : Type 0 where
   pub one : ℕ
   pub others : (place : ℕ) (desk : Desk D J) → slice_get desks place ≡ Some desk → place ≢ one → IsSoundDesk port strict_run plan tape desk
   pub marked : (desk : Desk D J) → slice_get desks one ≡ Some desk → IsSoundOrMarked port strict_run plan tape desk
+
+-- each desk that is marked was so before, or its actor is down in its slot, or its next command is a restart
+abbrev pub AreMarkedDown : {D J : Type 0} → List (Desk D J) → List (Desk D J) → Type 0
+AreMarkedDown {D} {J} before after =
+    (place : ℕ) (old new : Desk D J) → slice_get before place ≡ Some old → slice_get after place ≡ Some new → IsMarkedDown old new ⊎ IsToRestart new
+
+abbrev pub mark_of : {D J : Type 0} → Desk D J → Bool
+mark_of desk = desk.unsound
+
+-- Turns leave the marks as they were. Only where memory was refused may a desk be marked.
+abbrev pub MarksAtTurns : {D J X : Type 0} → Result X OutOfMemory → List (Desk D J) → List (Desk D J) → Type 0
+MarksAtTurns result before after = MatchResult result (λ _. map mark_of after ≡ map mark_of before) (λ _. AreMarkedDown before after)
 
 -- whose it is, and the commands of its actor
 abbrev pub name_of : {D J : Type 0} → Desk D J → Actor × List Step

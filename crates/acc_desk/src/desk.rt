@@ -1,5 +1,5 @@
 //! Desks.
-ghost use Rattle.std.specs.Prelude.{◌≡◌, ◌≢◌, ◌≤◌, true, [], Contains};
+ghost use Rattle.std.specs.Prelude.{◌≡◌, ◌≢◌, ◌≤◌, true, false, [], Contains};
 ghost use Rattle.acc_schedule.specs.Actors.{actors};
 ghost use Rattle.acc_schedule_runs.specs.Limits.{most_items};
 ghost use Rattle.acc_schedule_runs.specs.Disks.{fresh_disks};
@@ -42,7 +42,8 @@ pub struct Desk<D: Rig, J: Planned> {
     /// So many bytes are reserved ahead for each further message of a group: the most that the first message of one took so far, within
     /// bounds. Nothing is said of it.
     pub(crate) usual: u64,
-    /// Memory was refused while the actor stepped over its disk, so the actor may stand for nothing any more.
+    /// Memory was refused while the actor stepped, and its journal broke or it was opening its disk again: it may stand for nothing any
+    /// more.
     pub(crate) unsound: bool,
 }
 
@@ -82,8 +83,8 @@ impl<D: Rig + Drop, J: Planned> Desk<D, J> {
         requires commands { commands ≡ commands_of plan.now actor }
         ensures same { (result.actor ≡ actor) × (result.commands ≡ commands) × (result.gone ≡ 0) }
         ensures sound { IsSoundDesk D.Disk J.strict plan.now tape.now result }
+        ensures unmarked { result.unsound ≡ false }
     {
-        let _plan = plan;
         let mut seat = seat;
         let _next = tape.next_for(rt, &mut seat, actor.0);
         Desk {
@@ -100,7 +101,8 @@ impl<D: Rig + Drop, J: Planned> Desk<D, J> {
         }
     }
 
-    /// Whether memory was refused while the actor stepped over its disk. Such a desk has only its seat for certain.
+    /// Whether memory was refused while the actor stepped, and its journal broke or it was opening its disk again. Such a desk has only its
+    /// seat for certain.
     pub fn is_marked(&self) -> bool
         ensures { result ≡ self.now.unsound }
     {

@@ -8,7 +8,7 @@ ghost use Rattle.acc_tape.specs.ItemViews.{actor_of_item};
 ghost use Rattle.acc_tape.specs.Seats.{Turns};
 ghost use Rattle.acc_desk.specs.Fits.{fits_plan};
 ghost use Rattle.acc_desk.specs.Choices.{HasEntered};
-ghost use Rattle.acc_desk.specs.Desks.{run_with, no_hold, IsSeated, IsSoundDesk, IsSoundOrMarked, IsDesk, state_of};
+ghost use Rattle.acc_desk.specs.Desks.{run_with, no_hold, IsSeated, IsSoundDesk, IsSoundOrMarked, IsAtSameCommand, ChangesSeat, MarksDown, IsDesk, state_of};
 ghost use Rattle.acc_desk.specs.Groups.{Joining, events_of, gathered, Gathers, IsStopping, IsEnteringDesk, item_of_unsent};
 
 use crate::desk::Desk;
@@ -40,9 +40,10 @@ impl<D: Rig + Drop, J: Planned> Desk<D, J> {
         requires group { (first : ASlot D) × (joinings : List Joining) × (used : ℕ) × (joinings ≢ [])
             × Gathers D.Disk J.strict plan.now tape.now self.old (gathered first joinings used hold) }
         requires room { (items.items ≡ []) × (16 ≤ vec_capacity items) }
-        ensures same { (self.new.actor ≡ self.old.actor) × (self.new.commands ≡ self.old.commands) × (self.new.gone ≡ self.old.gone) }
+        ensures same { IsAtSameCommand self.old self.new }
         ensures ok { OnOk result (IsSoundDesk D.Disk J.strict plan.now tape.now self.new) }
         ensures err { OnErr result (IsSoundOrMarked D.Disk J.strict plan.now tape.now self.new) }
+        ensures marked { MarksDown result self.old self.new }
         ensures longer { OnOk result (length self.old.seat.mine < length self.new.seat.mine) }
         ensures entered { OnOk result ((first : ASlot D) (joinings : List Joining) (used : ℕ) → joinings ≢ [] → Gathers D.Disk J.strict plan.now tape.now self.old (gathered first joinings used hold)
             → HasEntered self.old.actor (events_of joinings) self.old.seat self.new.seat) }
@@ -80,13 +81,13 @@ impl<D: Rig + Drop, J: Planned> Desk<D, J> {
         requires group { (events : List AnEvent)
             × IsEnteringDesk D.Disk (run_with J.strict plan.now tape.now) hold (state_of self.old) events unsent }
         requires room { (items.items ≡ []) × (16 ≤ vec_capacity items) }
-        ensures same { (self.new.actor ≡ self.old.actor) × (self.new.commands ≡ self.old.commands) × (self.new.gone ≡ self.old.gone) }
+        ensures same { IsAtSameCommand self.old self.new }
+        ensures mark { self.new.unsound ≡ self.old.unsound }
         ensures sound { IsSoundDesk D.Disk J.strict plan.now tape.now self.new }
         ensures longer { unsent ≢ [] → length self.old.seat.mine < length self.new.seat.mine }
         ensures entered { (events : List AnEvent) → IsEnteringDesk D.Disk (run_with J.strict plan.now tape.now) hold (state_of self.old) events unsent
             → HasEntered self.old.actor events self.old.seat self.new.seat }
     {
-        let _plan = plan;
         let (items, keepers) = self.items_for(floor, unsent, items);
         tape.put_all(rt, &mut self.seat, hold.items, hold.weight, items);
         floor.call(keepers);
@@ -114,12 +115,12 @@ impl<D: Rig + Drop, J: Planned> Desk<D, J> {
         requires limits { tape.now.limits.items ≤ most_items }
         requires group { (first : ASlot D) × (joinings : List Joining)
             × IsStopping D.Disk (run_with J.strict plan.now tape.now) (state_of self.old) first joinings hold }
-        ensures same { (self.new.actor ≡ self.old.actor) × (self.new.commands ≡ self.old.commands) × (self.new.gone ≡ self.old.gone) }
+        ensures same { IsAtSameCommand self.old self.new }
+        ensures mark { self.new.unsound ≡ self.old.unsound }
         ensures sound { IsSoundDesk D.Disk J.strict plan.now tape.now self.new }
         ensures longer { length self.old.seat.mine < length self.new.seat.mine }
         ensures entered { (events : List AnEvent) → HasEntered self.old.actor events self.old.seat self.new.seat }
     {
-        let _plan = plan;
         let down = Item::Down { actor: self.actor };
         tape.put(rt, &mut self.seat, hold.items, hold.weight, down);
     }
@@ -129,7 +130,7 @@ impl<D: Rig + Drop, J: Planned> Desk<D, J> {
         requires plan { plan.now ≡ J.plan }
         requires limits { tape.now.limits.items ≤ most_items }
         requires seated { IsSeated tape.now self.old.actor hold self.old.seat }
-        ensures same { (self.new.actor ≡ self.old.actor) × (self.new.slot ≡ self.old.slot) × (self.new.commands ≡ self.old.commands) × (self.new.gone ≡ self.old.gone) }
+        ensures same { ChangesSeat self.old self.new }
         ensures mine { self.new.seat.mine ≡ self.old.seat.mine }
         ensures still { hold ≡ no_hold → self.new.seat ≡ self.old.seat }
         ensures seated { IsSeated tape.now self.new.actor no_hold self.new.seat }
@@ -137,7 +138,6 @@ impl<D: Rig + Drop, J: Planned> Desk<D, J> {
         ensures sound { IsDesk D.Disk (run_with J.strict plan.now tape.now) hold (state_of self.old)
             → IsSoundDesk D.Disk J.strict plan.now tape.now self.new }
     {
-        let _plan = plan;
         if hold.items > 0 || hold.weight > 0 {
             tape.release(rt, &mut self.seat, hold.items, hold.weight);
         }

@@ -3,7 +3,7 @@ ghost use Rattle.std.specs.Prelude.{◌≡◌, ◌≢◌, ℕ, ◌+◌, ◌<◌,
 ghost use mathlib.Core.List.{IsPrefix};
 ghost use Rattle.acc_message.specs.declared.item.Item.{Item as AnItem};
 ghost use Rattle.acc_message.specs.declared.error.Which.{Which};
-ghost use Rattle.acc_message.specs.Run.{is_node, is_down};
+ghost use Rattle.acc_message.specs.Run.{is_node};
 ghost use Rattle.acc_message_code.specs.Weight.{weight_of};
 ghost use Rattle.acc_schedule_runs.specs.Limits.{most_items};
 ghost use Rattle.acc_actors.specs.declared.slot.Slot.{Slot as ASlot};
@@ -12,8 +12,8 @@ ghost use Rattle.acc_tape.specs.Seats.{Turns};
 ghost use Rattle.acc_tape.specs.Refusals.{Refuses};
 ghost use Rattle.acc_tape.specs.declared.error.TapeError.TheVariants.{Full as IsFull};
 ghost use Rattle.acc_desk.specs.Fits.{fits_plan};
-ghost use Rattle.acc_desk.specs.Choices.{HasEntered, TakesMessages};
-ghost use Rattle.acc_desk.specs.Desks.{newest, held_of, no_hold, IsSoundDesk, IsSoundOrMarked};
+ghost use Rattle.acc_desk.specs.Choices.{HasEntered, HasTakenMessages};
+ghost use Rattle.acc_desk.specs.Desks.{newest, held_of, no_hold, IsSoundDesk, IsSoundOrMarked, IsUp, IsSameDesk, IsAtSameCommand, ChangesSlot, MarksDown};
 ghost use Rattle.acc_desk.specs.Groups.{Joining, events_of, joining, CanJoin, CanAllJoin, joining_of, gathered, Gathers, GathersMore};
 ghost use Rattle.acc_desk.specs.Outcomes.{HasTurned, HasNoRoom};
 ghost use Rattle.acc_desk.specs.declared.group.Ended.{Ended as AnEnd};
@@ -106,12 +106,13 @@ impl<D: Rig + Drop, J: Planned> Desk<D, J> {
         requires limits { tape.now.limits.items ≤ most_items }
         requires desk { IsSoundDesk D.Disk J.strict plan.now tape.now self.old }
         requires kind { is_node self.old.actor ≡ false }
-        requires up { is_down self.old.actor (newest self.old.seat) ≡ false }
-        ensures same { (self.new.actor ≡ self.old.actor) × (self.new.commands ≡ self.old.commands) }
+        requires up { IsUp self.old }
+        ensures same { IsSameDesk self.old self.new }
         ensures ok { OnOk result (IsSoundDesk D.Disk J.strict plan.now tape.now self.new) }
         ensures err { OnErr result (IsSoundOrMarked D.Disk J.strict plan.now tape.now self.new) }
+        ensures marked { MarksDown result self.old self.new }
         ensures came { IfOk result (λ turned. HasTurned plan.now tape.now turned self.old self.new) }
-        ensures took { result ≡ Ok Answer.Taken → (self.new.gone ≡ self.old.gone) × TakesMessages self.old.actor self.old.seat self.new.seat }
+        ensures took { result ≡ Ok Answer.Taken → HasTakenMessages self.old self.new }
     {
         let mut found = Vec::with_capacity(self.alloc, MOST)?;
         tape.collect(rt, &mut self.seat, self.actor.0, &mut found)?;
@@ -145,9 +146,10 @@ impl<D: Rig + Drop, J: Planned> Desk<D, J> {
         requires group { (first : ASlot D) × (joinings : List Joining) × (used : ℕ) × (length joinings ≡ staged)
             × Gathers D.Disk J.strict plan.now tape.now self.old (gathered first joinings used hold) }
         requires room { (items.items ≡ []) × (16 ≤ vec_capacity items) }
-        ensures same { (self.new.actor ≡ self.old.actor) × (self.new.commands ≡ self.old.commands) × (self.new.gone ≡ self.old.gone) }
+        ensures same { IsAtSameCommand self.old self.new }
         ensures ok { OnOk result (IsSoundDesk D.Disk J.strict plan.now tape.now self.new) }
         ensures err { OnErr result (IsSoundOrMarked D.Disk J.strict plan.now tape.now self.new) }
+        ensures marked { MarksDown result self.old self.new }
         ensures some { OnOk result (staged ≢ 0 → length self.old.seat.mine < length self.new.seat.mine) }
         ensures took { result ≡ Ok Answer.Taken → (staged ≢ 0) × ((first : ASlot D) (joinings : List Joining) (used : ℕ) → length joinings ≡ staged → Gathers D.Disk J.strict plan.now tape.now self.old (gathered first joinings used hold)
             → HasEntered self.old.actor (events_of joinings) self.old.seat self.new.seat) }
@@ -176,9 +178,10 @@ impl<D: Rig + Drop, J: Planned> Desk<D, J> {
         requires limits { tape.now.limits.items ≤ most_items }
         requires desk { IsSoundDesk D.Disk J.strict plan.now tape.now self.old }
         requires kind { is_node self.old.actor ≡ false }
-        requires up { is_down self.old.actor (newest self.old.seat) ≡ false }
+        requires up { IsUp self.old }
         requires found { CanAllJoin plan.now (newest self.old.seat) self.old.actor (drop self.old.gone self.old.commands) (map joining_of found.now) }
-        ensures same { (self.new.actor ≡ self.old.actor) × (self.new.commands ≡ self.old.commands) × (self.new.gone ≡ self.old.gone) }
+        ensures same { IsAtSameCommand self.old self.new }
+        ensures mark { self.new.unsound ≡ self.old.unsound }
         ensures mine { self.new.seat.mine ≡ self.old.seat.mine }
         ensures seen { result.0 ≢ 0 → IsPrefix self.old.seat.seen self.new.seat.seen }
         ensures full { result.2 ≡ AnEnd.Full → (result.0 ≡ 0) × (result.1 ≡ no_hold) × HasNoRoom plan.now tape.now self.new.actor (drop self.new.gone self.new.commands) self.new.seat }
@@ -214,7 +217,8 @@ impl<D: Rig + Drop, J: Planned> Desk<D, J> {
         requires some { 0 < count }
         requires group { CanJoin plan.now (newest self.old.seat) self.old.actor (drop self.old.gone self.old.commands) (joining number message.now)
             × Gathers D.Disk J.strict plan.now tape.now self.old (gathered self.old.slot [] 0 no_hold) }
-        ensures same { (self.new.actor ≡ self.old.actor) × (self.new.commands ≡ self.old.commands) × (self.new.gone ≡ self.old.gone) }
+        ensures same { IsAtSameCommand self.old self.new }
+        ensures mark { self.new.unsound ≡ self.old.unsound }
         ensures mine { self.new.seat.mine ≡ self.old.seat.mine }
         ensures on { OnOk result (Turns actor_of_item weight_of (fits_plan J.plan) self.old.seat self.new.seat) }
         ensures ok { IfOk result (λ joined. MatchOption joined
@@ -248,13 +252,12 @@ impl<D: Rig + Drop, J: Planned> Desk<D, J> {
         requires some { 0 < length found.now }
         requires found { CanAllJoin plan.now (newest self.old.seat) self.old.actor (drop self.old.gone self.old.commands) (map joining_of found.now) }
         requires group { (first : ASlot D) × Gathers D.Disk J.strict plan.now tape.now self.old (gathered first (take 1 (map joining_of found.now)) used hold) }
-        ensures same { (self.new.actor ≡ self.old.actor) × (self.new.seat ≡ self.old.seat) × (self.new.commands ≡ self.old.commands) × (self.new.gone ≡ self.old.gone) }
+        ensures same { ChangesSlot self.old self.new }
         ensures ended { result.1 ≢ AnEnd.Full }
         ensures count { (0 < result.0) × (result.0 ≤ length found.now) }
         ensures gathering { (first : ASlot D) → Gathers D.Disk J.strict plan.now tape.now self.old (gathered first (take 1 (map joining_of found.now)) used hold)
             → (now : ℕ) × Gathers D.Disk J.strict plan.now tape.now self.new (gathered first (take result.0 (map joining_of found.now)) now hold) }
     {
-        let _tape = tape;
         let mut used = used;
         self.usual = self.usual.max(used.min(MOST_AHEAD));
         for place in 1..found.len() {
@@ -285,14 +288,13 @@ impl<D: Rig + Drop, J: Planned> Desk<D, J> {
         requires plan { plan.now ≡ J.plan }
         requires limits { tape.now.limits.items ≤ most_items }
         requires group { (first : ASlot D) × (joinings : List Joining) × GathersMore D.Disk J.strict plan.now tape.now self.old (gathered first joinings used hold) (joining number message.now) }
-        ensures same { (self.new.actor ≡ self.old.actor) × (self.new.seat ≡ self.old.seat) × (self.new.commands ≡ self.old.commands) × (self.new.gone ≡ self.old.gone) }
+        ensures same { ChangesSlot self.old self.new }
         ensures ok { IfOk result (λ joined. (first : ASlot D) (joinings : List Joining) → GathersMore D.Disk J.strict plan.now tape.now self.old (gathered first joinings used hold) (joining number message.now)
             → MatchOption joined (Gathers D.Disk J.strict plan.now tape.now self.new (gathered first joinings used hold))
             (λ more. Gathers D.Disk J.strict plan.now tape.now self.new (gathered first (joinings ++ joining number message.now ∷ []) more hold))) }
         ensures err { OnErr result ((first : ASlot D) (joinings : List Joining) → GathersMore D.Disk J.strict plan.now tape.now self.old (gathered first joinings used hold) (joining number message.now)
             → Gathers D.Disk J.strict plan.now tape.now self.new (gathered first joinings used hold)) }
     {
-        let _tape = tape;
         let (weight, prepared) = self.slot.prepare(plan, self.actor, number, message)?;
         if weight > hold.weight - used {
             return Ok(None);

@@ -5,7 +5,7 @@ ghost use Rattle.acc_message.specs.Items.{id_of_txn, id_begun as begun_by};
 ghost use Rattle.acc_message.specs.declared.item.Item.{Item as AnItem};
 ghost use Rattle.acc_schedule_runs.specs.Limits.{most_items};
 ghost use Rattle.acc_tape.specs.ItemViews.{sign_of_item};
-ghost use Rattle.acc_desk.specs.Desks.{newest, IsSoundDesk, IsSoundOrMarked, BeginsAs};
+ghost use Rattle.acc_desk.specs.Desks.{newest, IsSoundDesk, IsSoundOrMarked, IsAtSameCommand, BeginsAs};
 
 use crate::desk::Desk;
 use crate::rules::{PlanTape, Planned};
@@ -44,14 +44,14 @@ impl<D: Rig + Drop, J: Planned> Desk<D, J> {
         requires plan { plan.now ≡ J.plan }
         requires limits { tape.now.limits.items ≤ most_items }
         requires desk { IsSoundDesk D.Disk J.strict plan.now tape.now self.old }
-        ensures same { (self.new.actor ≡ self.old.actor) × (self.new.commands ≡ self.old.commands) × (self.new.gone ≡ self.old.gone) }
+        ensures same { IsAtSameCommand self.old self.new }
+        ensures mark { self.new.unsound ≡ self.old.unsound }
         ensures mine { self.new.seat.mine ≡ self.old.seat.mine }
         ensures seen { IsPrefix self.old.seat.seen self.new.seat.seen }
         ensures ok { OnOk result (IsSoundDesk D.Disk J.strict plan.now tape.now self.new) }
         ensures err { OnErr result (IsSoundOrMarked D.Disk J.strict plan.now tape.now self.new) }
         ensures found { IfOk result (λ found. IfSome found (λ id. id_of_txn (newest self.new.seat) txn ≡ Some id)) }
     {
-        let _plan = plan;
         for place in self.looked..MOST_ITEMS {
             let sign = match tape.fetch(rt, &mut self.seat, place) {
                 Ok(sign) => sign,

@@ -1,10 +1,8 @@
 //! Restarts of the actor of a desk.
-ghost use Rattle.std.specs.Prelude.{◌≡◌, ◌≢◌, ◌≤◌, ◌+◌, [], ◌∷◌, true, drop, Contains, Ok, IfOk, OnOk, OnErr};
-ghost use Rattle.acc_schedule.specs.declared.plan.Step.{Step};
+ghost use Rattle.std.specs.Prelude.{◌≡◌, ◌≢◌, ◌≤◌, ◌+◌, [], ◌∷◌, Contains, Ok, IfOk, OnOk, OnErr};
 ghost use Rattle.acc_message.specs.declared.entry.Event.{Event as AnEvent};
 ghost use Rattle.acc_message.specs.Coordinator.{silence};
 ghost use Rattle.acc_schedule_runs.specs.Limits.{most_items};
-ghost use Rattle.acc_free_laws.specs.Commands.{is_restart};
 ghost use Rattle.acc_schedule.specs.Actors.{actors};
 ghost use Rattle.acc_pasts.specs.Stopped.{IsSound as IsEnteringSound};
 ghost use Rattle.acc_schedule_runs.specs.Situations.{Situation};
@@ -13,7 +11,7 @@ ghost use Rattle.acc_schedule_runs.specs.Disks.{Disks};
 ghost use Rattle.acc_actors.specs.Slots.{SlotStands, IsStrictSlot};
 ghost use Rattle.acc_actors.specs.Asked.{IsFew};
 ghost use Rattle.acc_desk.specs.Choices.{HasEntered};
-ghost use Rattle.acc_desk.specs.Desks.{IsSoundDesk, IsSoundOrMarked, HasReopened, HasReopenedStrictly};
+ghost use Rattle.acc_desk.specs.Desks.{IsSoundDesk, IsSoundOrMarked, IsSameDesk, IsToRestart, MarksAtTurn, HasReopened, HasReopenedStrictly};
 ghost use Rattle.acc_desk.specs.Outcomes.{HasTurned};
 ghost use Rattle.acc_desk.specs.declared.turning.Turned.{Turned as Answer};
 
@@ -85,10 +83,11 @@ impl<D: Rig + Drop, J: Planned> Desk<D, J> {
         requires plan { plan.now ≡ J.plan }
         requires limits { tape.now.limits.items ≤ most_items }
         requires desk { IsSoundDesk D.Disk J.strict plan.now tape.now self.old }
-        requires next { (command : Step) × (drop self.old.gone self.old.commands ≡ command ∷ drop (self.old.gone + 1) self.old.commands) × (is_restart command ≡ true) }
-        ensures same { (self.new.actor ≡ self.old.actor) × (self.new.commands ≡ self.old.commands) }
+        requires next { IsToRestart self.old }
+        ensures same { IsSameDesk self.old self.new }
         ensures ok { OnOk result (IsSoundDesk D.Disk J.strict plan.now tape.now self.new) }
         ensures err { OnErr result (IsSoundOrMarked D.Disk J.strict plan.now tape.now self.new) }
+        ensures marked { MarksAtTurn result self.old self.new }
         ensures came { IfOk result (λ turned. HasTurned plan.now tape.now turned self.old self.new) }
         ensures took { result ≡ Ok Answer.Taken → (self.new.gone ≡ self.old.gone + 1) × HasEntered self.old.actor (AnEvent.Restart 0 ∷ []) self.old.seat self.new.seat }
         ensures told { result ≢ Ok Answer.Idle }

@@ -1,7 +1,7 @@
 //! Serving desks.
 ghost use Rattle.std.specs.Prelude.{◌≡◌, ◌≤◌, true, false, map, IfOk, OnOk, OnErr};
 ghost use Rattle.acc_schedule_runs.specs.Limits.{most_items};
-ghost use Rattle.acc_desk.specs.Desks.{AreSound, AreSoundButOne, AreSeated, name_of};
+ghost use Rattle.acc_desk.specs.Desks.{AreSound, AreSoundButOne, AreSeated, AreMarkedDown, MarksAtTurns, name_of};
 ghost use Rattle.acc_desk.specs.Outcomes.{HaveComeTo};
 
 use crate::desk::Desks;
@@ -46,6 +46,7 @@ fn round<W: Wait, G: Gate, D: Rig + Drop, J: Planned>(
     ensures same { map name_of desks.new.items ≡ map name_of desks.old.items }
     ensures ok { OnOk result (AreSound D.Disk J.strict plan.now tape.now desks.new.items) }
     ensures err { OnErr result (AreSoundButOne D.Disk J.strict plan.now tape.now desks.new.items) }
+    ensures marked { MarksAtTurns result desks.old.items desks.new.items }
     ensures came { IfOk result (λ turned. HaveComeTo plan.now tape.now turned desks.old.items desks.new.items) }
 {
     let mut all = Turned::Idle;
@@ -78,6 +79,7 @@ fn rounds<W: Wait, G: Gate, D: Rig + Drop, J: Planned>(
     ensures same { map name_of desks.new.items ≡ map name_of desks.old.items }
     ensures ok { OnOk result (AreSound D.Disk J.strict plan.now tape.now desks.new.items) }
     ensures err { OnErr result (AreSoundButOne D.Disk J.strict plan.now tape.now desks.new.items) }
+    ensures marked { MarksAtTurns result desks.old.items desks.new.items }
 {
     let mut turns = 0;
     for _ in rt.forever() {
@@ -112,6 +114,7 @@ pub fn serve<W: Wait, G: Gate, D: Rig + Drop, J: Planned>(
     ensures sound { result.refused ≡ false → AreSound D.Disk J.strict plan.now tape.now result.desks.items }
     ensures refused { result.refused ≡ true → AreSoundButOne D.Disk J.strict plan.now tape.now result.desks.items }
     ensures seated { AreSeated tape.now result.desks.items }
+    ensures marked { AreMarkedDown desks.items result.desks.items }
 {
     keep(&desks, worker, floor);
     let mut desks = desks;

@@ -3,7 +3,7 @@ ghost use Rattle.std.specs.Prelude.{◌≡◌, ◌≢◌, ◌≤◌, [], ◌∷�
 ghost use Rattle.acc_schedule_runs.specs.Limits.{most_items};
 ghost use Rattle.acc_desk.specs.Asks.{event_of, act_of_ask};
 ghost use Rattle.acc_desk.specs.Choices.{HasEntered};
-ghost use Rattle.acc_desk.specs.Desks.{newest, item_of, IsSoundDesk, IsSoundOrMarked, MayStep};
+ghost use Rattle.acc_desk.specs.Desks.{newest, item_of, IsSoundDesk, IsSoundOrMarked, IsSameDesk, MarksDown, MayStep};
 ghost use Rattle.acc_desk.specs.Outcomes.{HasTurned};
 ghost use Rattle.acc_desk.specs.declared.turning.Turned.{Turned as Answer};
 
@@ -69,9 +69,10 @@ impl<D: Rig + Drop, J: Planned> Desk<D, J> {
         requires limits { tape.now.limits.items ≤ most_items }
         requires desk { IsSoundDesk D.Disk J.strict plan.now tape.now self.old }
         requires may { MayStep plan.now (newest self.old.seat) self.old.actor (event_of ask) (act_of_ask ask) (drop self.old.gone self.old.commands) (drop gone self.old.commands) }
-        ensures same { (self.new.actor ≡ self.old.actor) × (self.new.commands ≡ self.old.commands) }
+        ensures same { IsSameDesk self.old self.new }
         ensures ok { OnOk result (IsSoundDesk D.Disk J.strict plan.now tape.now self.new) }
         ensures err { OnErr result (IsSoundOrMarked D.Disk J.strict plan.now tape.now self.new) }
+        ensures marked { MarksDown result self.old self.new }
         ensures came { IfOk result (λ turned. HasTurned plan.now tape.now turned self.old self.new) }
         ensures took { result ≡ Ok Answer.Taken → (self.new.gone ≡ gone) × HasEntered self.old.actor (event_of ask.entry ∷ []) self.old.seat self.new.seat }
         ensures told { result ≢ Ok Answer.Idle }
@@ -85,7 +86,7 @@ impl<D: Rig + Drop, J: Planned> Desk<D, J> {
         }
         let Ok(given) = step(&mut self.slot, plan, self.actor, ask) else {
             tape.release(rt, &mut self.seat, 1, weight);
-            self.unsound = true;
+            self.unsound = self.slot.is_down();
             return Err(OutOfMemory);
         };
         let keepers = count_sent(floor, &given);

@@ -1,5 +1,5 @@
 //! Turns.
-ghost use Rattle.std.specs.Prelude.{◌≡◌, ◌+◌, ◌≤◌, take, Ok, IfOk, OnOk, OnErr, Some, true, false};
+ghost use Rattle.std.specs.Prelude.{◌≡◌, ◌≢◌, ◌⊎◌, ◌+◌, ◌≤◌, take, Ok, IfOk, OnOk, OnErr, Some, true, false};
 ghost use mathlib.Core.List.{IsPrefix};
 ghost use Rattle.std.specs.Option.{option_copied};
 ghost use Rattle.acc_stamp.specs.declared.actors.Actor.{Actor as AnActor};
@@ -11,8 +11,8 @@ ghost use Rattle.acc_schedule_runs.specs.Situations.{Situation};
 ghost use Rattle.acc_schedule_runs.specs.Limits.{most_items};
 ghost use Rattle.acc_actors.specs.Slots.{SlotStands};
 ghost use Rattle.acc_tape.specs.Seats.{TapeName};
-ghost use Rattle.acc_desk.specs.Choices.{TakesCommand, TakesMessages, NoneAtOnce, HasTaken};
-ghost use Rattle.acc_desk.specs.Desks.{newest, IsSoundDesk, IsSoundOrMarked};
+ghost use Rattle.acc_desk.specs.Choices.{NoneAtOnce, HasTakenCommand, HasTakenNext, HasTakenMessages, HasTaken};
+ghost use Rattle.acc_desk.specs.Desks.{newest, IsSoundDesk, IsSoundOrMarked, IsUp, IsSameDesk, MarksDown, MarksAtTurn};
 ghost use Rattle.acc_desk.specs.Outcomes.{HasTurned, IsTakenAtOnce};
 ghost use Rattle.acc_desk.specs.declared.turning.Turned.{Turned as Answer};
 
@@ -73,8 +73,8 @@ fn is_store<D: Rig>(slot: &Slot<D>) -> bool
 
 impl<D: Rig + Drop, J: Planned> Desk<D, J> {
     /// Takes the actor's next command if it can be taken, else its oldest message, and a store up to sixteen. Where memory is refused the
-    /// desk keeps its seat, which holds nothing reserved, and stays sound unless its actor found no memory while it stepped over its disk:
-    /// then the desk is marked, and its actor may stand for nothing any more. It waits where the tape is taken.
+    /// desk keeps its seat, which holds nothing reserved, and stays sound unless its actor's journal broke by it, or it was opening its disk
+    /// again: then the desk is marked, and its actor may stand for nothing any more. It waits where the tape is taken.
     pub fn turn<W: Wait, G: Gate>(
         &mut self,
         rt: &W,
@@ -87,11 +87,13 @@ impl<D: Rig + Drop, J: Planned> Desk<D, J> {
         requires plan { plan.now ≡ J.plan }
         requires limits { tape.now.limits.items ≤ most_items }
         requires desk { IsSoundDesk D.Disk J.strict plan.now tape.now self.old }
-        ensures same { (self.new.actor ≡ self.old.actor) × (self.new.commands ≡ self.old.commands) }
+        ensures same { IsSameDesk self.old self.new }
         ensures ok { OnOk result (IsSoundDesk D.Disk J.strict plan.now tape.now self.new) }
         ensures err { OnErr result (IsSoundOrMarked D.Disk J.strict plan.now tape.now self.new) }
+        ensures marked { MarksAtTurn result self.old self.new }
+        ensures up { result ≢ Ok Answer.Idle → IsUp self.old }
         ensures came { IfOk result (λ turned. HasTurned plan.now tape.now turned self.old self.new) }
-        ensures waits { result ≡ Ok Answer.Idle → is_down self.old.actor (newest self.old.seat) ≡ false → NoneAtOnce plan.now self.old.commands self.old.gone }
+        ensures waits { result ≡ Ok Answer.Idle → IsUp self.old → NoneAtOnce plan.now self.old.commands self.old.gone }
         ensures took { result ≡ Ok Answer.Taken → HasTaken plan.now self.old self.new }
     {
         match self.command(rt, plan, floor, tape, gate, turn)? {
@@ -137,14 +139,15 @@ impl<D: Rig + Drop, J: Planned> Desk<D, J> {
         requires plan { plan.now ≡ J.plan }
         requires limits { tape.now.limits.items ≤ most_items }
         requires desk { IsSoundDesk D.Disk J.strict plan.now tape.now self.old }
-        ensures same { (self.new.actor ≡ self.old.actor) × (self.new.commands ≡ self.old.commands) }
+        ensures same { IsSameDesk self.old self.new }
         ensures ok { OnOk result (IsSoundDesk D.Disk J.strict plan.now tape.now self.new) }
         ensures err { OnErr result (IsSoundOrMarked D.Disk J.strict plan.now tape.now self.new) }
+        ensures marked { MarksAtTurn result self.old self.new }
         ensures came { IfOk result (λ turned. HasTurned plan.now tape.now turned self.old self.new) }
-        ensures waits { result ≡ Ok Answer.Idle → is_down self.old.actor (newest self.old.seat) ≡ false → NoneAtOnce plan.now self.old.commands self.old.gone }
+        ensures waits { result ≡ Ok Answer.Idle → IsUp self.old → NoneAtOnce plan.now self.old.commands self.old.gone }
         ensures seen { result ≡ Ok Answer.Idle → IsPrefix self.old.seat.seen self.new.seat.seen }
-        ensures up { result ≡ Ok Answer.Idle → is_down self.new.actor (newest self.new.seat) ≡ false → is_down self.old.actor (newest self.old.seat) ≡ false }
-        ensures took { result ≡ Ok Answer.Taken → (command : AStep) × (slice_get self.old.commands self.old.gone ≡ Some command) × (self.new.gone ≡ self.old.gone + 1) × TakesCommand self.old.actor command self.old.seat self.new.seat }
+        ensures up { (result ≢ Ok Answer.Idle) ⊎ IsUp self.new → IsUp self.old }
+        ensures took { result ≡ Ok Answer.Taken → HasTakenNext self.old self.new }
     {
         if self.is_down() {
             return Ok(Turned::Idle);
@@ -175,15 +178,16 @@ impl<D: Rig + Drop, J: Planned> Desk<D, J> {
         requires plan { plan.now ≡ J.plan }
         requires limits { tape.now.limits.items ≤ most_items }
         requires desk { IsSoundDesk D.Disk J.strict plan.now tape.now self.old }
-        requires up { is_down self.old.actor (newest self.old.seat) ≡ false }
+        requires up { IsUp self.old }
         requires next { slice_get self.old.commands self.old.gone ≡ Some (AStep.Begin txn) }
-        ensures same { (self.new.actor ≡ self.old.actor) × (self.new.commands ≡ self.old.commands) }
+        ensures same { IsSameDesk self.old self.new }
         ensures ok { OnOk result (IsSoundDesk D.Disk J.strict plan.now tape.now self.new) }
         ensures err { OnErr result (IsSoundOrMarked D.Disk J.strict plan.now tape.now self.new) }
+        ensures marked { MarksDown result self.old self.new }
         ensures came { IfOk result (λ turned. HasTurned plan.now tape.now turned self.old self.new) }
         ensures waits { result ≡ Ok Answer.Idle → ¬ IsTakenAtOnce plan.now (take self.old.gone self.old.commands) (AStep.Begin txn) }
         ensures seen { result ≡ Ok Answer.Idle → self.new.seat ≡ self.old.seat }
-        ensures took { result ≡ Ok Answer.Taken → (self.new.gone ≡ self.old.gone + 1) × TakesCommand self.old.actor (AStep.Begin txn) self.old.seat self.new.seat }
+        ensures took { result ≡ Ok Answer.Taken → HasTakenCommand (AStep.Begin txn) self.old self.new }
     {
         let Some(home) = home_of(plan, txn) else {
             return Ok(Turned::Idle);
@@ -194,7 +198,6 @@ impl<D: Rig + Drop, J: Planned> Desk<D, J> {
         if self.commands.is_begun_before(self.gone, txn) {
             return Ok(Turned::Idle);
         }
-        let _home = home;
         let ask = Ask::Begin { txn, body };
         self.take(rt, plan, floor, tape, gate, turn, ask, self.gone + 1)
     }
@@ -215,12 +218,13 @@ impl<D: Rig + Drop, J: Planned> Desk<D, J> {
         requires limits { tape.now.limits.items ≤ most_items }
         requires desk { IsSoundDesk D.Disk J.strict plan.now tape.now self.old }
         requires next { slice_get self.old.commands self.old.gone ≡ Some (AStep.Recover txn node) }
-        ensures same { (self.new.actor ≡ self.old.actor) × (self.new.commands ≡ self.old.commands) }
+        ensures same { IsSameDesk self.old self.new }
         ensures ok { OnOk result (IsSoundDesk D.Disk J.strict plan.now tape.now self.new) }
         ensures err { OnErr result (IsSoundOrMarked D.Disk J.strict plan.now tape.now self.new) }
+        ensures marked { MarksDown result self.old self.new }
         ensures came { IfOk result (λ turned. HasTurned plan.now tape.now turned self.old self.new) }
         ensures seen { result ≡ Ok Answer.Idle → IsPrefix self.old.seat.seen self.new.seat.seen }
-        ensures took { result ≡ Ok Answer.Taken → (self.new.gone ≡ self.old.gone + 1) × TakesCommand self.old.actor (AStep.Recover txn node) self.old.seat self.new.seat }
+        ensures took { result ≡ Ok Answer.Taken → HasTakenCommand (AStep.Recover txn node) self.old self.new }
     {
         let Some(body) = body_of(plan, txn) else {
             return Ok(Turned::Idle);
@@ -255,11 +259,13 @@ impl<D: Rig + Drop, J: Planned> Desk<D, J> {
         requires plan { plan.now ≡ J.plan }
         requires limits { tape.now.limits.items ≤ most_items }
         requires desk { IsSoundDesk D.Disk J.strict plan.now tape.now self.old }
-        ensures same { (self.new.actor ≡ self.old.actor) × (self.new.commands ≡ self.old.commands) }
+        ensures same { IsSameDesk self.old self.new }
         ensures ok { OnOk result (IsSoundDesk D.Disk J.strict plan.now tape.now self.new) }
         ensures err { OnErr result (IsSoundOrMarked D.Disk J.strict plan.now tape.now self.new) }
+        ensures marked { MarksDown result self.old self.new }
+        ensures up { result ≢ Ok Answer.Idle → IsUp self.old }
         ensures came { IfOk result (λ turned. HasTurned plan.now tape.now turned self.old self.new) }
-        ensures took { result ≡ Ok Answer.Taken → (self.new.gone ≡ self.old.gone) × (is_down self.old.actor (newest self.old.seat) ≡ false) × TakesMessages self.old.actor self.old.seat self.new.seat }
+        ensures took { result ≡ Ok Answer.Taken → HasTakenMessages self.old self.new }
     {
         if self.is_down() {
             return Ok(Turned::Idle);
@@ -287,11 +293,12 @@ impl<D: Rig + Drop, J: Planned> Desk<D, J> {
         requires plan { plan.now ≡ J.plan }
         requires limits { tape.now.limits.items ≤ most_items }
         requires desk { IsSoundDesk D.Disk J.strict plan.now tape.now self.old }
-        ensures same { (self.new.actor ≡ self.old.actor) × (self.new.commands ≡ self.old.commands) }
+        ensures same { IsSameDesk self.old self.new }
         ensures ok { OnOk result (IsSoundDesk D.Disk J.strict plan.now tape.now self.new) }
         ensures err { OnErr result (IsSoundOrMarked D.Disk J.strict plan.now tape.now self.new) }
+        ensures marked { MarksDown result self.old self.new }
         ensures came { IfOk result (λ turned. HasTurned plan.now tape.now turned self.old self.new) }
-        ensures took { result ≡ Ok Answer.Taken → (self.new.gone ≡ self.old.gone) × TakesMessages self.old.actor self.old.seat self.new.seat }
+        ensures took { result ≡ Ok Answer.Taken → HasTakenMessages self.old self.new }
     {
         let mut found = Vec::with_capacity(self.alloc, 1)?;
         tape.collect(rt, &mut self.seat, self.actor.0, &mut found)?;

@@ -2,7 +2,7 @@ use Rattle.std.proofs.Common.{◌≡◌, true, false, Result, Ok, Err, sym, ◌�
 use Rattle.std.specs.Prelude.{OnOk, OnErr}
 use Rattle.std.specs.Result.{is_err}
 use Rattle.std.proofs.lemmas.Bool.{true≢false}
-use Rattle.acc_desk.proofs.Marked.{all_seated}
+use Rattle.acc_desk.proofs.Marked.{either, all_seated}
 use Rattle.acc_desk.proofs.serving.serve.Goals as goal
 
 -- what holds where no error came
@@ -38,3 +38,6 @@ pub returns-clause-seated : goal.returns-clause-seated
 returns-clause-seated g c =
     on_both c.rounds-served.result (weaker c.rounds-served.result (λ sound k d low. (sound k d low).seated) c.rounds-served.ensures.ok)
     (weaker_err c.rounds-served.result (all_seated g.D.Disk g.J.Planned.strict c.args.plan.now c.args.tape.now c.rounds-served.new.desks.items) c.rounds-served.ensures.err)
+
+pub returns-clause-marked : goal.returns-clause-marked
+returns-clause-marked g c = either c.rounds-served.result c.args.desks.items c.rounds-served.new.desks.items c.rounds-served.ensures.marked

@@ -1,5 +1,6 @@
 use Rattle.std.proofs.Common.{◌∙◌}
 use Rattle.acc_desk.proofs.Joining.{none_joined, some_joined}
+use Rattle.acc_desk.proofs.Marked.{refuses}
 use Rattle.acc_desk.proofs.desk.Desk.finish.Goals as goal
 
 pub let_go-requires-clause-seated : goal.let_go-requires-clause-seated
@@ -18,3 +19,12 @@ settle-requires-clause-group g c =
 
 pub returns-clause-took : goal.returns-clause-took
 returns-clause-took g c = λ _. (c.if-staged-eq0.false, λ first joinings used long gathering. c.in_ok-settle.ensures.entered first joinings used (some_joined joinings c.args.staged long c.if-staged-eq0.false) gathering)
+
+pub returns-then-staged-eq0-clause-marked : goal.returns-then-staged-eq0-clause-marked
+returns-then-staged-eq0-clause-marked g c = c.let_go.ensures.same.4
+
+pub returns-in_err-settle-clause-marked : goal.returns-in_err-settle-clause-marked
+returns-in_err-settle-clause-marked g c = refuses c.args.self.now c.settle.new.self _ c.from_residual.result c.from_residual.ensures.1 c.in_err-settle.ensures.marked
+
+pub returns-clause-marked : goal.returns-clause-marked
+returns-clause-marked g c = c.in_ok-settle.ensures.marked

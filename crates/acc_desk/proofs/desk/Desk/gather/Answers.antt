@@ -1,4 +1,4 @@
-use Rattle.std.proofs.Common.{◌≡◌, ℕ, List, [], ◌∷◌, map, take, drop, Option, None, Some, refl, sym, ap, subst, arith, length-take-le}
+use Rattle.std.proofs.Common.{◌≡◌, ℕ, List, [], ◌∷◌, map, take, drop, Option, None, Some, refl, sym, ◌∙◌, ap, subst, arith, length-take-le}
 use Rattle.std.specs.Prelude.{MatchOption, slice_get}
 use Rattle.std.specs.List.{AllByRecursion}
 use Rattle.std.proofs.lemmas.List.{length-map}
@@ -79,3 +79,6 @@ returns-in-Err-clause-seen g c = λ some. absurd (some refl)
 
 pub returns-in-Ok-Some-clause-seen : goal.returns-in-Ok-Some-clause-seen
 returns-in-Ok-Some-clause-seen g c = λ some. subst (λ (s : SeatView Item). IsPrefix c.args.self.now.seat.seen s.seen) (sym c.join_others-staged.ensures.same.1) c.in-Ok-Some.ensures.on.seen
+
+pub returns-in-Ok-Some-clause-mark : goal.returns-in-Ok-Some-clause-mark
+returns-in-Ok-Some-clause-mark g c = c.join_others-staged.ensures.same.4 ∙ c.join_first.ensures.mark

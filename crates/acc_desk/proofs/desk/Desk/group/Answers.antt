@@ -1,4 +1,4 @@
-use Rattle.std.proofs.Common.{◌≡◌, ◌≤◌, [], length, map, take, drop, sym, ◌∙◌, ap, subst, arith}
+use Rattle.std.proofs.Common.{◌≡◌, ◌≤◌, [], length, map, take, drop, refl, sym, ◌∙◌, ap, subst, arith}
 use Rattle.std.proofs.lemmas.List.{length-map}
 use Rattle.acc_message_code.specs.Weight.{weight_of}
 use Rattle.acc_tape.specs.ItemViews.{actor_of_item}
@@ -13,7 +13,7 @@ use Rattle.acc_desk.proofs.Joining.{begins_gathering}
 use Rattle.acc_desk.proofs.Finding.{found_may_join}
 use Rattle.acc_desk.specs.Choices.{HasEntered}
 use Rattle.acc_desk.proofs.Chosen.{entered_since, takes_found}
-use Rattle.acc_desk.proofs.Marked.{on_err, still_sound}
+use Rattle.acc_desk.proofs.Marked.{on_err, kept_down, down_since, keeps, refuses, still_sound}
 use Rattle.acc_desk.proofs.desk.Desk.group.Goals as goal
 
 pub returns-then-is_empty-clause-ok : goal.returns-then-is_empty-clause-ok
@@ -118,3 +118,26 @@ returns-in_err-found-clause-err g c = on_err c.from_residual.result (still_sound
 
 pub returns-clause-err : goal.returns-clause-err
 returns-clause-err g c = still_sound g.D.Disk g.J.Planned.strict c.args.plan.now c.args.tape.now c.finish.new.self c.in_ok-turned.ensures.ok
+
+pub returns-in_err-found-clause-marked : goal.returns-in_err-found-clause-marked
+returns-in_err-found-clause-marked g c = keeps c.args.self.now c.args.self.now c.from_residual.result refl
+
+pub returns-in_err-collect-clause-marked : goal.returns-in_err-collect-clause-marked
+returns-in_err-collect-clause-marked g c = keeps c.args.self.now (record c.args.self.now { seat = c.collect.new.seat }) c.from_residual-in_err-collect.result refl
+
+pub returns-in_err-items-clause-marked : goal.returns-in_err-items-clause-marked
+returns-in_err-items-clause-marked g c = keeps c.args.self.now (record c.args.self.now { seat = c.collect.new.seat }) c.from_residual-in_err-items.result refl
+
+pub returns-in_err-turned-clause-marked : goal.returns-in_err-turned-clause-marked
+returns-in_err-turned-clause-marked g c =
+    refuses c.args.self.now c.finish.new.self _ c.from_residual-in_err-turned.result c.from_residual-in_err-turned.ensures.1
+    (down_since c.args.self.now c.finish.new.self c.gather-staged.new.self c.gather-staged.ensures.mark c.in_err-turned.ensures.marked)
+
+pub returns-in-Dry-clause-marked : goal.returns-in-Dry-clause-marked
+returns-in-Dry-clause-marked g c = c.in_ok-turned.ensures.marked ∙ c.gather-staged.ensures.mark
+
+pub returns-in-Full-clause-marked : goal.returns-in-Full-clause-marked
+returns-in-Full-clause-marked g c = c.in_ok-turned.ensures.marked ∙ c.gather-staged.ensures.mark
+
+pub returns-clause-marked : goal.returns-clause-marked
+returns-clause-marked g c = kept_down c.args.self.now c.finish.new.self (c.in_ok-turned.ensures.marked ∙ c.gather-staged.ensures.mark)

@@ -105,3 +105,6 @@ returns-clause-ok g c =
     joins g.D.Disk g.J.Planned.strict c.args.plan.now c.args.tape.now c.requires.limits self.actor self.commands self.gone self.slot self.slot [] 0 hold new held j can
     c.stage-staged.new.self c.in_ok-weight.weight c.in_ok-weight.weight (omega arith) h.3 h.1 (omega arith) tt c.in_ok-weight.ensures.weight
     (when_ok c.stage-staged.result (sym c.is_err.ensures.value ∙ c.if-is_err.false) c.stage-staged.ensures.ok) c.stage-staged.ensures.strict
+
+pub returns-then-is_err-clause-mark : goal.returns-then-is_err-clause-mark
+returns-then-is_err-clause-mark g c = c.let_go.ensures.same.4

@@ -62,7 +62,7 @@ pub loop-place-init : goal.loop-place-init
 loop-place-init g c =
     let some = c.requires.some in
     record {
-      same = (refl, refl, refl, refl);
+      same = (refl, refl, refl, refl, refl);
       low = omega arith;
       high = omega arith;
       can = c.requires.found;
@@ -80,7 +80,7 @@ loop-place-preserved g c =
     let was = c.loop-place.invariant.same in
     let low = c.loop-place-test.true in
     record {
-      same = (same.0 ∙ was.0, same.1 ∙ was.1, same.2 ∙ was.2, same.3 ∙ was.3);
+      same = (same.0 ∙ was.0, same.1 ∙ was.1, same.2 ∙ was.2, same.3 ∙ was.3, same.4 ∙ was.4);
       low = omega arith;
       high = omega arith;
       can = along (λ a seat commands gone. CanAllJoin c.args.plan.now (newest seat) a (drop gone commands) (map joining_of found)) same.0 same.1 same.2 same.3 c.loop-place.invariant.can;

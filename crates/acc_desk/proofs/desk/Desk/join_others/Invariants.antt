@@ -1,12 +1,12 @@
-use Rattle.std.proofs.Common.{◌≡◌, ◌≤◌, length, map, take, drop}
+use Rattle.std.proofs.Common.{◌≤◌, length, map, take, drop}
 use Rattle.acc_actors.specs.declared.slot.Slot.{Slot}
-use Rattle.acc_desk.specs.Desks.{run_with, newest, state_of}
+use Rattle.acc_desk.specs.Desks.{run_with, newest, state_of, ChangesSlot}
 use Rattle.acc_desk.specs.Groups.{gathered, joining_of, CanAllJoin, IsGathering}
 use Rattle.acc_desk.proofs.desk.Desk.join_others.Given as goal
 
 abbrev pub invariant-loop-place : goal.invariant-loop-place
 invariant-loop-place g l = record {
-  same : (l.self.actor ≡ l.fn.self.actor) × (l.self.seat ≡ l.fn.self.seat) × (l.self.commands ≡ l.fn.self.commands) × (l.self.gone ≡ l.fn.self.gone);
+  same : ChangesSlot l.fn.self l.self;
   low : 1 ≤ l.place;
   high : l.place ≤ length l.found;
   can : CanAllJoin l.plan (newest l.self.seat) l.self.actor (drop l.self.gone l.self.commands) (map joining_of l.found);

@@ -34,6 +34,7 @@ loop-place-preserved g c =
     let turns = subst (λ p. Turns actor_of_item weight_of (fits_plan p) self.seat c.fetch.new.seat) (sym c.requires.plan) c.fetch.ensures.turn in
     record {
       same = c.loop-place.invariant.same;
+      mark = c.loop-place.invariant.mark;
       mine = c.fetch.ensures.same.0 ∙ c.loop-place.invariant.mine;
       seen = front_on c.args.self.now.seat.seen self.seat.seen c.fetch.new.seat.seen c.loop-place.invariant.seen c.fetch.ensures.turn.seen;
       desk = desk_on c.args.plan.now c.args.tape.now c.requires.limits self.actor g.D.Disk g.J.Planned.strict self.commands self.gone self.slot no_hold no_hold self.seat c.fetch.new.seat c.loop-place.invariant.desk turns c.fetch.ensures.same.0 (held_same self.seat c.fetch.new.seat no_hold c.loop-place.invariant.desk.seated.held_is c.fetch.ensures.same.1 c.fetch.ensures.same.2);
@@ -42,6 +43,7 @@ loop-place-preserved g c =
 pub loop-place-init : goal.loop-place-init
 loop-place-init g c = record {
   same = (refl, refl, refl);
+  mark = refl;
   mine = refl;
   seen = front_itself c.args.self.now.seat.seen;
   desk = c.requires.desk;

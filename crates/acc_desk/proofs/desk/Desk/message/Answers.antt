@@ -1,4 +1,4 @@
-use Rattle.std.proofs.Common.{sym, ◌∙◌}
+use Rattle.std.proofs.Common.{refl, sym, ◌∙◌}
 use Rattle.acc_free_laws.specs.FreeRun.{alone}
 use Rattle.acc_desk.specs.Desks.{newest}
 use Rattle.acc_desk.proofs.desk.Desk.message.Goals as goal
@@ -12,8 +12,14 @@ group-requires-clause-kind g c =
 pub group-requires-clause-up : goal.group-requires-clause-up
 group-requires-clause-up g c = sym (c.is_down.ensures c.args.plan.now c.args.tape.now c.requires.desk) ∙ c.if-is_down.false
 
-pub returns-then-is_store-clause-took : goal.returns-then-is_store-clause-took
-returns-then-is_store-clause-took g c = λ is. let took = c.group.ensures.took is in (took.0, sym (c.is_down.ensures c.args.plan.now c.args.tape.now c.requires.desk) ∙ c.if-is_down.false, took.1)
+pub returns-then-is_down-clause-up : goal.returns-then-is_down-clause-up
+returns-then-is_down-clause-up g c = λ some. absurd (some refl)
 
-pub returns-else-is_store-clause-took : goal.returns-else-is_store-clause-took
-returns-else-is_store-clause-took g c = λ is. let took = c.one_message.ensures.took is in (took.0, sym (c.is_down.ensures c.args.plan.now c.args.tape.now c.requires.desk) ∙ c.if-is_down.false, took.1)
+pub returns-then-not-has_mail-clause-up : goal.returns-then-not-has_mail-clause-up
+returns-then-not-has_mail-clause-up g c = λ some. absurd (some refl)
+
+pub returns-then-is_store-clause-up : goal.returns-then-is_store-clause-up
+returns-then-is_store-clause-up g c = λ some. sym (c.is_down.ensures c.args.plan.now c.args.tape.now c.requires.desk) ∙ c.if-is_down.false
+
+pub returns-else-is_store-clause-up : goal.returns-else-is_store-clause-up
+returns-else-is_store-clause-up g c = λ some. sym (c.is_down.ensures c.args.plan.now c.args.tape.now c.requires.desk) ∙ c.if-is_down.false

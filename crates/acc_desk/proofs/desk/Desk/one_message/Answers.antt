@@ -1,4 +1,4 @@
-use Rattle.std.proofs.Common.{List, sym, ◌∙◌, ap, subst, drop}
+use Rattle.std.proofs.Common.{List, refl, sym, ◌∙◌, ap, subst, drop}
 use Rattle.std.specs.List.{slice_get}
 use Rattle.std.specs.Option.{option_copied}
 use Rattle.acc_message.specs.declared.message.Message.{Message}
@@ -11,7 +11,7 @@ use Rattle.acc_desk.specs.Fits.{fits_plan}
 use Rattle.acc_desk.proofs.Seating.{held_same, desk_on}
 use Rattle.acc_desk.proofs.Asking.{found_may}
 use Rattle.acc_desk.proofs.Chosen.{takes_first}
-use Rattle.acc_desk.proofs.Marked.{on_err, still_sound}
+use Rattle.acc_desk.proofs.Marked.{on_err, keeps, still_sound}
 use Rattle.acc_desk.proofs.desk.Desk.one_message.Goals as goal
 
 pub take-requires-clause-desk : goal.take-requires-clause-desk
@@ -59,3 +59,9 @@ returns-in_err-collect-clause-err g c =
 
 pub returns-in_err-found-clause-err : goal.returns-in_err-found-clause-err
 returns-in_err-found-clause-err g c = on_err c.from_residual.result (still_sound g.D.Disk g.J.Planned.strict c.args.plan.now c.args.tape.now c.args.self.now c.requires.desk)
+
+pub returns-in_err-collect-clause-marked : goal.returns-in_err-collect-clause-marked
+returns-in_err-collect-clause-marked g c = keeps c.args.self.now (record c.args.self.now { seat = c.collect.new.seat }) c.from_residual-in_err-collect.result refl
+
+pub returns-in_err-found-clause-marked : goal.returns-in_err-found-clause-marked
+returns-in_err-found-clause-marked g c = keeps c.args.self.now c.args.self.now c.from_residual.result refl

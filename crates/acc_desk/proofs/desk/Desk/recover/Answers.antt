@@ -13,6 +13,7 @@ use Rattle.acc_desk.specs.Desks.{newest}
 use Rattle.acc_desk.proofs.Asking.{may_recover}
 use Rattle.acc_desk.proofs.Chosen.{front_itself, takes_then}
 use Rattle.acc_desk.specs.Choices.{TakesCommand}
+use Rattle.acc_desk.proofs.Marked.{keeps, since}
 use Rattle.acc_desk.proofs.desk.Desk.recover.Goals as goal
 
 pub take-requires-clause-may : goal.take-requires-clause-may
@@ -43,3 +44,9 @@ returns-then-not-contains-clause-seen g c = λ is. front_itself c.args.self.now.
 
 pub returns-clause-seen : goal.returns-clause-seen
 returns-clause-seen g c = λ is. absurd (c.take.ensures.told is)
+
+pub returns-in_err-id-clause-marked : goal.returns-in_err-id-clause-marked
+returns-in_err-id-clause-marked g c = keeps c.args.self.now c.look.new.self c.from_residual.result c.look.ensures.mark
+
+pub returns-clause-marked : goal.returns-clause-marked
+returns-clause-marked g c = since c.args.self.now c.take.new.self c.take.result c.look.new.self c.look.ensures.mark c.take.ensures.marked

@@ -1,4 +1,4 @@
-use Rattle.std.proofs.Common.{true, ◌+◌, drop, refl, sym, subst, arith}
+use Rattle.std.proofs.Common.{inl, inr, true, ◌+◌, drop, refl, sym, subst, arith}
 use Rattle.acc_message.specs.declared.entry.Event.TheVariants.{Restart as RestartEvent}
 use Rattle.acc_message_code.specs.Weight.{weight_of}
 use Rattle.acc_free_laws.specs.FreeRun.{alone}
@@ -11,7 +11,7 @@ use Rattle.acc_desk.proofs.Seating.{desk_on, seated_on, holds_items, holds_weigh
 use Rattle.acc_desk.proofs.Restarts.{restart_short, restart_noted, restart_weighs, restart_silent, restart_owned, restart_fits_behind, restart_taken}
 use Rattle.acc_desk.proofs.Chosen.{entered_one}
 use Rattle.acc_desk.proofs.Next.{none_left}
-use Rattle.acc_desk.proofs.Marked.{still_sound, marked}
+use Rattle.acc_desk.proofs.Marked.{kept_down, still_sound, marked}
 use Rattle.acc_desk.proofs.desk.Desk.restart.Goals as goal
 
 pub returns-in-Err-Full-clause-ok : goal.returns-in-Err-Full-clause-ok
@@ -116,3 +116,9 @@ pub returns-then-self-len-clause-told : goal.returns-then-self-len-clause-told
 returns-then-self-len-clause-told g c = λ is.
     let self = c.args.self.now in
     none_left self.commands self.gone c.requires.next.0 (drop (self.gone + 1) self.commands) (omega (arith, c.if-self-len.true, c.len.ensures)) c.requires.next.1
+
+pub returns-in_default-clause-marked : goal.returns-in_default-clause-marked
+returns-in_default-clause-marked g c = inr c.requires.next
+
+pub returns-in-Err-OutOfMemory-clause-marked : goal.returns-in-Err-OutOfMemory-clause-marked
+returns-in-Err-OutOfMemory-clause-marked g c = inl (kept_down c.args.self.now (record c.args.self.now { seat = c.reserve.new.seat }) refl)

@@ -1,10 +1,10 @@
-use Rattle.std.proofs.Common.{◌≢◌, Bool, List, [], ◌∷◌, true, Option, refl, subst}
+use Rattle.std.proofs.Common.{◌≢◌, Bool, List, [], ◌∷◌, true, Option, inr, refl, ap, ◌∙◌, subst}
 use Rattle.acc_stamp.specs.declared.actors.Actor.{Actor}
 use Rattle.acc_message.specs.declared.entry.Event.{Event}
 use Rattle.acc_payloads.specs.declared.stops.Unsent.{Unsent}
 use Rattle.acc_schedule_runs.specs.Situations.{Situation}
 use Rattle.acc_schedule_runs.specs.Disks.{Disks}
-use Rattle.acc_actors.specs.Slots.{IsStrictSlot}
+use Rattle.acc_actors.specs.Slots.{IsStrictSlot, is_down_in}
 use Rattle.acc_actors.specs.Asked.{over_disks, AreSteps, IsStaged, HasSettled, HasSettledStrictly}
 use Rattle.acc_message.specs.Run.{Cluster}
 use Rattle.acc_desk.specs.Groups.{Joining, events_of}
@@ -54,6 +54,9 @@ some_given cluster s a (j ∷ joinings) lost (one ∷ given) some steps = λ non
 
 pub returns-in_default-clause-err : goal.returns-in_default-clause-err
 returns-in_default-clause-err g c = marked g.D.Disk g.J.Planned.strict c.args.plan.now c.args.tape.now (record c.let_go.new.self { unsound = true }) c.let_go.ensures.seated refl
+
+pub returns-in_default-clause-marked : goal.returns-in_default-clause-marked
+returns-in_default-clause-marked g c = λ _. inr (ap is_down_in c.let_go.ensures.same.1 ∙ c.in_default.ensures.refused c.requires.group.4.kind)
 
 pub returns-in-Some-clause-longer : goal.returns-in-Some-clause-longer
 returns-in-Some-clause-longer g c =

@@ -1,4 +1,4 @@
-use Rattle.std.proofs.Common.{true, ◌+◌, length, refl, sym, ap, ◌∙◌, subst, arith}
+use Rattle.std.proofs.Common.{inr, ◌+◌, length, refl, sym, ap, ◌∙◌, subst, arith}
 use Rattle.acc_message_code.specs.Weight.{weight_of}
 use Rattle.std.specs.Prelude.{sum_by}
 use Rattle.acc_tape.specs.Refusals.{Refuses}
@@ -6,13 +6,13 @@ use Rattle.acc_tape.specs.ItemViews.{actor_of_item}
 use Rattle.acc_tape.specs.Seats.{Turns, FitsBehind, ComesLast}
 use Rattle.acc_desk.specs.Asks.{event_of, act_of_ask}
 use Rattle.acc_desk.specs.declared.hold.Hold.{Hold}
-use Rattle.acc_desk.specs.Desks.{no_hold, item_of}
+use Rattle.acc_desk.specs.Desks.{run_with, no_hold, item_of}
 use Rattle.acc_desk.specs.declared.turning.Turned.TheVariants.{Idle}
 use Rattle.acc_desk.specs.Fits.{fits_plan}
 use Rattle.acc_desk.proofs.Seating.{desk_on, may_on, asks, own, short, noted, weighs, fits, taken, seated_on, holds_items, holds_weight, held_same, held_first, held_none}
 use Rattle.acc_desk.proofs.Rooms.{asked_no_room}
 use Rattle.acc_desk.proofs.Chosen.{entered_one}
-use Rattle.acc_desk.proofs.Marked.{on_err, no_answer, still_sound, marked}
+use Rattle.acc_desk.proofs.Marked.{on_err, no_answer, kept_down, keeps, still_sound, desk_stays}
 use Rattle.acc_desk.proofs.desk.Desk.take.Goals as goal
 
 pub weigh-requires : goal.weigh-requires
@@ -156,12 +156,28 @@ returns-in_default-clause-err g c =
     let turns = subst (λ p. Turns actor_of_item weight_of (fits_plan p) self.seat new) (sym c.requires.plan) c.reserve.ensures.turn in
     let later = subst (λ p. Turns actor_of_item weight_of (fits_plan p) new free) (sym c.requires.plan) c.release.ensures.turn in
     let held = held_first self.seat new hold c.requires.desk.seated.held_is c.in-Ok.ensures.ok.0 c.in-Ok.ensures.ok.1 in
+    let freed = held_none new free hold held c.release.ensures.held.0 c.release.ensures.held.1 in
+    let desk = desk_on c.args.plan.now c.args.tape.now c.requires.limits self.actor g.D.Disk g.J.Planned.strict self.commands self.gone self.slot no_hold hold self.seat new c.requires.desk turns c.reserve.ensures.same.0 held in
     let seated = seated_on c.args.plan.now c.args.tape.now c.requires.limits self.actor no_hold hold self.seat new c.requires.desk.seated turns held in
-    marked g.D.Disk g.J.Planned.strict c.args.plan.now c.args.tape.now (record self { seat = free; slot = c.step.new.slot; unsound = true })
-    (seated_on c.args.plan.now c.args.tape.now c.requires.limits self.actor hold no_hold new free seated later (held_none new free hold held c.release.ensures.held.0 c.release.ensures.held.1)) refl
+    record {
+      seated = seated_on c.args.plan.now c.args.tape.now c.requires.limits self.actor hold no_hold new free seated later freed;
+      sound = λ up.
+          desk_stays g.D.Disk (run_with g.J.Planned.strict c.args.plan.now c.args.tape.now) self.actor free self.slot c.step.new.slot self.commands self.gone
+          (c.in_default.ensures.refused (sym c.is_down-self.ensures.value ∙ up))
+          (desk_on c.args.plan.now c.args.tape.now c.requires.limits self.actor g.D.Disk g.J.Planned.strict self.commands self.gone self.slot hold no_hold new free desk later c.release.ensures.same.0 freed);
+    }
+
+pub returns-in_default-clause-marked : goal.returns-in_default-clause-marked
+returns-in_default-clause-marked g c = λ down. inr (sym c.is_down-self.ensures.value ∙ down)
 
 pub returns-in_err-weight-clause-err : goal.returns-in_err-weight-clause-err
 returns-in_err-weight-clause-err g c = on_err c.from_residual.result (still_sound g.D.Disk g.J.Planned.strict c.args.plan.now c.args.tape.now c.args.self.now c.requires.desk)
 
 pub returns-in_err-weight-clause-told : goal.returns-in_err-weight-clause-told
 returns-in_err-weight-clause-told g c = no_answer _ c.from_residual.result Idle c.from_residual.ensures.1
+
+pub returns-in_err-weight-clause-marked : goal.returns-in_err-weight-clause-marked
+returns-in_err-weight-clause-marked g c = keeps c.args.self.now c.args.self.now c.from_residual.result refl
+
+pub returns-in-Err-OutOfMemory-clause-marked : goal.returns-in-Err-OutOfMemory-clause-marked
+returns-in-Err-OutOfMemory-clause-marked g c = kept_down c.args.self.now (record c.args.self.now { seat = c.reserve.new.seat }) refl
