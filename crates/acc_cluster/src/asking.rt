@@ -277,7 +277,6 @@ pub(crate) fn restart<D: Rig + Drop>(
     ensures faults { CountsFaults (result.1 ≡ Ok Restarted.Down) (faults_in D.Disk slot) (faults_in D.Disk result.0) }
     ensures safe { OnOk result.1 ((most : ℕ) → most_opened ≤ most → IsSafe D.Disk plan.now most actor slot → IsSafe D.Disk plan.now (most + 1) actor result.0) }
 {
-    let _actor = actor;
     match slot {
         Slot::Empty => (Slot::Empty, Err(OutOfMemory)),
         Slot::Node(node) => {
@@ -299,8 +298,6 @@ pub(crate) fn arm<D: Rig + Drop>(slot: &mut Slot<D>, plan: &Plan, actor: Actor, 
     ensures faults { faults_in D.Disk slot.new ≡ faults_in D.Disk slot.old }
     ensures safe { (most : ℕ) → IsSafe D.Disk plan.now most actor slot.old → IsSafe D.Disk plan.now most actor slot.new }
 {
-    let _plan = plan;
-    let _actor = actor;
     match slot {
         Slot::Empty => {}
         Slot::Node(node) => node.arm(calls),

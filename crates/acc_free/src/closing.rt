@@ -47,7 +47,6 @@ pub(crate) fn closed<D: Rig + Drop, J: Planned>(
     closed_items_are_within();
     threads_make_one_run::<D, J>();
     turns_go_by();
-    let _plan = plan;
     let (seats, rests) = apart(alloc, desks)?;
     let Ok(entered) = tape.close(first, seats) else {
         return Err(OutOfMemory);

@@ -49,7 +49,6 @@ fn begin_turn<D: Rig + Drop>(cluster: &Cluster<D>, actor: Actor, txn: u32) -> Tu
 fn recover_turn<D: Rig + Drop>(cluster: &Cluster<D>, actor: Actor, txn: u32, node: u32) -> Turn
     ensures { (plan : Content) (s : Situation) → StandsFor D.Disk plan cluster.now s → IsTurn result actor (whole s) (Command.Recover txn node) }
 {
-    let _node = node;
     if cluster.is_down(actor) {
         return Turn::Passes;
     }

@@ -77,8 +77,6 @@ impl Held {
             → HasTaken (cluster_of setup.now) earlier actor (AnEvent.Begin txn) act emitted self.new) }
         ensures err { OnErr result ((a : AnActor) (deeds : List Deed) → HeldStands (cluster_of setup.now) a deeds self.old → HeldStands (cluster_of setup.now) a deeds self.new) }
     {
-        let _history = history;
-        let _actor = actor;
         let Some(body) = setup.bodies.as_slice().get(txn as usize) else {
             return Err(NodeError::OutOfMemory);
         };
@@ -101,7 +99,6 @@ impl Held {
             → HasTaken (cluster_of setup.now) earlier actor (AnEvent.Recover txn) act emitted self.new) }
         ensures err { OnErr result ((a : AnActor) (deeds : List Deed) → HeldStands (cluster_of setup.now) a deeds self.old → HeldStands (cluster_of setup.now) a deeds self.new) }
     {
-        let _actor = actor;
         let Some(id) = history.id_of(txn) else {
             return Err(NodeError::OutOfMemory);
         };
@@ -129,8 +126,6 @@ impl Held {
             → IsRefused (cluster_of setup.now) earlier (AnEvent.Slow txn) error) }
         ensures err { OnErr result ((a : AnActor) (deeds : List Deed) → HeldStands (cluster_of setup.now) a deeds self.old → HeldStands (cluster_of setup.now) a deeds self.new) }
     {
-        let _history = history;
-        let _actor = actor;
         match self {
             Held::Node(node) => node.slow(&setup.topology, txn),
             Held::Store(_) => Err(NodeError::OutOfMemory),
@@ -150,7 +145,6 @@ impl Held {
             → HasTaken (cluster_of setup.now) earlier actor (AnEvent.Message number) act emitted self.new) }
         ensures err { OnErr result ((a : AnActor) (deeds : List Deed) → HeldStands (cluster_of setup.now) a deeds self.old → HeldStands (cluster_of setup.now) a deeds self.new) }
     {
-        let _actor = actor;
         let Some(m) = history.message(number) else {
             return Err(NodeError::OutOfMemory);
         };
