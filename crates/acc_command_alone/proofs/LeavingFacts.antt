@@ -18,6 +18,7 @@ use Rattle.acc_schedule.specs.declared.error.PlanError.TheVariants.{Bad, OutOfMe
 use Rattle.acc_schedule.specs.Content.{Content}
 use Rattle.acc_schedule.specs.Document.{document_fault, plan_of, IsCause, IsUnread, Reads}
 use Rattle.acc_schedule.specs.Faults.{IsFault}
+use Rattle.acc_schedule.specs.Plan.{IsPlan}
 use Rattle.acc_schedule_runs.specs.Schedules.{cluster_of}
 use Rattle.acc_schedule_runs.specs.Limits.{IsWithin}
 use Rattle.acc_left.specs.Documents.{left_data, IsLine}
@@ -56,9 +57,9 @@ are_short plan items law valid few run number m found =
 
 module _ (over : Over) where
   -- the document with the journals of a run
-  pub left : (plan : Content) (json : Data) (items : List Item) (text : List ℕ) → IsRun (cluster_of plan) items → IsWithin items → over.Items plan items
-      → IsLine (left_data json (images_left plan items)) text → HasJournalsOf over plan json text
-  left plan json items text run within also prints = record { items = items; run = run; within = within; also = also; prints = prints }
+  pub left : (plan : Content) (json : Data) (items : List Item) (text : List ℕ) → IsPlan plan → IsRun (cluster_of plan) items → IsWithin items
+      → over.Items plan items → IsLine (left_data json (images_left plan items)) text → HasJournalsOf over plan json text
+  left plan json items text is run within also prints = record { is_plan = is; items = items; run = run; within = within; also = also; prints = prints }
 
   leaving_due : (bytes : List ℕ) (json : Data) (status : Status) (text : List ℕ) → length bytes ≤ document_limit → Reads bytes json → document_fault json ≡ None
       → RunLeaves over (plan_of json) json status text → IsLeaveDue over bytes status text

@@ -5,6 +5,7 @@ use Rattle.acc_message.specs.declared.item.Item.{Item}
 use Rattle.acc_message.specs.Run.{IsRun}
 use Rattle.acc_schedule.specs.Content.{Content}
 use Rattle.acc_schedule.specs.Document.{document_fault, plan_of, Reads}
+use Rattle.acc_schedule.specs.Plan.{IsPlan}
 use Rattle.acc_schedule_runs.specs.Schedules.{cluster_of}
 use Rattle.acc_schedule_runs.specs.Limits.{IsWithin}
 use Rattle.acc_left.specs.Documents.{left_data, IsLine}
@@ -17,8 +18,9 @@ use Rattle.acc_command_alone.specs.declared.status.Status.{Status}
 use Rattle.acc_command_alone.specs.declared.status.Status.TheVariants.{Done, No, Usage, ReadFault, WriteFault, BadInput, Limit, OutOfMemory}
 
 -- The document with no step, and with the journals that its actors have after items that are a run of the plan's cluster, made so, and within
--- the limits.
+-- the limits. What holds of the plan of every document that breaks no rule holds of this one.
 pub record HasJournalsOf (over : Over) (plan : Content) (json : Data) (text : List ℕ) : Type 0 where
+  pub is_plan : IsPlan plan
   pub items : List Item
   pub run : IsRun (cluster_of plan) items
   pub within : IsWithin items

@@ -38,6 +38,7 @@ mod StoreTakes
 mod Trailing
 mod Turns
 mod TurnsBack
+mod WholePasts
 mod WrittenFields
 mod WrittenKeys
 mod WrittenMembers

@@ -15,7 +15,9 @@ use Rattle.acc_schedule.specs.declared.plan.Step.{Step}
 use Rattle.acc_schedule_runs.specs.Limits.{IsWithin}
 use Rattle.acc_schedule_runs.specs.Moves.{Answers}
 use Rattle.acc_schedule_runs.specs.Schedules.{cluster_of, Follows, Obeys}
-use Rattle.acc_schedule_runs.specs.Situations.{opened, Situation}
+use Rattle.acc_schedule_runs.specs.Situations.{opened, whole, Situation}
+use Rattle.acc_schedule_runs.specs.StrictMoves.{StrictSituation}
+use Rattle.acc_schedule_runs.specs.StrictSchedules.{FollowsStrictly}
 use Rattle.acc_free_laws.specs.FreeRun.{IsFreeRun}
 use Rattle.acc_left.specs.declared.image.Image.{Image}
 use Rattle.acc_left.specs.Documents.{left_data, with_field, IsLine}
@@ -25,9 +27,9 @@ use Rattle.acc_left_laws.specs.Left.{AreOfActors, AreOfBytes, HasLeft, HasNumber
 
 -- ---- what is known of plans and of who is down
 
--- the numbers in the bodies that a document says have 64 bits
-abbrev pub PlansOfDocumentsAreNumbered : Type 0
-PlansOfDocumentsAreNumbered = (d : Data) → IsPlan (plan_of d) → HasNumberedBodies (plan_of d)
+-- in the plan of a document each number of a body has 64 bits
+abbrev pub BodiesOfDocumentsAreNumbered : Type 0
+BodiesOfDocumentsAreNumbered = (d : Data) → IsPlan (plan_of d) → HasNumberedBodies (plan_of d)
 
 -- who is down after the items is an actor of the plan
 abbrev pub DownsAreKnown : Content → List Item → Type 0
@@ -39,13 +41,30 @@ WhoIsDownAfterSteps =
     (plan : Content) (answers : Answers) (items : List Item) → IsPlan plan → Obeys plan answers items
     → DownsAreKnown plan items
 
--- after further steps, which speak of the plan's actors
-abbrev pub WhoIsDownAfterMore : Type 0
-WhoIsDownAfterMore =
+-- and after further steps, which speak of the plan's actors
+abbrev pub WhoIsDownAfterStepsAndMore : Type 0
+WhoIsDownAfterStepsAndMore =
     (plan : Content) (answers : Answers) (steps : List Step) (between last : Situation) → IsPlan plan
     → Follows (cluster_of plan) answers 0 plan.steps (opened []) between
     → Follows (cluster_of plan) answers (length plan.steps) steps between last
     → AllByRecursion (IsStep (length plan.names) plan.topology) steps → DownsAreKnown plan last.own
+
+-- Where it is so before such steps, it is so after them, if all that there is then is one run. Whatever may be before,
+-- as an earlier run after which the actors were opened.
+abbrev pub WhoIsDownAfterMore : Type 0
+WhoIsDownAfterMore =
+    (plan : Content) (answers : Answers) (number : ℕ) (steps : List Step) (before last : Situation) → IsPlan plan
+    → DownsAreKnown plan (whole before) → Follows (cluster_of plan) answers number steps before last
+    → IsRun (cluster_of plan) (whole last) → AllByRecursion (IsStep (length plan.names) plan.topology) steps
+    → DownsAreKnown plan (whole last)
+
+-- the same over strict disks
+abbrev pub WhoIsDownAfterMoreStrictly : Type 0
+WhoIsDownAfterMoreStrictly =
+    (plan : Content) (number : ℕ) (steps : List Step) (before last : StrictSituation) → IsPlan plan
+    → DownsAreKnown plan (whole before.found) → FollowsStrictly (cluster_of plan) number steps before last
+    → IsRun (cluster_of plan) (whole last.found) → AllByRecursion (IsStep (length plan.names) plan.topology) steps
+    → DownsAreKnown plan (whole last.found)
 
 -- and after a free run
 abbrev pub WhoIsDownAfterFreeRuns : Type 0
@@ -53,7 +72,7 @@ WhoIsDownAfterFreeRuns = (plan : Content) (items : List Item) → IsFreeRun plan
 
 -- ---- what is known of journals
 
--- journals that a document says are those of actors of its plan, and rise
+-- where its layout is one, the journals that a document says are those of actors of its plan, and rise
 abbrev pub JournalsSaidAreOfActors : Type 0
 JournalsSaidAreOfActors =
     (bytes : List ℕ) (plan : Content) (images : List Image) → IsLayout plan.topology → MeansLeft bytes plan images
@@ -84,7 +103,7 @@ JournalsLeftAreBytes =
 -- The text says the plan without steps, and the journals that its actors had after the items. After the items each
 -- plan that differs in its steps alone goes on from these journals: they were left, and there is room for a million
 -- items more.
-pub record CanGoOn (plan : Content) (items : List Item) (text : List ℕ) : Type 0 where
+pub record IsToGoOn (plan : Content) (items : List Item) (text : List ℕ) : Type 0 where
   pub says : MeansLeft text (record plan { steps = [] }) (images_left plan items)
   pub left :
       (steps : List Step)
@@ -98,4 +117,4 @@ abbrev pub WhatIsLeftGoesOn : Type 0
 WhatIsLeftGoesOn =
     (bytes : List ℕ) (json : Data) (answers : Answers) (items : List Item) (text : List ℕ)
     → ReadsJson bytes json → document_fault json ≡ None → IsPlan (plan_of json) → Obeys (plan_of json) answers items
-    → IsWithin items → IsLine (left_data json (images_left (plan_of json) items)) text → CanGoOn (plan_of json) items text
+    → IsWithin items → IsLine (left_data json (images_left (plan_of json) items)) text → IsToGoOn (plan_of json) items text

@@ -1,29 +1,35 @@
 //! Laws that join a run which leaves its journals and the run that goes on from them. Each is the contract of a
 //! function that does nothing, or only calls other laws.
-ghost use Rattle.acc_left_laws.specs.Joining.{JournalsAreSaidOnce, JournalsLeftAreBytes, JournalsSaidAreOfActors, PlansOfDocumentsAreNumbered, SchedulesKeepJournals, WhatIsLeftGoesOn, WhoIsDownAfterFreeRuns, WhoIsDownAfterMore, WhoIsDownAfterSteps};
+ghost use Rattle.acc_left_laws.specs.Joining.{BodiesOfDocumentsAreNumbered, JournalsAreSaidOnce, JournalsLeftAreBytes, JournalsSaidAreOfActors, SchedulesKeepJournals, WhatIsLeftGoesOn, WhoIsDownAfterFreeRuns, WhoIsDownAfterMore, WhoIsDownAfterMoreStrictly, WhoIsDownAfterSteps, WhoIsDownAfterStepsAndMore};
 
 use crate::laws::{leave_leaves, left_lines_are_texts};
 use acc_lang::laws::what_is_read_is_spelled;
 use acc_plan_laws::laws::{plans_are_valid, plans_have_few_bodies, plans_run_safely};
+use acc_schedule_runs::strict::strict_disks_give_answers;
 
-/// The numbers in the bodies of a plan that a document says have 64 bits: the language has no greater ones.
-pub fn plans_of_documents_are_numbered()
-    ensures { PlansOfDocumentsAreNumbered }
+/// In the plan of a document each number of a body has 64 bits: the language has no greater ones.
+pub fn bodies_of_documents_are_numbered()
+    ensures { BodiesOfDocumentsAreNumbered }
 {
     what_is_read_is_spelled();
 }
 
-/// Only actors of the plan go down: in the items of its schedule, whatever the disks answer, in those of more steps
-/// after it, which speak of the plan's actors, and in those of a free run.
+/// Only actors of the plan go down: in the items of its schedule, whatever the disks answer, and in those of a free run.
+/// More steps, which speak of the plan's actors, let no other actor go down, whether they come after the schedule or after
+/// anything else, as in a cluster that was opened after an earlier run.
 pub fn only_actors_of_plans_go_down()
     ensures schedule { WhoIsDownAfterSteps }
+    ensures schedule_and_more { WhoIsDownAfterStepsAndMore }
     ensures more { WhoIsDownAfterMore }
+    ensures strictly { WhoIsDownAfterMoreStrictly }
     ensures free { WhoIsDownAfterFreeRuns }
 {
     plans_are_valid();
+    strict_disks_give_answers();
 }
 
-/// The journals that a document says are those of actors of its cluster, each of another, and rise.
+/// Where the layout of its cluster is one, the journals that a document says are those of actors of this cluster, each of
+/// another, and rise.
 pub fn journals_said_are_of_actors()
     ensures { JournalsSaidAreOfActors }
 {}
@@ -51,7 +57,7 @@ pub fn journals_left_are_bytes()
 pub fn what_is_left_goes_on()
     ensures { WhatIsLeftGoesOn }
 {
-    plans_of_documents_are_numbered();
+    bodies_of_documents_are_numbered();
     only_actors_of_plans_go_down();
     journals_left_are_bytes();
     plans_are_valid();

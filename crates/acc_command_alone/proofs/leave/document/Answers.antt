@@ -24,7 +24,7 @@ returns-in-Ok g c =
     let plan = c.args.plan.now in
     let items = reverse c.in-Ok.items in
     left (OverDisks g.M.D.Disk (g.M.DiskMaker.strict c.args.disks.now) (g.M.DiskMaker.given c.args.disks.now) (g.M.DiskMaker.given c.run_plan.new.disks)) plan (view c.args.root) items
-    c.in_ok-text-in-Ok.text
+    c.in_ok-text-in-Ok.text c.requires
     (c.plans_run_safely.ensures.run plan c.in-Ok.ensures.ran.answers items c.requires c.in-Ok.ensures.ran.obeys) c.in-Ok.ensures.within
     (record { ran = c.in-Ok.ensures.ran; strictly = c.in-Ok.ensures.strict })
     (subst (λ images. IsLine (left_data (view c.args.root) images) c.in_ok-text-in-Ok.text) c.in_ok-images-in-Ok.ensures c.in_ok-text-in-Ok.ensures)

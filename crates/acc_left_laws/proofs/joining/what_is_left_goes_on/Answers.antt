@@ -16,7 +16,7 @@ use Rattle.acc_left_laws.proofs.joining.what_is_left_goes_on.Goals as goal
 pub returns : goal.returns
 returns c = λ bytes json answers items text reads rules is obeys within line.
     let plan : Content = plan_of json in
-    let numbers : HasNumberedBodies plan = c.plans_of_documents_are_numbered.ensures json is in
+    let numbers : HasNumberedBodies plan = c.bodies_of_documents_are_numbered.ensures json is in
     let run : IsRun (cluster_of plan) items = c.plans_run_safely.ensures.run plan answers items is obeys in
     let down : DownsAreKnown plan items = c.only_actors_of_plans_go_down.ensures.schedule plan answers items is obeys in
     let few : length items < 2 ^ 31 = few_within items within in

@@ -3,7 +3,7 @@ use Rattle.serde_json.specs.Find.{get}
 use Rattle.acc_schedule.specs.Document.{root_of, version_of, Root}
 use Rattle.acc_schedule.specs.Fields.{items}
 use Rattle.acc_report_laws.proofs.Bodies.{bodies_fit}
-use Rattle.acc_left_laws.proofs.joining.plans_of_documents_are_numbered.Goals as goal
+use Rattle.acc_left_laws.proofs.joining.bodies_of_documents_are_numbered.Goals as goal
 
 pub returns : goal.returns
 returns c = λ d is.
